@@ -1,0 +1,72 @@
+//! The schema that a text spells.
+ghost use Rattle.std.specs.Prelude.{◌≡◌, ◌≤◌, ◌∷◌, [], IfOk, IsErrOf, IsTrue, None, Some, length};
+ghost use Rattle.schema_types.specs.Shape.{is_name as names};
+ghost use Rattle.schema_types.specs.Form.{one_column as schema_of_names, schema_of};
+
+use crate::lexer::tokens;
+use crate::shape::Shape::{Named, Spelled};
+use crate::shape::{Shape, has_form, name_of};
+use crate::{Column, Kind, Schema, SchemaError, Table};
+use base_io::Seq;
+use std::alloc::Global;
+
+/// What is built today: one table with one column of numbers.
+pub const CREATE_TABLE: [Shape; 9] = [
+    Spelled("CREATE"),
+    Spelled("TABLE"),
+    Named,
+    Spelled("("),
+    Named,
+    Spelled("INTEGER"),
+    Spelled("NOT"),
+    Spelled("NULL"),
+    Spelled(")"),
+];
+
+fn one<T: Drop>(alloc: Global, item: T) -> Result<Seq<T>, SchemaError>
+    ensures ok { IfOk result (λ items. items ≡ item ∷ []) }
+    ensures memory { IsErrOf result SchemaError.Unbuilt → ⊥ }
+{
+    let mut items = Seq::new(alloc);
+    items.push(item)?;
+    Ok(items)
+}
+
+// The schema of one table with one column of numbers.
+fn one_column(alloc: Global, table: &[u8], column: &[u8]) -> Result<Schema, SchemaError>
+    requires table { IsTrue (names table.now) }
+    requires column { IsTrue (names column.now) }
+    ensures ok { IfOk result (λ schema. schema ≡ schema_of_names table.now column.now) }
+    ensures memory { IsErrOf result SchemaError.Unbuilt → ⊥ }
+{
+    let column = Column {
+        name: name_of(alloc, column)?,
+        kind: Kind::Int,
+    };
+    let table = Table {
+        name: name_of(alloc, table)?,
+        columns: one(alloc, column)?,
+        keys: Seq::new(alloc),
+        references: Seq::new(alloc),
+    };
+    Ok(Schema {
+        tables: one(alloc, table)?,
+    })
+}
+
+/// Reads the schema that a text of at most 1 MiB spells. `Unbuilt` comes exactly where it spells none.
+pub fn read_schema(alloc: Global, text: &[u8]) -> Result<Schema, SchemaError>
+    requires { length text.now ≤ 1048576 }
+    ensures ok { IfOk result (λ schema. schema_of text.now ≡ Some schema) }
+    ensures unbuilt { IsErrOf result SchemaError.Unbuilt → schema_of text.now ≡ None }
+{
+    let tokens = tokens(alloc, text)?;
+    let tokens = tokens.as_slice();
+    if !has_form(tokens, &CREATE_TABLE) {
+        return Err(SchemaError::Unbuilt);
+    }
+    let [_, _, table, _, column, ..] = tokens else {
+        unreachable!();
+    };
+    one_column(alloc, table, column)
+}

@@ -1,0 +1,75 @@
+//! What a schema declares.
+ghost use Rattle.std.specs.Prelude.{◌≡◌};
+ghost use Rattle.schema_types.specs.declared.types.SchemaError.TheVariants as error;
+
+use base_io::{Name, NoMemory, Seq};
+use std::alloc::{AllocError, AllocFailed};
+
+/// The kind of a column's values: signed 64-bit numbers, or texts of at most so many characters.
+#[derive(Clone, Copy, Debug, PartialEq, Eq)]
+pub enum Kind {
+    Int,
+    Text(u32),
+}
+
+/// A declared column. Its name is folded as SQL-92 folds a regular identifier (section 5.2).
+#[derive(Debug, Drop)]
+pub struct Column {
+    pub name: Name,
+    pub kind: Kind,
+}
+
+/// A declared reference: these columns name the target columns of a table, all by their places.
+#[derive(Debug, Drop)]
+pub struct Reference {
+    pub columns: Seq<u32>,
+    pub table: u32,
+    pub targets: Seq<u32>,
+}
+
+/// A declared table. A key is a list of the places of its columns.
+#[derive(Debug, Drop)]
+pub struct Table {
+    pub name: Name,
+    pub columns: Seq<Column>,
+    pub keys: Seq<Seq<u32>>,
+    pub references: Seq<Reference>,
+}
+
+/// The tables of a schema, in the order of the text.
+#[derive(Debug, Drop)]
+pub struct Schema {
+    pub tables: Seq<Table>,
+}
+
+/// Why no schema was read.
+#[derive(Clone, Copy, Debug, PartialEq, Eq)]
+pub enum SchemaError {
+    /// The text isn't of the form that is built today.
+    Unbuilt,
+    NoMemory,
+}
+
+impl From<NoMemory> for SchemaError {
+    ghost from_gives = { λ _ e. e ≡ error.NoMemory };
+
+    fn from(_: NoMemory) -> Self {
+        SchemaError::NoMemory
+    }
+}
+
+impl From<AllocError> for SchemaError {
+    ghost from_gives = { λ _ e. e ≡ error.NoMemory };
+
+    fn from(_: AllocError) -> Self {
+        SchemaError::NoMemory
+    }
+}
+
+impl<T: Drop> From<AllocFailed<T>> for SchemaError {
+    ghost from_gives = { λ _ e. e ≡ error.NoMemory };
+
+    fn from(_: AllocFailed<T>) -> Self {
+        SchemaError::NoMemory
+    }
+}
