@@ -1,4 +1,4 @@
-ghost use Rattle.std.specs.Prelude.{◌≡◌, [], ◌∷◌, ◌++◌, ◌<◌, length, slice_get, slice_set, Some, MatchOption, OnOk, OnErr};
+ghost use Rattle.std.specs.Prelude.{◌≡◌, [], ◌∷◌, ◌++◌, ◌<◌, length, slice_get, slice_set, Some, IfOk, MatchOption, OnOk, OnErr};
 
 use crate::NoMemory;
 use std::alloc::Global;
@@ -78,6 +78,15 @@ impl<T> Seq<T> {
 }
 
 impl<T: Drop> Seq<T> {
+    /// The list of one item. On `NoMemory` the item is dropped.
+    pub fn one(alloc: Global, item: T) -> Result<Seq<T>, NoMemory>
+        ensures { IfOk result (λ seq. seq ≡ item ∷ []) }
+    {
+        let mut seq = Seq::new(alloc);
+        seq.push(item)?;
+        Ok(seq)
+    }
+
     /// Appends an item. On `NoMemory` the item is dropped.
     pub fn push(&mut self, item: T) -> Result<(), NoMemory>
         ensures ok { OnOk result (self.new ≡ self.old ++ item ∷ []) }

@@ -1,5 +1,5 @@
 //! The schema that a text spells.
-ghost use Rattle.std.specs.Prelude.{◌≡◌, ◌≤◌, ◌∷◌, [], IfOk, IsErrOf, IsTrue, None, Some, length};
+ghost use Rattle.std.specs.Prelude.{◌≡◌, ◌≤◌, IfOk, IsErrOf, IsTrue, None, Some, length};
 ghost use Rattle.schema_types.specs.Shape.{is_name as names};
 ghost use Rattle.schema_types.specs.Form.{one_column as schema_of_names, schema_of};
 
@@ -23,15 +23,6 @@ pub const CREATE_TABLE: [Shape; 9] = [
     Spelled(")"),
 ];
 
-fn one<T: Drop>(alloc: Global, item: T) -> Result<Seq<T>, SchemaError>
-    ensures ok { IfOk result (λ items. items ≡ item ∷ []) }
-    ensures memory { IsErrOf result SchemaError.Unbuilt → ⊥ }
-{
-    let mut items = Seq::new(alloc);
-    items.push(item)?;
-    Ok(items)
-}
-
 // The schema of one table with one column of numbers.
 fn one_column(alloc: Global, table: &[u8], column: &[u8]) -> Result<Schema, SchemaError>
     requires table { IsTrue (names table.now) }
@@ -45,12 +36,12 @@ fn one_column(alloc: Global, table: &[u8], column: &[u8]) -> Result<Schema, Sche
     };
     let table = Table {
         name: name_of(alloc, table)?,
-        columns: one(alloc, column)?,
+        columns: Seq::one(alloc, column)?,
         keys: Seq::new(alloc),
         references: Seq::new(alloc),
     };
     Ok(Schema {
-        tables: one(alloc, table)?,
+        tables: Seq::one(alloc, table)?,
     })
 }
 

@@ -1,0 +1,4 @@
+pub mod Code
+pub mod Errors
+pub mod Query
+pub mod Words

@@ -1,0 +1,9 @@
+#![tactic(auto)]
+
+mod query;
+mod status;
+mod words;
+
+pub use query::{ColumnRef, Out, Query, QueryError, Source, read_query};
+pub use status::{FileId, SinkId, Status};
+pub use words::{Command, WordsError, read_words};
