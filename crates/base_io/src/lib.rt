@@ -1,12 +1,36 @@
-//! What every other crate stands on: want of memory, lists and names.
+//! What every other crate stands on: files by name, takers of bytes, lists, names and want of memory.
 //!
-//! Callers cite `Seq` as the list of its items and `Name` as its bytes.
+//! The first stage of a query's way reads a file whole with `read_file`, and its last stage
+//! writes texts with `write_all` and `write_parts`.
+//!
+//! Callers cite `told` (what a store tells of a name), `ReadsFile` (what reading a file answers),
+//! `appended` and `GrewByPrefix` (what a sink took), and `Rose` (a count of faults rose). They see
+//! `Seq` as the list of its items and `Name` as its bytes.
 #![tactic(auto)]
 
+mod cases;
 mod errors;
+mod mem_sink;
+mod mem_store;
 mod name;
+mod null_sink;
+mod read;
 mod seq;
+mod sink;
+mod store;
+mod write;
 
-pub use errors::NoMemory;
+pub use cases::examples;
+pub use errors::{Failed, NoMemory, ReadError, StoreError};
+pub use mem_sink::MemSink;
+pub use mem_store::MemStore;
 pub use name::Name;
+pub use null_sink::NullSink;
+pub use read::read_file;
 pub use seq::Seq;
+pub use sink::Sink;
+pub use store::Store;
+pub use write::{write_all, write_parts};
+
+#[cfg(test)]
+mod tests;

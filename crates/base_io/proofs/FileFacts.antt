@@ -1,0 +1,36 @@
+-- What reads in turn give of a file.
+use Rattle.std.proofs.Common.{◌≡◌, ℕ, ◌+◌, ◌≤◌, List, ◌++◌, take, drop, length, ap, sym, Option, Ok, ◌∙◌, arith, append_assoc}
+use Rattle.std.proofs.lemmas.Grind.{common_steps}
+use Rattle.std.proofs.lemmas.List.{take-take, take-append-le}
+use Rattle.std.proofs.Math.Seq.{take-add, take-append-add}
+use Rattle.base_io.specs.Files.{Files, told, ReadsAt, Told, Nothing, Absent, Present, Gives, IsFront}
+
+-- the first n bytes of a block that was read in behind the items, in a buffer cut to those
+pub block_kept : (items grown into after rest : List ℕ) (at n len : ℕ) → at ≡ length items → take at grown ≡ items → n ≤ length into → at + n ≤ len
+    → take (at + n) (take len ((take at grown ++ (into ++ after)) ++ rest)) ≡ items ++ take n into
+block_kept items grown into after rest at n len e front fits within =
+    let joined : (items ++ (into ++ after)) ++ rest ≡ items ++ (into ++ (after ++ rest))
+    = append_assoc items (into ++ after) rest ∙ ap (λ x. items ++ x) (append_assoc into after rest) in
+    take-take (at + n) len _ within ∙ ap (λ x. take (at + n) ((x ++ (into ++ after)) ++ rest)) front ∙ ap (take (at + n)) joined
+    ∙ ap (λ k. take (k + n) (items ++ (into ++ (after ++ rest)))) e ∙ take-append-add items (into ++ (after ++ rest)) n
+    ∙ ap (λ x. items ++ x) (take-append-le n into (after ++ rest) fits)
+
+front_of : (all items into : List ℕ) (n : ℕ) → n ≤ length into → items ≡ take (length items) all → take n into ≡ take n (drop (length items) all)
+    → items ++ take n into ≡ take (length (items ++ take n into)) all
+front_of all items into n le first more =
+    let long : length (items ++ take n into) ≡ length items + n = grind (arith, common_steps) in
+    ap (λ x. x ++ take n into) first ∙ ap (λ x. take (length items) all ++ x) more
+    ∙ sym (take-add (length items) n all) ∙ ap (λ k. take k all) (sym long)
+
+-- the front of a file, and what a read there gave, are a longer front
+pub front_more : (file : Told) (items into : List ℕ) (n : ℕ) → n ≤ length into → IsFront file items → Gives file (length items) n into → IsFront file (items ++ take n into)
+front_more Nothing items into n le front gives = tt
+front_more Absent items into n le front gives = absurd gives
+front_more (Present all) items into n le front gives = front_of all items into n le front gives.same
+
+-- the same, where the files are those of an earlier moment
+pub front_more_since : (before now : Option Files) (name items into : List ℕ) (place n : ℕ) → now ≡ before → place ≡ length items
+    → ReadsAt (told now name) place (Ok n) into → IsFront (told before name) items → IsFront (told before name) (items ++ take n into)
+front_more_since before now name items into place n same at reads front =
+    let gives : Gives (told now name) (length items) n into = rw (← at) reads.1 in
+    front_more (told before name) items into n reads.0 front (rw (← same) gives)

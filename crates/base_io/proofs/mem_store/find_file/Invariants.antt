@@ -1,0 +1,6 @@
+use Rattle.std.proofs.Common.{◌≡◌, drop}
+use Rattle.base_io.specs.Files.{file_of}
+use Rattle.base_io.proofs.mem_store.find_file.Given as goal
+
+abbrev pub invariant-files : goal.invariant-files
+invariant-files l = file_of (drop l.file-index l.files) l.name ≡ file_of l.files l.name

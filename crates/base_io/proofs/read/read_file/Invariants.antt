@@ -1,0 +1,13 @@
+use Rattle.std.proofs.Common.{◌≡◌, ◌≤◌, length}
+use Rattle.base_io.specs.Files.{IsFront, told}
+use Rattle.base_io.proofs.read.read_file.Given as goal
+
+abbrev pub invariant-turns : goal.invariant-turns
+invariant-turns g l = record {
+  turns : l._turn ≤ length l.items.items;
+  within : length l.items.items ≤ l.limit;
+  later : g.S.Store.faults l.initial.store ≤ g.S.Store.faults l.store;
+  same : g.S.Store.files l.store ≡ g.S.Store.files l.initial.store;
+  misses : g.S.Store.misses l.store ≡ g.S.Store.misses l.initial.store;
+  front : IsFront (told (g.S.Store.files l.initial.store) l.name) l.items.items;
+}

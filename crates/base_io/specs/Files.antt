@@ -1,0 +1,80 @@
+-- The files of a store, where it tells them, and what a read of one answers.
+use Rattle.std.specs.Prelude.{ℕ, ◌≡◌, ◌+◌, ◌<◌, ◌≤◌, ◌∷◌, [], List, length, take, drop, Option, None, Some, Result, Ok, Err, if◌then◌else◌, ⊤}
+use Rattle.std.specs.Str.{bytes_eq}
+use Rattle.base_io.specs.declared.errors.StoreError.{StoreError}
+use Rattle.base_io.specs.declared.errors.StoreError.TheVariants as store
+use Rattle.base_io.specs.declared.errors.ReadError.{ReadError}
+use Rattle.base_io.specs.declared.errors.ReadError.TheVariants as read
+
+-- names with their bytes; of two files with one name the first counts
+abbrev pub Files : Type 0
+Files = List (List ℕ × List ℕ)
+
+-- the bytes of the file of this name, if there is one
+abbrev pub file_of : Files → List ℕ → Option (List ℕ)
+file_of [] name = None
+file_of (file ∷ rest) name = if bytes_eq file.0 name then Some file.1 else file_of rest name
+
+-- what a store tells of a name: nothing, that there is no such file, or the file's bytes
+pub data Told : Type 0 where
+  Nothing : Told
+  Absent : Told
+  Present : List ℕ → Told
+
+abbrev pub told_file : Option (List ℕ) → Told
+told_file None = Absent
+told_file (Some bytes) = Present bytes
+
+abbrev pub told : Option Files → List ℕ → Told
+told None name = Nothing
+told (Some files) name = told_file (file_of files name)
+
+-- `count` bytes of a file, from a place on, stand at the front of a buffer; none exactly at the end or past it
+pub record Fills (bytes : List ℕ) (place count : ℕ) (into : List ℕ) : Type 0 where
+  pub same : take count into ≡ take count (drop place bytes)
+  pub within : 0 < count → place + count ≤ length bytes
+  pub end : count ≡ 0 → length bytes ≤ place
+
+-- a read may have given this many bytes: of an absent file it gives none, not even 0
+abbrev pub Gives : Told → ℕ → ℕ → List ℕ → Type 0
+Gives Nothing place count into = ⊤
+Gives Absent place count into = ⊥
+Gives (Present bytes) place count into = Fills bytes place count into
+
+-- the store tells its files, and the name is not among them
+abbrev pub IsAbsent : Told → Type 0
+IsAbsent Nothing = ⊥
+IsAbsent Absent = ⊤
+IsAbsent (Present bytes) = ⊥
+
+-- what a read at a place answers, and leaves in the buffer
+abbrev pub ReadsAt : Told → ℕ → Result ℕ StoreError → List ℕ → Type 0
+ReadsAt file place (Ok count) into = (count ≤ length into) × Gives file place count into
+ReadsAt file place (Err store.Missing) into = IsAbsent file
+ReadsAt file place (Err store.Failed) into = ⊤
+
+-- these may be all bytes of the file
+abbrev pub IsWhole : Told → List ℕ → Type 0
+IsWhole Nothing bytes = ⊤
+IsWhole Absent bytes = ⊥
+IsWhole (Present all) bytes = bytes ≡ all
+
+-- the file may have more than `limit` bytes
+abbrev pub IsLonger : Told → ℕ → Type 0
+IsLonger Nothing limit = ⊤
+IsLonger Absent limit = ⊥
+IsLonger (Present all) limit = limit < length all
+
+-- what reading a whole file answers; a fault or want of memory may come at any file
+abbrev pub ReadsFile : Told → ℕ → Result (List ℕ) ReadError → Type 0
+ReadsFile file limit (Ok bytes) = (length bytes ≤ limit) × IsWhole file bytes
+ReadsFile file limit (Err read.Missing) = IsAbsent file
+ReadsFile file limit (Err read.Fault) = ⊤
+ReadsFile file limit (Err (read.TooLong most)) = (most ≡ limit) × IsLonger file limit
+ReadsFile file limit (Err read.NoMemory) = ⊤
+
+-- these are the first bytes of the file
+abbrev pub IsFront : Told → List ℕ → Type 0
+IsFront Nothing bytes = ⊤
+IsFront Absent bytes = bytes ≡ []
+IsFront (Present all) bytes = bytes ≡ take (length bytes) all

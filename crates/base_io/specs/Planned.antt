@@ -1,0 +1,15 @@
+-- The calls at which a store or a sink over memory fails.
+use Rattle.std.specs.Prelude.{ℕ, Bool, true, false, List, Result, Ok, Err, nat_eq}
+use Rattle.std.specs.List.{list_any}
+use Rattle.base_io.specs.declared.errors.StoreError.{StoreError}
+use Rattle.base_io.specs.declared.errors.StoreError.TheVariants as store
+
+-- the call of this number is listed; calls are numbered from 1
+abbrev pub is_listed : ℕ → List ℕ → Bool
+is_listed call fail_at = list_any (λ listed. nat_eq listed call) fail_at
+
+-- the answer is the failure, and no absent file
+abbrev pub has_failed : Result ℕ StoreError → Bool
+has_failed (Ok count) = false
+has_failed (Err store.Missing) = false
+has_failed (Err store.Failed) = true

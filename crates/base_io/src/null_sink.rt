@@ -1,0 +1,20 @@
+ghost use Rattle.std.specs.Prelude.{◌≡◌, None, Ok, length};
+
+use crate::{Failed, Sink};
+
+/// Takes every byte and tells nothing. Its count of faults is always 0.
+#[derive(Clone, Copy, Debug)]
+pub struct NullSink;
+
+impl Sink for NullSink {
+    ghost taken = { λ _. None };
+
+    ghost faults = { λ _. 0 };
+
+    /// Takes the whole piece.
+    fn write(&mut self, bytes: &[u8]) -> Result<usize, Failed>
+        ensures all { result ≡ Ok (length bytes.now) }
+    {
+        Ok(bytes.len())
+    }
+}

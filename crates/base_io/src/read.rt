@@ -1,0 +1,54 @@
+//! A whole file at once.
+ghost use Rattle.std.specs.Prelude.{◌≡◌, ◌≤◌, IsErrOf};
+ghost use Rattle.base_io.specs.Causes.{Rose, one_more};
+ghost use Rattle.base_io.specs.Files.{ReadsFile, told};
+
+use crate::{ReadError, Seq, Store, StoreError};
+use std::alloc::Global;
+
+// Large enough that a table file takes few calls, and small beside the file's own bytes.
+const BLOCK: usize = 65_536;
+
+/// Reads a whole file of at most `limit` bytes.
+///
+/// Each block is read into its place in the answered list, which grows by doubling, so the bytes
+/// exist once. `Fault` comes only where the store's count of faults rose.
+pub fn read_file<S: Store>(
+    alloc: Global,
+    store: &mut S,
+    name: &str,
+    limit: u32,
+) -> Result<Seq<u8>, ReadError>
+    requires { limit ≤ 67108864 }
+
+    // The whole file, or the answer that fits what the store tells of the name.
+    ensures read { ReadsFile (told (S.files store.old) name.now) limit result }
+    ensures files { S.files store.new ≡ S.files store.old }
+    ensures later { S.faults store.old ≤ S.faults store.new }
+    ensures later_misses { S.misses store.old ≤ S.misses store.new }
+    ensures fault { IsErrOf result ReadError.Fault → Rose (S.faults store.old) (S.faults store.new) }
+    ensures missing { IsErrOf result ReadError.Missing → S.misses store.new ≡ one_more (S.misses store.old) }
+    ensures misses { (IsErrOf result ReadError.Missing → ⊥) → S.misses store.new ≡ S.misses store.old }
+{
+    let mut items = Vec::new(alloc);
+    // Each turn but the last takes at least one byte, and the limit ends them all.
+    'turns: for _turn in 0..=limit {
+        let at = items.len();
+        items.resize(at + BLOCK, 0)?;
+        match store.read_at(name, at as u64, &mut items[at..]) {
+            Err(StoreError::Missing) => return Err(ReadError::Missing),
+            Err(StoreError::Failed) => return Err(ReadError::Fault),
+            Ok(0) => {
+                items.truncate(at);
+                return Ok(Seq::from_vec(items));
+            }
+            Ok(count) => {
+                if count > limit as usize - at {
+                    return Err(ReadError::TooLong { limit });
+                }
+                items.truncate(at + count);
+            }
+        }
+    }
+    Err(ReadError::TooLong { limit })
+}

@@ -1,0 +1,37 @@
+//! A source of files.
+ghost use Rattle.std.specs.Prelude.{◌≡◌, ◌<◌, ◌≤◌, ℕ, Option, length, IsErrOf};
+ghost use Rattle.base_io.specs.Causes.{Rose, one_more};
+ghost use Rattle.base_io.specs.Files.{Files, ReadsAt, told};
+
+use crate::StoreError;
+
+/// Gives the bytes of files by their names.
+///
+/// A store that does not tell its files counts an absent file as a failure.
+pub trait Store {
+    /// The files, where the store tells them.
+    ghost files: { Self → Option Files };
+
+    /// How often a read has failed.
+    ghost faults: { Self → ℕ };
+
+    /// How often a file was missing.
+    ghost misses: { Self → ℕ };
+
+    /// Reads a file's bytes from a place on into the front of a buffer, and answers how many.
+    /// 0 bytes come exactly at the file's end or past it.
+    fn read_at(&mut self, name: &str, at: u64, into: &mut [u8]) -> Result<usize, StoreError>
+        requires place { at ≤ 67108864 }
+        requires room { 0 < length into.old }
+        ensures read { ReadsAt (told (files self.old) name.now) at result into.new }
+        ensures files { files self.new ≡ files self.old }
+
+        // Neither count falls.
+        ensures later { faults self.old ≤ faults self.new }
+        ensures later_misses { misses self.old ≤ misses self.new }
+
+        ensures failed { IsErrOf result StoreError.Failed → Rose (faults self.old) (faults self.new) }
+        ensures missing { IsErrOf result StoreError.Missing
+            → (faults self.new ≡ faults self.old) × (misses self.new ≡ one_more (misses self.old)) }
+        ensures misses { (IsErrOf result StoreError.Missing → ⊥) → misses self.new ≡ misses self.old };
+}
