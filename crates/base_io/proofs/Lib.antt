@@ -1,3 +1,4 @@
+pub mod BufferFacts
 pub mod CountFacts
 pub mod FileFacts
 pub mod SinkFacts

@@ -12,3 +12,9 @@ pub record GrewByPrefix (old new : Option (List ℕ)) (text : List ℕ) : Type 0
   pub rest : List ℕ
   pub whole : front ++ rest ≡ text
   pub grew : new ≡ appended old front
+
+-- a text was appended but for its last bytes, which wait
+pub record TookBut (old new : Option (List ℕ)) (waiting text : List ℕ) : Type 0 where
+  pub front : List ℕ
+  pub whole : front ++ waiting ≡ text
+  pub grew : new ≡ appended old front

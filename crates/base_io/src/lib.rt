@@ -8,6 +8,7 @@
 //! `Seq` as the list of its items and `Name` as its bytes.
 #![tactic(auto)]
 
+mod buffer;
 mod cases;
 mod errors;
 mod mem_sink;
@@ -20,6 +21,7 @@ mod sink;
 mod store;
 mod write;
 
+pub use buffer::Buffer;
 pub use cases::examples;
 pub use errors::{Failed, NoMemory, ReadError, StoreError};
 pub use mem_sink::MemSink;
