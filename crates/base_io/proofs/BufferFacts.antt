@@ -70,4 +70,46 @@ cut_part f old mid new first start parts i d lt h k =
     sym (flat_map-append f (take (i + 1) parts) (drop (i + 1) parts)) ∙ ap (flat_map f) (take-append-drop (i + 1) parts) in
     subst (GrewByPrefix old new) (append_assoc start (flat_map f (take (i + 1) parts)) (flat_map f (drop (i + 1) parts)) ∙ ap (λ x. start ++ x) joined) whole
 
+-- the same, where the item at place i and its text have names
+pub took_item : {X : Type 0} (f : X → List ℕ) (old mid new : Option (List ℕ)) (first second start : List ℕ) (parts : List X) (i : ℕ) (x : X)
+    (text : List ℕ) → i < length parts → x ≡ get_or parts i x → text ≡ f x → TookBut old mid first (start ++ flat_map f (take i parts))
+    → TookBut mid new second (first ++ text) → TookBut old new second (start ++ flat_map f (take (i + 1) parts))
+took_item f old mid new first second start parts i x text lt at' is h k =
+    took_part f old mid new first second start parts i x lt h (subst (λ t. TookBut mid new second (first ++ t)) (is ∙ ap f at') k)
+
+pub cut_item : {X : Type 0} (f : X → List ℕ) (old mid new : Option (List ℕ)) (first start : List ℕ) (parts : List X) (i : ℕ) (x : X)
+    (text : List ℕ) → i < length parts → x ≡ get_or parts i x → text ≡ f x → TookBut old mid first (start ++ flat_map f (take i parts))
+    → GrewByPrefix mid new (first ++ text) → GrewByPrefix old new (start ++ flat_map f parts)
+cut_item f old mid new first start parts i x text lt at' is h k =
+    cut_part f old mid new first start parts i x lt h (subst (λ t. GrewByPrefix mid new (first ++ t)) (is ∙ ap f at') k)
+
+-- one text more, after those that are done
+pub took_step : (old mid new : Option (List ℕ)) (first second start done next : List ℕ)
+    → TookBut old mid first (start ++ done) → TookBut mid new second (first ++ next) → TookBut old new second (start ++ (done ++ next))
+took_step old mid new first second start done next h k =
+    subst (TookBut old new second) (append_assoc start done next) (took_next old mid new first second (start ++ done) next h k)
+
+-- the texts that are done, and then a prefix of the next one, are a prefix of all
+pub cut_step : (old mid new : Option (List ℕ)) (first start done next left all : List ℕ) → done ++ (next ++ left) ≡ all
+    → TookBut old mid first (start ++ done) → GrewByPrefix mid new (first ++ next) → GrewByPrefix old new (start ++ all)
+cut_step old mid new first start done next left all e h k =
+    let cut = prefix_of_first old new ((start ++ done) ++ next) left (cut_next old mid new first (start ++ done) next h k) in
+    let whole : ((start ++ done) ++ next) ++ left ≡ start ++ all =
+        append_assoc (start ++ done) next left ∙ append_assoc start done (next ++ left) ∙ ap (λ x. start ++ x) e in
+    subst (GrewByPrefix old new) whole cut
+
+-- the bytes that wait go on, whole or cut
+pub went_on : (old mid new : Option (List ℕ)) (waiting text : List ℕ) → TookBut old mid waiting text → new ≡ appended mid waiting → new ≡ appended old text
+went_on old mid new waiting text h whole =
+    whole ∙ ap (λ t. appended t waiting) h.grew ∙ appended-appended old h.front waiting ∙ ap (appended old) h.whole
+
+pub cut_off : (old mid new : Option (List ℕ)) (waiting text : List ℕ) → TookBut old mid waiting text → GrewByPrefix mid new waiting
+    → GrewByPrefix old new text
+cut_off old mid new waiting text h k = record {
+  front = h.front ++ k.front;
+  rest = k.rest;
+  whole = append_assoc h.front k.front k.rest ∙ ap (λ x. h.front ++ x) k.whole ∙ h.whole;
+  grew = k.grew ∙ ap (λ t. appended t k.front) h.grew ∙ appended-appended old h.front k.front;
+}
+
 pub ruleset buffer_steps = (waits, took_all, took_whole, took_prefix)

@@ -3,6 +3,7 @@
 mod query;
 mod status;
 mod words;
+mod write;
 
 pub use query::{ColumnRef, Out, Query, QueryError, Source, read_query};
 pub use status::{FileId, SinkId, Status};

@@ -8,8 +8,11 @@ use Rattle.safebound_top.proofs.query.read_query.Goals as goal
 pub unreachable-requires : goal.unreachable-requires
 unreachable-requires c =
     let tokens = c.as_slice-tokens.result.now in
-    omega (arith, enough (map (λ (t : Bor (List ℕ)). t.now) tokens) select_from (sym c.has_form.ensures ∙ c.if-not-has_form.false),
-    length-map tokens (λ (t : Bor (List ℕ)). t.now))
+    omega (
+      arith,
+      enough (map (λ (t : Bor (List ℕ)). t.now) tokens) select_from (sym c.has_form.ensures ∙ c.if-not-has_form.false),
+      length-map tokens (λ (t : Bor (List ℕ)). t.now),
+    )
 
 pub name_of-requires : goal.name_of-requires
 name_of-requires c =
