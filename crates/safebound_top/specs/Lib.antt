@@ -1,6 +1,10 @@
 pub mod Accepted
 pub mod Code
 pub mod Errors
+pub mod Faults
+pub mod Prepared
 pub mod Query
+pub mod Stages
 pub mod Texts
+pub mod Verdict
 pub mod Words

@@ -1,5 +1,6 @@
 #![tactic(auto)]
 
+mod prepare;
 mod query;
 mod status;
 mod words;

@@ -67,7 +67,18 @@ fn write_level<N: Sink>(
     let (mut place, mut digits) = (itoa::Buffer::new(), itoa::Buffer::new());
     let place = place.format(k).as_bytes();
     let bound = digits.format(bound).as_bytes();
-    buffer.put_parts(sink, &[LEVEL, place, SPACE, alias.as_bytes(), SPACE, bound, LINE_END])
+    buffer.put_parts(
+        sink,
+        &[
+            LEVEL,
+            place,
+            SPACE,
+            alias.as_bytes(),
+            SPACE,
+            bound,
+            LINE_END,
+        ],
+    )
 }
 
 // A line for each level, in the order of the entries.
