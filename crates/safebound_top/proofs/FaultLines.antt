@@ -3,7 +3,6 @@ use Rattle.std.proofs.Common.{◌≡◌, ℕ, List, refl}
 use Rattle.safebound_top.specs.Faults.{NamesNoTable, fault_line}
 use Rattle.safebound_top.specs.declared.status.Status.{Status}
 use Rattle.safebound_top.specs.declared.status.Status.TheVariants as status
-use Rattle.safebound_top.specs.declared.status.SinkId.TheVariants as sink
 use Rattle.safebound_top.specs.declared.status.FileId.TheVariants as file
 
 -- a line that is about no table is the same whatever the table's file is called
@@ -16,6 +15,5 @@ same_line (status.ReadFault (file.Table number)) h words a b = absurd h
 same_line (status.Unbuilt file.Schema) h words a b = refl
 same_line (status.Unbuilt file.Query) h words a b = refl
 same_line (status.Unbuilt (file.Table number)) h words a b = absurd h
-same_line (status.WriteFault sink.Out) h words a b = refl
-same_line (status.WriteFault sink.Notes) h words a b = refl
+same_line (status.WriteFault cut) h words a b = refl
 same_line status.NoMemory h words a b = refl

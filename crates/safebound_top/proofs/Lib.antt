@@ -1,3 +1,4 @@
+pub mod Columns
 pub mod FaultLines
 pub mod Lines
 pub mod Staged

@@ -4,6 +4,7 @@ use Rattle.base_io.specs.Files.{Files}
 use Rattle.safebound_top.specs.Verdict.{table_name}
 use Rattle.safebound_top.specs.declared.status.Status.{Status}
 use Rattle.safebound_top.specs.declared.status.Status.TheVariants as status
+use Rattle.safebound_top.specs.declared.status.SinkId.{SinkId}
 use Rattle.safebound_top.specs.declared.status.SinkId.TheVariants as sink
 use Rattle.safebound_top.specs.declared.status.FileId.{FileId}
 use Rattle.safebound_top.specs.declared.status.FileId.TheVariants as file
@@ -14,13 +15,16 @@ file_name file.Schema words table = slice_index_or words 1 []
 file_name file.Query words table = slice_index_or words 2 []
 file_name (file.Table number) words table = table
 
+abbrev pub cut_line : SinkId → List ℕ
+cut_line sink.Out = codes "error write out\n"
+cut_line sink.Notes = codes "error write notes\n"
+
 abbrev pub fault_line : Status → List (List ℕ) → List ℕ → List ℕ
 fault_line status.Done words table = []
 fault_line status.Usage words table = codes "error usage\n"
 fault_line (status.ReadFault id) words table = codes "error read " ++ (file_name id words table ++ codes "\n")
 fault_line (status.Unbuilt id) words table = codes "error unbuilt " ++ (file_name id words table ++ codes "\n")
-fault_line (status.WriteFault sink.Out) words table = codes "error write out\n"
-fault_line (status.WriteFault sink.Notes) words table = codes "error write notes\n"
+fault_line (status.WriteFault cut) words table = cut_line cut
 fault_line status.NoMemory words table = codes "error memory\n"
 
 -- the line that tells a status of these words over these files

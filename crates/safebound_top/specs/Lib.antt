@@ -1,4 +1,5 @@
 pub mod Accepted
+pub mod Call
 pub mod Code
 pub mod Errors
 pub mod Faults

@@ -3,6 +3,7 @@
 mod prepare;
 mod query;
 mod status;
+mod texts;
 mod words;
 mod write;
 

@@ -51,8 +51,8 @@ fn load<S: Store>(
     }
 }
 
-// The word at a place, or the empty word.
-fn word_at<'a>(words: &[&'a str], place: u32) -> &'a str
+/// The word at a place, or the empty word.
+pub fn word_at<'a>(words: &[&'a str], place: u32) -> &'a str
     ensures { result.now ≡ slice_index_or (map (λ w. w.now) words.now) place [] }
 {
     match words.get(place as usize) {
