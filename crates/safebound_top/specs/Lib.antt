@@ -3,6 +3,7 @@ pub mod Call
 pub mod Code
 pub mod Errors
 pub mod Faults
+pub mod Headline
 pub mod Prepared
 pub mod Query
 pub mod Stages

@@ -44,3 +44,29 @@ IsReadFault status.Usage = ⊥
 IsReadFault (status.Unbuilt id) = ⊥
 IsReadFault (status.WriteFault sink) = ⊥
 IsReadFault status.NoMemory = ⊥
+
+-- a reading step never ends a run well, nor by a write
+abbrev pub IsFromReading : Status → Type 0
+IsFromReading status.Done = ⊥
+IsFromReading (status.WriteFault sink) = ⊥
+IsFromReading status.Usage = ⊤
+IsFromReading (status.ReadFault id) = ⊤
+IsFromReading (status.Unbuilt id) = ⊤
+IsFromReading status.NoMemory = ⊤
+
+-- a refusal that follows from the words and the files alone
+abbrev pub IsRefusal : Status → Type 0
+IsRefusal status.Usage = ⊤
+IsRefusal (status.Unbuilt id) = ⊤
+IsRefusal status.Done = ⊥
+IsRefusal (status.ReadFault id) = ⊥
+IsRefusal (status.WriteFault sink) = ⊥
+IsRefusal status.NoMemory = ⊥
+
+abbrev pub IsWriteFault : Status → Type 0
+IsWriteFault (status.WriteFault sink) = ⊤
+IsWriteFault status.Done = ⊥
+IsWriteFault status.Usage = ⊥
+IsWriteFault (status.ReadFault id) = ⊥
+IsWriteFault (status.Unbuilt id) = ⊥
+IsWriteFault status.NoMemory = ⊥

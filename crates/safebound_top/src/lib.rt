@@ -4,6 +4,7 @@ mod prepare;
 mod query;
 mod status;
 mod texts;
+mod top_call;
 mod words;
 mod write;
 

@@ -6,7 +6,7 @@ ghost use Rattle.csv_tables.specs.Stub.{values_of};
 ghost use Rattle.safebound_top.specs.Faults.{IsText, NamesNoTable, fault_line, fault_text};
 ghost use Rattle.safebound_top.specs.Prepared.{accepted_of};
 ghost use Rattle.safebound_top.specs.Query.{SelectsFirst};
-ghost use Rattle.safebound_top.specs.Stages.{IsReadFault, MayFail, MayRefuse, MissesNothing};
+ghost use Rattle.safebound_top.specs.Stages.{IsFromReading, IsReadFault, MayFail, MayRefuse, MissesNothing};
 ghost use Rattle.safebound_top.specs.Verdict.{command_stage, numbers_in, query_stage, read, schema_stage, schema_word as word_of_schema, query_word as word_of_query, table_file, verdict};
 
 use crate::query::{Query, QueryError, read_query};
@@ -39,6 +39,7 @@ fn load<S: Store>(
     ensures untold { IfErr result (λ s. S.files store.old ≡ None → IsReadFault s → Rose (S.faults store.old) (S.faults store.new)) }
     ensures misses { (files : Files) → S.files store.old ≡ Some files → MissesNothing (read files file limit name.now) → S.misses store.new ≡ S.misses store.old }
     ensures names { IfErr result (λ s. IsText file → NamesNoTable s) }
+    ensures from_reading { IfErr result IsFromReading }
     ensures files { S.files store.new ≡ S.files store.old }
     ensures later { S.faults store.old ≤ S.faults store.new }
 {
@@ -92,6 +93,7 @@ fn load_schema<S: Store>(
     ensures misses { (files : Files) → S.files store.old ≡ Some files
         → MissesNothing (schema_stage (map (λ w. w.now) words.now) files) → S.misses store.new ≡ S.misses store.old }
     ensures names { IfErr result NamesNoTable }
+    ensures from_reading { IfErr result IsFromReading }
     ensures files { S.files store.new ≡ S.files store.old }
     ensures later { S.faults store.old ≤ S.faults store.new }
 {
@@ -130,6 +132,7 @@ fn load_query<S: Store>(alloc: Global, words: &[&str], store: &mut S) -> Result<
     ensures misses { (files : Files) → S.files store.old ≡ Some files
         → MissesNothing (query_stage (map (λ w. w.now) words.now) files) → S.misses store.new ≡ S.misses store.old }
     ensures names { IfErr result NamesNoTable }
+    ensures from_reading { IfErr result IsFromReading }
     ensures files { S.files store.new ≡ S.files store.old }
     ensures later { S.faults store.old ≤ S.faults store.new }
 {
@@ -171,6 +174,7 @@ fn load_table<S: Store>(
     ensures untold { IfErr result (λ s. S.files store.old ≡ None → IsReadFault s → Rose (S.faults store.old) (S.faults store.new)) }
     ensures misses { (files : Files) → S.files store.old ≡ Some files
         → MissesNothing (numbers_in files table.now name.now) → S.misses store.new ≡ S.misses store.old }
+    ensures from_reading { IfErr result IsFromReading }
     ensures later { S.faults store.old ≤ S.faults store.new }
 {
     let file = FileId::Table(0);
@@ -223,6 +227,7 @@ pub fn prepare<S: Store>(alloc: Global, words: &[&str], store: &mut S) -> Result
     ensures untold { IfErr result (λ r. S.files store.old ≡ None → IsReadFault r.status → Rose (S.faults store.old) (S.faults store.new)) }
     ensures misses { (files : Files) → S.files store.old ≡ Some files
         → MissesNothing (verdict (map (λ w. w.now) words.now) files) → S.misses store.new ≡ S.misses store.old }
+    ensures from_reading { IfErr result (λ r. IsFromReading r.status) }
     ensures later { S.faults store.old ≤ S.faults store.new }
 {
     let Asked { schema, query } = match load_query(alloc, words, store) {
