@@ -1,0 +1,52 @@
+-- The fields of a header, gone through one after another.
+use Rattle.std.proofs.Common.{ℕ, ◌≡◌, ◌+◌, ◌<◌, ◌≤◌, List, [], ◌∷◌, ◌++◌, length, drop, Option, None, Some, true, false, refl, ap, ◌∙◌, append-nil}
+use Rattle.std.specs.Option.{is_some}
+use Rattle.std.specs.Str.{str_eq_ignore_ascii_case}
+use Rattle.std.proofs.lemmas.List.{drop_more, drop_all}
+use Rattle.csv.specs.Records.{field_at}
+use Rattle.csv.proofs.RecordFacts.{field-get}
+use Rattle.csv_tables.specs.Columns.{only, places_from, place_of, Record}
+
+-- the place that was found, as a list
+abbrev pub listed : Option ℕ → List ℕ
+listed None = []
+listed (Some place) = place ∷ []
+
+-- the places that were found so far, and those in the fields from `at` on, are all places
+abbrev pub FoundSoFar : List ℕ → Record → Option ℕ → ℕ → Type 0
+FoundSoFar name fields found at = places_from 0 name fields ≡ listed found ++ places_from at name (drop at fields)
+
+-- the places from a field on
+places_here : (name : List ℕ) (fields : Record) (at : ℕ) (field : List ℕ) → at < length fields → field_at fields at ≡ Some field
+    → places_from at name (drop at fields) ≡ places_from at name (field ∷ drop (at + 1) fields)
+places_here name fields at field within e =
+    ap (places_from at name) (drop_more fields at [] within ∙ ap (λ f. f ∷ drop (at + 1) fields) (field-get fields at field e))
+
+-- a field of another name
+pub passed_over : (name : List ℕ) (fields : Record) (found : Option ℕ) (at : ℕ) (field : List ℕ) → at < length fields → field_at fields at ≡ Some field
+    → str_eq_ignore_ascii_case field name ≡ false → FoundSoFar name fields found at → FoundSoFar name fields found (at + 1)
+passed_over name fields found at field within e differs so_far =
+    so_far ∙ ap (λ places. listed found ++ places) (places_here name fields at field within e ∙ rw differs refl)
+
+-- a field of this name, the first
+pub found_one : (name : List ℕ) (fields : Record) (found : Option ℕ) (at : ℕ) (field : List ℕ) → at < length fields → field_at fields at ≡ Some field
+    → str_eq_ignore_ascii_case field name ≡ true → is_some found ≡ false → FoundSoFar name fields found at → FoundSoFar name fields (Some at) (at + 1)
+found_one name fields None at field within e matches first so_far = so_far ∙ places_here name fields at field within e ∙ rw matches refl
+found_one name fields (Some place) at field within e matches first so_far = absurd (cc first)
+
+-- a field of this name, the second
+pub found_two : (name : List ℕ) (fields : Record) (found : Option ℕ) (at : ℕ) (field : List ℕ) → at < length fields → field_at fields at ≡ Some field
+    → str_eq_ignore_ascii_case field name ≡ true → is_some found ≡ true → FoundSoFar name fields found at → place_of name fields ≡ None
+found_two name fields None at field within e matches second so_far = absurd (cc second)
+found_two name fields (Some place) at field within e matches second so_far =
+    let both : places_from at name (field ∷ drop (at + 1) fields) ≡ at ∷ places_from (at + 1) name (drop (at + 1) fields) = rw matches refl in
+    ap only (so_far ∙ ap (λ places. place ∷ places) (places_here name fields at field within e ∙ both))
+
+only-listed : (found : Option ℕ) → only (listed found) ≡ found
+only-listed None = refl
+only-listed (Some place) = refl
+
+-- no further field
+pub found_all : (name : List ℕ) (fields : Record) (found : Option ℕ) (at : ℕ) → length fields ≤ at → FoundSoFar name fields found at → place_of name fields ≡ found
+found_all name fields found at end so_far =
+    ap only (so_far ∙ ap (λ rest. listed found ++ places_from at name rest) (drop_all at fields end) ∙ append-nil (listed found)) ∙ only-listed found

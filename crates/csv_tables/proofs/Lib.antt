@@ -1,0 +1,7 @@
+pub mod CellFacts
+pub mod HeaderFacts
+pub mod NumberFacts
+pub mod ReaderFacts
+pub mod RecordFacts
+pub mod RowFacts
+pub mod TextFacts

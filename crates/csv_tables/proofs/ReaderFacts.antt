@@ -1,0 +1,44 @@
+-- A reader over bytes in memory gives the records that it has left, one after another.
+use Rattle.std.proofs.Common.{◌≡◌, inl, ℕ, List, [], ◌∷◌, Option, None, Some, true, false, refl, ap, sym, ◌∙◌}
+use Rattle.csv.specs.Machine.{next_record}
+use Rattle.csv.specs.Reading.{default_config, pending_of, strip_bom, took_first, NextIs, ReadRecord, ReadsNext}
+use Rattle.csv.specs.declared.parser.State.{State}
+use Rattle.csv.proofs.ReadFacts.{rows-end}
+use Rattle.csv_tables.specs.Records.{has_mark, left, records_in, unread, IsReading, Source}
+use Rattle.csv_tables.proofs.RecordFacts.{first_found, none_found}
+
+-- bytes without a byte order mark keep all of it
+pub unmarked : (bytes : List ℕ) → has_mark bytes ≡ false → strip_bom bytes ≡ bytes
+unfolding strip_bom
+unmarked [] e = refl
+unmarked (a ∷ []) e = refl
+unmarked (a ∷ b ∷ []) e = refl
+unmarked (a ∷ b ∷ c ∷ rest) e = rw e refl
+
+read_known : (s s2 : State) (xs : List ℕ) (k : Option (List ℕ)) (fields : List (List ℕ)) → ReadsNext default_config s (Some xs) k true fields s2
+    → (ys : List ℕ) × (k ≡ Some ys) × NextIs (next_record default_config s [] [] xs) true fields s2 ys
+read_known s s2 xs None fields r = absurd r
+read_known s s2 xs (Some ys) fields r = (ys, refl, r)
+
+-- what such a read leaves
+pub record Gave (old new : Source) (fields : List (List ℕ)) : Type 0 where
+  pub reading : IsReading new
+  pub first : left old ≡ fields ∷ left new
+
+-- a read that found a record gave the first of those that were left
+pub gave_first : (old new : Source) (fields : List (List ℕ)) → IsReading old → took_first new ≡ true
+    → ReadRecord (λ bytes. Some bytes.now) old new true fields → Gave old new fields
+gave_first old new fields was took r =
+    let k = read_known old.state new.state was.bytes (pending_of (Some new.rdr.now) new) fields (rw (was.config, was.known) at r.0) in
+    let known : unread new ≡ Some k.0 = rw r.1 k.1 in
+    let found = first_found default_config old.state was.bytes fields new.state k.0 was.between k.2 in
+    record {
+      reading = record { config = r.2 ∙ was.config; trim = r.3 ∙ was.trim; ready = inl took; bytes = k.0; known = known; between = found.between };
+      first = ap (records_in old.state) was.known ∙ found.first ∙ ap (λ rest. fields ∷ rest) (sym (ap (records_in new.state) known));
+    }
+
+-- a read that found none: none was left
+pub gave_none : (old new : Source) (fields : List (List ℕ)) → IsReading old → ReadRecord (λ bytes. Some bytes.now) old new false fields → left old ≡ []
+gave_none old new fields was r =
+    ap (records_in old.state) was.known
+    ∙ none_found default_config old.state was.bytes (rows-end (λ bytes. Some bytes.now) old new fields default_config was.bytes was.config was.known r)

@@ -1,0 +1,15 @@
+-- UTF-8 as a test.
+use Rattle.std.proofs.Common.{ℕ, List, Bool, true, false, ◌≡◌, refl}
+use Rattle.std.specs.Prelude.{IsUtf8}
+use Rattle.std.specs.Str.{is_utf8}
+use Rattle.std.proofs.lemmas.Str.{IsUtf8-from_is_utf8, is_utf8-from_IsUtf8}
+
+by_test : (bytes : List ℕ) (test : Bool) → is_utf8 bytes ≡ test → ¬ (IsUtf8 bytes) → is_utf8 bytes ≡ false
+by_test bytes true e invalid = absurd (invalid (IsUtf8-from_is_utf8 bytes e))
+by_test bytes false e invalid = e
+
+-- bytes that are no UTF-8 fail the test
+pub not_text : (bytes : List ℕ) → ¬ (IsUtf8 bytes) → is_utf8 bytes ≡ false
+not_text bytes invalid = by_test bytes (is_utf8 bytes) refl invalid
+
+pub ruleset text_steps = (is_utf8-from_IsUtf8, not_text)

@@ -1,0 +1,4 @@
+pub mod Columns
+pub mod Numbers
+pub mod Records
+pub mod Tables

@@ -1,0 +1,51 @@
+-- Which number a field spells, and which cell holds it.
+use Rattle.std.specs.Prelude.{ℕ, ℤ, pos, neg_ℤ, ◌+◌, ◌-◌, ◌*◌, ◌^◌, ◌==◌, ◌&&◌, ◌||◌, nat_le, Bool, true, false, if◌then◌else◌, List, [], ◌∷◌, Option, None, Some, option_map}
+use Rattle.std.specs.Str.{all_ascii_digits}
+use Rattle.std.specs.Int.{w64, cast_unsigned, cast_signed}
+
+-- the field begins with a minus sign
+abbrev pub is_minus : List ℕ → Bool
+is_minus [] = false
+is_minus (c ∷ cs) = c == 45
+
+-- the field without the sign at its front, where it has one
+abbrev pub without_sign : List ℕ → List ℕ
+without_sign [] = []
+without_sign (c ∷ cs) = if c == 45 || c == 43 then cs else c ∷ cs
+
+-- one or more ASCII digits
+abbrev pub is_numeral : List ℕ → Bool
+is_numeral [] = false
+is_numeral (c ∷ cs) = all_ascii_digits (c ∷ cs)
+
+-- the number that digits spell behind those of n: a digit counts ten times the one after it
+abbrev pub decimal_after : ℕ → List ℕ → ℕ
+decimal_after n [] = n
+decimal_after n (c ∷ cs) = decimal_after (n * 10 + (c - 48)) cs
+
+-- the number that digits spell, where they are digits and spell at most so much
+abbrev pub size_of : ℕ → List ℕ → Option ℕ
+size_of most digits =
+    if is_numeral digits && nat_le (decimal_after 0 digits) most then Some (decimal_after 0 digits) else None
+
+-- the greatest size of a signed number of 64 bits, below 0 and from 0 on
+abbrev pub greatest : Bool → ℕ
+greatest true = 2 ^ 63
+greatest false = 2 ^ 63 - 1
+
+-- the number of this size, below 0 or not
+abbrev pub signed : Bool → ℕ → ℤ
+signed true size = neg_ℤ (pos size)
+signed false size = pos size
+
+-- the number that a field spells: a sign or none, then digits, in the signed range of 64 bits
+abbrev pub number_of : List ℕ → Option ℤ
+number_of field = option_map (signed (is_minus field)) (size_of (greatest (is_minus field)) (without_sign field))
+
+-- the cell of a number: its 64 bits in two's complement
+abbrev pub bits_of : ℤ → ℕ
+bits_of number = cast_unsigned w64 number
+
+-- the number of a cell
+abbrev pub number_in : ℕ → ℤ
+number_in cell = cast_signed w64 cell

@@ -1,0 +1,44 @@
+-- Which bytes spell which cells of a table, in the first form.
+use Rattle.std.specs.Prelude.{ℕ, ℤ, ◌&&◌, not, Bool, true, false, if◌then◌else◌, List, [], ◌∷◌, length, map, Option, None, Some, option_map, option_and_then}
+use Rattle.std.specs.Str.{is_utf8}
+use Rattle.schema_types.specs.declared.types.Column.{Column}
+use Rattle.schema_types.specs.declared.types.Kind.{Kind}
+use Rattle.schema_types.specs.declared.types.Kind.TheVariants as kind
+use Rattle.schema_types.specs.declared.types.Table.{Table}
+use Rattle.csv_tables.specs.declared.types.Cells.{Cells}
+use Rattle.csv_tables.specs.Numbers.{bits_of}
+use Rattle.csv_tables.specs.Columns.{column_numbers, only}
+use Rattle.csv_tables.specs.Records.{has_mark, records_of}
+
+-- the file is UTF-8 without a byte order mark
+abbrev pub is_plain_text : List ℕ → Bool
+is_plain_text bytes = not (has_mark bytes) && is_utf8 bytes
+
+-- the numbers of the named column in a file, or nothing where the file isn't of the first form
+abbrev pub table_numbers : List ℕ → List ℕ → Option (List ℤ)
+table_numbers name bytes = if is_plain_text bytes then column_numbers name (records_of bytes) else None
+
+-- a column of this kind holds numbers
+abbrev pub holds_numbers : Kind → Bool
+holds_numbers kind.Int = true
+holds_numbers (kind.Text most) = false
+
+abbrev pub is_empty : {X : Type 0} → List X → Bool
+is_empty [] = true
+is_empty (x ∷ rest) = false
+
+abbrev pub name_of_numbers : Column → Option (List ℕ)
+name_of_numbers column = if holds_numbers column.kind then Some column.name else None
+
+-- the name of the one column of numbers of a table that has neither keys nor references
+abbrev pub number_column : Table → Option (List ℕ)
+number_column table =
+    if is_empty table.keys && is_empty table.references then option_and_then name_of_numbers (only table.columns) else None
+
+-- one column of numbers as cells
+abbrev pub cells_of : List ℤ → Cells
+cells_of numbers = record { kinds = kind.Int ∷ []; columns = map bits_of numbers ∷ []; rows = length numbers }
+
+-- the cells of a table that its file spells, or nothing where one of them isn't of the first form
+abbrev pub table_cells : Table → List ℕ → Option Cells
+table_cells table bytes = option_map cells_of (option_and_then (λ name. table_numbers name bytes) (number_column table))

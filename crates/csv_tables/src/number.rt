@@ -1,0 +1,52 @@
+//! The number that a field spells.
+ghost use Rattle.std.specs.Prelude.{◌≡◌, ◌≤◌, ◌^◌, false, option_map, true};
+ghost use Rattle.csv_tables.specs.Numbers.{greatest, number_of as spelled, signed, size_of as spelled_size};
+
+// The number that digits spell, where they are digits and spell at most so much.
+fn size_of(digits: &[u8], most: u64) -> Option<u64>
+    requires { most ≤ 2 ^ 63 }
+    ensures { result ≡ spelled_size most digits.now }
+{
+    if digits.is_empty() {
+        return None;
+    }
+    let mut size: u64 = 0;
+    'digits: for digit in digits {
+        if !digit.is_ascii_digit() {
+            return None;
+        }
+        let next = size as u128 * 10 + (*digit - b'0') as u128;
+        if next > most as u128 {
+            return None;
+        }
+        size = next as u64;
+    }
+    Some(size)
+}
+
+// The number from 0 on that digits spell, in the signed range of 64 bits.
+fn at_least_zero(digits: &[u8]) -> Option<i64>
+    ensures { result ≡ option_map (signed false) (spelled_size (greatest false) digits.now) }
+{
+    let size = size_of(digits, (1 << 63) - 1)?;
+    Some(size as i64)
+}
+
+// The number that digits spell behind a minus sign, in the signed range of 64 bits.
+fn at_most_zero(digits: &[u8]) -> Option<i64>
+    ensures { result ≡ option_map (signed true) (spelled_size (greatest true) digits.now) }
+{
+    let size = size_of(digits, 1 << 63)?;
+    Some((-(size as i128)) as i64)
+}
+
+/// The number that a field spells: a sign or none, then digits, in the signed range of 64 bits.
+pub(crate) fn number_of(field: &[u8]) -> Option<i64>
+    ensures { result ≡ spelled field.now }
+{
+    match field {
+        [b'-', digits @ ..] => at_most_zero(digits),
+        [b'+', digits @ ..] => at_least_zero(digits),
+        digits => at_least_zero(digits),
+    }
+}
