@@ -5,7 +5,7 @@ use Rattle.base_io.specs.Files.{Files, file_of}
 use Rattle.schema_types.specs.Form.{schema_of}
 use Rattle.schema_types.specs.declared.types.Schema.{Schema}
 use Rattle.schema_types.specs.declared.types.Table.{Table}
-use Rattle.csv_tables.specs.Stub.{numbers_of}
+use Rattle.csv_tables.specs.Tables.{numbers_of_table}
 use Rattle.safebound_top.specs.Accepted.{Accepted}
 use Rattle.safebound_top.specs.Query.{query_of}
 use Rattle.safebound_top.specs.Words.{command_of}
@@ -97,7 +97,7 @@ rows_of numbers = map (λ number. number ∷ []) numbers
 
 -- the numbers of a table in its file
 abbrev pub numbers_in : Files → Table → List ℕ → Result (List ℤ) Status
-numbers_in files table name = read files (file.Table 0) 67108864 name >>= (λ bytes. built (file.Table 0) (numbers_of table bytes))
+numbers_in files table name = read files (file.Table 0) 67108864 name >>= (λ bytes. built (file.Table 0) (numbers_of_table table bytes))
 
 -- what a run is over, or the first refusal that applies
 unfoldable pub verdict : List (List ℕ) → Files → Result Accepted Status

@@ -2,7 +2,7 @@
 ghost use Rattle.std.specs.Prelude.{ℕ, ◌≡◌, ◌≢◌, ◌⊎◌, ◌≤◌, ◌++◌, codes, List, length, map, None, Some, Ok, Err, IfOk, IfErr, IsErrOf, OnOk, slice_index_or, string_bytes, []};
 ghost use Rattle.base_io.specs.Causes.{Rose};
 ghost use Rattle.base_io.specs.Files.{Files};
-ghost use Rattle.csv_tables.specs.Stub.{values_of};
+ghost use Rattle.csv_tables.specs.Tables.{values_of};
 ghost use Rattle.safebound_top.specs.Faults.{IsText, NamesNoTable, fault_line, fault_text};
 ghost use Rattle.safebound_top.specs.Prepared.{accepted_of};
 ghost use Rattle.safebound_top.specs.Query.{SelectsFirst};

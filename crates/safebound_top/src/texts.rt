@@ -2,7 +2,8 @@
 ghost use Rattle.std.specs.Prelude.{ℕ, ◌≡◌, ◌≢◌, ◌≤◌, ◌++◌, codes, List, map, OnOk, OnErr, IsErrOf};
 ghost use Rattle.base_io.specs.Causes.{Rose};
 ghost use Rattle.base_io.specs.Sinks.{appended, GrewByPrefix};
-ghost use Rattle.csv_tables.specs.Stub.{value_of, values_of};
+ghost use Rattle.csv_tables.specs.Numbers.{number_in};
+ghost use Rattle.csv_tables.specs.Tables.{values_of};
 ghost use Rattle.safebound_top.specs.Call.{Tells};
 ghost use Rattle.safebound_top.specs.Faults.{cut_line, fault_line, file_name};
 ghost use Rattle.safebound_top.specs.Prepared.{accepted_of};
@@ -23,7 +24,7 @@ const LINE_END: &[u8] = b"\n";
 
 // The cells of the first column.
 fn first_column(cells: &Cells) -> &[u64]
-    ensures { values_of cells.now ≡ map value_of result.now }
+    ensures { values_of cells.now ≡ map number_in result.now }
 {
     match cells.columns.as_slice() {
         [] => &[],
