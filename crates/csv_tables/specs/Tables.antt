@@ -6,7 +6,7 @@ use Rattle.schema_types.specs.declared.types.Kind.{Kind}
 use Rattle.schema_types.specs.declared.types.Kind.TheVariants as kind
 use Rattle.schema_types.specs.declared.types.Table.{Table}
 use Rattle.csv_tables.specs.declared.types.Cells.{Cells}
-use Rattle.csv_tables.specs.Numbers.{bits_of}
+use Rattle.csv_tables.specs.Numbers.{bits_of, number_in}
 use Rattle.csv_tables.specs.Columns.{column_numbers, only}
 use Rattle.csv_tables.specs.Records.{has_mark, records_of}
 
@@ -35,10 +35,22 @@ abbrev pub number_column : Table → Option (List ℕ)
 number_column table =
     if is_empty table.keys && is_empty table.references then option_and_then name_of_numbers (only table.columns) else None
 
+-- the numbers of a table in its file, or nothing where one of them isn't of the first form
+abbrev pub numbers_of_table : Table → List ℕ → Option (List ℤ)
+numbers_of_table table bytes = option_and_then (λ name. table_numbers name bytes) (number_column table)
+
 -- one column of numbers as cells
 abbrev pub cells_of : List ℤ → Cells
 cells_of numbers = record { kinds = kind.Int ∷ []; columns = map bits_of numbers ∷ []; rows = length numbers }
 
 -- the cells of a table that its file spells, or nothing where one of them isn't of the first form
 abbrev pub table_cells : Table → List ℕ → Option Cells
-table_cells table bytes = option_map cells_of (option_and_then (λ name. table_numbers name bytes) (number_column table))
+table_cells table bytes = option_map cells_of (numbers_of_table table bytes)
+
+-- the numbers of the first column
+abbrev pub values : List (List ℕ) → List ℤ
+values [] = []
+values (column ∷ columns) = map number_in column
+
+abbrev pub values_of : Cells → List ℤ
+values_of cells = values cells.columns

@@ -5,7 +5,7 @@ ghost use Rattle.csv.specs.Records.{fields_of};
 ghost use Rattle.csv_tables.specs.Numbers.{bits_of};
 ghost use Rattle.csv_tables.specs.Columns.{column_numbers, numbers_of, row_number as numbered, NoColumn};
 ghost use Rattle.csv_tables.specs.Records.{has_mark as begins_with_mark, left, records_of, IsReading};
-ghost use Rattle.csv_tables.specs.Tables.{number_column as column_of_numbers, table_cells};
+ghost use Rattle.csv_tables.specs.Tables.{number_column as column_of_numbers, numbers_of_table, table_cells, values_of};
 
 use crate::cell::cell_of;
 use crate::header::place_of;
@@ -108,10 +108,13 @@ fn read_column(alloc: Global, name: &[u8], bytes: &[u8]) -> Result<Vec<u64>, Tab
 /// Reads the cells of a table from its file of at most 64 MiB. `Unbuilt` comes exactly where the
 /// table or the file isn't of the first form: one column of numbers, at most 1,000,000 records after
 /// the header, and nothing to refuse.
+#[tactic(auto, using(crate::proofs::RangeFacts::values_of_cells))]
 pub fn read_table(alloc: Global, table: &Table, bytes: &[u8]) -> Result<Cells, TableError>
     requires { length bytes.now ≤ 67108864 }
     ensures ok { IfOk result (λ cells. table_cells table.now bytes.now ≡ Some cells) }
+    ensures numbers { IfOk result (λ cells. numbers_of_table table.now bytes.now ≡ Some (values_of cells)) }
     ensures unbuilt { IsErrOf result TableError.Unbuilt → table_cells table.now bytes.now ≡ None }
+    ensures no_numbers { IsErrOf result TableError.Unbuilt → numbers_of_table table.now bytes.now ≡ None }
 {
     let Some(name) = number_column(table) else {
         return Err(TableError::Unbuilt);

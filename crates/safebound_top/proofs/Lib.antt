@@ -1,1 +1,5 @@
+pub mod Columns
+pub mod FaultLines
 pub mod Lines
+pub mod Meanings
+pub mod Staged

@@ -1,6 +1,12 @@
 pub mod Accepted
+pub mod Call
 pub mod Code
 pub mod Errors
+pub mod Faults
+pub mod Headline
+pub mod Prepared
 pub mod Query
+pub mod Stages
 pub mod Texts
+pub mod Verdict
 pub mod Words

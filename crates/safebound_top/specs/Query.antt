@@ -1,5 +1,5 @@
 -- Which query a text asks of a schema, in the first form.
-use Rattle.std.specs.Prelude.{ℕ, Bool, true, false, ◌&&◌, List, [], ◌∷◌, Option, None, Some, codes, option_and_then, slice_index_or, if◌then◌else◌}
+use Rattle.std.specs.Prelude.{ℕ, ◌≡◌, Bool, true, false, ◌&&◌, List, [], ◌∷◌, Option, None, Some, codes, option_and_then, slice_index_or, if◌then◌else◌}
 use Rattle.std.specs.Str.{bytes_eq}
 use Rattle.schema_types.specs.Shape.{Place, Spelled, Named, folded, has_form}
 use Rattle.schema_types.specs.Tokens.{tokens_of}
@@ -7,6 +7,7 @@ use Rattle.schema_types.specs.declared.types.Schema.{Schema}
 use Rattle.schema_types.specs.declared.types.Table.{Table}
 use Rattle.schema_types.specs.declared.types.Column.{Column}
 use Rattle.safebound_top.specs.declared.query.Query.{Query}
+use Rattle.safebound_top.specs.declared.query.Out.{Out}
 
 -- the query that selects the one column of the one table
 abbrev pub one_source : List ℕ → List ℕ → Query
@@ -14,6 +15,15 @@ one_source table column = record {
   from = record { table = 0; alias = table } ∷ [];
   select = record { column = record { from = 0; column = 0 }; name = column } ∷ [];
 }
+
+-- the query has one output, the first column of its entry
+abbrev pub AreFirst : List Out → Type 0
+AreFirst [] = ⊥
+AreFirst (out ∷ []) = out.column.column ≡ 0
+AreFirst (out ∷ next ∷ rest) = ⊥
+
+abbrev pub SelectsFirst : Query → Type 0
+SelectsFirst query = AreFirst query.select
 
 -- the list has one item, and the test holds of it
 abbrev pub is_only : {X : Type 0} → (X → Bool) → List X → Bool

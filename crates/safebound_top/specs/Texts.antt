@@ -2,6 +2,7 @@
 use Rattle.std.specs.Prelude.{ℕ, ℤ, ◌+◌, List, [], ◌∷◌, ◌++◌, map, codes, decimal}
 use Rattle.std.specs.Fmt.{signed_decimal}
 use Rattle.std.specs.List.{flat_map, join_with_byte}
+use Rattle.csv_tables.specs.Stub.{value_of}
 use Rattle.safebound_top.specs.declared.query.Source.{Source}
 use Rattle.safebound_top.specs.declared.query.Out.{Out}
 use Rattle.safebound_top.specs.Accepted.{Accepted, level_bound, printed, scan_bound}
@@ -35,3 +36,11 @@ abbrev pub rows_text : Accepted → List ℕ
 rows_text run =
     record_text (map (λ (out : Out). out.name) run.query.select)
     ++ flat_map (λ row. record_text (map signed_decimal row)) (printed run)
+
+-- the record of a row that is one cell
+abbrev pub cell_record : ℕ → List ℕ
+cell_record cell = record_text (signed_decimal (value_of cell) ∷ [])
+
+-- the rows text of one column of cells
+abbrev pub column_text : List ℕ → List ℕ → List ℕ
+column_text name cells = record_text (name ∷ []) ++ flat_map cell_record cells

@@ -1,7 +1,7 @@
 //! The query that a text asks of a schema.
 ghost use Rattle.std.specs.Prelude.{◌≡◌, ◌≤◌, ◌∷◌, [], IfOk, IsErrOf, None, Some, length};
 ghost use Rattle.std.specs.Str.{bytes_eq};
-ghost use Rattle.safebound_top.specs.Query.{declares_just as declared_just, is_only, one_source as query_of_names, query_of};
+ghost use Rattle.safebound_top.specs.Query.{SelectsFirst, declares_just as declared_just, is_only, one_source as query_of_names, query_of};
 ghost use Rattle.safebound_top.specs.Errors.{query_error};
 ghost use Rattle.safebound_top.specs.declared.query.QueryError.TheVariants as error;
 
@@ -113,6 +113,7 @@ pub fn read_query(alloc: Global, schema: &Schema, text: &[u8]) -> Result<Query, 
     requires { length text.now ≤ 1048576 }
     ensures ok { IfOk result (λ query. query_of schema.now text.now ≡ Some query) }
     ensures unbuilt { IsErrOf result QueryError.Unbuilt → query_of schema.now text.now ≡ None }
+    ensures shape { IfOk result SelectsFirst }
 {
     let tokens = tokens(alloc, text)?;
     let tokens = tokens.as_slice();

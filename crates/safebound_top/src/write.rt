@@ -3,10 +3,11 @@ ghost use Rattle.std.specs.Prelude.{ℕ, ◌≡◌, ◌≢◌, ◌≤◌, ◌<�
 ghost use Rattle.std.specs.List.{flat_map};
 ghost use Rattle.base_io.specs.Causes.{Rose};
 ghost use Rattle.base_io.specs.Sinks.{appended, GrewByPrefix, TookBut};
-ghost use Rattle.safebound_top.specs.Texts.{level_line, level_lines, plan_lines, record_text, scan_line};
+ghost use Rattle.safebound_top.specs.Texts.{cell_record, column_text, level_line, level_lines, plan_lines, record_text, scan_line};
 
 use crate::Source;
 use base_io::{Buffer, Failed, Sink};
+use csv_tables::value_of;
 
 const SCAN: &[u8] = b"scan ";
 
@@ -67,7 +68,18 @@ fn write_level<N: Sink>(
     let (mut place, mut digits) = (itoa::Buffer::new(), itoa::Buffer::new());
     let place = place.format(k).as_bytes();
     let bound = digits.format(bound).as_bytes();
-    buffer.put_parts(sink, &[LEVEL, place, SPACE, alias.as_bytes(), SPACE, bound, LINE_END])
+    buffer.put_parts(
+        sink,
+        &[
+            LEVEL,
+            place,
+            SPACE,
+            alias.as_bytes(),
+            SPACE,
+            bound,
+            LINE_END,
+        ],
+    )
 }
 
 // A line for each level, in the order of the entries.
@@ -98,6 +110,54 @@ pub fn write_plan<N: Sink>(sources: &[Source], bound: u64, sink: &mut N) -> Resu
     let mut buffer = Buffer::new();
     write_scans(sources, bound, &mut buffer, sink)?;
     write_levels(sources, bound, &mut buffer, sink)?;
+    buffer.flush(sink)?;
+    Ok(())
+}
+
+// The header record: the name of the one output.
+fn write_header<N: Sink>(name: &str, buffer: &mut Buffer, sink: &mut N) -> Result<(), Failed>
+    ensures ok { OnOk result (TookBut (N.taken sink.old) (N.taken sink.new) buffer.new (buffer.old ++ record_text (name.now ∷ []))) }
+    ensures prefix { GrewByPrefix (N.taken sink.old) (N.taken sink.new) (buffer.old ++ record_text (name.now ∷ [])) }
+    ensures later { N.faults sink.old ≤ N.faults sink.new }
+    ensures failed { OnErr result (Rose (N.faults sink.old) (N.faults sink.new)) }
+{
+    buffer.put_parts(sink, &[name.as_bytes(), RECORD_END])
+}
+
+fn write_number<N: Sink>(cell: u64, buffer: &mut Buffer, sink: &mut N) -> Result<(), Failed>
+    ensures ok { OnOk result (TookBut (N.taken sink.old) (N.taken sink.new) buffer.new (buffer.old ++ cell_record cell)) }
+    ensures prefix { GrewByPrefix (N.taken sink.old) (N.taken sink.new) (buffer.old ++ cell_record cell) }
+    ensures later { N.faults sink.old ≤ N.faults sink.new }
+    ensures failed { OnErr result (Rose (N.faults sink.old) (N.faults sink.new)) }
+{
+    let mut digits = itoa::Buffer::new();
+    let number = digits.format(value_of(cell)).as_bytes();
+    buffer.put_parts(sink, &[number, RECORD_END])
+}
+
+// A record for each cell.
+fn write_numbers<N: Sink>(cells: &[u64], buffer: &mut Buffer, sink: &mut N) -> Result<(), Failed>
+    ensures ok { OnOk result (TookBut (N.taken sink.old) (N.taken sink.new) buffer.new (buffer.old ++ flat_map cell_record cells.now)) }
+    ensures prefix { GrewByPrefix (N.taken sink.old) (N.taken sink.new) (buffer.old ++ flat_map cell_record cells.now) }
+    ensures later { N.faults sink.old ≤ N.faults sink.new }
+    ensures failed { OnErr result (Rose (N.faults sink.old) (N.faults sink.new)) }
+{
+    'cells: for cell in cells {
+        write_number(*cell, buffer, sink)?;
+    }
+    Ok(())
+}
+
+/// Writes the rows text of one column: a header of its name, and a record for each cell.
+pub fn write_rows<N: Sink>(name: &str, cells: &[u64], sink: &mut N) -> Result<(), Failed>
+    ensures ok { OnOk result (N.taken sink.new ≡ appended (N.taken sink.old) (column_text name.now cells.now)) }
+    ensures prefix { GrewByPrefix (N.taken sink.old) (N.taken sink.new) (column_text name.now cells.now) }
+    ensures later { N.faults sink.old ≤ N.faults sink.new }
+    ensures failed { OnErr result (Rose (N.faults sink.old) (N.faults sink.new)) }
+{
+    let mut buffer = Buffer::new();
+    write_header(name, &mut buffer, sink)?;
+    write_numbers(cells, &mut buffer, sink)?;
     buffer.flush(sink)?;
     Ok(())
 }

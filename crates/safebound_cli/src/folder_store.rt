@@ -1,0 +1,79 @@
+//! Real files.
+ghost use Rattle.std.specs.Prelude.{◌≤◌, IfOk, None, length};
+
+use base_io::{Store, StoreError};
+use std::fs;
+use std::io::{self, Read, Seek, SeekFrom};
+use std::rt::Files;
+
+// A file, its name, and the place at which its next read begins.
+#[derive(Drop)]
+struct Opened<F> {
+    name: String,
+    file: F,
+    place: u64,
+}
+
+/// Files by names relative to the working folder. It tells nothing of them. The file that it read last
+/// stays open. Every failure of the system is counted, an absent file's too.
+#[derive(Drop)]
+pub struct FolderStore<'a, R: Files> {
+    rt: &'a R,
+    last: Option<Opened<R::File>>,
+    faults: u64,
+}
+
+impl<'a, R: Files + AllocGlobal> FolderStore<'a, R> {
+    /// No file is open yet.
+    pub fn new(rt: &'a R) -> FolderStore<'a, R> {
+        FolderStore {
+            rt,
+            last: None,
+            faults: 0,
+        }
+    }
+
+    // The file of this name, opened where the last one read is another.
+    fn opened(&mut self, name: &str) -> io::Result<Opened<R::File>> {
+        match self.last.take() {
+            Some(opened) if opened.name.as_str() == name => Ok(opened),
+            _ => Ok(Opened {
+                name: String::from_str(self.rt.alloc(), name)?,
+                file: fs::open(self.rt, name)?,
+                place: 0,
+            }),
+        }
+    }
+
+    // After a failure no file stays open, so the next read begins anew.
+    fn read_part(&mut self, name: &str, at: u64, into: &mut [u8]) -> io::Result<usize>
+        ensures { IfOk result (λ n. n ≤ length into.new) }
+    {
+        let mut opened = self.opened(name)?;
+        if opened.place != at {
+            opened.file.seek(SeekFrom::Start(at))?;
+        }
+        let count = opened.file.read(into)?;
+        opened.place = at.saturating_add(count as u64);
+        self.last = Some(opened);
+        Ok(count)
+    }
+}
+
+impl<'a, R: Files + AllocGlobal> Store for FolderStore<'a, R> {
+    ghost files = { λ _. None };
+
+    ghost faults = { λ s. s.faults };
+
+    ghost misses = { λ _. 0 };
+
+    fn read_at(&mut self, name: &str, at: u64, into: &mut [u8]) -> Result<usize, StoreError> {
+        match self.read_part(name, at, into) {
+            Ok(count) => Ok(count),
+            Err(_) => {
+                self.faults = self.faults.saturating_add(1);
+                Err(StoreError::Failed)
+            }
+        }
+    }
+}

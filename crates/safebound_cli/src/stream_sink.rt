@@ -1,0 +1,35 @@
+//! Real streams.
+ghost use Rattle.std.specs.Prelude.{None};
+
+use base_io::{Failed, Sink};
+use std::io::Write;
+
+/// A stream whose failed writes are counted. It tells nothing of what was taken.
+#[derive(Drop)]
+pub struct StreamSink<W> {
+    stream: W,
+    faults: u64,
+}
+
+impl<W: Write> StreamSink<W> {
+    /// Nothing has failed yet.
+    pub fn new(stream: W) -> StreamSink<W> {
+        StreamSink { stream, faults: 0 }
+    }
+}
+
+impl<W: Write> Sink for StreamSink<W> {
+    ghost taken = { λ _. None };
+
+    ghost faults = { λ s. s.faults };
+
+    fn write(&mut self, bytes: &[u8]) -> Result<usize, Failed> {
+        match self.stream.write(bytes) {
+            Ok(count) if count > 0 || bytes.is_empty() => Ok(count),
+            _ => {
+                self.faults = self.faults.saturating_add(1);
+                Err(Failed)
+            }
+        }
+    }
+}

@@ -1,0 +1,18 @@
+use Rattle.std.proofs.Common.{◌≡◌, ◌++◌, List, ℕ, []}
+use Rattle.base_io.proofs.SinkFacts.{prefix_of_all}
+use Rattle.base_io.proofs.BufferFacts.{cut_next, cut_off, took_next, went_on}
+use Rattle.safebound_top.proofs.write.write_rows.Goals as goal
+
+pub returns-in_err-write_numbers-clause-prefix : goal.returns-in_err-write_numbers-clause-prefix
+returns-in_err-write_numbers-clause-prefix g c =
+    cut_next _ _ _ _ _ _ (rw c.new-buffer.ensures at c.in_ok-write_header.ensures.ok) c.in_err-write_numbers.ensures.prefix
+
+pub returns-in_err-flush-clause-prefix : goal.returns-in_err-flush-clause-prefix
+returns-in_err-flush-clause-prefix g c =
+    cut_off _ _ _ _ _ (took_next _ _ _ _ _ _ _ (rw c.new-buffer.ensures at c.in_ok-write_header.ensures.ok) c.in_ok-write_numbers.ensures.ok)
+    c.in_err-flush.ensures.prefix
+
+pub returns-clause-prefix : goal.returns-clause-prefix
+returns-clause-prefix g c =
+    prefix_of_all _ _ _ (went_on _ _ _ _ _
+    (took_next _ _ _ _ _ _ _ (rw c.new-buffer.ensures at c.in_ok-write_header.ensures.ok) c.in_ok-write_numbers.ensures.ok) c.in_ok-flush.ensures.ok)
