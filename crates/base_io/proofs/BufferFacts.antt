@@ -95,7 +95,7 @@ pub cut_step : (old mid new : Option (List ℕ)) (first start done next left all
 cut_step old mid new first start done next left all e h k =
     let cut = prefix_of_first old new ((start ++ done) ++ next) left (cut_next old mid new first (start ++ done) next h k) in
     let whole : ((start ++ done) ++ next) ++ left ≡ start ++ all =
-        append_assoc (start ++ done) next left ∙ append_assoc start done (next ++ left) ∙ ap (λ x. start ++ x) e in
+    append_assoc (start ++ done) next left ∙ append_assoc start done (next ++ left) ∙ ap (λ x. start ++ x) e in
     subst (GrewByPrefix old new) whole cut
 
 -- the bytes that wait go on, whole or cut

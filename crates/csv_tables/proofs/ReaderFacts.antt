@@ -1,11 +1,11 @@
 -- A reader over bytes in memory gives the records that it has left, one after another.
-use Rattle.std.proofs.Common.{◌≡◌, inl, ℕ, List, [], ◌∷◌, Option, None, Some, true, false, refl, ap, sym, ◌∙◌}
+use Rattle.std.proofs.Common.{◌≡◌, inl, ℕ, List, [], ◌∷◌, Option, None, Some, true, false, refl, ap, ◌∙◌}
 use Rattle.csv.specs.Machine.{next_record}
 use Rattle.csv.specs.Reading.{default_config, pending_of, strip_bom, took_first, NextIs, ReadRecord, ReadsNext}
 use Rattle.csv.specs.declared.parser.State.{State}
 use Rattle.csv.proofs.ReadFacts.{rows-end}
 use Rattle.csv_tables.specs.Records.{has_mark, left, records_in, unread, IsReading, Source}
-use Rattle.csv_tables.proofs.RecordFacts.{first_found, none_found}
+use Rattle.csv_tables.proofs.RecordFacts.{first_found, none_found, Found}
 
 -- bytes without a byte order mark keep all of it
 pub unmarked : (bytes : List ℕ) → has_mark bytes ≡ false → strip_bom bytes ≡ bytes
@@ -19,6 +19,11 @@ read_known : (s s2 : State) (xs : List ℕ) (k : Option (List ℕ)) (fields : Li
     → (ys : List ℕ) × (k ≡ Some ys) × NextIs (next_record default_config s [] [] xs) true fields s2 ys
 read_known s s2 xs None fields r = absurd r
 read_known s s2 xs (Some ys) fields r = (ys, refl, r)
+
+-- the records in known bytes
+first_of_known : (s s2 : State) (before after : Option (List ℕ)) (xs ys : List ℕ) (fields : List (List ℕ)) → before ≡ Some xs → after ≡ Some ys
+    → Found default_config s xs fields s2 ys → records_in s before ≡ fields ∷ records_in s2 after
+first_of_known s s2 before after xs ys fields e f found = rw (e, f) found.first
 
 -- what such a read leaves
 pub record Gave (old new : Source) (fields : List (List ℕ)) : Type 0 where
@@ -34,7 +39,7 @@ gave_first old new fields was took r =
     let found = first_found default_config old.state was.bytes fields new.state k.0 was.between k.2 in
     record {
       reading = record { config = r.2 ∙ was.config; trim = r.3 ∙ was.trim; ready = inl took; bytes = k.0; known = known; between = found.between };
-      first = ap (records_in old.state) was.known ∙ found.first ∙ ap (λ rest. fields ∷ rest) (sym (ap (records_in new.state) known));
+      first = first_of_known old.state new.state (unread old) (unread new) was.bytes k.0 fields was.known known found;
     }
 
 -- a read that found none: none was left

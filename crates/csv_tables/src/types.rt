@@ -4,9 +4,10 @@ ghost use Rattle.csv_tables.specs.declared.types.TableError.TheVariants as error
 
 use base_io::{NoMemory, Seq};
 use schema_types::Kind;
-use std::alloc::{AllocError, AllocFailed};
+use std::alloc::AllocFailed;
 
-/// A table's cells, column by column. A cell of a number is its 64 bits in two's complement.
+/// A table's cells, column by column, each column with one cell for each of `rows` records. A cell
+/// of a number is its 64 bits in two's complement.
 #[derive(Debug, Drop)]
 pub struct Cells {
     pub kinds: Seq<Kind>,
@@ -19,6 +20,7 @@ pub struct Cells {
 pub enum TableError {
     /// The table or the file isn't of the form that is built today.
     Unbuilt,
+    /// Memory was wanting.
     NoMemory,
 }
 
@@ -26,14 +28,6 @@ impl From<NoMemory> for TableError {
     ghost from_gives = { λ _ e. e ≡ error.NoMemory };
 
     fn from(_: NoMemory) -> Self {
-        TableError::NoMemory
-    }
-}
-
-impl From<AllocError> for TableError {
-    ghost from_gives = { λ _ e. e ≡ error.NoMemory };
-
-    fn from(_: AllocError) -> Self {
         TableError::NoMemory
     }
 }
