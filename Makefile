@@ -6,9 +6,10 @@ PROGRAM := crates/safebound_cli/out/safebound_cli
 run: build
 	cd examples/first && ../../$(PROGRAM) run schema.sql query.sql
 
-# The program alone, proved.
+# The program alone, proved. It is run without words, which it answers with its usage line.
 build:
-	rt lib safebound_cli 2>/dev/null; true
+	@echo "proving and building the program; the first time takes minutes"
+	@cd crates/safebound_cli && { rt run > build.log 2>&1; grep -q '^error usage$$' build.log || { cat build.log; exit 1; }; }
 
 # The program over the example at once, compiled with checks and nothing proved.
 try:

@@ -1,5 +1,5 @@
 //! Real files.
-ghost use Rattle.std.specs.Prelude.{◌≤◌, IfOk, None, length};
+ghost use Rattle.std.specs.Prelude.{◌≡◌, ◌≤◌, IfOk, None, length};
 
 use base_io::{Store, StoreError};
 use std::fs;
@@ -34,7 +34,9 @@ impl<'a, R: Files + AllocGlobal> FolderStore<'a, R> {
     }
 
     // The file of this name, opened where the last one read is another.
-    fn opened(&mut self, name: &str) -> io::Result<Opened<R::File>> {
+    fn opened(&mut self, name: &str) -> io::Result<Opened<R::File>>
+        ensures { self.new.faults ≡ self.old.faults }
+    {
         match self.last.take() {
             Some(opened) if opened.name.as_str() == name => Ok(opened),
             _ => Ok(Opened {
@@ -47,7 +49,8 @@ impl<'a, R: Files + AllocGlobal> FolderStore<'a, R> {
 
     // After a failure no file stays open, so the next read begins anew.
     fn read_part(&mut self, name: &str, at: u64, into: &mut [u8]) -> io::Result<usize>
-        ensures { IfOk result (λ n. n ≤ length into.new) }
+        ensures count { IfOk result (λ n. n ≤ length into.new) }
+        ensures faults { self.new.faults ≡ self.old.faults }
     {
         let mut opened = self.opened(name)?;
         if opened.place != at {
@@ -75,5 +78,42 @@ impl<'a, R: Files + AllocGlobal> Store for FolderStore<'a, R> {
                 Err(StoreError::Failed)
             }
         }
+    }
+}
+
+#[cfg(test)]
+mod tests {
+    use super::*;
+    use base_io::{ReadError, read_file};
+    use std::env;
+    use std::test::Fail;
+
+    // A file is read whole; a missing one, a folder in a file's place and a name that can't be one are
+    // failures, and each is counted.
+    #[test]
+    fn real_files_are_read_and_failures_counted(rt: HostRuntime) -> Result<(), Fail> {
+        let alloc = rt.alloc();
+        let folder = env::temp_dir(&rt)?;
+        let path = folder.join(alloc, "safebound-folder-store-test")?;
+        fs::write(&rt, path.as_str(), "X\r\n1\r\n")?;
+        let mut store = FolderStore::new(&rt);
+        let bytes = read_file(alloc, &mut store, path.as_str(), 100)?;
+        assert_eq!(rt; bytes.as_slice(), b"X\r\n1\r\n".as_slice());
+        let again = read_file(alloc, &mut store, path.as_str(), 5);
+        assert!(rt; again.err() == Some(ReadError::TooLong { limit: 5 }));
+        assert_eq!(rt; store.faults, 0);
+        fs::remove_file(&rt, path.as_str())?;
+        let other = folder.join(alloc, "safebound-no-such-file")?;
+        assert!(rt;
+            read_file(alloc, &mut store, other.as_str(), 100).err() == Some(ReadError::Fault)
+        );
+        assert_eq!(rt; store.faults, 1);
+        assert!(rt;
+            read_file(alloc, &mut store, folder.as_str(), 100).err() == Some(ReadError::Fault)
+        );
+        assert_eq!(rt; store.faults, 2);
+        assert!(rt; read_file(alloc, &mut store, "no\0name", 100).err() == Some(ReadError::Fault));
+        assert_eq!(rt; store.faults, 3);
+        Ok(())
     }
 }
