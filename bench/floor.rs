@@ -11,50 +11,69 @@ fn words(text: &str) -> Vec<String> {
         .collect()
 }
 
-// The fields of the next record, and what comes after it.
-fn record<'a>(rest: &'a [u8], fields: &mut Vec<Vec<u8>>) -> Option<&'a [u8]> {
-    if rest.is_empty() {
-        return None;
+/// The fields of one record, side by side, and where each ends. It is used again for each record.
+#[derive(Default)]
+struct Record {
+    bytes: Vec<u8>,
+    ends: Vec<usize>,
+}
+
+impl Record {
+    fn field(&self, place: usize) -> &[u8] {
+        let start = if place == 0 { 0 } else { self.ends[place - 1] };
+        &self.bytes[start..self.ends[place]]
     }
-    fields.clear();
-    let mut field = Vec::new();
-    let (mut at, mut quoted) = (0, false);
-    while at < rest.len() {
-        let byte = rest[at];
-        at += 1;
-        match byte {
-            b'"' if !quoted && field.is_empty() => quoted = true,
-            b'"' if quoted && rest.get(at) == Some(&b'"') => {
-                field.push(b'"');
-                at += 1;
-            }
-            b'"' if quoted => quoted = false,
-            b',' if !quoted => fields.push(std::mem::take(&mut field)),
-            b'\r' | b'\n' if !quoted => {
-                if byte == b'\r' && rest.get(at) == Some(&b'\n') {
+
+    /// Reads the next record, and hands back what comes after it.
+    fn read<'a>(&mut self, rest: &'a [u8]) -> Option<&'a [u8]> {
+        if rest.is_empty() {
+            return None;
+        }
+        self.bytes.clear();
+        self.ends.clear();
+        let (mut at, mut start, mut quoted) = (0, true, false);
+        while at < rest.len() {
+            let byte = rest[at];
+            at += 1;
+            match byte {
+                b'"' if start => quoted = true,
+                b'"' if quoted && rest.get(at) == Some(&b'"') => {
+                    self.bytes.push(b'"');
                     at += 1;
                 }
-                break;
+                b'"' if quoted => quoted = false,
+                b',' if !quoted => {
+                    self.ends.push(self.bytes.len());
+                    start = true;
+                    continue;
+                }
+                b'\r' | b'\n' if !quoted => {
+                    if byte == b'\r' && rest.get(at) == Some(&b'\n') {
+                        at += 1;
+                    }
+                    break;
+                }
+                _ => self.bytes.push(byte),
             }
-            _ => field.push(byte),
+            start = false;
         }
+        self.ends.push(self.bytes.len());
+        Some(&rest[at..])
     }
-    fields.push(field);
-    Some(&rest[at..])
 }
 
 fn cells(name: &str, bytes: &[u8]) -> Option<Vec<i64>> {
     std::str::from_utf8(bytes).ok()?;
-    let mut fields = Vec::new();
-    let mut rest = record(bytes, &mut fields)?;
-    let width = fields.len();
-    let place = fields.iter().position(|f| f.eq_ignore_ascii_case(name.as_bytes()))?;
+    let mut record = Record::default();
+    let mut rest = record.read(bytes)?;
+    let width = record.ends.len();
+    let place = (0..width).find(|&i| record.field(i).eq_ignore_ascii_case(name.as_bytes()))?;
     let mut cells = Vec::new();
-    while let Some(after) = record(rest, &mut fields) {
-        if fields.len() != width {
+    while let Some(after) = record.read(rest) {
+        if record.ends.len() != width {
             return None;
         }
-        cells.push(std::str::from_utf8(&fields[place]).ok()?.parse().ok()?);
+        cells.push(std::str::from_utf8(record.field(place)).ok()?.parse().ok()?);
         rest = after;
     }
     Some(cells)
