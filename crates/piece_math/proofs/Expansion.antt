@@ -1,9 +1,9 @@
 -- Pieces and the list that they stand for.
-use Rattle.std.proofs.Common.{◌≡◌, ℕ, zero, suc, ◌+◌, ◌-◌, ◌*◌, ◌^◌, ◌<◌, ◌≤◌, List, [], ◌∷◌, ◌++◌, length, get_or, take, replicate, refl, ap, sym, ◌∙◌, subst, sum, arith, length-append, zero-add}
+use Rattle.std.proofs.Common.{eqb, ◌≡◌, ℕ, zero, suc, ◌+◌, ◌-◌, ◌*◌, ◌^◌, ◌<◌, ◌≤◌, List, [], ◌∷◌, ◌++◌, length, get_or, take, replicate, refl, ap, sym, ◌∙◌, subst, sum, arith, length-append, zero-add}
 use Rattle.std.specs.List.{AllByRecursion, All}
 use Rattle.std.proofs.Math.Nat.{suc-add}
 use Rattle.std.proofs.Math.Seq.{get_or-append_seam}
-use Rattle.std.proofs.lemmas.Bool.{eq-eqb, ne_eqb}
+use Rattle.std.proofs.lemmas.Bool.{cond_both, eq-eqb, ne_eqb}
 use Rattle.std.proofs.lemmas.List.{append_assoc, append-nil, length-replicate, take_all, take_more}
 use Rattle.std.proofs.lemmas.List.Folds.{sum_by-replicate}
 use Rattle.std.proofs.lemmas.List.Sums.{sum_by-append}
@@ -141,6 +141,17 @@ runs_after-pieces p (q ∷ ps) fall =
 pub runs-expanded : (ps : List Piece) → AreFalling ps → length ps ≡ runs (expanded ps)
 runs-expanded [] fall = refl
 runs-expanded (p ∷ ps) fall = sym (runs_after-front 0 p.count p.value (expanded ps) fall.1 (λ e. omega (arith, fall.0)) ∙ ap suc (runs_after-pieces p ps fall))
+
+-- one more run
+runs_after-push : (v : ℕ) (s : List ℕ) (n x : ℕ) → runs_after v (s ++ replicate n x) ≤ suc (runs_after v s)
+runs_after-push v [] zero x = omega arith
+runs_after-push v [] (suc n) x = cond_both (eqb x v) 0 1 (λ k. k + runs_after x (replicate n x) ≤ 1)
+    (λ e. omega (arith, runs_after-same n x [], ap (runs_after x) (append-nil (replicate n x))))
+    (λ e. omega (arith, runs_after-same n x [], ap (runs_after x) (append-nil (replicate n x))))
+runs_after-push v (y ∷ s) n x = omega (arith, runs_after-push y s n x)
+
+pub runs-push : (s : List ℕ) (n x : ℕ) → runs (s ++ replicate n x) ≤ runs s + 1
+runs-push s n x = omega (arith, runs_after-push 0 s n x)
 
 -- ---- the list falls and is positive
 

@@ -1,2 +1,6 @@
 pub mod Expansion
 pub mod Falling
+pub mod Places
+pub mod Building
+pub mod Walking
+pub mod Combining

@@ -8,6 +8,8 @@
 //! `runs` for the number of pieces of a list.
 #![tactic(auto)]
 
+mod by_rank;
 mod pieces;
+mod walk;
 
 pub use pieces::{Piece, Pieces};

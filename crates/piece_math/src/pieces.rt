@@ -4,7 +4,7 @@ ghost use Rattle.std.specs.List.{All, sum};
 ghost use Rattle.degree_sequences.specs.Falling.{IsFalling};
 ghost use Rattle.degree_sequences.specs.Runs.{runs};
 ghost use Rattle.degree_sequences.specs.Saturation.{saturated};
-ghost use Rattle.piece_math.specs.Expanded.{expanded, AreFalling};
+ghost use Rattle.piece_math.specs.Expanded.{expanded, ArePieces};
 
 use base_io::NoMemory;
 use smallvec::SmallVec;
@@ -48,11 +48,10 @@ impl Pieces {
     /// The pieces, which stand for the list. There is one for each run of equal elements.
     pub fn pieces(&self) -> &[Piece]
         ensures stands_for { self.now ≡ expanded result.now }
-        ensures falls { AreFalling result.now }
+        ensures whole { ArePieces result.now }
         ensures one_per_run { length result.now ≡ runs self.now }
         ensures list_falls { IsFalling self.now }
         ensures positive { All (λ x. 0 < x) self.now }
-        ensures short { length self.now < 2 ^ 64 }
     {
         self.parts.as_slice()
     }
@@ -78,6 +77,25 @@ impl Pieces {
             self.parts.push(Piece { value, count })?;
         }
         Ok(())
+    }
+
+    // Appends so many elements, unless they are zeros.
+    pub(crate) fn put(&mut self, value: u128, count: u64) -> Result<(), NoMemory>
+        requires falls { 0 < value → 0 < count → All (λ x. value ≤ x) self.old }
+        requires room { 0 < value → 0 < count → length self.old + count < 2 ^ 64 }
+        ensures some { OnOk result (0 < value → self.new ≡ self.old ++ replicate count value) }
+        ensures zeros { OnOk result (value ≡ 0 → self.new ≡ self.old) }
+        ensures few { OnOk result (runs self.new ≤ runs self.old + 1) }
+    {
+        if value > 0 && count > 0 {
+            self.push_run(value, count)?;
+        }
+        Ok(())
+    }
+
+    // Where its memory comes from.
+    pub(crate) fn alloc(&self) -> Global {
+        *self.parts.allocator()
     }
 
     /// A list as it is given.
