@@ -4,7 +4,7 @@ use Rattle.std.proofs.Math.Nat.{mul-le-mul, mul-zero, mul_comm, zero-mul}
 use Rattle.std.specs.List.{AllByRecursion, AllZip}
 use Rattle.degree_sequences.proofs.FallingLists.{IsFalling-from_sums, sums_fall}
 use Rattle.degree_sequences.proofs.Summation.{sum_below, sum_below-list, sum_below-mul-le, sum_below-product, sum_below-same}
-use Rattle.degree_sequences.specs.ByRank.{rank_maximum, rank_product, rank_product_with, rank_sum}
+use Rattle.degree_sequences.specs.ByRank.{rank_maximum, rank_product, rank_product_with, rank_product_of, rank_sum}
 use Rattle.degree_sequences.specs.Falling.{IsFalling}
 use Rattle.degree_sequences.specs.RunningSums.{IsAbove, running_sum}
 
@@ -54,6 +54,14 @@ rank_product_with-above s (s' ∷ ss) t [] fs fss ft fts one all = absurd all
 rank_product_with-above s (s' ∷ ss) t (t' ∷ ts) fs fss ft fts one all =
     rank_product-above s (rank_product_with s' ss) t (rank_product_with t' ts) (IsFalling-rank_product_with s' ss fss.0 fss.1) ft one
     (rank_product_with-above s' ss t' ts fss.0 fss.1 fts.0 fts.1 all.0 all.1)
+
+-- the product of one or more lists is monotone
+pub rank_product_of-above : (ss ts : List (List ℕ)) → AllByRecursion IsFalling ss → AllByRecursion IsFalling ts → AllZip IsAbove ss ts
+    → IsAbove (rank_product_of ss) (rank_product_of ts)
+rank_product_of-above [] [] fss fts all = λ r. omega arith
+rank_product_of-above [] (t ∷ ts) fss fts all = absurd all
+rank_product_of-above (s ∷ ss) [] fss fts all = absurd all
+rank_product_of-above (s ∷ ss) (t ∷ ts) fss fts all = rank_product_with-above s ss t ts fss.0 fss.1 fts.0 fts.1 all.0 all.1
 
 -- the running sums of a sum are the sums
 pub running_sum-rank_sum : (s t : List ℕ) (r : ℕ) → running_sum (rank_sum s t) r ≡ running_sum s r + running_sum t r

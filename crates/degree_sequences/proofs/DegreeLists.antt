@@ -6,7 +6,8 @@ use Rattle.degree_sequences.proofs.Counting.{IsDistinct-different, all-count, co
 use Rattle.degree_sequences.proofs.FallingOrder.{IsFalling-in_falling_order, picked-le, sum-in_falling_order}
 use Rattle.degree_sequences.proofs.RunningSums.{running_sum-mono}
 use Rattle.degree_sequences.specs.Degrees.{degree, degree_list, different}
-use Rattle.degree_sequences.specs.Domination.{DominatesKeys}
+use Rattle.degree_sequences.proofs.Places.{count_by-degree}
+use Rattle.degree_sequences.specs.Domination.{DominatesKeys, DominatesWeights}
 use Rattle.degree_sequences.specs.Falling.{IsFalling}
 
 -- the degrees sum to the number of places
@@ -35,3 +36,7 @@ degree_list_dominates L A apart =
       picked-le (degree L) (is_in A) D,
       running_sum-mono (degree_list L) (count_by (is_in A) D) (length A) (count_by-is_in D (IsDistinct-different L) A),
     )
+
+-- of different keys, the degrees are a weight that a list that dominates the keys dominates
+pub degrees_dominated : (s L : List ℕ) → DominatesKeys s L → DominatesWeights s (degree L)
+degrees_dominated s L dom A apart = omega (arith, count_by-degree L A apart, dom A apart)

@@ -7,7 +7,7 @@ use Rattle.std.specs.List.{AllByRecursion, AllZip, range_with_len}
 use Rattle.degree_sequences.proofs.ByRank.{IsFalling-rank_product, get_or-rank_product, rank_product-above}
 use Rattle.degree_sequences.proofs.FallingLists.{IsFalling-from_sums, window}
 use Rattle.degree_sequences.proofs.Places.{length-range}
-use Rattle.degree_sequences.proofs.RunningSums.{running_sum-agree, running_sum-block_sums, running_sum-le-sum, running_sum-mono, running_sum-ones, running_sum-suc, running_sum-trimmed}
+use Rattle.degree_sequences.proofs.RunningSums.{sum-above, running_sum-agree, running_sum-block_sums, running_sum-le-sum, running_sum-mono, running_sum-ones, running_sum-suc, running_sum-trimmed}
 use Rattle.degree_sequences.proofs.Spread.{IsFalling-spread, get_or-spread, spread, spread-above}
 use Rattle.degree_sequences.specs.ByRank.{rank_product}
 use Rattle.degree_sequences.specs.Composition.{ChildLists, block_sums, composed, row_weights, weight_by_rank}
@@ -83,7 +83,13 @@ spreads-above total total' h (c ∷ cs) (d ∷ ds) ok ok' all =
     (spread-above c.column c.class d.column d.class ok.0.class_falls ok'.0.column_falls all.0.column all.0.class)
 
 -- larger lists give a larger composition
-pub composed-above : (g h : List ℕ) (cs ds : List ChildLists) → AllByRecursion (IsChild (sum g)) cs → AllByRecursion (IsChild (sum h)) ds → sum h ≤ sum g
+pub composed-above : (g h : List ℕ) (cs ds : List ChildLists) → AllByRecursion (IsChild (sum g)) cs → AllByRecursion (IsChild (sum h)) ds
     → IsAbove g h → AllZip ChildIsAbove cs ds → IsAbove (composed g cs) (composed h ds)
-composed-above g h cs ds ok ok' fits above all r =
-    omega (arith, running_sum-composed g cs ok r, running_sum-composed h ds ok' r, spreads-above (sum g) (sum h) fits cs ds ok ok' all (running_sum h r), running_sum-mono (spreads cs (sum g)) (running_sum h r) (running_sum g r) (above r))
+composed-above g h cs ds ok ok' above all r =
+    omega (
+      arith,
+      running_sum-composed g cs ok r,
+      running_sum-composed h ds ok' r,
+      spreads-above (sum g) (sum h) (sum-above g h above) cs ds ok ok' all (running_sum h r),
+      running_sum-mono (spreads cs (sum g)) (running_sum h r) (running_sum g r) (above r),
+    )

@@ -5,7 +5,7 @@ use Rattle.std.proofs.lemmas.List.Sums.{sum_by-cons}
 use Rattle.degree_sequences.proofs.Summation.{sum_below-list, sum_below-same}
 use Rattle.degree_sequences.specs.Composition.{block_sums}
 use Rattle.degree_sequences.specs.Falling.{onto, trimmed}
-use Rattle.degree_sequences.specs.RunningSums.{running_sum}
+use Rattle.degree_sequences.specs.RunningSums.{running_sum, IsAbove}
 
 -- the empty list sums to 0
 pub running_sum-nil : (r : ℕ) → running_sum [] r ≡ 0
@@ -43,6 +43,10 @@ pub running_sum-le-sum : (s : List ℕ) (r : ℕ) → running_sum s r ≤ sum s
 running_sum-le-sum s zero = omega arith
 running_sum-le-sum [] (suc r) = omega arith
 running_sum-le-sum (x ∷ s) (suc r) = omega (arith, running_sum-le-sum s r, sum_by-cons (λ (y : ℕ). y) x s)
+
+-- a list above another has no smaller sum
+pub sum-above : (s t : List ℕ) → IsAbove s t → sum t ≤ sum s
+sum-above s t above = omega (arith, running_sum-whole t, above (length t), running_sum-le-sum s (length t))
 
 -- what is cut off is 0
 pub running_sum-onto : (x : ℕ) (s : List ℕ) (r : ℕ) → running_sum (onto x s) r ≡ running_sum (x ∷ s) r

@@ -1,0 +1,4 @@
+//! Operations on lists of degrees.
+#![tactic(auto)]
+
+pub mod laws;
