@@ -4,3 +4,4 @@ pub mod Places
 pub mod Building
 pub mod Walking
 pub mod Combining
+pub mod LawInstances

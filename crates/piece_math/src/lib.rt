@@ -9,6 +9,7 @@
 #![tactic(auto)]
 
 mod by_rank;
+pub mod laws;
 mod pieces;
 mod walk;
 
