@@ -17,12 +17,11 @@ heads_from accuracy head (x ∷ s) = next_head accuracy head x ∷ heads_from ac
 abbrev pub heads : ℕ → List ℕ → List ℕ
 heads accuracy f = heads_from accuracy (slice_index f 0) f
 
--- the head in force at the element in which row m + 1 lies
+-- the head that governs row m + 1: that of the element to which the row belongs
 abbrev pub slope : ℕ → List ℕ → ℕ → ℕ
 slope accuracy f m = slice_index (heads accuracy f) (rank f (suc m) - 1)
 
--- the elements that follow where the earlier ones sum to m, and at most `count` of them:
--- each is the slope there, until the sum of f is reached
+-- what comes after elements that sum to m, in at most `count` steps: a step takes the slope there, or what is left of the sum
 abbrev pub compressed_from : ℕ → List ℕ → ℕ → ℕ → List ℕ
 compressed_from accuracy f zero m = []
 compressed_from accuracy f (suc count) m =

@@ -14,8 +14,8 @@ ghost use Rattle.degree_sequences.specs.RunningSums.{running_sum, lesser, cut_at
 ghost use Rattle.degree_sequences.specs.Runs.{runs};
 ghost use Rattle.degree_sequences.specs.Saturation.{saturated};
 
-/// A degree list is the degrees of the different keys in falling order. It dominates the keys, and the degrees
-/// as weights (Degree Sequence Bound, ICDT 2023).
+/// A degree list rearranges the degrees of the different keys so that they fall, and dominates the keys. What
+/// dominates keys dominates their degrees as weights (Degree Sequence Bound, ICDT 2023).
 pub fn degree_lists()
     ensures different { (keys : List ℕ) → IsDistinct ◌==◌ (different keys) }
     ensures rearranged { (keys : List ℕ) → IsPermutation (map (degree keys) (different keys)) (degree_list keys) }
