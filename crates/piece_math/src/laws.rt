@@ -22,17 +22,16 @@ pub fn product_dominates()
 {}
 
 /// Composition dominates, for rows that have a parent key and a key for each child. Its lists dominate the parent
-/// keys, the keys of each child, and the class weights of these. The lists of keys share one sum, and there are no
-/// more rows than that.
+/// keys, the keys of each child, and the class weights of these. The lists of keys need not share one sum: each has
+/// at least the number of rows.
 pub fn compose_dominates()
     // the composition dominates the weights that the rows give to the parent keys
     ensures keys { (parent parent_keys : List ℕ) (lists : List ChildLists) (children : List ChildKeys)
-        → DominatesKeys parent parent_keys → length parent_keys ≤ sum parent
-        → AllZip (DominatesChild (sum parent) (length parent_keys)) lists children
+        → DominatesKeys parent parent_keys → AllZip (DominatesChild (length parent_keys)) lists children
         → DominatesWeights (composed parent lists) (weight_of_key parent_keys children) }
     // the row weights by rank sum to at least the weights of the rows
     ensures rows { (total rows : ℕ) (lists : List ChildLists) (children : List ChildKeys)
-        → rows ≤ total → AllZip (DominatesChild total rows) lists children
+        → rows ≤ total → AllZip (DominatesChild rows) lists children
         → sum_by (weight_of_row children) (range_with_len 0 rows) ≤ root_total lists total }
 {}
 
