@@ -1,0 +1,2 @@
+pub mod FallingCounts
+pub mod Tally

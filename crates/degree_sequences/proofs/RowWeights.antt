@@ -1,0 +1,99 @@
+-- The weights of rows, child by child.
+use Rattle.std.proofs.Common.{List, [], ap, arith, get_or, replicate, suc, sum, sym, ℕ, ◌*◌, ◌+◌, ◌-◌, ◌<◌, ◌∙◌, ◌∷◌, ◌≡◌, ◌≤◌}
+use Rattle.std.proofs.Math.Nat.{mul_comm}
+use Rattle.std.proofs.lemmas.List.{get_or-map, get_or-replicate}
+use Rattle.std.proofs.lemmas.List.FromFn.{get_or-range_with_len}
+use Rattle.std.specs.List.{AllByRecursion, AllZip, range_with_len}
+use Rattle.degree_sequences.proofs.ByRank.{IsFalling-rank_product, get_or-rank_product, rank_product-above}
+use Rattle.degree_sequences.proofs.FallingLists.{IsFalling-from_sums, window}
+use Rattle.degree_sequences.proofs.Places.{length-range}
+use Rattle.degree_sequences.proofs.RunningSums.{sum-above, running_sum-agree, running_sum-block_sums, running_sum-le-sum, running_sum-mono, running_sum-ones, running_sum-suc, running_sum-trimmed}
+use Rattle.degree_sequences.proofs.Spread.{IsFalling-spread, get_or-spread, spread, spread-above}
+use Rattle.degree_sequences.specs.ByRank.{rank_product}
+use Rattle.degree_sequences.specs.Composition.{ChildLists, block_sums, composed, row_weights, weight_by_rank}
+use Rattle.degree_sequences.specs.Falling.{IsFalling}
+use Rattle.degree_sequences.specs.Families.{ChildIsAbove, IsChild}
+use Rattle.degree_sequences.specs.Rank.{rank}
+use Rattle.degree_sequences.specs.RunningSums.{IsAbove, running_sum}
+
+-- the weights of the rows 1 to n, child by child
+abbrev pub spreads : List ChildLists → ℕ → List ℕ
+spreads [] n = replicate n 1
+spreads (c ∷ cs) n = rank_product (spreads cs n) (spread c.column c.class)
+
+-- ones fall
+pub IsFalling-ones : (n : ℕ) → IsFalling (replicate n 1)
+IsFalling-ones n = IsFalling-from_sums (replicate n 1) (λ r. omega (arith, running_sum-ones n r, running_sum-ones n (suc r), running_sum-ones n (suc (suc r))))
+
+-- row weights fall
+pub IsFalling-spreads : (total n : ℕ) (cs : List ChildLists) → AllByRecursion (IsChild total) cs → IsFalling (spreads cs n)
+IsFalling-spreads total n [] all = IsFalling-ones n
+IsFalling-spreads total n (c ∷ cs) all = IsFalling-rank_product (spreads cs n) (spread c.column c.class) (IsFalling-spreads total n cs all.1) (IsFalling-spread c.column c.class all.0.class_falls)
+
+-- element k of the row weights
+pub get_or-row_weights : (cs : List ChildLists) (total k : ℕ) → k < total → get_or (row_weights cs total) k 0 ≡ weight_by_rank cs (suc k)
+get_or-row_weights cs total k h =
+    get_or-map (weight_by_rank cs) (range_with_len 1 total) k 0 0 (omega (arith, length-range 1 total))
+    ∙ ap (weight_by_rank cs) (get_or-range_with_len 1 total k 0 h ∙ omega arith)
+
+-- they are the row weights, for children with that sum
+pub get_or-weights : (total : ℕ) (cs : List ChildLists) → AllByRecursion (IsChild total) cs → (k : ℕ) → k < total → get_or (spreads cs total) k 0 ≡ weight_by_rank cs (suc k)
+get_or-weights total [] all k h = get_or-replicate total k 1 0 h
+get_or-weights total (c ∷ cs) all r h =
+    get_or-rank_product (spreads cs total) (spread c.column c.class) r
+    ∙ mul_comm (get_or (spreads cs total) r 0) (get_or (spread c.column c.class) r 0)
+    ∙ ap (λ x. x * get_or (spreads cs total) r 0) (get_or-spread c.column c.class r (omega (arith, all.0.column_sum)))
+    ∙ ap (λ x. get_or c.class (rank c.column (suc r) - 1) 0 * x) (get_or-weights total cs all.1 r h)
+
+-- and so are their running sums
+pub running_sum-weights : (total : ℕ) (cs : List ChildLists) → AllByRecursion (IsChild total) cs → (m : ℕ) → m ≤ total → running_sum (row_weights cs total) m ≡ running_sum (spreads cs total) m
+running_sum-weights total cs all m h = running_sum-agree (row_weights cs total) (spreads cs total) m
+    (λ k k_in. get_or-row_weights cs total k (omega arith) ∙ sym (get_or-weights total cs all k (omega arith)))
+
+-- the running sums of a composition are those of the row weights, at those of the parent
+pub running_sum-composition : (g : List ℕ) (cs : List ChildLists) (r : ℕ) → running_sum (composed g cs) r ≡ running_sum (row_weights cs (sum g)) (running_sum g r)
+running_sum-composition g cs r = running_sum-trimmed (block_sums g (row_weights cs (sum g))) r ∙ running_sum-block_sums g (row_weights cs (sum g)) r
+
+-- and so those of the weights child by child
+pub running_sum-composed : (g : List ℕ) (cs : List ChildLists) → AllByRecursion (IsChild (sum g)) cs → (r : ℕ) → running_sum (composed g cs) r ≡ running_sum (spreads cs (sum g)) (running_sum g r)
+running_sum-composed g cs all r = running_sum-composition g cs r ∙ running_sum-weights (sum g) cs all (running_sum g r) (running_sum-le-sum g r)
+
+-- a composition falls
+pub IsFalling-composed : (g : List ℕ) (cs : List ChildLists) → IsFalling g → AllByRecursion (IsChild (sum g)) cs → IsFalling (composed g cs)
+IsFalling-composed g cs fall ok = IsFalling-from_sums (composed g cs) (λ r.
+    let u : List ℕ = spreads cs (sum g) in
+    let one : running_sum g r + get_or g r 0 ≡ running_sum g (suc r) = sym (running_sum-suc g r) in
+    let two : running_sum g (suc r) + get_or g (suc r) 0 ≡ running_sum g (suc (suc r)) = sym (running_sum-suc g (suc r)) in
+    omega (
+      arith,
+      running_sum-composed g cs ok r,
+      running_sum-composed g cs ok (suc r),
+      running_sum-composed g cs ok (suc (suc r)),
+      ap (running_sum u) one,
+      ap (running_sum u) two,
+      window u (IsFalling-spreads (sum g) (sum g) cs ok) (running_sum g r) (running_sum g (suc r)) (get_or g r 0) (get_or g (suc r) 0) (running_sum-mono g r (suc r) (omega arith)) (fall r),
+    ))
+
+-- larger lists give larger row weights
+pub spreads-above : (total total' : ℕ) → total' ≤ total → (cs ds : List ChildLists) → AllByRecursion (IsChild total) cs → AllByRecursion (IsChild total') ds
+    → AllZip ChildIsAbove cs ds → IsAbove (spreads cs total) (spreads ds total')
+spreads-above total total' h [] [] ok ok' all = λ r. omega (arith, running_sum-ones total r, running_sum-ones total' r)
+spreads-above total total' h [] (d ∷ ds) ok ok' all = absurd all
+spreads-above total total' h (c ∷ cs) [] ok ok' all = absurd all
+spreads-above total total' h (c ∷ cs) (d ∷ ds) ok ok' all =
+    rank_product-above (spreads cs total) (spread c.column c.class) (spreads ds total') (spread d.column d.class)
+    (IsFalling-spread c.column c.class ok.0.class_falls) (IsFalling-spreads total' total' ds ok'.1)
+    (spreads-above total total' h cs ds ok.1 ok'.1 all.1)
+    (spread-above c.column c.class d.column d.class ok.0.class_falls ok'.0.column_falls all.0.column all.0.class)
+
+-- larger lists give a larger composition
+pub composed-above : (g h : List ℕ) (cs ds : List ChildLists) → AllByRecursion (IsChild (sum g)) cs → AllByRecursion (IsChild (sum h)) ds
+    → IsAbove g h → AllZip ChildIsAbove cs ds → IsAbove (composed g cs) (composed h ds)
+composed-above g h cs ds ok ok' above all r =
+    omega (
+      arith,
+      running_sum-composed g cs ok r,
+      running_sum-composed h ds ok' r,
+      spreads-above (sum g) (sum h) (sum-above g h above) cs ds ok ok' all (running_sum h r),
+      running_sum-mono (spreads cs (sum g)) (running_sum h r) (running_sum g r) (above r),
+    )

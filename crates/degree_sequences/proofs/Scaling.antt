@@ -1,0 +1,202 @@
+-- Lists that are near give a composition that is near.
+use Rattle.std.proofs.Common.{List, [], ap, arith, get_or, length, map, min, refl, replicate, suc, sum, sym, zero, ℕ, ◌*◌, ◌++◌, ◌+◌, ◌-◌, ◌∙◌, ◌∷◌, ◌≡◌, ◌≤◌}
+use Rattle.std.proofs.Math.Nat.{mul-add, mul-le-mul_left, mul-suc, mul-zero, mul_assoc, mul_comm}
+use Rattle.std.proofs.lemmas.List.{append-nil}
+use Rattle.std.specs.List.{AllByRecursion}
+use Rattle.degree_sequences.proofs.Blocks.{run-add}
+use Rattle.degree_sequences.proofs.ByRank.{rank_product-above}
+use Rattle.degree_sequences.proofs.RowWeights.{IsFalling-spreads, running_sum-composed, spreads}
+use Rattle.degree_sequences.proofs.RunningSums.{running_sum-le-sum, running_sum-mono, running_sum-nil, running_sum-ones, running_sum-whole}
+use Rattle.degree_sequences.proofs.Spread.{IsFalling-front, IsFalling-spread, running_sum-front, spread, spread-above, tail_of}
+use Rattle.degree_sequences.specs.ByRank.{rank_product}
+use Rattle.degree_sequences.specs.Composition.{ChildLists, composed}
+use Rattle.degree_sequences.specs.Falling.{IsFalling}
+use Rattle.degree_sequences.specs.Families.{IsChild, IsNear, IsWithin, MatchedChild, factors, scales}
+use Rattle.degree_sequences.specs.RunningSums.{running_sum}
+
+-- each element times c
+abbrev pub scale : ℕ → List ℕ → List ℕ
+scale c s = map (λ x. c * x) s
+
+-- its running sums are c times those
+pub running_sum-scale : (c : ℕ) (s : List ℕ) (r : ℕ) → running_sum (scale c s) r ≡ c * running_sum s r
+running_sum-scale c s zero = sym (mul-zero c)
+running_sum-scale c [] (suc r) = sym (mul-zero c)
+running_sum-scale c (x ∷ s) (suc r) = omega (arith, running_sum-scale c s r)
+
+-- its elements are c times those
+pub get_or-scale : (c : ℕ) (s : List ℕ) (r : ℕ) → get_or (scale c s) r 0 ≡ c * get_or s r 0
+get_or-scale c [] r = sym (mul-zero c)
+get_or-scale c (x ∷ s) zero = refl
+get_or-scale c (x ∷ s) (suc r) = get_or-scale c s r
+
+-- it falls where the list does
+pub IsFalling-scale : (c : ℕ) (s : List ℕ) → IsFalling s → IsFalling (scale c s)
+IsFalling-scale c s fall r = omega (arith, get_or-scale c s r, get_or-scale c s (suc r), mul-le-mul_left c (fall r))
+
+-- the product of scaled lists is scaled by both
+pub rank_product-scale : (c e : ℕ) (s t : List ℕ) → rank_product (scale c s) (scale e t) ≡ scale (c * e) (rank_product s t)
+rank_product-scale c e [] t = refl
+rank_product-scale c e (x ∷ s) [] = refl
+rank_product-scale c e (x ∷ s) (y ∷ t) = rw (times c x e y, rank_product-scale c e s t) refl
+  where
+    times : (c x e y : ℕ) → (c * x) * (e * y) ≡ (c * e) * (x * y)
+    times c x e y = omega arith
+
+-- products of lists that are near are near by the products of the numbers
+pub rank_product-near : (b c d e : ℕ) (s t s' t' : List ℕ) → IsFalling t → IsFalling s' → IsWithin b c s' s → IsWithin d e t' t
+    → IsWithin (b * d) (c * e) (rank_product s' t') (rank_product s t)
+rank_product-near b c d e s t s' t' ft fs' near_s near_t r =
+    omega (
+      arith,
+      rank_product-above (scale c s) (scale e t) (scale b s') (scale d t') (IsFalling-scale e t ft) (IsFalling-scale b s' fs')
+          (λ r. omega (arith, near_s r, running_sum-scale c s r, running_sum-scale b s' r)) (λ r. omega (arith, near_t r, running_sum-scale e t r, running_sum-scale d t' r)) r,
+      ap (λ u. running_sum u r) (rank_product-scale c e s t),
+      ap (λ u. running_sum u r) (rank_product-scale b d s' t'),
+      running_sum-scale (c * e) (rank_product s t) r,
+      running_sum-scale (b * d) (rank_product s' t') r,
+    )
+
+-- each element c times
+abbrev pub stretched : ℕ → List ℕ → List ℕ
+stretched c [] = []
+stretched c (x ∷ u) = replicate c x ++ stretched c u
+
+-- c times as many elements sum to c times as much
+pub running_sum-stretched : (c : ℕ) (u : List ℕ) (m : ℕ) → running_sum (stretched c u) (c * m) ≡ c * running_sum u m
+running_sum-stretched c u zero = rw (mul-zero c) refl
+running_sum-stretched c [] (suc m) = omega (arith, running_sum-nil (c * suc m), mul-zero c)
+running_sum-stretched c (x ∷ u) (suc m) =
+    let e : c * suc m ≡ c + c * m = omega (arith, mul-suc c m) in
+    let all : min c (c + c * m) ≡ c = omega arith in
+    let rest : (c + c * m) - c ≡ c * m = omega arith in
+    rw e (running_sum-front c x (stretched c u) (c + c * m) ∙ rw (all, rest) (ap (λ z. c * x + z) (running_sum-stretched c u m) ∙ sym (mul-add c x (running_sum u m))))
+
+-- runs of one length in front of a product
+pub rank_product-front : (c x y : ℕ) (s t : List ℕ) → rank_product (replicate c x ++ s) (replicate c y ++ t) ≡ replicate c (x * y) ++ rank_product s t
+rank_product-front zero x y s t = refl
+rank_product-front (suc c) x y s t = ap (λ (u : List ℕ). x * y ∷ u) (rank_product-front c x y s t)
+
+-- the product of stretched lists is stretched
+pub rank_product-stretched : (c : ℕ) (s t : List ℕ) → rank_product (stretched c s) (stretched c t) ≡ stretched c (rank_product s t)
+rank_product-stretched c [] t = refl
+rank_product-stretched c (x ∷ s) [] = rank_product-nil (replicate c x ++ stretched c s)
+  where
+    rank_product-nil : (s : List ℕ) → rank_product s [] ≡ []
+    rank_product-nil [] = refl
+    rank_product-nil (x ∷ s) = refl
+rank_product-stretched c (x ∷ s) (y ∷ t) = rank_product-front c x y (stretched c s) (stretched c t) ∙ ap (λ (u : List ℕ). replicate c (x * y) ++ u) (rank_product-stretched c s t)
+
+-- a run in front of a stretched list
+pub stretched-front : (c x y : ℕ) (s : List ℕ) → replicate (c * x) y ++ stretched c s ≡ stretched c (replicate x y ++ s)
+stretched-front c zero y s = rw (mul-zero c) refl
+stretched-front c (suc x) y s =
+    let e : c * suc x ≡ c + c * x = omega (arith, mul-suc c x) in
+    rw e (run-add c (c * x) y (stretched c s) ∙ ap (λ (u : List ℕ). replicate c y ++ u) (stretched-front c x y s))
+
+-- counts that are scaled stretch the rows
+pub spread-stretched : (c : ℕ) (g v : List ℕ) → spread (scale c g) v ≡ stretched c (spread g v)
+spread-stretched c [] v = refl
+spread-stretched c (x ∷ g) v = ap (λ (u : List ℕ). replicate (c * x) (get_or v 0 0) ++ u) (spread-stretched c g (tail_of v)) ∙ stretched-front c x (get_or v 0 0) (spread g (tail_of v))
+
+-- the first element of a stretched list
+pub stretched-head : (c : ℕ) (u : List ℕ) (b : ℕ) → IsFalling u → get_or u 0 0 ≤ b → get_or (stretched c u) 0 0 ≤ b
+stretched-head c [] b fall h = omega arith
+stretched-head zero (x ∷ u) b fall h = stretched-head zero u b (λ r. fall (suc r)) (omega (arith, fall 0))
+stretched-head (suc c) (x ∷ u) b fall h = h
+
+-- a stretched list falls where the list does
+pub IsFalling-stretched : (c : ℕ) (u : List ℕ) → IsFalling u → IsFalling (stretched c u)
+IsFalling-stretched c [] fall = λ r. omega arith
+IsFalling-stretched c (x ∷ u) fall = IsFalling-front c x (stretched c u) (stretched-head c u x (λ r. fall (suc r)) (fall 0)) (IsFalling-stretched c u (λ r. fall (suc r)))
+
+-- a run in front of a scaled list
+pub scale-front : (c x y : ℕ) (s : List ℕ) → scale c (replicate x y ++ s) ≡ replicate x (c * y) ++ scale c s
+scale-front c zero y s = refl
+scale-front c (suc x) y s = ap (λ (u : List ℕ). c * y ∷ u) (scale-front c x y s)
+
+-- the rest of a scaled list
+pub tail_of-scale : (c : ℕ) (v : List ℕ) → tail_of (scale c v) ≡ scale c (tail_of v)
+tail_of-scale c [] = refl
+tail_of-scale c (y ∷ v) = refl
+
+-- elements that are scaled scale the rows
+pub spread-scale : (c : ℕ) (g v : List ℕ) → spread g (scale c v) ≡ scale c (spread g v)
+spread-scale c [] v = refl
+spread-scale c (x ∷ g) v =
+    rw (get_or-scale c v 0, tail_of-scale c v, spread-scale c g (tail_of v)) (sym (scale-front c x (get_or v 0 0) (spread g (tail_of v))))
+
+-- rows of lists that are near, when both are stretched to one length
+pub spread-near : (a e b c : ℕ) (g v f w : List ℕ) → IsFalling w → IsFalling g → IsWithin a e g f → IsWithin b c v w
+    → IsWithin b c (stretched a (spread g v)) (stretched e (spread f w))
+spread-near a e b c g v f w fw fg near_g near_v r =
+    omega (
+      arith,
+      spread-above (scale e f) (scale c w) (scale a g) (scale b v) (IsFalling-scale c w fw) (IsFalling-scale a g fg)
+          (λ r. omega (arith, near_g r, running_sum-scale e f r, running_sum-scale a g r)) (λ r. omega (arith, near_v r, running_sum-scale c w r, running_sum-scale b v r)) r,
+      ap (λ u. running_sum u r) (spread-scale c (scale e f) w),
+      ap (λ u. running_sum u r) (spread-scale b (scale a g) v),
+      running_sum-scale c (spread (scale e f) w) r,
+      running_sum-scale b (spread (scale a g) v) r,
+      ap (λ u. c * running_sum u r) (spread-stretched e f w),
+      ap (λ u. b * running_sum u r) (spread-stretched a g v),
+    )
+
+-- stretched ones sum to their number
+pub running_sum-stretched-ones : (c n r : ℕ) → running_sum (stretched c (replicate n 1)) r ≡ min (c * n) r
+running_sum-stretched-ones c n r = ap (λ u. running_sum u r) (ones c n) ∙ running_sum-ones (c * n) r
+  where
+    ones : (c n : ℕ) → stretched c (replicate n 1) ≡ replicate (c * n) 1
+    ones c n = ap (stretched c) (sym (append-nil (replicate n 1))) ∙ sym (stretched-front c n 1 []) ∙ append-nil (replicate (c * n) 1)
+
+-- the children that are near
+abbrev pub nears : List MatchedChild → List ChildLists
+nears ms = map (λ m. m.near) ms
+
+-- the children that they are near
+abbrev pub exacts : List MatchedChild → List ChildLists
+exacts ms = map (λ m. m.exact) ms
+
+-- row weights of children that are near, when both are stretched to one length
+pub spreads-near : (a n k : ℕ) → a * n ≤ (a + 1) * k → (ms : List MatchedChild) → AllByRecursion (IsNear a) ms
+    → AllByRecursion (IsChild n) (nears ms) → AllByRecursion (IsChild k) (exacts ms)
+    → IsWithin (scales ms) (factors ms) (stretched a (spreads (nears ms) n)) (stretched (a + 1) (spreads (exacts ms) k))
+spreads-near a n k h [] near ok ok' r = omega (arith, running_sum-stretched-ones a n r, running_sum-stretched-ones (a + 1) k r)
+spreads-near a n k h (m ∷ ms) near ok ok' r =
+    let s' : List ℕ = spreads (nears ms) n in
+    let t' : List ℕ = spread m.near.column m.near.class in
+    let s : List ℕ = spreads (exacts ms) k in
+    let t : List ℕ = spread m.exact.column m.exact.class in
+    let both : (scales ms * m.scale) * running_sum (rank_product (stretched a s') (stretched a t')) r ≤ (factors ms * m.factor) * running_sum (rank_product (stretched (a + 1) s) (stretched (a + 1) t)) r =
+    rank_product-near (scales ms) (factors ms) m.scale m.factor (stretched (a + 1) s) (stretched (a + 1) t) (stretched a s') (stretched a t')
+    (IsFalling-stretched (a + 1) t (IsFalling-spread m.exact.column m.exact.class ok'.0.class_falls))
+    (IsFalling-stretched a s' (IsFalling-spreads n n (nears ms) ok.1))
+    (spreads-near a n k h ms near.1 ok.1 ok'.1)
+    (spread-near a (a + 1) m.scale m.factor m.near.column m.near.class m.exact.column m.exact.class ok'.0.class_falls ok.0.column_falls near.0.column near.0.class) r in
+    rw (mul_comm m.scale (scales ms), mul_comm m.factor (factors ms), sym (rank_product-stretched a s' t'), sym (rank_product-stretched (a + 1) s t)) both
+
+-- lists that are near, by an accuracy and by two numbers for each class, give a composition that is near
+pub composed-near : (a : ℕ) (g f : List ℕ) (ms : List MatchedChild) → IsWithin a (a + 1) g f → AllByRecursion (IsNear a) ms
+    → AllByRecursion (IsChild (sum g)) (map (λ m. m.near) ms) → AllByRecursion (IsChild (sum f)) (map (λ m. m.exact) ms)
+    → IsWithin (a * scales ms) ((a + 1) * factors ms) (composed g (map (λ m. m.near) ms)) (composed f (map (λ m. m.exact) ms))
+composed-near a g f ms near_g near ok ok' r =
+    let u : List ℕ = spreads (exacts ms) (sum f) in
+    let v : List ℕ = spreads (nears ms) (sum g) in
+    let m : ℕ = running_sum g r in
+    let fits : a * sum g ≤ (a + 1) * sum f =
+    omega (arith, ap (λ x. a * x) (running_sum-whole g), near_g (length g), mul-le-mul_left (a + 1) (running_sum-le-sum f (length g))) in
+    let left : (a * scales ms) * running_sum (composed g (nears ms)) r ≡ scales ms * running_sum (stretched a v) (a * m) =
+    ap (λ x. (a * scales ms) * x) (running_sum-composed g (nears ms) ok r) ∙ turned a (scales ms) (running_sum v m) ∙ ap (λ x. scales ms * x) (sym (running_sum-stretched a v m)) in
+    let right : ((a + 1) * factors ms) * running_sum (composed f (exacts ms)) r ≡ factors ms * running_sum (stretched (a + 1) u) ((a + 1) * running_sum f r) =
+    ap (λ x. ((a + 1) * factors ms) * x) (running_sum-composed f (exacts ms) ok' r) ∙ turned (a + 1) (factors ms) (running_sum u (running_sum f r))
+    ∙ ap (λ x. factors ms * x) (sym (running_sum-stretched (a + 1) u (running_sum f r))) in
+    omega (
+      arith,
+      left,
+      right,
+      spreads-near a (sum g) (sum f) fits ms near ok ok' (a * m),
+      mul-le-mul_left (factors ms) (running_sum-mono (stretched (a + 1) u) (a * m) ((a + 1) * running_sum f r) (near_g r)),
+    )
+  where
+    turned : (x y z : ℕ) → (x * y) * z ≡ y * (x * z)
+    turned x y z = ap (λ w. w * z) (mul_comm x y) ∙ mul_assoc y x z

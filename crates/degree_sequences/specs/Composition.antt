@@ -1,0 +1,33 @@
+-- The list of a table's weights by its parent column, from the lists of its columns and of its children.
+use Rattle.std.specs.Prelude.{ℕ, ◌-◌, ◌*◌, List, [], ◌∷◌, map, drop, slice_index}
+use Rattle.std.specs.List.{sum, range_with_len}
+use Rattle.degree_sequences.specs.Falling.{trimmed}
+use Rattle.degree_sequences.specs.RunningSums.{running_sum}
+use Rattle.degree_sequences.specs.Rank.{rank}
+
+-- a child of a table: the list of the column that joins it, and the list of the weights of its class
+pub record ChildLists : Type 0 where
+  pub column : List ℕ
+  pub class : List ℕ
+
+-- what row t weighs, counted from 1: each child gives the class weight at the row's rank in its column, and these are multiplied
+abbrev pub weight_by_rank : List ChildLists → ℕ → ℕ
+weight_by_rank [] t = 1
+weight_by_rank (child ∷ children) t = slice_index child.class (rank child.column t - 1) * weight_by_rank children t
+
+-- the weights of the rows 1 to n
+abbrev pub row_weights : List ChildLists → ℕ → List ℕ
+row_weights children n = map (weight_by_rank children) (range_with_len 1 n)
+
+-- the sum of the first g(1) weights, of the next g(2), and so on
+abbrev pub block_sums : List ℕ → List ℕ → List ℕ
+block_sums [] weights = []
+block_sums (count ∷ g) weights = running_sum weights count ∷ block_sums g (drop count weights)
+
+-- the composition: the rows of each rank of the parent column, weighed together
+abbrev pub composed : List ℕ → List ChildLists → List ℕ
+composed parent children = trimmed (block_sums parent (row_weights children (sum parent)))
+
+-- the sum of the weights of that many rows, for a table without a parent
+abbrev pub root_total : List ChildLists → ℕ → ℕ
+root_total children rows = sum (row_weights children rows)

@@ -1,0 +1,33 @@
+-- Compression by heads: a list of few runs that stays near a falling list, with the same sum.
+-- At accuracy K it exceeds the list by at most one K-th at each rank.
+use Rattle.std.specs.Prelude.{ℕ, zero, suc, ◌+◌, ◌-◌, ◌*◌, min, nat_lt, if◌then◌else◌, List, [], ◌∷◌, length, slice_index}
+use Rattle.std.specs.List.{sum}
+use Rattle.degree_sequences.specs.Rank.{rank}
+
+-- the head after an element: the element itself where it lies so far below the head, which else stays in force
+abbrev pub next_head : ℕ → ℕ → ℕ → ℕ
+next_head accuracy head x = if nat_lt ((accuracy + 1) * x) (accuracy * head) then x else head
+
+-- the head in force at each element
+abbrev pub heads_from : ℕ → ℕ → List ℕ → List ℕ
+heads_from accuracy head [] = []
+heads_from accuracy head (x ∷ s) = next_head accuracy head x ∷ heads_from accuracy (next_head accuracy head x) s
+
+-- the heads of the whole list, of which the first is its first element
+abbrev pub heads : ℕ → List ℕ → List ℕ
+heads accuracy f = heads_from accuracy (slice_index f 0) f
+
+-- the head that governs row m + 1: that of the element to which the row belongs
+abbrev pub slope : ℕ → List ℕ → ℕ → ℕ
+slope accuracy f m = slice_index (heads accuracy f) (rank f (suc m) - 1)
+
+-- what comes after elements that sum to m, in at most `count` steps: a step takes the slope there, or what is left of the sum
+abbrev pub compressed_from : ℕ → List ℕ → ℕ → ℕ → List ℕ
+compressed_from accuracy f zero m = []
+compressed_from accuracy f (suc count) m =
+    let next = min (slope accuracy f m) (sum f - m) in
+    if nat_lt m (sum f) then next ∷ compressed_from accuracy f count (m + next) else []
+
+-- f compressed with this accuracy. It never has more elements than f
+abbrev pub compressed : ℕ → List ℕ → List ℕ
+compressed accuracy f = compressed_from accuracy f (length f) 0

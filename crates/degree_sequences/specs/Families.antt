@@ -1,0 +1,43 @@
+-- Two families of lists side by side, for the laws that compare what comes of them.
+use Rattle.std.specs.Prelude.{◌≡◌, ℕ, ◌+◌, ◌*◌, ◌≤◌, List, [], ◌∷◌}
+use Rattle.std.specs.List.{sum}
+use Rattle.degree_sequences.specs.Falling.{IsFalling}
+use Rattle.degree_sequences.specs.RunningSums.{running_sum, IsAbove}
+use Rattle.degree_sequences.specs.Composition.{ChildLists}
+
+-- the lists of a child fall, and its column has this sum
+pub record IsChild (total : ℕ) (child : ChildLists) : Type 0 where
+  pub column_falls : IsFalling child.column
+  pub class_falls : IsFalling child.class
+  pub column_sum : sum child.column ≡ total
+
+-- both lists of a child are above those of its match
+pub record ChildIsAbove (child other : ChildLists) : Type 0 where
+  pub column : IsAbove child.column other.column
+  pub class : IsAbove child.class other.class
+
+-- at every rank, `scale` times the running sum of s is at most `factor` times that of t
+abbrev pub IsWithin : ℕ → ℕ → List ℕ → List ℕ → Type 0
+IsWithin scale factor s t = (r : ℕ) → scale * running_sum s r ≤ factor * running_sum t r
+
+-- a child, the one that it is near, and how near its class list is: scale times the one against factor times the other
+pub record MatchedChild : Type 0 where
+  pub near : ChildLists
+  pub exact : ChildLists
+  pub scale : ℕ
+  pub factor : ℕ
+
+-- a child is near its match: its column by the accuracy, its class list by its own two numbers
+pub record IsNear (accuracy : ℕ) (child : MatchedChild) : Type 0 where
+  pub column : IsWithin accuracy (accuracy + 1) child.near.column child.exact.column
+  pub class : IsWithin child.scale child.factor child.near.class child.exact.class
+
+-- the product of the scales
+abbrev pub scales : List MatchedChild → ℕ
+scales [] = 1
+scales (child ∷ children) = child.scale * scales children
+
+-- the product of the factors
+abbrev pub factors : List MatchedChild → ℕ
+factors [] = 1
+factors (child ∷ children) = child.factor * factors children

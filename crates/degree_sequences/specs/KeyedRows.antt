@@ -1,0 +1,27 @@
+-- Rows with a parent key and one key for each child, and when lists dominate them.
+use Rattle.std.specs.Prelude.{◌≡◌, ℕ, ◌*◌, ◌==◌, if◌then◌else◌, List, [], ◌∷◌, length, slice_index}
+use Rattle.std.specs.List.{sum_by, range_with_len}
+use Rattle.degree_sequences.specs.Falling.{IsFalling}
+use Rattle.degree_sequences.specs.Domination.{DominatesKeys, DominatesWeights}
+use Rattle.degree_sequences.specs.Composition.{ChildLists}
+
+-- a child as the rows have it: the key of each row, and the class weight of each key
+pub record ChildKeys : Type 0 where
+  pub keys : List ℕ
+  pub weight : ℕ → ℕ
+
+-- the lists of a child dominate its keys, one for each row, and their class weights
+pub record DominatesChild (rows : ℕ) (lists : ChildLists) (child : ChildKeys) : Type 0 where
+  pub column : DominatesKeys lists.column child.keys
+  pub class : DominatesWeights lists.class child.weight
+  pub class_falls : IsFalling lists.class
+  pub key_per_row : length child.keys ≡ rows
+
+-- the weight of row i, counted from 0: the product over the children of the class weights of its keys
+abbrev pub weight_of_row : List ChildKeys → ℕ → ℕ
+weight_of_row [] i = 1
+weight_of_row (child ∷ children) i = child.weight (slice_index child.keys i) * weight_of_row children i
+
+-- the weight that the rows give to a parent key: the sum of the weights of the rows that have it
+abbrev pub weight_of_key : List ℕ → List ChildKeys → ℕ → ℕ
+weight_of_key parent_keys children a = sum_by (λ i. if slice_index parent_keys i == a then weight_of_row children i else 0) (range_with_len 0 (length parent_keys))

@@ -1,0 +1,12 @@
+pub mod Falling
+pub mod RunningSums
+pub mod Degrees
+pub mod Domination
+pub mod ByRank
+pub mod Rank
+pub mod Compression
+pub mod Composition
+pub mod Runs
+pub mod Saturation
+pub mod KeyedRows
+pub mod Families

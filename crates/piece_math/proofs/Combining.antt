@@ -1,0 +1,140 @@
+-- Lists that are combined rank by rank.
+use Rattle.std.proofs.Common.{◌≡◌, ℕ, zero, suc, ◌+◌, ◌*◌, ◌^◌, ◌<◌, ◌≤◌, max, List, [], ◌∷◌, length, get_or, map, take, replicate, ◌++◌, refl, ap, sym, ◌∙◌, arith}
+use Rattle.std.specs.List.{AllByRecursion, All}
+use Rattle.std.proofs.Math.Nat.{mul-le-mul, mul-pos, zero-mul, mul-zero}
+use Rattle.std.proofs.lemmas.List.{length-map, take_all}
+use Rattle.degree_sequences.specs.Falling.{IsFalling}
+use Rattle.degree_sequences.specs.Saturation.{saturated}
+use Rattle.degree_sequences.specs.ByRank.{rank_product, rank_sum, rank_maximum}
+use Rattle.degree_sequences.specs.Runs.{runs}
+use Rattle.piece_math.specs.declared.pieces.Piece.{Piece}
+use Rattle.piece_math.specs.declared.walk.Places.{Places}
+use Rattle.piece_math.specs.declared.walk.Turn.{Turn}
+use Rattle.piece_math.specs.declared.by_rank.Combination.{Combination}
+use Rattle.piece_math.specs.declared.by_rank.Combination.TheVariants.{Product, Sum, Maximum}
+use Rattle.piece_math.specs.Expanded.{expanded, ArePieces}
+use Rattle.piece_math.specs.Places.{IsTurn}
+use Rattle.piece_math.specs.ByRank.{combined, combined_by_rank}
+use Rattle.piece_math.proofs.Expansion.{IsFalling-expanded, positive-expanded}
+use Rattle.piece_math.proofs.Building.{HasRun, run_falls, run_fits, run_built, get_or-saturated, IsFalling-saturated, positive-saturated}
+use Rattle.piece_math.proofs.Walking.{Walked, at_left, at_right, walk_on, walk_start, rest_none}
+
+get_or-product : (s t : List ℕ) (r : ℕ) → get_or (rank_product s t) r 0 ≡ get_or s r 0 * get_or t r 0
+get_or-product [] t r = sym (zero-mul (get_or t r 0))
+get_or-product (x ∷ s) [] r = sym (mul-zero (get_or (x ∷ s) r 0))
+get_or-product (x ∷ s) (y ∷ t) zero = refl
+get_or-product (x ∷ s) (y ∷ t) (suc r) = get_or-product s t r
+
+get_or-sum : (s t : List ℕ) (r : ℕ) → get_or (rank_sum s t) r 0 ≡ get_or s r 0 + get_or t r 0
+get_or-sum [] t r = omega arith
+get_or-sum (x ∷ s) [] r = omega arith
+get_or-sum (x ∷ s) (y ∷ t) zero = refl
+get_or-sum (x ∷ s) (y ∷ t) (suc r) = get_or-sum s t r
+
+get_or-maximum : (s t : List ℕ) (r : ℕ) → get_or (rank_maximum s t) r 0 ≡ max (get_or s r 0) (get_or t r 0)
+get_or-maximum [] t r = omega arith
+get_or-maximum (x ∷ s) [] r = omega arith
+get_or-maximum (x ∷ s) (y ∷ t) zero = refl
+get_or-maximum (x ∷ s) (y ∷ t) (suc r) = get_or-maximum s t r
+
+-- the combined list has the combined elements
+pub get_or-combined : (how : Combination) (s t : List ℕ) (r : ℕ) → get_or (combined_by_rank how s t) r 0 ≡ combined how (get_or s r 0) (get_or t r 0)
+get_or-combined Product s t r = get_or-product s t r
+get_or-combined Sum s t r = get_or-sum s t r
+get_or-combined Maximum s t r = get_or-maximum s t r
+
+combined-le : (how : Combination) (x y x' y' : ℕ) → x ≤ x' → y ≤ y' → combined how x y ≤ combined how x' y'
+combined-le Product x y x' y' h k = mul-le-mul h k
+combined-le Sum x y x' y' h k = omega arith
+combined-le Maximum x y x' y' h k = omega arith
+
+IsFalling-combined : (how : Combination) (s t : List ℕ) → IsFalling s → IsFalling t → IsFalling (combined_by_rank how s t)
+IsFalling-combined how s t fs ft r =
+    let le : combined how (get_or s (suc r) 0) (get_or t (suc r) 0) ≤ combined how (get_or s r 0) (get_or t r 0) =
+    combined-le how (get_or s (suc r) 0) (get_or t (suc r) 0) (get_or s r 0) (get_or t r 0) (fs r) (ft r) in
+    omega (arith, get_or-combined how s t r, get_or-combined how s t (suc r), le)
+
+positive-combined : (how : Combination) (s t : List ℕ) → AllByRecursion (λ x. 0 < x) s → AllByRecursion (λ x. 0 < x) t → AllByRecursion (λ x. 0 < x) (combined_by_rank how s t)
+positive-combined Product [] t ps pt = tt
+positive-combined Product (x ∷ s) [] ps pt = tt
+positive-combined Product (x ∷ s) (y ∷ t) ps pt = (mul-pos ps.0 pt.0, positive-combined Product s t ps.1 pt.1)
+positive-combined Sum [] t ps pt = pt
+positive-combined Sum (x ∷ s) [] ps pt = ps
+positive-combined Sum (x ∷ s) (y ∷ t) ps pt = (omega (arith, ps.0), positive-combined Sum s t ps.1 pt.1)
+positive-combined Maximum [] t ps pt = pt
+positive-combined Maximum (x ∷ s) [] ps pt = ps
+positive-combined Maximum (x ∷ s) (y ∷ t) ps pt = (omega (arith, ps.0), positive-combined Maximum s t ps.1 pt.1)
+
+length-combined-le : (how : Combination) (s t : List ℕ) → length (combined_by_rank how s t) ≤ max (length s) (length t)
+length-combined-le Product [] t = omega arith
+length-combined-le Product (x ∷ s) [] = omega arith
+length-combined-le Product (x ∷ s) (y ∷ t) = omega (arith, length-combined-le Product s t)
+length-combined-le Sum [] t = omega arith
+length-combined-le Sum (x ∷ s) [] = omega arith
+length-combined-le Sum (x ∷ s) (y ∷ t) = omega (arith, length-combined-le Sum s t)
+length-combined-le Maximum [] t = omega arith
+length-combined-le Maximum (x ∷ s) [] = omega arith
+length-combined-le Maximum (x ∷ s) (y ∷ t) = omega (arith, length-combined-le Maximum s t)
+
+-- ---- the list of the walk
+
+abbrev pub goal_of : Combination → List Piece → List Piece → List ℕ
+goal_of how a b = map saturated (combined_by_rank how (expanded a) (expanded b))
+
+pub record Combined (how : Combination) (a b : List Piece) (places : Places) (list : List ℕ) : Type 0 where
+  pub walked : Walked a b places
+  pub built : list ≡ take walked.rank (goal_of how a b)
+  pub few : runs list ≤ places.left.at + places.right.at
+
+pub goal_falls : (how : Combination) (a b : List Piece) → ArePieces a → ArePieces b → IsFalling (goal_of how a b)
+goal_falls how a b are_a are_b =
+    IsFalling-saturated (combined_by_rank how (expanded a) (expanded b))
+    (IsFalling-combined how (expanded a) (expanded b) (IsFalling-expanded a are_a.falls) (IsFalling-expanded b are_b.falls))
+
+pub goal_positive : (how : Combination) (a b : List Piece) → ArePieces a → ArePieces b → AllByRecursion (λ x. 0 < x) (goal_of how a b)
+goal_positive how a b are_a are_b =
+    positive-saturated (combined_by_rank how (expanded a) (expanded b))
+    (positive-combined how (expanded a) (expanded b) (positive-expanded a are_a.falls) (positive-expanded b are_b.falls))
+
+pub goal_short : (how : Combination) (a b : List Piece) → length (goal_of how a b) ≤ max (length (expanded a)) (length (expanded b))
+goal_short how a b = omega (arith, length-map (combined_by_rank how (expanded a) (expanded b)) saturated, length-combined-le how (expanded a) (expanded b))
+
+pub goal_run : (how : Combination) (a b : List Piece) (places : Places) (turn : Turn) (v : ℕ) → (t : IsTurn a b places turn) (w : Walked a b places)
+    → v ≡ saturated (combined how turn.left turn.right) → HasRun (goal_of how a b) w.rank turn.count v
+goal_run how a b places turn v t w is = record {
+  same = λ k h. get_or-saturated (combined_by_rank how (expanded a) (expanded b)) (w.rank + k)
+      ∙ ap saturated (get_or-combined how (expanded a) (expanded b) (w.rank + k) ∙ rw (at_left t w k h, at_right t w k h) refl)
+      ∙ sym is;
+}
+
+pub combine_start : (how : Combination) (a b : List Piece) → ArePieces a → ArePieces b
+    → Combined how a b (record { left = record { at = 0; used = 0 }; right = record { at = 0; used = 0 } }) []
+combine_start how a b are_a are_b = record { walked = walk_start a b are_a are_b; built = refl; few = omega arith }
+
+module _ {how : Combination} {a b : List Piece} {places : Places} {turn : Turn} {list : List ℕ} {v : ℕ} (are_a : ArePieces a) (are_b : ArePieces b)
+    (so_far : Combined how a b places list) (t : IsTurn a b places turn) (value : v ≡ saturated (combined how turn.left turn.right)) where
+  pub combine_falls : 0 < turn.count → All (λ x. v ≤ x) list
+  combine_falls some = run_falls so_far.built (goal_run how a b places turn v t so_far.walked value) (goal_falls how a b are_a are_b) some
+
+  pub combine_fits : 0 < v → length list + turn.count < 2 ^ 64
+  combine_fits pos = omega (arith, run_fits so_far.built (goal_run how a b places turn v t so_far.walked value) pos, goal_short how a b, are_a.fits, are_b.fits)
+
+  pub combine_step : (new : List ℕ) → (0 < v → new ≡ list ++ replicate turn.count v) → (v ≡ 0 → new ≡ list) → runs new ≤ runs list + 1
+      → Combined how a b turn.next new
+  combine_step new some none more = record {
+    walked = walk_on t so_far.walked;
+    built = run_built so_far.built (goal_run how a b places turn v t so_far.walked value) (goal_positive how a b are_a are_b) new some none;
+    few = omega (arith, more, so_far.few, t.onward);
+  }
+
+pub combine_end : (how : Combination) (a b : List Piece) (places : Places) (list : List ℕ) → Combined how a b places list → length a ≤ places.left.at → length b ≤ places.right.at
+    → list ≡ goal_of how a b
+combine_end how a b places list so_far over_a over_b =
+    so_far.built
+    ∙ take_all so_far.walked.rank (goal_of how a b)
+    (omega (
+      arith,
+      goal_short how a b,
+      rest_none a places.left so_far.walked.rank so_far.walked.left over_a,
+      rest_none b places.right so_far.walked.rank so_far.walked.right over_b,
+    ))

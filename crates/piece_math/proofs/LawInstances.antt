@@ -1,0 +1,117 @@
+-- Each law at small numbers, whose premises are met.
+use Rattle.std.proofs.Common.{ℕ, zero, suc, ◌+◌, ◌*◌, ◌≤◌, List, [], ◌∷◌, refl, arith}
+use Rattle.std.specs.List.{sum_by, range_with_len}
+use Rattle.degree_sequences.specs.ByRank.{rank_product, rank_product_of}
+use Rattle.degree_sequences.specs.Composition.{ChildLists, composed, root_total}
+use Rattle.degree_sequences.specs.Degrees.{degree, degree_list}
+use Rattle.degree_sequences.specs.Domination.{DominatesWeights}
+use Rattle.degree_sequences.specs.Falling.{IsFalling}
+use Rattle.degree_sequences.specs.Families.{IsChild, IsWithin, MatchedChild}
+use Rattle.degree_sequences.specs.KeyedRows.{ChildKeys, DominatesChild, weight_of_row, weight_of_key}
+use Rattle.degree_sequences.specs.RunningSums.{IsAbove, running_sum}
+use Rattle.degree_sequences.proofs.DegreeLists.{degree_list_dominates, degrees_dominated, IsFalling-degree_list}
+use Rattle.degree_sequences.proofs.FallingLists.{IsFalling-cons}
+use Rattle.degree_sequences.proofs.ByRank.{rank_product_of-above}
+use Rattle.degree_sequences.proofs.CompositionDominates.{composed_dominates, root_at_least}
+use Rattle.degree_sequences.proofs.ProductDominates.{rank_product_dominates}
+use Rattle.degree_sequences.proofs.RowWeights.{composed-above}
+use Rattle.degree_sequences.proofs.Scaling.{composed-near}
+
+-- a list dominates the degrees that it is the degree list of
+dominated : (keys : List ℕ) → DominatesWeights (degree_list keys) (degree keys)
+dominated keys = degrees_dominated (degree_list keys) keys (degree_list_dominates keys)
+
+pub product : DominatesWeights (rank_product (2 ∷ 1 ∷ []) (3 ∷ 1 ∷ 1 ∷ [])) (λ a. degree (7 ∷ 7 ∷ 8 ∷ []) a * degree (7 ∷ 7 ∷ 7 ∷ 8 ∷ 9 ∷ []) a)
+product =
+    rank_product_dominates (2 ∷ 1 ∷ []) (3 ∷ 1 ∷ 1 ∷ []) (degree (7 ∷ 7 ∷ 8 ∷ [])) (degree (7 ∷ 7 ∷ 7 ∷ 8 ∷ 9 ∷ []))
+    (IsFalling-degree_list (7 ∷ 7 ∷ 7 ∷ 8 ∷ 9 ∷ [])) (dominated (7 ∷ 7 ∷ 8 ∷ [])) (dominated (7 ∷ 7 ∷ 7 ∷ 8 ∷ 9 ∷ []))
+
+-- the child of the composition's instance: its lists, and its keys
+abbrev child_lists : ChildLists
+child_lists = record { column = 2 ∷ 2 ∷ 2 ∷ []; class = 4 ∷ 1 ∷ [] }
+
+abbrev child_keys : ChildKeys
+child_keys = record { keys = 5 ∷ 5 ∷ 6 ∷ 6 ∷ 7 ∷ 7 ∷ []; weight = degree (5 ∷ 5 ∷ 5 ∷ 5 ∷ 6 ∷ []) }
+
+child_dominates : DominatesChild 6 child_lists child_keys
+child_dominates = record {
+  column = degree_list_dominates (5 ∷ 5 ∷ 6 ∷ 6 ∷ 7 ∷ 7 ∷ []);
+  class = dominated (5 ∷ 5 ∷ 5 ∷ 5 ∷ 6 ∷ []);
+  class_falls = IsFalling-degree_list (5 ∷ 5 ∷ 5 ∷ 5 ∷ 6 ∷ []);
+  key_per_row = refl;
+}
+
+pub keys : DominatesWeights (composed (3 ∷ 3 ∷ []) (child_lists ∷ [])) (weight_of_key (1 ∷ 1 ∷ 1 ∷ 2 ∷ 2 ∷ 2 ∷ []) (child_keys ∷ []))
+keys =
+    composed_dominates (3 ∷ 3 ∷ []) (1 ∷ 1 ∷ 1 ∷ 2 ∷ 2 ∷ 2 ∷ []) (child_lists ∷ []) (child_keys ∷ [])
+    (degree_list_dominates (1 ∷ 1 ∷ 1 ∷ 2 ∷ 2 ∷ 2 ∷ [])) (child_dominates, tt)
+
+pub rows : sum_by (weight_of_row (child_keys ∷ [])) (range_with_len 0 6) ≤ root_total (child_lists ∷ []) 6
+rows = root_at_least 6 6 (omega arith) (child_lists ∷ []) (child_keys ∷ []) (child_dominates, tt)
+
+-- lists of two or three elements that fall
+falls_two : (x y : ℕ) → y ≤ x → IsFalling (x ∷ y ∷ [])
+falls_two x y h = IsFalling-cons x (y ∷ []) h (IsFalling-cons y [] (omega arith) (λ r. omega arith))
+
+falls_three : (x y z : ℕ) → y ≤ x → z ≤ y → IsFalling (x ∷ y ∷ z ∷ [])
+falls_three x y z h k = IsFalling-cons x (y ∷ z ∷ []) h (falls_two y z k)
+
+above_two : (x y a b : ℕ) → a ≤ x → a + b ≤ x + y → IsAbove (x ∷ y ∷ []) (a ∷ b ∷ [])
+above_two x y a b h k zero = omega arith
+above_two x y a b h k (suc zero) = omega arith
+above_two x y a b h k (suc (suc zero)) = omega arith
+above_two x y a b h k (suc (suc (suc r))) = omega arith
+
+above_three : (x y a b c : ℕ) → a ≤ x → a + b ≤ x + y → a + b + c ≤ x + y → IsAbove (x ∷ y ∷ []) (a ∷ b ∷ c ∷ [])
+above_three x y a b c h k l zero = omega arith
+above_three x y a b c h k l (suc zero) = omega arith
+above_three x y a b c h k l (suc (suc zero)) = omega arith
+above_three x y a b c h k l (suc (suc (suc zero))) = omega arith
+above_three x y a b c h k l (suc (suc (suc (suc r)))) = omega arith
+
+pub larger_product : IsAbove (rank_product_of ((3 ∷ 3 ∷ []) ∷ (5 ∷ 4 ∷ []) ∷ [])) (rank_product_of ((3 ∷ 2 ∷ 1 ∷ []) ∷ (5 ∷ 3 ∷ 1 ∷ []) ∷ []))
+larger_product =
+    rank_product_of-above ((3 ∷ 3 ∷ []) ∷ (5 ∷ 4 ∷ []) ∷ []) ((3 ∷ 2 ∷ 1 ∷ []) ∷ (5 ∷ 3 ∷ 1 ∷ []) ∷ [])
+    (falls_two 3 3 (omega arith), (falls_two 5 4 (omega arith), tt))
+    (falls_three 3 2 1 (omega arith) (omega arith), (falls_three 5 3 1 (omega arith) (omega arith), tt))
+    (above_three 3 3 3 2 1 (omega arith) (omega arith) (omega arith), (above_three 5 4 5 3 1 (omega arith) (omega arith) (omega arith), tt))
+
+abbrev larger_child : ChildLists
+larger_child = record { column = 3 ∷ 3 ∷ []; class = 4 ∷ 1 ∷ [] }
+
+abbrev smaller_child : ChildLists
+smaller_child = record { column = 3 ∷ 2 ∷ 1 ∷ []; class = 3 ∷ 2 ∷ [] }
+
+larger_is_child : IsChild 6 larger_child
+larger_is_child = record { column_falls = falls_two 3 3 (omega arith); class_falls = falls_two 4 1 (omega arith); column_sum = refl }
+
+smaller_is_child : IsChild 6 smaller_child
+smaller_is_child = record { column_falls = falls_three 3 2 1 (omega arith) (omega arith); class_falls = falls_two 3 2 (omega arith); column_sum = refl }
+
+pub larger_composition : IsAbove (composed (3 ∷ 3 ∷ []) (larger_child ∷ [])) (composed (3 ∷ 2 ∷ 1 ∷ []) (smaller_child ∷ []))
+larger_composition =
+    composed-above (3 ∷ 3 ∷ []) (3 ∷ 2 ∷ 1 ∷ []) (larger_child ∷ []) (smaller_child ∷ []) (larger_is_child, tt) (smaller_is_child, tt)
+    (above_three 3 3 3 2 1 (omega arith) (omega arith) (omega arith))
+    (record { column = above_three 3 3 3 2 1 (omega arith) (omega arith) (omega arith); class = above_two 4 1 3 2 (omega arith) (omega arith) }, tt)
+
+abbrev matched : MatchedChild
+matched = record { near = record { column = 3 ∷ 3 ∷ []; class = 6 ∷ 1 ∷ [] }; exact = record { column = 3 ∷ 2 ∷ 1 ∷ []; class = 4 ∷ 1 ∷ [] }; scale = 2; factor = 3 }
+
+near_three : (r : ℕ) → 1 * running_sum (3 ∷ 3 ∷ []) r ≤ 2 * running_sum (3 ∷ 2 ∷ 1 ∷ []) r
+near_three zero = omega arith
+near_three (suc zero) = omega arith
+near_three (suc (suc zero)) = omega arith
+near_three (suc (suc (suc zero))) = omega arith
+near_three (suc (suc (suc (suc r)))) = omega arith
+
+near_class : (r : ℕ) → 2 * running_sum (6 ∷ 1 ∷ []) r ≤ 3 * running_sum (4 ∷ 1 ∷ []) r
+near_class zero = omega arith
+near_class (suc zero) = omega arith
+near_class (suc (suc zero)) = omega arith
+near_class (suc (suc (suc r))) = omega arith
+
+pub scaled_composition : IsWithin 2 6 (composed (3 ∷ 3 ∷ []) (matched.near ∷ [])) (composed (3 ∷ 2 ∷ 1 ∷ []) (matched.exact ∷ []))
+scaled_composition =
+    composed-near 1 (3 ∷ 3 ∷ []) (3 ∷ 2 ∷ 1 ∷ []) (matched ∷ []) near_three (record { column = near_three; class = near_class }, tt)
+    (record { column_falls = falls_two 3 3 (omega arith); class_falls = falls_two 6 1 (omega arith); column_sum = refl }, tt)
+    (record { column_falls = falls_three 3 2 1 (omega arith) (omega arith); class_falls = falls_two 4 1 (omega arith); column_sum = refl }, tt)

@@ -1,0 +1,83 @@
+-- Where a walk along pieces stands.
+use Rattle.std.proofs.Common.{◌≡◌, ℕ, zero, suc, ◌+◌, ◌-◌, ◌^◌, ◌<◌, ◌≤◌, min, List, [], ◌∷◌, ◌++◌, length, get_or, drop, replicate, refl, ap, sym, ◌∙◌, arith, length-append, zero-add, ◌⊎◌, inl, inr}
+use Rattle.std.proofs.Math.Nat.{suc-add}
+use Rattle.std.proofs.Math.Seq.{drop-nil}
+use Rattle.std.proofs.Math.ListN.{get_or-append}
+use Rattle.std.proofs.lemmas.List.{get_or-drop, get_or-replicate, length-replicate, drop_all}
+use Rattle.std.proofs.lemmas.Bool.{cases_lt}
+use Rattle.piece_math.specs.declared.pieces.Piece.{Piece}
+use Rattle.piece_math.specs.declared.walk.Place.{Place}
+use Rattle.piece_math.specs.Expanded.{expanded, AreFalling, ArePieces}
+use Rattle.piece_math.specs.Places.{rest_from, first_left, ahead_of, IsPlace}
+
+pub drop-drop : (m n : ℕ) (s : List ℕ) → drop n (drop m s) ≡ drop (m + n) s
+drop-drop zero n s = ap (λ k. drop k s) (sym (zero-add n))
+drop-drop (suc m) n [] = drop-nil n ∙ sym (drop-nil (suc m + n))
+drop-drop (suc m) n (x ∷ s) = drop-drop m n s ∙ ap (λ k. drop k (x ∷ s)) (sym (suc-add m n))
+
+-- the piece at a place
+pub first_left-at : (ps : List Piece) (i used : ℕ) (d : Piece) → i < length ps → first_left (drop i ps) used ≡ record { value = (get_or ps i d).value; count = (get_or ps i d).count - used }
+first_left-at [] i used d h = absurd (omega arith)
+first_left-at (p ∷ ps) zero used d h = refl
+first_left-at (p ∷ ps) (suc i) used d h = first_left-at ps i used d (omega arith)
+
+pub first_left-end : (ps : List Piece) (i used : ℕ) → length ps ≤ i → first_left (drop i ps) used ≡ record { value = 0; count = 2 ^ 64 - 1 }
+first_left-end ps i used h = rw (drop_all i ps h) refl
+
+-- the elements ahead are equal
+equal_first : (ps : List Piece) (used k : ℕ) → k < (first_left ps used).count → get_or (drop used (expanded ps)) k 0 ≡ (first_left ps used).value
+equal_first [] used k h = rw (drop-nil used) refl
+equal_first (p ∷ ps) used k h =
+    get_or-drop used (replicate p.count p.value ++ expanded ps) k 0
+    ∙ get_or-append (replicate p.count p.value) (expanded ps) 0 (used + k) (omega (arith, length-replicate p.count p.value))
+    ∙ get_or-replicate p.count (used + k) p.value 0 (omega arith)
+
+pub equal_ahead : (ps : List Piece) (place : Place) (k : ℕ) → k < (ahead_of ps place).count → get_or (rest_from ps place) k 0 ≡ (ahead_of ps place).value
+equal_ahead ps place k h = equal_first (drop place.at ps) place.used k h
+
+-- ---- the place after
+
+some_first : (ps : List Piece) → AreFalling ps → (i : ℕ) → 0 < (first_left (drop i ps) 0).count
+some_first [] fall i = rw (drop-nil i) (omega arith)
+some_first (p ∷ ps) fall zero = omega (arith, fall.1)
+some_first (p ∷ ps) fall (suc i) = some_first ps fall.2 i
+
+pub IsPlace-next : (ps : List Piece) (i : ℕ) → ArePieces ps → i < length ps → IsPlace ps (record { at = i + 1; used = 0 })
+IsPlace-next ps i are h = record { within = omega arith; inside = some_first ps are.falls (i + 1) }
+
+pub IsPlace-start : (ps : List Piece) → ArePieces ps → IsPlace ps (record { at = 0; used = 0 })
+IsPlace-start ps are = record { within = omega arith; inside = some_first ps are.falls 0 }
+
+-- no piece is longer than the list
+pub place_fits : (ps : List Piece) (i used n : ℕ) → i < length ps → 0 < (first_left (drop i ps) used).count → n ≤ (first_left (drop i ps) used).count → used + n ≤ length (expanded ps)
+place_fits [] i used n h some le = absurd (omega arith)
+place_fits (p ∷ ps) zero used n h some le = omega (arith, length-append (replicate p.count p.value) (expanded ps), length-replicate p.count p.value)
+place_fits (p ∷ ps) (suc i) used n h some le = omega (arith, place_fits ps i used n (omega arith) some le, length-append (replicate p.count p.value) (expanded ps))
+
+-- the shorter stretch ends a piece
+pub places_onward : (a b : List Piece) (x y x' y' : Place) (n : ℕ) → ArePieces a → ArePieces b → IsPlace a x → IsPlace b y
+    → n ≡ min (ahead_of a x).count (ahead_of b y).count → (x.at < length a) ⊎ (y.at < length b) → x.at ≤ x'.at → y.at ≤ y'.at
+    → (x.at < length a → n ≡ (ahead_of a x).count → x'.at ≡ x.at + 1) → (y.at < length b → n ≡ (ahead_of b y).count → y'.at ≡ y.at + 1)
+    → x.at + y.at < x'.at + y'.at
+places_onward a b x y x' y' n are_a are_b in_a in_b shorter more stays_a stays_b ends_a ends_b = elim (cases_lt (ahead_of a x).count (ahead_of b y).count) [
+  | inl less ↦ elim (cases_lt x.at (length a)) [
+    | inl inside ↦ omega (arith, ends_a inside (omega (arith, shorter)))
+    | inr over ↦ absurd (omega (arith, end_count a x over, at_most b y are_b in_b))
+  ]
+  | inr no_less ↦ elim (cases_lt y.at (length b)) [
+    | inl inside ↦ omega (arith, ends_b inside (omega (arith, shorter)))
+    | inr over ↦ elim more [
+      | inl inside ↦ omega (arith, ends_a inside (omega (arith, shorter, end_count b y over, at_most a x are_a in_a)))
+      | inr inside ↦ absurd (omega arith)
+    ]
+  ]
+]
+  where
+    end_count : (ps : List Piece) (z : Place) → length ps ≤ z.at → (ahead_of ps z).count ≡ 2 ^ 64 - 1
+    end_count ps z over = ap (λ (p : Piece). p.count) (first_left-end ps z.at z.used over)
+
+    at_most : (ps : List Piece) (z : Place) → ArePieces ps → IsPlace ps z → (ahead_of ps z).count ≤ 2 ^ 64 - 1
+    at_most ps z are place = elim (cases_lt z.at (length ps)) [
+      | inl inside ↦ omega (arith, are.fits, place_fits ps z.at z.used (ahead_of ps z).count inside place.inside (omega arith))
+      | inr over ↦ omega (arith, end_count ps z over)
+    ]

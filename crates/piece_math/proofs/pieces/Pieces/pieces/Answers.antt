@@ -1,0 +1,17 @@
+use Rattle.std.proofs.Common.{◌<◌, subst}
+use Rattle.std.specs.List.{All}
+use Rattle.degree_sequences.specs.Falling.{IsFalling}
+use Rattle.piece_math.specs.Expanded.{expanded}
+use Rattle.piece_math.proofs.Expansion.{runs-expanded, IsFalling-expanded, positive-expanded, All-from_recursion}
+use Rattle.piece_math.proofs.pieces.Pieces.pieces.Goals as goal
+
+pub returns-clause-one_per_run : goal.returns-clause-one_per_run
+returns-clause-one_per_run c = rw (c.as_slice.ensures, ← c.self.view_is) (runs-expanded c.self.inside.parts.items c.self.invariant.falls)
+
+pub returns-clause-list_falls : goal.returns-clause-list_falls
+returns-clause-list_falls c = subst IsFalling c.self.view_is (IsFalling-expanded c.self.inside.parts.items c.self.invariant.falls)
+
+pub returns-clause-positive : goal.returns-clause-positive
+returns-clause-positive c =
+    subst (All (λ x. 0 < x)) c.self.view_is
+    (All-from_recursion (λ x. 0 < x) (expanded c.self.inside.parts.items) (positive-expanded c.self.inside.parts.items c.self.invariant.falls))

@@ -1,0 +1,23 @@
+-- A falling list kept as pieces, each of which stands for equal elements.
+use Rattle.std.specs.Prelude.{ℕ, ◌^◌, ◌<◌, ⊤, List, [], ◌∷◌, ◌++◌, replicate, length}
+use Rattle.piece_math.specs.declared.pieces.Piece.{Piece}
+
+-- the list that pieces stand for: each piece is so many elements of its value
+abbrev pub expanded : List Piece → List ℕ
+expanded [] = []
+expanded (p ∷ ps) = replicate p.count p.value ++ expanded ps
+
+-- the value of the first piece, or 0
+abbrev pub first_value : List Piece → ℕ
+first_value [] = 0
+first_value (p ∷ ps) = p.value
+
+-- values strictly fall, and values and counts are positive
+abbrev pub AreFalling : List Piece → Type 0
+AreFalling [] = ⊤
+AreFalling (p ∷ ps) = (first_value ps < p.value) × (0 < p.count) × AreFalling ps
+
+-- pieces that stand for a list whose length fits 64 bits
+pub record ArePieces (ps : List Piece) : Type 0 where
+  pub falls : AreFalling ps
+  pub fits : length (expanded ps) < 2 ^ 64

@@ -1,0 +1,38 @@
+-- Places in pieces, for a walk along a list by its runs.
+use Rattle.std.specs.Prelude.{◌≡◌, ℕ, ◌+◌, ◌-◌, ◌^◌, ◌<◌, ◌≤◌, List, [], ◌∷◌, length, drop, slice_index}
+use Rattle.piece_math.specs.declared.pieces.Piece.{Piece}
+use Rattle.piece_math.specs.declared.walk.Place.{Place}
+use Rattle.piece_math.specs.declared.walk.Places.{Places}
+use Rattle.piece_math.specs.declared.walk.Turn.{Turn}
+use Rattle.piece_math.specs.Expanded.{expanded}
+
+-- the list from a place on
+abbrev pub rest_from : List Piece → Place → List ℕ
+rest_from ps place = drop place.used (expanded (drop place.at ps))
+
+-- what is left of the first piece. Past the end of a list there are zeros without end
+abbrev pub first_left : List Piece → ℕ → Piece
+first_left [] used = record { value = 0; count = 2 ^ 64 - 1 }
+first_left (p ∷ ps) used = record { value = p.value; count = p.count - used }
+
+-- the equal elements at a place
+abbrev pub ahead_of : List Piece → Place → Piece
+ahead_of ps place = first_left (drop place.at ps) place.used
+
+-- a place within pieces, or their end
+pub record IsPlace (ps : List Piece) (place : Place) : Type 0 where
+  pub within : place.at ≤ length ps
+  pub inside : 0 < (ahead_of ps place).count
+
+-- a turn of two walks: as many ranks as both lists stay the same, which uses up the piece of one of them
+pub record IsTurn (a b : List Piece) (places : Places) (turn : Turn) : Type 0 where
+  pub some : 0 < turn.count
+  pub equal_left : (k : ℕ) → k < turn.count → slice_index (rest_from a places.left) k ≡ turn.left
+  pub equal_right : (k : ℕ) → k < turn.count → slice_index (rest_from b places.right) k ≡ turn.right
+  pub next_left : IsPlace a turn.next.left
+  pub next_right : IsPlace b turn.next.right
+  pub rest_left : rest_from a turn.next.left ≡ drop turn.count (rest_from a places.left)
+  pub rest_right : rest_from b turn.next.right ≡ drop turn.count (rest_from b places.right)
+  pub stays_left : places.left.at ≤ turn.next.left.at
+  pub stays_right : places.right.at ≤ turn.next.right.at
+  pub onward : places.left.at + places.right.at < turn.next.left.at + turn.next.right.at

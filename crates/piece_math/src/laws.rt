@@ -1,0 +1,81 @@
+//! Why bounds are safe: five laws of falling lists.
+//!
+//! Lists are of whole numbers without a limit, they fall, and past its end a list is 0. The different keys of
+//! a domination are taken in any order. No law computes anything: the bodies are empty, and the contract is
+//! the law (Degree Sequence Bound, ICDT 2023, for products and compositions of dominating lists).
+ghost use Rattle.std.specs.Prelude.{◌≡◌, ℕ, ◌+◌, ◌*◌, ◌≤◌, List, [], ◌∷◌, length, map};
+ghost use Rattle.std.specs.List.{AllByRecursion, AllZip, sum, sum_by, range_with_len};
+ghost use Rattle.degree_sequences.specs.ByRank.{rank_product, rank_product_of};
+ghost use Rattle.degree_sequences.specs.Composition.{ChildLists, composed, root_total};
+ghost use Rattle.degree_sequences.specs.Degrees.{degree};
+ghost use Rattle.degree_sequences.specs.Domination.{DominatesKeys, DominatesWeights};
+ghost use Rattle.degree_sequences.specs.Falling.{IsFalling};
+ghost use Rattle.degree_sequences.specs.Families.{IsChild, ChildIsAbove, IsWithin, MatchedChild, IsNear, scales, factors};
+ghost use Rattle.degree_sequences.specs.KeyedRows.{ChildKeys, DominatesChild, weight_of_row, weight_of_key};
+ghost use Rattle.degree_sequences.specs.RunningSums.{IsAbove};
+
+/// Product dominates: lists that dominate two weights of the same keys have a rank-wise product that dominates the
+/// weights multiplied key by key. One of the two lists has to fall.
+pub fn product_dominates()
+    ensures { (s t : List ℕ) (v w : ℕ → ℕ) → IsFalling t
+        → DominatesWeights s v → DominatesWeights t w → DominatesWeights (rank_product s t) (λ a. v a * w a) }
+{}
+
+/// Composition dominates, for rows that have a parent key and a key for each child. Its lists dominate the parent
+/// keys, the keys of each child, and the class weights of these. The lists of keys need not share one sum: each has
+/// at least the number of rows.
+pub fn compose_dominates()
+    // the composition dominates the weights that the rows give to the parent keys
+    ensures keys { (parent parent_keys : List ℕ) (lists : List ChildLists) (children : List ChildKeys)
+        → DominatesKeys parent parent_keys → AllZip (DominatesChild (length parent_keys)) lists children
+        → DominatesWeights (composed parent lists) (weight_of_key parent_keys children) }
+    // the row weights by rank sum to at least the weights of the rows
+    ensures rows { (total rows : ℕ) (lists : List ChildLists) (children : List ChildKeys)
+        → rows ≤ total → AllZip (DominatesChild rows) lists children
+        → sum_by (weight_of_row children) (range_with_len 0 rows) ≤ root_total lists total }
+{}
+
+/// Product is monotone: lists that are above others, one by one, have a product that is above theirs. Above means
+/// at least in the running sum of every rank.
+pub fn product_is_monotone()
+    ensures { (lists lower : List (List ℕ)) → AllByRecursion IsFalling lists → AllByRecursion IsFalling lower
+        → AllZip IsAbove lists lower → IsAbove (rank_product_of lists) (rank_product_of lower) }
+{}
+
+/// Composition is monotone in the same way. In each family the parent list and the columns share one sum; that of
+/// the family above is then at least the other's.
+pub fn compose_is_monotone()
+    ensures { (parent lower_parent : List ℕ) (children lower : List ChildLists)
+        → AllByRecursion (IsChild (sum parent)) children → AllByRecursion (IsChild (sum lower_parent)) lower
+        → IsAbove parent lower_parent → AllZip ChildIsAbove children lower
+        → IsAbove (composed parent children) (composed lower_parent lower) }
+{}
+
+/// Composition scales: how far lists lie apart multiplies up to how far their compositions do. Parent and columns
+/// are within K and K + 1 of the exact ones, each class list within two numbers of its own.
+pub fn compose_scales()
+    ensures { (accuracy : ℕ) (parent exact_parent : List ℕ) (children : List MatchedChild)
+        → IsWithin accuracy (accuracy + 1) parent exact_parent → AllByRecursion (IsNear accuracy) children
+        → AllByRecursion (IsChild (sum parent)) (map (λ child. child.near) children)
+        → AllByRecursion (IsChild (sum exact_parent)) (map (λ child. child.exact) children)
+        → IsWithin (accuracy * scales children) ((accuracy + 1) * factors children)
+        (composed parent (map (λ child. child.near) children)) (composed exact_parent (map (λ child. child.exact) children)) }
+{}
+
+/// Each law at small numbers, whose premises are met.
+pub fn instances()
+    // the keys 7, 7, 8 joined with 7, 7, 7, 8, 9
+    ensures product_dominates { DominatesWeights (rank_product (2 ∷ 1 ∷ []) (3 ∷ 1 ∷ 1 ∷ []))
+        (λ a. degree (7 ∷ 7 ∷ 8 ∷ []) a * degree (7 ∷ 7 ∷ 7 ∷ 8 ∷ 9 ∷ []) a) }
+    // six rows with the parent keys 1 and 2, whose child keys 5, 6 and 7 weigh 4, 1 and 0
+    ensures compose_dominates { DominatesWeights (composed (3 ∷ 3 ∷ []) (record { column = 2 ∷ 2 ∷ 2 ∷ []; class = 4 ∷ 1 ∷ [] } ∷ []))
+        (weight_of_key (1 ∷ 1 ∷ 1 ∷ 2 ∷ 2 ∷ 2 ∷ []) (record { keys = 5 ∷ 5 ∷ 6 ∷ 6 ∷ 7 ∷ 7 ∷ []; weight = degree (5 ∷ 5 ∷ 5 ∷ 5 ∷ 6 ∷ []) } ∷ [])) }
+    ensures root_dominates { sum_by (weight_of_row (record { keys = 5 ∷ 5 ∷ 6 ∷ 6 ∷ 7 ∷ 7 ∷ []; weight = degree (5 ∷ 5 ∷ 5 ∷ 5 ∷ 6 ∷ []) } ∷ [])) (range_with_len 0 6)
+        ≤ root_total (record { column = 2 ∷ 2 ∷ 2 ∷ []; class = 4 ∷ 1 ∷ [] } ∷ []) 6 }
+    ensures product_is_monotone { IsAbove (rank_product_of ((3 ∷ 3 ∷ []) ∷ (5 ∷ 4 ∷ []) ∷ [])) (rank_product_of ((3 ∷ 2 ∷ 1 ∷ []) ∷ (5 ∷ 3 ∷ 1 ∷ []) ∷ [])) }
+    ensures compose_is_monotone { IsAbove (composed (3 ∷ 3 ∷ []) (record { column = 3 ∷ 3 ∷ []; class = 4 ∷ 1 ∷ [] } ∷ []))
+        (composed (3 ∷ 2 ∷ 1 ∷ []) (record { column = 3 ∷ 2 ∷ 1 ∷ []; class = 3 ∷ 2 ∷ [] } ∷ [])) }
+    // accuracy 1; twice the class list 6, 1 against three times 4, 1
+    ensures compose_scales { IsWithin 2 6 (composed (3 ∷ 3 ∷ []) (record { column = 3 ∷ 3 ∷ []; class = 6 ∷ 1 ∷ [] } ∷ []))
+        (composed (3 ∷ 2 ∷ 1 ∷ []) (record { column = 3 ∷ 2 ∷ 1 ∷ []; class = 4 ∷ 1 ∷ [] } ∷ [])) }
+{}

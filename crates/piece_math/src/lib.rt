@@ -1,0 +1,16 @@
+//! Falling lists of positive numbers kept as pieces of equal elements, and the operations that bounds are made of.
+//!
+//! Statistics come in as pieces; bounds go out as totals. Each operation answers the list of its
+//! definition in `degree_sequences`, each number as 128 bits hold it, at a cost in the number of pieces and
+//! never in the number of ranks (Degree Sequence Bound, ICDT 2023; SafeBound, SIGMOD 2023).
+//!
+//! Callers cite a `Pieces` as the list that it stands for, `expanded` for the list of a slice of pieces, and
+//! `runs` for the number of pieces of a list.
+#![tactic(auto)]
+
+mod by_rank;
+pub mod laws;
+mod pieces;
+mod walk;
+
+pub use pieces::{Piece, Pieces};

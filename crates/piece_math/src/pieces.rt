@@ -1,0 +1,133 @@
+//! The type `Pieces`: how a list is made, filled and asked.
+ghost use Rattle.std.specs.Prelude.{◌≡◌, ◌+◌, ◌^◌, ◌<◌, ◌≤◌, [], ◌++◌, replicate, length, IfOk, OnOk, OnErr};
+ghost use Rattle.std.specs.List.{All, sum};
+ghost use Rattle.degree_sequences.specs.Falling.{IsFalling};
+ghost use Rattle.degree_sequences.specs.Runs.{runs};
+ghost use Rattle.degree_sequences.specs.Saturation.{saturated};
+ghost use Rattle.piece_math.specs.Expanded.{expanded, ArePieces};
+
+use base_io::NoMemory;
+use smallvec::SmallVec;
+use std::alloc::Global;
+use std::marker::Model;
+
+/// Equal elements of a list, one after another.
+#[derive(Clone, Copy, Debug, Default, PartialEq, Eq)]
+pub struct Piece {
+    pub value: u128,
+    pub count: u64,
+}
+
+/// A falling list of positive numbers, which contracts see as that list. It is kept as pieces, whose values strictly fall.
+#[derive(Debug, Drop)]
+pub struct Pieces {
+    parts: SmallVec<Piece, 4>,
+}
+
+impl Model for Pieces {
+    ghost use Rattle.std.specs.Prelude.{ℕ, List};
+    ghost use Rattle.piece_math.specs.Expanded.{expanded, ArePieces};
+
+    ghost Value = { List ℕ };
+
+    ghost view = { λ p. expanded p.parts.items };
+
+    ghost invariant = { λ p. ArePieces p.parts.items };
+}
+
+impl Pieces {
+    /// The empty list. It takes no memory.
+    pub fn empty(alloc: Global) -> Pieces
+        ensures { result ≡ [] }
+    {
+        Pieces {
+            parts: SmallVec::new(alloc),
+        }
+    }
+
+    /// The pieces, which stand for the list. There is one for each run of equal elements.
+    pub fn pieces(&self) -> &[Piece]
+        ensures stands_for { self.now ≡ expanded result.now }
+        ensures whole { ArePieces result.now }
+        ensures one_per_run { length result.now ≡ runs self.now }
+        ensures list_falls { IsFalling self.now }
+        ensures positive { All (λ x. 0 < x) self.now }
+    {
+        self.parts.as_slice()
+    }
+
+    /// Appends `count` elements of a value that is at most each element before. On `NoMemory` the list is as it was.
+    pub fn push_run(&mut self, value: u128, count: u64) -> Result<(), NoMemory>
+        requires value { 0 < value }
+        requires falls { All (λ x. value ≤ x) self.old }
+        requires count { 0 < count }
+        requires room { length self.old + count < 2 ^ 64 }
+        ensures ok { OnOk result (self.new ≡ self.old ++ replicate count value) }
+        ensures err { OnErr result (self.new ≡ self.old) }
+    {
+        let len = self.parts.len();
+        if len > 0 && self.parts.as_slice()[len - 1].value == value {
+            let last = self.parts.as_slice()[len - 1];
+            self.parts.truncate(len - 1);
+            self.parts.push_reserved(Piece {
+                value,
+                count: last.count + count,
+            });
+        } else {
+            self.parts.push(Piece { value, count })?;
+        }
+        Ok(())
+    }
+
+    // Appends so many elements, unless they are zeros.
+    pub(crate) fn put(&mut self, value: u128, count: u64) -> Result<(), NoMemory>
+        requires falls { 0 < value → 0 < count → All (λ x. value ≤ x) self.old }
+        requires room { 0 < value → 0 < count → length self.old + count < 2 ^ 64 }
+        ensures some { OnOk result (0 < value → self.new ≡ self.old ++ replicate count value) }
+        ensures zeros { OnOk result (value ≡ 0 → self.new ≡ self.old) }
+        ensures few { OnOk result (runs self.new ≤ runs self.old + 1) }
+    {
+        if value > 0 && count > 0 {
+            self.push_run(value, count)?;
+        }
+        Ok(())
+    }
+
+    // Where its memory comes from.
+    pub(crate) fn alloc(&self) -> Global {
+        *self.parts.allocator()
+    }
+
+    /// A list as it is given.
+    pub fn from_list(alloc: Global, list: &[u64]) -> Result<Pieces, NoMemory>
+        requires falls { IsFalling list.now }
+        requires positive { All (λ x. 0 < x) list.now }
+        ensures { IfOk result (λ pieces. pieces ≡ list.now) }
+    {
+        let mut pieces = Pieces::empty(alloc);
+        for &x in list {
+            pieces.push_run(u128::from(x), 1)?;
+        }
+        Ok(pieces)
+    }
+
+    /// The same list.
+    pub fn copy(&self) -> Result<Pieces, NoMemory>
+        ensures { IfOk result (λ copy. copy ≡ self.now) }
+    {
+        let parts = SmallVec::from_slice(*self.parts.allocator(), self.parts.as_slice())?;
+        Ok(Pieces { parts })
+    }
+
+    /// The sum of the list, or `u128::MAX` where it is larger.
+    pub fn total(&self) -> u128
+        ensures { result ≡ saturated (sum self.now) }
+    {
+        let mut total: u128 = 0;
+        for piece in self.parts.as_slice() {
+            let sum = piece.value.saturating_mul(u128::from(piece.count));
+            total = total.saturating_add(sum);
+        }
+        total
+    }
+}
