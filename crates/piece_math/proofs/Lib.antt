@@ -4,4 +4,7 @@ pub mod Places
 pub mod Building
 pub mod Walking
 pub mod Combining
+pub mod Bends
+pub mod RunningMinima
+pub mod Cutting
 pub mod LawInstances

@@ -10,6 +10,7 @@
 
 mod by_rank;
 pub mod laws;
+mod minima;
 mod pieces;
 mod walk;
 
