@@ -7,4 +7,6 @@ pub mod Combining
 pub mod Bends
 pub mod RunningMinima
 pub mod Cutting
+pub mod Spreading
+pub mod Weighing
 pub mod LawInstances

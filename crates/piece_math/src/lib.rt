@@ -13,5 +13,7 @@ pub mod laws;
 mod minima;
 mod pieces;
 mod walk;
+mod weights;
 
 pub use pieces::{Piece, Pieces};
+pub use weights::{Child, root_total};
