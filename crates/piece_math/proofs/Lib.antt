@@ -9,4 +9,7 @@ pub mod RunningMinima
 pub mod Cutting
 pub mod Spreading
 pub mod Weighing
+pub mod BlockSums
+pub mod Grouping
+pub mod Composing
 pub mod LawInstances

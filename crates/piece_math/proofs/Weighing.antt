@@ -97,7 +97,7 @@ saturated-ones : (n : ℕ) → map saturated (replicate n 1) ≡ replicate n 1
 saturated-ones zero = refl
 saturated-ones (suc n) = ap (λ (s : List ℕ). 1 ∷ s) (saturated-ones n)
 
-row_weights-none : (n : ℕ) → row_weights [] n ≡ replicate n 1
+pub row_weights-none : (n : ℕ) → row_weights [] n ≡ replicate n 1
 row_weights-none n = same_list (row_weights [] n) (replicate n 1) (length-row_weights [] n ∙ sym (length-replicate n 1))
     (λ r h. let within : r < n = omega (arith, length-row_weights [] n) in get_or-row_weights [] n r within ∙ sym (get_or-replicate n r 1 0 within))
 

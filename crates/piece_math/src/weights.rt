@@ -44,7 +44,7 @@ fn spread(child: &Child) -> Result<Pieces, NoMemory>
 }
 
 // The weights of that many rows: the product of the weights that each child gives them.
-fn row_weights(alloc: Global, children: &[Child], rows: u64) -> Result<Pieces, NoMemory>
+pub fn row_weights(alloc: Global, children: &[Child], rows: u64) -> Result<Pieces, NoMemory>
     requires columns { All (λ child. sum child.column ≡ rows) children.now }
     requires small { rows ≤ 2 ^ 32 }
     ensures value { IfOk result (λ weights. weights ≡ map saturated (trimmed (weights_of (map lists_of children.now) rows))) }
