@@ -10,7 +10,6 @@ use Rattle.std.proofs.lemmas.List.Sums.{sum_by-append}
 use Rattle.degree_sequences.proofs.Spread.{IsFalling-front}
 use Rattle.degree_sequences.specs.Falling.{IsFalling}
 use Rattle.degree_sequences.specs.Runs.{runs, runs_after}
-use Rattle.degree_sequences.specs.Saturation.{saturated}
 use Rattle.piece_math.specs.declared.pieces.Piece.{Piece}
 use Rattle.piece_math.specs.Expanded.{expanded, first_value, AreFalling, ArePieces}
 
@@ -188,15 +187,7 @@ sum-expanded-push ps p =
     ap sum (expanded-push ps p) ∙ sum_by-append (λ (x : ℕ). x) (expanded ps) (replicate p.count p.value)
     ∙ ap (λ n. sum (expanded ps) + n) (sum_by-replicate (λ (x : ℕ). x) p.count p.value)
 
--- the total after one more piece
-pub saturated_more : (ps : List Piece) (i : ℕ) (d : Piece) (t m t' : ℕ) → i < length ps → t ≡ saturated (sum (expanded (take i ps)))
-    → m ≡ saturated ((get_or ps i d).value * (get_or ps i d).count) → t' ≡ saturated (t + m) → t' ≡ saturated (sum (expanded (take (i + 1) ps)))
-saturated_more ps i d t m t' h before here after =
-    omega (
-      arith,
-      ap (λ ps. sum (expanded ps)) (take_more ps i d h),
-      sum-expanded-push (take i ps) (get_or ps i d),
-      before,
-      here,
-      after,
-    )
+-- the sum so far, at the piece that is read next
+pub sum_at_piece : (ps : List Piece) (i : ℕ) (d : Piece) → i < length ps
+    → (get_or ps i d ≡ get_or ps i d) × (sum (expanded (take (i + 1) ps)) ≡ sum (expanded (take i ps)) + (get_or ps i d).value * (get_or ps i d).count)
+sum_at_piece ps i d h = (refl, omega (arith, ap (λ ps. sum (expanded ps)) (take_more ps i d h), sum-expanded-push (take i ps) (get_or ps i d)))

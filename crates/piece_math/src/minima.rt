@@ -30,28 +30,22 @@ fn crossing(low: Line, high: Line, count: u64) -> Bend
     ensures { IsBend low high count result }
 {
     let none = Piece { value: 0, count: 0 };
+    let straight = Bend {
+        before: Piece {
+            value: low.step,
+            count,
+        },
+        between: none,
+        after: none,
+    };
     if low.step <= high.step {
-        return Bend {
-            before: Piece {
-                value: low.step,
-                count,
-            },
-            between: none,
-            after: none,
-        };
+        return straight;
     }
     let apart = high.sum - low.sum;
     let closing = low.step - high.step;
     let whole = apart / closing;
     if whole >= u128::from(count) {
-        return Bend {
-            before: Piece {
-                value: low.step,
-                count,
-            },
-            between: none,
-            after: none,
-        };
+        return straight;
     }
     let before = whole as u64;
     Bend {

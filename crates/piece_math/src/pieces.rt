@@ -118,6 +118,7 @@ impl Pieces {
     }
 
     /// The sum of the list, or `u128::MAX` where it is larger.
+    #[tactic(auto, using(crate::proofs::Expansion::sum_at_piece))]
     pub fn total(&self) -> u128
         ensures { result ≡ saturated (sum self.now) }
     {

@@ -1,4 +1,4 @@
-use Rattle.std.proofs.Common.{◌≡◌, ◌+◌, ◌≤◌, ◌<◌, length}
+use Rattle.std.proofs.Common.{◌+◌, ◌≤◌, ◌<◌, length}
 use Rattle.std.specs.List.{All}
 use Rattle.piece_math.proofs.tests.made.Given as goal
 
