@@ -6,6 +6,7 @@ use Rattle.std.proofs.lemmas.Bool.{cases_lt}
 use Rattle.std.proofs.lemmas.List.{length-replicate, length-take, take_all}
 use Rattle.degree_sequences.specs.Falling.{IsFalling}
 use Rattle.degree_sequences.specs.Saturation.{saturated}
+use Rattle.piece_math.specs.Expanded.{IsAppended}
 use Rattle.piece_math.proofs.Falling.{at_least_next}
 
 first_run : (s : List ℕ) (c v : ℕ) → ((k : ℕ) → k < c → get_or s k 0 ≡ v) → 0 < v → take c s ≡ replicate c v
@@ -53,10 +54,10 @@ module _ {goal list : List ℕ} {n c v : ℕ} (so_far : list ≡ take n goal) (r
       )
 
   -- and then the list is built as far as the run's end
-  pub run_built : AllByRecursion (λ x. 0 < x) goal → (new : List ℕ) → (0 < v → new ≡ list ++ replicate c v) → (v ≡ 0 → new ≡ list) → new ≡ take (n + c) goal
-  run_built all new some none = elim (cases_lt 0 v) [
-    | inl pos ↦ some pos ∙ ap (λ (l : List ℕ). l ++ replicate c v) so_far ∙ sym (take_run n goal c v run.same pos)
-    | inr zero_v ↦ none (omega arith) ∙ so_far ∙ elim (cases_lt 0 c) [
+  pub run_built : AllByRecursion (λ x. 0 < x) goal → {new : List ℕ} → IsAppended list new v c → new ≡ take (n + c) goal
+  run_built all put = elim (cases_lt 0 v) [
+    | inl pos ↦ put.some pos ∙ ap (λ (l : List ℕ). l ++ replicate c v) so_far ∙ sym (take_run n goal c v run.same pos)
+    | inr zero_v ↦ put.zeros (omega arith) ∙ so_far ∙ elim (cases_lt 0 c) [
       | inl more ↦ (let at_n : get_or goal n 0 ≡ 0 = ap (λ i. get_or goal i 0) (sym (add-zero n)) ∙ run.same 0 more ∙ omega arith in
           let past : length goal ≤ n = ends_at_zero goal all n at_n in
           take_all n goal past ∙ sym (take_all (n + c) goal (omega arith)))

@@ -1,59 +1,45 @@
 -- Lists that are combined rank by rank.
-use Rattle.std.proofs.Common.{◌≡◌, ℕ, zero, suc, ◌+◌, ◌*◌, ◌^◌, ◌<◌, ◌≤◌, max, List, [], ◌∷◌, length, get_or, map, take, replicate, ◌++◌, refl, ap, sym, ◌∙◌, arith}
+use Rattle.std.proofs.Common.{◌≡◌, ℕ, zero, suc, ◌+◌, ◌^◌, ◌<◌, ◌≤◌, max, List, [], ◌∷◌, length, get_or, map, take, refl, ap, sym, ◌∙◌, arith}
 use Rattle.std.specs.List.{AllByRecursion, All}
-use Rattle.std.proofs.Math.Nat.{mul-le-mul, mul-pos, zero-mul, mul-zero}
+use Rattle.std.proofs.Math.Nat.{mul-pos}
 use Rattle.std.proofs.lemmas.List.{length-map, take_all}
+use Rattle.degree_sequences.proofs.ByRank.{get_or-rank_product, get_or-rank_maximum, IsFalling-rank_product, IsFalling-rank_sum, IsFalling-rank_maximum}
 use Rattle.degree_sequences.specs.Falling.{IsFalling}
 use Rattle.degree_sequences.specs.Saturation.{saturated}
-use Rattle.degree_sequences.specs.ByRank.{rank_product, rank_sum, rank_maximum}
+use Rattle.degree_sequences.specs.ByRank.{rank_sum}
 use Rattle.degree_sequences.specs.Runs.{runs}
 use Rattle.piece_math.specs.declared.pieces.Piece.{Piece}
 use Rattle.piece_math.specs.declared.walk.Places.{Places}
 use Rattle.piece_math.specs.declared.walk.Turn.{Turn}
 use Rattle.piece_math.specs.declared.by_rank.Combination.{Combination}
 use Rattle.piece_math.specs.declared.by_rank.Combination.TheVariants.{Product, Sum, Maximum}
-use Rattle.piece_math.specs.Expanded.{expanded, ArePieces}
+use Rattle.piece_math.specs.Expanded.{expanded, ArePieces, IsAppended}
 use Rattle.piece_math.specs.Places.{IsTurn}
 use Rattle.piece_math.specs.ByRank.{combined, combined_by_rank}
 use Rattle.piece_math.proofs.Expansion.{IsFalling-expanded, positive-expanded}
 use Rattle.piece_math.proofs.Building.{HasRun, run_falls, run_fits, run_built, get_or-saturated, IsFalling-saturated, positive-saturated}
 use Rattle.piece_math.proofs.Walking.{Walked, at_left, at_right, walk_on, walk_start, rest_none}
 
-get_or-product : (s t : List ℕ) (r : ℕ) → get_or (rank_product s t) r 0 ≡ get_or s r 0 * get_or t r 0
-get_or-product [] t r = sym (zero-mul (get_or t r 0))
-get_or-product (x ∷ s) [] r = sym (mul-zero (get_or (x ∷ s) r 0))
-get_or-product (x ∷ s) (y ∷ t) zero = refl
-get_or-product (x ∷ s) (y ∷ t) (suc r) = get_or-product s t r
-
-get_or-sum : (s t : List ℕ) (r : ℕ) → get_or (rank_sum s t) r 0 ≡ get_or s r 0 + get_or t r 0
-get_or-sum [] t r = omega arith
-get_or-sum (x ∷ s) [] r = omega arith
-get_or-sum (x ∷ s) (y ∷ t) zero = refl
-get_or-sum (x ∷ s) (y ∷ t) (suc r) = get_or-sum s t r
-
-get_or-maximum : (s t : List ℕ) (r : ℕ) → get_or (rank_maximum s t) r 0 ≡ max (get_or s r 0) (get_or t r 0)
-get_or-maximum [] t r = omega arith
-get_or-maximum (x ∷ s) [] r = omega arith
-get_or-maximum (x ∷ s) (y ∷ t) zero = refl
-get_or-maximum (x ∷ s) (y ∷ t) (suc r) = get_or-maximum s t r
+-- each element is the sum of the two
+get_or-rank_sum : (s t : List ℕ) (r : ℕ) → get_or (rank_sum s t) r 0 ≡ get_or s r 0 + get_or t r 0
+get_or-rank_sum [] t r = omega arith
+get_or-rank_sum (x ∷ s) [] r = omega arith
+get_or-rank_sum (x ∷ s) (y ∷ t) zero = refl
+get_or-rank_sum (x ∷ s) (y ∷ t) (suc r) = get_or-rank_sum s t r
 
 -- the combined list has the combined elements
 pub get_or-combined : (how : Combination) (s t : List ℕ) (r : ℕ) → get_or (combined_by_rank how s t) r 0 ≡ combined how (get_or s r 0) (get_or t r 0)
-get_or-combined Product s t r = get_or-product s t r
-get_or-combined Sum s t r = get_or-sum s t r
-get_or-combined Maximum s t r = get_or-maximum s t r
+get_or-combined Product s t r = get_or-rank_product s t r
+get_or-combined Sum s t r = get_or-rank_sum s t r
+get_or-combined Maximum s t r = get_or-rank_maximum s t r
 
-combined-le : (how : Combination) (x y x' y' : ℕ) → x ≤ x' → y ≤ y' → combined how x y ≤ combined how x' y'
-combined-le Product x y x' y' h k = mul-le-mul h k
-combined-le Sum x y x' y' h k = omega arith
-combined-le Maximum x y x' y' h k = omega arith
-
+-- combined falling lists fall
 IsFalling-combined : (how : Combination) (s t : List ℕ) → IsFalling s → IsFalling t → IsFalling (combined_by_rank how s t)
-IsFalling-combined how s t fs ft r =
-    let le : combined how (get_or s (suc r) 0) (get_or t (suc r) 0) ≤ combined how (get_or s r 0) (get_or t r 0) =
-    combined-le how (get_or s (suc r) 0) (get_or t (suc r) 0) (get_or s r 0) (get_or t r 0) (fs r) (ft r) in
-    omega (arith, get_or-combined how s t r, get_or-combined how s t (suc r), le)
+IsFalling-combined Product s t fs ft = IsFalling-rank_product s t fs ft
+IsFalling-combined Sum s t fs ft = IsFalling-rank_sum s t fs ft
+IsFalling-combined Maximum s t fs ft = IsFalling-rank_maximum s t fs ft
 
+-- and positive ones are positive
 positive-combined : (how : Combination) (s t : List ℕ) → AllByRecursion (λ x. 0 < x) s → AllByRecursion (λ x. 0 < x) t → AllByRecursion (λ x. 0 < x) (combined_by_rank how s t)
 positive-combined Product [] t ps pt = tt
 positive-combined Product (x ∷ s) [] ps pt = tt
@@ -65,6 +51,7 @@ positive-combined Maximum [] t ps pt = pt
 positive-combined Maximum (x ∷ s) [] ps pt = ps
 positive-combined Maximum (x ∷ s) (y ∷ t) ps pt = (omega (arith, ps.0), positive-combined Maximum s t ps.1 pt.1)
 
+-- they are no longer than the longer one
 length-combined-le : (how : Combination) (s t : List ℕ) → length (combined_by_rank how s t) ≤ max (length s) (length t)
 length-combined-le Product [] t = omega arith
 length-combined-le Product (x ∷ s) [] = omega arith
@@ -119,12 +106,11 @@ module _ {how : Combination} {a b : List Piece} {places : Places} {turn : Turn} 
   pub combine_fits : 0 < v → length list + turn.count < 2 ^ 64
   combine_fits pos = omega (arith, run_fits so_far.built (goal_run how a b places turn v t so_far.walked value) pos, goal_short how a b, are_a.fits, are_b.fits)
 
-  pub combine_step : (new : List ℕ) → (0 < v → new ≡ list ++ replicate turn.count v) → (v ≡ 0 → new ≡ list) → runs new ≤ runs list + 1
-      → Combined how a b turn.next new
-  combine_step new some none more = record {
+  pub combine_step : {new : List ℕ} → IsAppended list new v turn.count → Combined how a b turn.next new
+  combine_step put = record {
     walked = walk_on t so_far.walked;
-    built = run_built so_far.built (goal_run how a b places turn v t so_far.walked value) (goal_positive how a b are_a are_b) new some none;
-    few = omega (arith, more, so_far.few, t.onward);
+    built = run_built so_far.built (goal_run how a b places turn v t so_far.walked value) (goal_positive how a b are_a are_b) put;
+    few = omega (arith, put.few, so_far.few, t.onward);
   }
 
 pub combine_end : (how : Combination) (a b : List Piece) (places : Places) (list : List ℕ) → Combined how a b places list → length a ≤ places.left.at → length b ≤ places.right.at

@@ -7,9 +7,9 @@ use Rattle.std.proofs.lemmas.Bool.{cond_both, eq-eqb, ne_eqb}
 use Rattle.std.proofs.lemmas.List.{append_assoc, append-nil, length-replicate, take_all, take_more}
 use Rattle.std.proofs.lemmas.List.Folds.{sum_by-replicate}
 use Rattle.std.proofs.lemmas.List.Sums.{sum_by-append}
+use Rattle.degree_sequences.proofs.Spread.{IsFalling-front}
 use Rattle.degree_sequences.specs.Falling.{IsFalling}
 use Rattle.degree_sequences.specs.Runs.{runs, runs_after}
-use Rattle.degree_sequences.specs.Saturation.{saturated}
 use Rattle.piece_math.specs.declared.pieces.Piece.{Piece}
 use Rattle.piece_math.specs.Expanded.{expanded, first_value, AreFalling, ArePieces}
 
@@ -155,22 +155,17 @@ runs-push s n x = omega (arith, runs_after-push 0 s n x)
 
 -- ---- the list falls and is positive
 
-first-front : (n x : ℕ) (s : List ℕ) → get_or s 0 0 ≤ x → get_or (replicate n x ++ s) 0 0 ≤ x
-first-front zero x s h = h
-first-front (suc n) x s h = omega arith
-
-IsFalling-front : (n x : ℕ) (s : List ℕ) → IsFalling s → get_or s 0 0 ≤ x → IsFalling (replicate n x ++ s)
-IsFalling-front zero x s fall h r = fall r
-IsFalling-front (suc n) x s fall h zero = first-front n x s h
-IsFalling-front (suc n) x s fall h (suc r) = IsFalling-front n x s fall h r
+first-run : (n x : ℕ) (s : List ℕ) → get_or s 0 0 ≤ x → get_or (replicate n x ++ s) 0 0 ≤ x
+first-run zero x s h = h
+first-run (suc n) x s h = omega arith
 
 first-expanded : (ps : List Piece) → AreFalling ps → get_or (expanded ps) 0 0 ≤ first_value ps
 first-expanded [] fall = omega arith
-first-expanded (p ∷ ps) fall = first-front p.count p.value (expanded ps) (omega (arith, first-expanded ps fall.2, fall.0))
+first-expanded (p ∷ ps) fall = first-run p.count p.value (expanded ps) (omega (arith, first-expanded ps fall.2, fall.0))
 
 pub IsFalling-expanded : (ps : List Piece) → AreFalling ps → IsFalling (expanded ps)
 IsFalling-expanded [] fall = λ r. omega arith
-IsFalling-expanded (p ∷ ps) fall = IsFalling-front p.count p.value (expanded ps) (IsFalling-expanded ps fall.2) (omega (arith, first-expanded ps fall.2, fall.0))
+IsFalling-expanded (p ∷ ps) fall = IsFalling-front p.count p.value (expanded ps) (omega (arith, first-expanded ps fall.2, fall.0)) (IsFalling-expanded ps fall.2)
 
 positive-front : (n x : ℕ) (s : List ℕ) → 0 < x → AllByRecursion (λ x. 0 < x) s → AllByRecursion (λ x. 0 < x) (replicate n x ++ s)
 positive-front zero x s h all = all
@@ -192,15 +187,7 @@ sum-expanded-push ps p =
     ap sum (expanded-push ps p) ∙ sum_by-append (λ (x : ℕ). x) (expanded ps) (replicate p.count p.value)
     ∙ ap (λ n. sum (expanded ps) + n) (sum_by-replicate (λ (x : ℕ). x) p.count p.value)
 
--- the total after one more piece
-pub saturated_more : (ps : List Piece) (i : ℕ) (d : Piece) (t m t' : ℕ) → i < length ps → t ≡ saturated (sum (expanded (take i ps)))
-    → m ≡ saturated ((get_or ps i d).value * (get_or ps i d).count) → t' ≡ saturated (t + m) → t' ≡ saturated (sum (expanded (take (i + 1) ps)))
-saturated_more ps i d t m t' h before here after =
-    omega (
-      arith,
-      ap (λ ps. sum (expanded ps)) (take_more ps i d h),
-      sum-expanded-push (take i ps) (get_or ps i d),
-      before,
-      here,
-      after,
-    )
+-- the sum so far, at the piece that is read next
+pub sum_at_piece : (ps : List Piece) (i : ℕ) (d : Piece) → i < length ps
+    → (get_or ps i d ≡ get_or ps i d) × (sum (expanded (take (i + 1) ps)) ≡ sum (expanded (take i ps)) + (get_or ps i d).value * (get_or ps i d).count)
+sum_at_piece ps i d h = (refl, omega (arith, ap (λ ps. sum (expanded ps)) (take_more ps i d h), sum-expanded-push (take i ps) (get_or ps i d)))

@@ -1,5 +1,6 @@
 -- A falling list kept as pieces, each of which stands for equal elements.
-use Rattle.std.specs.Prelude.{ℕ, ◌^◌, ◌<◌, ⊤, List, [], ◌∷◌, ◌++◌, replicate, length}
+use Rattle.std.specs.Prelude.{◌≡◌, ℕ, ◌+◌, ◌^◌, ◌<◌, ◌≤◌, ⊤, List, [], ◌∷◌, ◌++◌, replicate, length}
+use Rattle.degree_sequences.specs.Runs.{runs}
 use Rattle.piece_math.specs.declared.pieces.Piece.{Piece}
 
 -- the list that pieces stand for: each piece is so many elements of its value
@@ -21,3 +22,9 @@ AreFalling (p ∷ ps) = (first_value ps < p.value) × (0 < p.count) × AreFallin
 pub record ArePieces (ps : List Piece) : Type 0 where
   pub falls : AreFalling ps
   pub fits : length (expanded ps) < 2 ^ 64
+
+-- a list with so many more elements of a value, unless they are zeros
+pub record IsAppended (old new : List ℕ) (value count : ℕ) : Type 0 where
+  pub some : 0 < value → new ≡ old ++ replicate count value
+  pub zeros : value ≡ 0 → new ≡ old
+  pub few : runs new ≤ runs old + 1

@@ -8,9 +8,17 @@
 //! `runs` for the number of pieces of a list.
 #![tactic(auto)]
 
+mod blocks;
 mod by_rank;
 pub mod laws;
+mod minima;
 mod pieces;
 mod walk;
+mod weights;
 
+pub use blocks::compose;
 pub use pieces::{Piece, Pieces};
+pub use weights::{Child, root_total};
+
+#[cfg(test)]
+mod tests;

@@ -4,7 +4,7 @@ ghost use Rattle.std.specs.List.{All, sum};
 ghost use Rattle.degree_sequences.specs.Falling.{IsFalling};
 ghost use Rattle.degree_sequences.specs.Runs.{runs};
 ghost use Rattle.degree_sequences.specs.Saturation.{saturated};
-ghost use Rattle.piece_math.specs.Expanded.{expanded, ArePieces};
+ghost use Rattle.piece_math.specs.Expanded.{expanded, ArePieces, IsAppended};
 
 use base_io::NoMemory;
 use smallvec::SmallVec;
@@ -83,9 +83,7 @@ impl Pieces {
     pub(crate) fn put(&mut self, value: u128, count: u64) -> Result<(), NoMemory>
         requires falls { 0 < value → 0 < count → All (λ x. value ≤ x) self.old }
         requires room { 0 < value → 0 < count → length self.old + count < 2 ^ 64 }
-        ensures some { OnOk result (0 < value → self.new ≡ self.old ++ replicate count value) }
-        ensures zeros { OnOk result (value ≡ 0 → self.new ≡ self.old) }
-        ensures few { OnOk result (runs self.new ≤ runs self.old + 1) }
+        ensures { OnOk result (IsAppended self.old self.new value count) }
     {
         if value > 0 && count > 0 {
             self.push_run(value, count)?;
@@ -120,6 +118,7 @@ impl Pieces {
     }
 
     /// The sum of the list, or `u128::MAX` where it is larger.
+    #[tactic(auto, using(crate::proofs::Expansion::sum_at_piece))]
     pub fn total(&self) -> u128
         ensures { result ≡ saturated (sum self.now) }
     {

@@ -33,7 +33,7 @@ pub const START: Place = Place { at: 0, used: 0 };
 
 /// The equal elements at a place.
 pub fn ahead(pieces: &[Piece], place: Place) -> Piece
-    requires place { IsPlace pieces.now place }
+    requires { IsPlace pieces.now place }
     ensures { result ≡ ahead_of pieces.now place }
 {
     if place.at < pieces.len() {
@@ -59,6 +59,7 @@ pub fn passed(pieces: &[Piece], place: Place, count: u64) -> Place
     ensures place { IsPlace pieces.now result }
     ensures stays { place.at ≤ result.at }
     ensures ends { place.at < length pieces.now → count ≡ (ahead_of pieces.now place).count → result.at ≡ place.at + 1 }
+    ensures within { place.at < length pieces.now → count < (ahead_of pieces.now place).count → result ≡ record { at = place.at; used = place.used + count } }
 {
     if place.at >= pieces.len() {
         return place;

@@ -13,8 +13,7 @@ put-requires-clause-room c pos some = combine_fits c.pieces-a.ensures.whole c.pi
 
 pub loop-places-preserved : goal.loop-places-preserved
 loop-places-preserved c =
-    combine_step c.pieces-a.ensures.whole c.pieces-b.ensures.whole c.loop-places.invariant c.next_turn-turn.ensures c.of.ensures
-    c.put.new.self c.in_ok-put.ensures.some c.in_ok-put.ensures.zeros c.in_ok-put.ensures.few
+    combine_step c.pieces-a.ensures.whole c.pieces-b.ensures.whole c.loop-places.invariant c.next_turn-turn.ensures c.of.ensures c.in_ok-put.ensures
 
 pub returns-clause-value : goal.returns-clause-value
 returns-clause-value c =

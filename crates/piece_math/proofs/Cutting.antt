@@ -1,0 +1,176 @@
+-- A list cut at a number, piece by piece.
+use Rattle.std.proofs.Common.{◌≡◌, ℕ, zero, suc, ◌+◌, ◌-◌, ◌*◌, ◌/◌, ◌%◌, ◌^◌, ◌<◌, ◌≤◌, min, List, [], ◌∷◌, ◌++◌, length, get_or, take, drop, replicate, refl, ap, sym, ◌∙◌, arith}
+use Rattle.std.specs.List.{AllByRecursion}
+use Rattle.std.proofs.Math.Nat.{mul-le-mul_right, div-mul-le_self}
+use Rattle.std.proofs.lemmas.List.{get_or-drop, take_all, drop_more, drop_all, length-drop}
+use Rattle.degree_sequences.proofs.Blocks.{drop-run}
+use Rattle.degree_sequences.proofs.Minima.{running_sum-cut_at, IsFalling-cut_at}
+use Rattle.degree_sequences.proofs.RunningSums.{running_sum-mono, running_sum-past}
+use Rattle.degree_sequences.proofs.Spread.{get_or-front}
+use Rattle.degree_sequences.specs.Falling.{IsFalling}
+use Rattle.degree_sequences.specs.RunningSums.{running_sum, with_running_sums, cut_at}
+use Rattle.degree_sequences.specs.Runs.{runs}
+use Rattle.piece_math.specs.declared.pieces.Piece.{Piece}
+use Rattle.piece_math.specs.Expanded.{expanded, AreFalling, ArePieces, IsAppended}
+use Rattle.piece_math.proofs.Building.{HasRun, run_built, ends_at_zero}
+use Rattle.piece_math.proofs.Expansion.{IsFalling-expanded}
+use Rattle.piece_math.proofs.Places.{drop-drop}
+use Rattle.piece_math.proofs.RunningMinima.{element_from_sums, running_sum-has_run, positive-falling_trimmed}
+
+-- ---- before piece i
+
+pub record IsBefore (ps : List Piece) (i rank : ℕ) : Type 0 where
+  pub rest : drop rank (expanded ps) ≡ expanded (drop i ps)
+
+expanded-drop : (ps : List Piece) (i : ℕ) (d : Piece) → i < length ps → expanded (drop i ps) ≡ replicate (get_or ps i d).count (get_or ps i d).value ++ expanded (drop (i + 1) ps)
+expanded-drop ps i d h = ap expanded (drop_more ps i d h)
+
+-- its elements
+pub piece_run : (ps : List Piece) (i rank : ℕ) (d : Piece) → i < length ps → IsBefore ps i rank → HasRun (expanded ps) rank (get_or ps i d).count (get_or ps i d).value
+piece_run ps i rank d h before = record {
+  same = λ k j. sym (get_or-drop rank (expanded ps) k 0)
+      ∙ ap (λ (s : List ℕ). get_or s k 0) (before.rest ∙ expanded-drop ps i d h)
+      ∙ get_or-front (get_or ps i d).count (get_or ps i d).value (expanded (drop (i + 1) ps)) k j;
+}
+
+pub piece_passed : (ps : List Piece) (i rank : ℕ) (d : Piece) → i < length ps → IsBefore ps i rank → IsBefore ps (i + 1) (rank + (get_or ps i d).count)
+piece_passed ps i rank d h before = record {
+  rest = sym (drop-drop rank (get_or ps i d).count (expanded ps))
+      ∙ ap (drop (get_or ps i d).count) (before.rest ∙ expanded-drop ps i d h)
+      ∙ drop-run (get_or ps i d).count (get_or ps i d).value (expanded (drop (i + 1) ps));
+}
+
+-- ---- the cut list
+
+positive-cut_at : (s : List ℕ) (n : ℕ) → IsFalling s → AllByRecursion (λ y. 0 < y) (cut_at s n)
+positive-cut_at s n fall = positive-falling_trimmed (with_running_sums (λ r. min (running_sum s r) n) (length s)) (IsFalling-cut_at s n fall)
+
+-- it is no longer than the list
+pub cut_no_longer : (s : List ℕ) (n r : ℕ) → IsFalling s → length s ≤ r → length (cut_at s n) ≤ r
+cut_no_longer s n r fall over =
+    ends_at_zero (cut_at s n) (positive-cut_at s n fall) r
+    (element_from_sums (cut_at s n) r 0
+    (omega (arith, running_sum-cut_at s n r, running_sum-cut_at s n (r + 1), running_sum-past s r over, running_sum-past s (r + 1) (omega arith))))
+
+pub record CutSoFar (ps : List Piece) (n i left : ℕ) (list : List ℕ) : Type 0 where
+  pub rank : ℕ
+  pub before : IsBefore ps i rank
+  pub built : list ≡ take rank (cut_at (expanded ps) n)
+  pub left_over : left + running_sum (expanded ps) rank ≡ n
+  pub few : runs list ≤ i
+
+pub cut_start : (ps : List Piece) (n left : ℕ) → left ≡ n → CutSoFar ps n 0 left []
+cut_start ps n left h = record { rank = 0; before = record { rest = refl }; built = refl; left_over = omega arith; few = omega arith }
+
+module _ {ps : List Piece} (are : ArePieces ps) {n i left : ℕ} {list : List ℕ} (so_far : CutSoFar ps n i left list) where
+  pub cut_falls : IsFalling (cut_at (expanded ps) n)
+  cut_falls = IsFalling-cut_at (expanded ps) n (IsFalling-expanded ps are.falls)
+
+  pub cut_positive : AllByRecursion (λ y. 0 < y) (cut_at (expanded ps) n)
+  cut_positive = positive-cut_at (expanded ps) n (IsFalling-expanded ps are.falls)
+
+  pub cut_fits : length (cut_at (expanded ps) n) < 2 ^ 64
+  cut_fits = omega (arith, are.fits, cut_no_longer (expanded ps) n (length (expanded ps)) (IsFalling-expanded ps are.falls) (omega arith))
+
+  pub cut_end : length ps ≤ i → list ≡ cut_at (expanded ps) n
+  cut_end over =
+      let nothing : drop so_far.rank (expanded ps) ≡ [] = so_far.before.rest ∙ ap expanded (drop_all i ps over) in
+      so_far.built
+      ∙ take_all so_far.rank (cut_at (expanded ps) n)
+      (cut_no_longer (expanded ps) n so_far.rank (IsFalling-expanded ps are.falls) (omega (arith, ap length nothing, length-drop so_far.rank (expanded ps))))
+
+  module _ (d : Piece) (within : i < length ps) where
+    cut_sums : (k : ℕ) → k ≤ (get_or ps i d).count → running_sum (cut_at (expanded ps) n) (so_far.rank + k) ≡ min (running_sum (expanded ps) so_far.rank + k * (get_or ps i d).value) n
+    cut_sums k h =
+        omega (
+          arith,
+          running_sum-cut_at (expanded ps) n (so_far.rank + k),
+          running_sum-has_run (expanded ps) so_far.rank (get_or ps i d).count (get_or ps i d).value (piece_run ps i so_far.rank d within so_far.before) k h,
+        )
+
+    -- the elements that stay as they are
+    pub kept_run : (c : ℕ) → c ≤ (get_or ps i d).count → c * (get_or ps i d).value ≤ left → HasRun (cut_at (expanded ps) n) so_far.rank c (get_or ps i d).value
+    kept_run c within_piece below = record {
+      same = λ k h. element_from_sums (cut_at (expanded ps) n) (so_far.rank + k) (get_or ps i d).value
+          (let e : so_far.rank + k + 1 ≡ so_far.rank + (k + 1) = omega arith in
+          let le : (k + 1) * (get_or ps i d).value ≤ c * (get_or ps i d).value = mul-le-mul_right (get_or ps i d).value (omega arith) in
+          omega (arith, ap (running_sum (cut_at (expanded ps) n)) e, cut_sums k (omega arith), cut_sums (k + 1) (omega arith), so_far.left_over, le, below));
+    }
+
+    -- the element that is cut
+    pub cut_run : (q rest : ℕ) → q < (get_or ps i d).count → left ≡ q * (get_or ps i d).value + rest → rest < (get_or ps i d).value
+        → HasRun (cut_at (expanded ps) n) (so_far.rank + q) 1 rest
+    cut_run q rest within_piece split less = record {
+      same = λ k h. element_from_sums (cut_at (expanded ps) n) (so_far.rank + q + k) rest
+          (let here : so_far.rank + q + k ≡ so_far.rank + q = omega arith in
+          let there : so_far.rank + q + k + 1 ≡ so_far.rank + (q + 1) = omega arith in
+          omega (
+            arith,
+            ap (running_sum (cut_at (expanded ps) n)) here,
+            ap (running_sum (cut_at (expanded ps) n)) there,
+            cut_sums q (omega arith),
+            cut_sums (q + 1) (omega arith),
+            so_far.left_over,
+            split,
+            less,
+          ));
+    }
+
+    -- nothing is left after it
+    cut_over : (q rest : ℕ) → q < (get_or ps i d).count → left ≡ q * (get_or ps i d).value + rest → rest < (get_or ps i d).value → length (cut_at (expanded ps) n) ≤ so_far.rank + q + 1
+    cut_over q rest within_piece split less =
+        let here : so_far.rank + q + 1 ≡ so_far.rank + (q + 1) = omega arith in
+        ends_at_zero (cut_at (expanded ps) n) cut_positive (so_far.rank + q + 1)
+        (element_from_sums (cut_at (expanded ps) n) (so_far.rank + q + 1) 0
+        (omega (
+          arith,
+          running_sum-cut_at (expanded ps) n (so_far.rank + q + 1),
+          running_sum-cut_at (expanded ps) n (so_far.rank + q + 1 + 1),
+          running_sum-mono (expanded ps) (so_far.rank + q + 1) (so_far.rank + q + 1 + 1) (omega arith),
+          ap (running_sum (cut_at (expanded ps) n)) here,
+          cut_sums (q + 1) (omega arith),
+          so_far.left_over,
+          split,
+          less,
+        )))
+
+    pub built_kept : {one : List ℕ} (c : ℕ) → c ≤ (get_or ps i d).count → c * (get_or ps i d).value ≤ left → IsAppended list one (get_or ps i d).value c
+        → one ≡ take (so_far.rank + c) (cut_at (expanded ps) n)
+    built_kept c within_piece below put = run_built so_far.built (kept_run c within_piece below) cut_positive put
+
+    pub cut_step : {new : List ℕ} → (get_or ps i d).count * (get_or ps i d).value ≤ left → IsAppended list new (get_or ps i d).value (get_or ps i d).count
+        → CutSoFar ps n (i + 1) (left - (get_or ps i d).value * (get_or ps i d).count) new
+    cut_step below put = record {
+      rank = so_far.rank + (get_or ps i d).count;
+      before = piece_passed ps i so_far.rank d within so_far.before;
+      built = built_kept (get_or ps i d).count (omega arith) below put;
+      left_over = omega (
+        arith,
+        below,
+        so_far.left_over,
+        running_sum-has_run (expanded ps) so_far.rank (get_or ps i d).count (get_or ps i d).value (piece_run ps i so_far.rank d within so_far.before) (get_or ps i d).count (omega arith),
+      );
+      few = omega (arith, put.few, so_far.few);
+    }
+
+    pub cut_done : {one two : List ℕ} (q rest : ℕ) → q < (get_or ps i d).count → left ≡ q * (get_or ps i d).value + rest → rest < (get_or ps i d).value
+        → IsAppended list one (get_or ps i d).value q → IsAppended one two rest 1 → two ≡ cut_at (expanded ps) n
+    cut_done q rest within_piece split less put1 put2 =
+        run_built (built_kept q (omega arith) (omega arith) put1) (cut_run q rest within_piece split less) cut_positive put2
+        ∙ take_all (so_far.rank + q + 1) (cut_at (expanded ps) n) (cut_over q rest within_piece split less)
+
+-- ---- how often a value goes into what is left
+
+pub value_positive : (ps : List Piece) (i : ℕ) (d : Piece) → ArePieces ps → i < length ps → 0 < (get_or ps i d).value
+value_positive ps i d are h = go ps i are.falls h
+  where
+    go : (ps : List Piece) (i : ℕ) → AreFalling ps → i < length ps → 0 < (get_or ps i d).value
+    go [] i fall h = absurd (omega arith)
+    go (p ∷ ps) zero fall h = omega (arith, fall.0)
+    go (p ∷ ps) (suc i) fall h = go ps i fall.2 (omega arith)
+
+pub whole_below : (left v c : ℕ) → c ≤ left / v → c * v ≤ left
+whole_below left v c h = omega (arith, mul-le-mul_right v h, div-mul-le_self left v)
+
+pub whole_split : (left v : ℕ) → 0 < v → left ≡ left / v * v + left % v
+whole_split left v pos = omega arith

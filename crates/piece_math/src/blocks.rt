@@ -1,0 +1,91 @@
+//! Composition: the weights of rows are summed by the blocks of a parent list.
+ghost use Rattle.std.specs.Prelude.{◌≡◌, ◌+◌, ◌*◌, ◌^◌, ◌<◌, ◌≤◌, drop, length, map, IfOk};
+ghost use Rattle.std.specs.List.{All, sum};
+ghost use Rattle.degree_sequences.specs.Composition.{block_sums, composed};
+ghost use Rattle.degree_sequences.specs.Falling.{IsFalling, trimmed};
+ghost use Rattle.degree_sequences.specs.RunningSums.{running_sum};
+ghost use Rattle.degree_sequences.specs.Runs.{runs};
+ghost use Rattle.degree_sequences.specs.Saturation.{saturated};
+ghost use Rattle.piece_math.specs.Children.{lists_of, class_runs};
+ghost use Rattle.piece_math.specs.Expanded.{ArePieces};
+ghost use Rattle.piece_math.specs.Places.{rest_from, ahead_of, IsPlace};
+
+use crate::pieces::{Piece, Pieces};
+use crate::walk::{Place, START, ahead, passed};
+use crate::weights::{Child, row_weights};
+use base_io::NoMemory;
+use std::alloc::Global;
+
+// The sum of the weights of one block, and the place after it.
+#[derive(Clone, Copy)]
+struct Block {
+    sum: u128,
+    next: Place,
+}
+
+// One block of so many rows, over as many pieces as it takes.
+fn block_from(weights: &[Piece], start: Place, rows: u128) -> Block
+    requires weights { ArePieces weights.now }
+    requires start { IsPlace weights.now start }
+    ensures sum { result.sum ≡ saturated (running_sum (rest_from weights.now start) rows) }
+    ensures rest { rest_from weights.now result.next ≡ drop rows (rest_from weights.now start) }
+    ensures next { IsPlace weights.now result.next }
+    ensures onward { start.at < length weights.now → (ahead_of weights.now start).count < rows → start.at < result.next.at }
+    ensures stays { start.at ≤ result.next.at }
+{
+    let mut sum: u128 = 0;
+    let mut next = start;
+    let mut left = rows;
+    while left > 0 && next.at < weights.len() {
+        let run = ahead(weights, next);
+        let count = left.min(u128::from(run.count)) as u64;
+        sum = sum.saturating_add(run.value.saturating_mul(u128::from(count)));
+        next = passed(weights, next, count);
+        left -= u128::from(count);
+    }
+    Block { sum, next }
+}
+
+// The weights are summed by blocks. Whole blocks inside one piece of weights make one piece together, and a block that
+// meets the end of a piece makes one of its own.
+fn grouped(parent: &Pieces, weights: &Pieces) -> Result<Pieces, NoMemory>
+    ensures falls { IsFalling parent.now }
+    ensures positive { All (λ x. 0 < x) parent.now }
+    ensures value { IfOk result (λ list. list ≡ map saturated (trimmed (block_sums parent.now weights.now))) }
+    ensures few { IfOk result (λ list. runs list ≤ runs parent.now + 2 * runs weights.now) }
+{
+    let blocks = parent.pieces();
+    let rows = weights.pieces();
+    let mut list = Pieces::empty(parent.alloc());
+    let mut at = START;
+    let mut row = START;
+    while at.at < blocks.len() && row.at < rows.len() {
+        let block = ahead(blocks, at);
+        let run = ahead(rows, row);
+        let whole = u128::from(run.count) / block.value;
+        if whole == 0 {
+            let mixed = block_from(rows, row, block.value);
+            list.put(mixed.sum, 1)?;
+            at = passed(blocks, at, 1);
+            row = mixed.next;
+        } else {
+            let count = (whole as u64).min(block.count);
+            list.put(block.value.saturating_mul(run.value), count)?;
+            at = passed(blocks, at, count);
+            row = passed(rows, row, block.value as u64 * count);
+        }
+    }
+    Ok(list)
+}
+
+/// The composition: the weights of the rows that `children` give, summed by the blocks of `parent`.
+pub fn compose(alloc: Global, parent: &Pieces, children: &[Child]) -> Result<Pieces, NoMemory>
+    requires columns { All (λ child. sum child.column ≡ sum parent.now) children.now }
+    requires small { sum parent.now ≤ 2 ^ 32 }
+    ensures value { IfOk result (λ list. list ≡ map saturated (composed parent.now (map lists_of children.now))) }
+    ensures few { IfOk result (λ list. runs list ≤ runs parent.now + 2 * class_runs children.now) }
+{
+    let rows = parent.total() as u64;
+    let weights = row_weights(alloc, children, rows)?;
+    grouped(parent, &weights)
+}

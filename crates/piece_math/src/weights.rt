@@ -1,0 +1,70 @@
+//! The weights of a table's rows, from the lists of its children.
+ghost use Rattle.std.specs.Prelude.{◌≡◌, ◌^◌, ◌<◌, ◌≤◌, [], ◌∷◌, length, map, IfOk};
+ghost use Rattle.std.specs.List.{All, sum};
+ghost use Rattle.degree_sequences.specs.Composition.{row_weights as weights_of, root_total as total_of};
+ghost use Rattle.degree_sequences.specs.Falling.{trimmed};
+ghost use Rattle.degree_sequences.specs.Families.{IsChild};
+ghost use Rattle.degree_sequences.specs.Runs.{runs};
+ghost use Rattle.degree_sequences.specs.Saturation.{saturated};
+ghost use Rattle.piece_math.specs.Children.{lists_of, class_runs};
+
+use crate::pieces::Pieces;
+use crate::walk::{Places, START, next_turn};
+use base_io::NoMemory;
+use std::alloc::Global;
+
+/// A child of a table: the list of the column that joins it, and the list of the weights of its class.
+#[derive(Debug, Drop)]
+pub struct Child {
+    pub column: Pieces,
+    pub class: Pieces,
+}
+
+// The class weight of each row, by its rank in the column.
+fn spread(child: &Child) -> Result<Pieces, NoMemory>
+    requires { sum child.now.column ≤ 2 ^ 32 }
+    ensures lists { IsChild (sum child.now.column) (lists_of child.now) }
+    ensures value { IfOk result (λ list. list ≡ trimmed (weights_of (lists_of child.now ∷ []) (sum child.now.column))) }
+    ensures few { IfOk result (λ list. runs list ≤ runs child.now.class) }
+{
+    let column = child.column.pieces();
+    let class = child.class.pieces();
+    let mut list = Pieces::empty(child.class.alloc());
+    let mut places = Places {
+        left: START,
+        right: START,
+    };
+    while places.left.at < column.len() || places.right.at < class.len() {
+        let turn = next_turn(column, class, places);
+        let rows = turn.left * u128::from(turn.count);
+        list.put(turn.right, rows as u64)?;
+        places = turn.next;
+    }
+    Ok(list)
+}
+
+// The weights of that many rows: the product of the weights that each child gives them.
+pub fn row_weights(alloc: Global, children: &[Child], rows: u64) -> Result<Pieces, NoMemory>
+    requires columns { All (λ child. sum child.column ≡ rows) children.now }
+    requires small { rows ≤ 2 ^ 32 }
+    ensures value { IfOk result (λ weights. weights ≡ map saturated (trimmed (weights_of (map lists_of children.now) rows))) }
+    ensures few { IfOk result (λ weights. 0 < length children.now → runs weights ≤ class_runs children.now) }
+{
+    let mut weights = Pieces::empty(alloc);
+    weights.put(1, rows)?;
+    for child in children {
+        let own = spread(child)?;
+        weights = weights.product(&own)?;
+    }
+    Ok(weights)
+}
+
+/// The sum of the weights of that many rows, for a table without a parent, or `u128::MAX` where it is larger.
+pub fn root_total(alloc: Global, children: &[Child], rows: u64) -> Result<u128, NoMemory>
+    requires columns { All (λ child. sum child.column ≡ rows) children.now }
+    requires small { rows ≤ 2 ^ 32 }
+    ensures { IfOk result (λ total. total ≡ saturated (total_of (map lists_of children.now) rows)) }
+{
+    let weights = row_weights(alloc, children, rows)?;
+    Ok(weights.total())
+}
