@@ -1,4 +1,4 @@
-ghost use Rattle.std.specs.Prelude.{◌≡◌, ◌<◌, ◌≤◌, ◌-◌, min, if◌then◌else◌, length, option_map, Some, IsErrOf};
+ghost use Rattle.std.specs.Prelude.{◌≡◌, ◌<◌, ◌≤◌, ◌-◌, min, if◌then◌else◌, length, option_map, IfOk, List, Some, ℕ, IsErrOf};
 ghost use Rattle.base_io.specs.Causes.{Rose, one_more};
 ghost use Rattle.base_io.specs.Files.{file_of, Fills, ReadsAt, told};
 ghost use Rattle.base_io.specs.Planned.{has_failed, is_listed};
@@ -83,6 +83,10 @@ impl Store for MemStore {
         ensures missing { IsErrOf result StoreError.Missing
             → (self.new.faults ≡ self.old.faults) × (self.new.misses ≡ one_more self.old.misses) }
         ensures misses { (IsErrOf result StoreError.Missing → ⊥) → self.new.misses ≡ self.old.misses }
+
+        // A read gives as many bytes as there are and as fit.
+        ensures most { IfOk result (λ n. (bytes : List ℕ) → file_of self.old.files name.now ≡ Some bytes
+            → n ≡ min (length bytes - at) (length into.new)) }
 
         // Exactly the listed calls fail, and each failure is counted.
         ensures calls { self.new.calls ≡ one_more self.old.calls }

@@ -27,7 +27,8 @@ pub fn read_file<S: Store>(
     ensures later { S.faults store.old ≤ S.faults store.new }
     ensures later_misses { S.misses store.old ≤ S.misses store.new }
     ensures fault { IsErrOf result ReadError.Fault → Rose (S.faults store.old) (S.faults store.new) }
-    ensures missing { IsErrOf result ReadError.Missing → S.misses store.new ≡ one_more (S.misses store.old) }
+    ensures missing { IsErrOf result ReadError.Missing
+        → (S.faults store.new ≡ S.faults store.old) × (S.misses store.new ≡ one_more (S.misses store.old)) }
     ensures misses { (IsErrOf result ReadError.Missing → ⊥) → S.misses store.new ≡ S.misses store.old }
 {
     let mut items = Vec::new(alloc);

@@ -2,4 +2,5 @@ pub mod Columns
 pub mod FaultLines
 pub mod Lines
 pub mod Meanings
+pub mod PlainText
 pub mod Staged

@@ -18,29 +18,34 @@ pub record CutThenTold (old new : Option (List ℕ)) (text line : List ℕ) : Ty
 
 -- a sink before and after a call: the bytes that it took, where it tells them, and its count of faults
 pub record Growth : Type 0 where
-  pub old : Option (List ℕ)
-  pub new : Option (List ℕ)
-  pub before : ℕ
-  pub now : ℕ
+  pub taken_before : Option (List ℕ)
+  pub taken_after : Option (List ℕ)
+  pub faults_before : ℕ
+  pub faults_after : ℕ
 
 abbrev pub growth : {Sink : Type 0} → (Sink → Option (List ℕ)) → (Sink → ℕ) → Sink → Sink → Growth
-growth taken faults before after = record { old = taken before; new = taken after; before = faults before; now = faults after }
+growth taken faults before after = record {
+  taken_before = taken before;
+  taken_after = taken after;
+  faults_before = faults before;
+  faults_after = faults after;
+}
 
 -- a store before and after a call: its files, where it tells them, and its counts of faults and misses
 pub record Reading : Type 0 where
   pub files : Option Files
-  pub before : ℕ
-  pub now : ℕ
+  pub faults_before : ℕ
+  pub faults_after : ℕ
   pub misses_before : ℕ
-  pub misses_now : ℕ
+  pub misses_after : ℕ
 
 abbrev pub reading : {Store : Type 0} → (Store → Option Files) → (Store → ℕ) → (Store → ℕ) → Store → Store → Reading
 reading files faults misses before after = record {
   files = files before;
-  before = faults before;
-  now = faults after;
+  faults_before = faults before;
+  faults_after = faults after;
   misses_before = misses before;
-  misses_now = misses after;
+  misses_after = misses after;
 }
 
 -- a call: its words, the store that it read, the two sinks that it wrote, and its answer

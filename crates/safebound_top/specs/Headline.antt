@@ -1,5 +1,5 @@
 -- What a call of the program answers, and why: eight sentences about the words, the files and the two streams.
-use Rattle.std.specs.Prelude.{ℕ, ◌≡◌, ◌⊎◌, List, codes, Option, None, Some, Result, Ok, Err, IfOk, IsOkAnd}
+use Rattle.std.specs.Prelude.{ℕ, ◌≡◌, ◌↔◌, ◌⊎◌, List, codes, Option, None, Some, Result, Ok, Err, IfOk, IsOkAnd}
 use Rattle.base_io.specs.Causes.{Rose}
 use Rattle.base_io.specs.Files.{Files}
 use Rattle.base_io.specs.Sinks.{appended, GrewByPrefix}
@@ -8,7 +8,7 @@ use Rattle.safebound_top.specs.Call.{Call, CutThenTold, Growth, Tells}
 use Rattle.safebound_top.specs.Faults.{fault_text}
 use Rattle.safebound_top.specs.Stages.{IsRefusal, IsWriteFault, MissesNothing}
 use Rattle.safebound_top.specs.Texts.{plan_text, rows_text}
-use Rattle.safebound_top.specs.Verdict.{IsReached, verdict}
+use Rattle.safebound_top.specs.Verdict.{IsReached, command_stage, verdict}
 use Rattle.safebound_top.specs.declared.status.FileId.{FileId}
 use Rattle.safebound_top.specs.declared.status.SinkId.{SinkId}
 use Rattle.safebound_top.specs.declared.status.SinkId.TheVariants as sink
@@ -20,86 +20,86 @@ abbrev pub OverFiles : Call → (Files → Result Accepted Status → Type 0) �
 OverFiles call P = (files : Files) → call.store.files ≡ Some files → P files (verdict call.words files)
 
 abbrev pub Grew : Growth → List ℕ → Type 0
-Grew sink text = sink.new ≡ appended sink.old text
+Grew sink text = sink.taken_after ≡ appended sink.taken_before text
 
+-- it took nothing, and nothing failed: it wasn't called
 abbrev pub DidNotGrow : Growth → Type 0
-DidNotGrow sink = sink.new ≡ sink.old
+DidNotGrow sink = (sink.taken_after ≡ sink.taken_before) × (sink.faults_after ≡ sink.faults_before)
+
+abbrev pub FaultsRose : Growth → Type 0
+FaultsRose sink = Rose sink.faults_before sink.faults_after
 
 -- a prefix of the line, all of it where the count didn't rise
 abbrev pub GrewByLine : Growth → List ℕ → Type 0
-GrewByLine sink line = Tells sink.old sink.new sink.before sink.now line
+GrewByLine sink line = Tells sink.taken_before sink.taken_after sink.faults_before sink.faults_after line
 
 -- 1. Done comes only where the verdict is that. The notes grew by exactly its plan text, and out by exactly its rows text.
 abbrev pub DoneIsExact : Call → Type 0
-DoneIsExact call = call.status ≡ status.Done → OverFiles call (λ files v. IsOkAnd v (λ run. Grew call.notes (plan_text run) × Grew call.out (rows_text run)))
+DoneIsExact call = call.status ≡ status.Done
+    → OverFiles call (λ files v. IsOkAnd v (λ run. Grew call.notes (plan_text run) × Grew call.out (rows_text run)))
 
--- 2. Where the verdict is done, the scan and each level have at most as many rows as the bound printed.
+-- 2. Where the verdict is done, the scan and each level have at most as many rows as the bound that the text of 1 prints for it.
 abbrev pub EveryBoundHolds : Call → Type 0
 EveryBoundHolds call = OverFiles call (λ files v. IfOk v BoundsHold)
 
--- 3. Where the verdict is done, the rows printed are, as a multiset, the answer of the query.
+-- 3. Where the verdict is done, the rows that the text of 1 prints are, as a multiset, the answer of the query.
 abbrev pub TheRowsAreTheAnswer : Call → Type 0
 TheRowsAreTheAnswer call = OverFiles call (λ files v. IfOk v RowsAreTheAnswer)
 
 -- 4. Want of memory: the notes grew by its line, and out didn't grow.
-abbrev pub WantOfMemoryLeavesNothing : Call → Type 0
-WantOfMemoryLeavesNothing call = call.status ≡ status.NoMemory → GrewByLine call.notes (codes "error memory\n") × DidNotGrow call.out
+abbrev pub WantOfMemoryLeavesItsLine : Call → Type 0
+WantOfMemoryLeavesItsLine call = call.status ≡ status.NoMemory → GrewByLine call.notes (codes "error memory\n") × DidNotGrow call.out
 
--- 5. A write fault of notes comes only where the verdict is done and the count of notes rose. The notes grew by a prefix of the plan text
---    and then a prefix of the line, and out didn't grow.
-abbrev pub NotesAreCutWithCause : Call → Type 0
-NotesAreCutWithCause call = call.status ≡ status.WriteFault sink.Notes → Rose call.notes.before call.notes.now × DidNotGrow call.out
-    × OverFiles call (λ files v. IsOkAnd v (λ run. CutThenTold call.notes.old call.notes.new (plan_text run) (fault_text call.status call.words files)))
+-- 5. A write fault comes only where the verdict is done and the named sink's count rose.
+pub record WriteFaultsHaveTheirCause (call : Call) : Type 0 where
+  -- of notes: a prefix of the plan text stands in them, and then a prefix of the line; out didn't grow
+  pub of_notes : call.status ≡ status.WriteFault sink.Notes → FaultsRose call.notes × DidNotGrow call.out
+      × OverFiles call (λ files v. IsOkAnd v (λ run. CutThenTold call.notes.taken_before call.notes.taken_after
+      (plan_text run) (fault_text call.status call.words files)))
+  -- of out: the plan text stands in the notes, and then the line; in out a prefix of the rows text
+  pub of_out : call.status ≡ status.WriteFault sink.Out → FaultsRose call.out
+      × OverFiles call (λ files v. IsOkAnd v (λ run. GrewByPrefix call.out.taken_before call.out.taken_after (rows_text run)
+      × Tells (appended call.notes.taken_before (plan_text run)) call.notes.taken_after call.notes.faults_before call.notes.faults_after
+      (fault_text call.status call.words files)))
 
---    A write fault of out comes only where the verdict is done and the count of out rose. The notes grew by the plan text and the line,
---    and out by a prefix of the rows text.
-abbrev pub OutIsCutWithCause : Call → Type 0
-OutIsCutWithCause call = call.status ≡ status.WriteFault sink.Out → Rose call.out.before call.out.now
-    × OverFiles call (λ files v. IsOkAnd v (λ run. GrewByPrefix call.out.old call.out.new (rows_text run)
-    × Tells (appended call.notes.old (plan_text run)) call.notes.new call.notes.before call.notes.now (fault_text call.status call.words files)))
+-- 6. Usage and Unbuilt come only where the verdict is that status. The notes grew by its line, and out didn't grow. Usage is a matter of
+--    the words alone.
+pub record RefusalsAreTheVerdict (call : Call) : Type 0 where
+  pub usage : (call.status ≡ status.Usage) ↔ (command_stage call.words ≡ Err status.Usage)
+  pub refused : IsRefusal call.status → DidNotGrow call.out
+      × OverFiles call (λ files v. (v ≡ Err call.status) × GrewByLine call.notes (fault_text call.status call.words files))
 
--- 6. Usage and Unbuilt come only where the verdict is that status. The notes grew by its line, and out didn't grow.
-abbrev pub RefusalsAreTheVerdict : Call → Type 0
-RefusalsAreTheVerdict call = IsRefusal call.status → DidNotGrow call.out
-    × OverFiles call (λ files v. (v ≡ Err call.status) × GrewByLine call.notes (fault_text call.status call.words files))
-
--- 7. A read fault comes only where the verdict is that status, or where the store's count rose and the verdict comes to this file.
---    A store that doesn't tell its files answers it only where its count rose. The notes grew by its line, and out didn't grow.
-abbrev pub ReadFaultsHaveTheirCause : Call → Type 0
-ReadFaultsHaveTheirCause call = (file : FileId) → call.status ≡ status.ReadFault file → DidNotGrow call.out
-    × (call.store.files ≡ None → Rose call.store.before call.store.now)
-    × OverFiles call (λ files v. ((v ≡ Err call.status) ⊎ (Rose call.store.before call.store.now × IsReached file call.words files))
-    × GrewByLine call.notes (fault_text call.status call.words files))
-
---    Where the verdict is no read fault, the store's count of misses is as before.
-abbrev pub NoNameIsInvented : Call → Type 0
-NoNameIsInvented call = OverFiles call (λ files v. MissesNothing v → call.store.misses_now ≡ call.store.misses_before)
+-- 7. A read fault comes only where the verdict is that status, or where the store's count rose and the verdict comes to this file. The
+--    notes grew by its line, and out didn't grow.
+pub record ReadFaultsHaveTheirCause (call : Call) : Type 0 where
+  pub told : (file : FileId) → call.status ≡ status.ReadFault file → DidNotGrow call.out × OverFiles call (λ files v. ((v ≡ Err call.status)
+      ⊎ (Rose call.store.faults_before call.store.faults_after × IsReached file call.words files))
+      × GrewByLine call.notes (fault_text call.status call.words files))
+  -- a store that doesn't tell its files never answers that one is missing
+  pub untold : (file : FileId) → call.status ≡ status.ReadFault file → call.store.files ≡ None
+      → Rose call.store.faults_before call.store.faults_after
+  -- no name is invented: where the verdict is no read fault, the store's count of misses is as before
+  pub misses : OverFiles call (λ files v. MissesNothing v → call.store.misses_after ≡ call.store.misses_before)
 
 abbrev pub status_of : Result Accepted Status → Status
 status_of (Ok run) = status.Done
 status_of (Err s) = s
 
--- 8. Complete: where the store's count didn't rise, the status is the verdict's, or a write fault, or want of memory.
-abbrev pub NothingIsRefusedWithoutCause : Call → Type 0
-NothingIsRefusedWithoutCause call = (Rose call.store.before call.store.now → ⊥)
-    → OverFiles call (λ files v. (call.status ≡ status_of v) ⊎ IsWriteFault call.status ⊎ (call.status ≡ status.NoMemory))
-
---    Where no sink's count rose either, it is the verdict's, or want of memory.
-abbrev pub UndisturbedIsTheVerdict : Call → Type 0
-UndisturbedIsTheVerdict call = (Rose call.store.before call.store.now → ⊥)
-    → (Rose call.out.before call.out.now → ⊥) → (Rose call.notes.before call.notes.now → ⊥)
-    → OverFiles call (λ files v. (call.status ≡ status_of v) ⊎ (call.status ≡ status.NoMemory))
+-- 8. Nothing is refused without a cause: where the store's count didn't rise, the status is the verdict's, or a write fault, or want of
+--    memory; where no sink's count rose either, it is the verdict's, or want of memory.
+pub record NothingIsRefusedWithoutCause (call : Call) : Type 0 where
+  pub by_the_store : (Rose call.store.faults_before call.store.faults_after → ⊥)
+      → OverFiles call (λ files v. (call.status ≡ status_of v) ⊎ IsWriteFault call.status ⊎ (call.status ≡ status.NoMemory))
+  pub by_the_sinks : (Rose call.store.faults_before call.store.faults_after → ⊥) → (FaultsRose call.out → ⊥) → (FaultsRose call.notes → ⊥)
+      → OverFiles call (λ files v. (call.status ≡ status_of v) ⊎ (call.status ≡ status.NoMemory))
 
 -- what a call answers, and why
 pub record Headline (call : Call) : Type 0 where
   pub done_is_exact : DoneIsExact call
   pub every_bound_holds : EveryBoundHolds call
   pub the_rows_are_the_answer : TheRowsAreTheAnswer call
-  pub want_of_memory_leaves_nothing : WantOfMemoryLeavesNothing call
-  pub notes_are_cut_with_cause : NotesAreCutWithCause call
-  pub out_is_cut_with_cause : OutIsCutWithCause call
+  pub want_of_memory_leaves_its_line : WantOfMemoryLeavesItsLine call
+  pub write_faults_have_their_cause : WriteFaultsHaveTheirCause call
   pub refusals_are_the_verdict : RefusalsAreTheVerdict call
   pub read_faults_have_their_cause : ReadFaultsHaveTheirCause call
-  pub no_name_is_invented : NoNameIsInvented call
   pub nothing_is_refused_without_cause : NothingIsRefusedWithoutCause call
-  pub undisturbed_is_the_verdict : UndisturbedIsTheVerdict call

@@ -2,6 +2,7 @@ pub mod Accepted
 pub mod Call
 pub mod Code
 pub mod Errors
+pub mod Example
 pub mod Faults
 pub mod Headline
 pub mod Prepared

@@ -1,7 +1,7 @@
 -- Which query a text asks of a schema, in the first form.
 use Rattle.std.specs.Prelude.{ℕ, ◌≡◌, Bool, true, false, ◌&&◌, List, [], ◌∷◌, Option, None, Some, codes, option_and_then, slice_index_or, if◌then◌else◌}
 use Rattle.std.specs.Str.{bytes_eq}
-use Rattle.schema_types.specs.Shape.{Place, Spelled, Named, folded, has_form}
+use Rattle.schema_types.specs.Shape.{Expected, Spelled, Named, folded, has_form}
 use Rattle.schema_types.specs.Tokens.{tokens_of}
 use Rattle.schema_types.specs.declared.types.Schema.{Schema}
 use Rattle.schema_types.specs.declared.types.Table.{Table}
@@ -37,7 +37,7 @@ declares_just table column schema =
     is_only (λ (t : Table). bytes_eq t.name table && is_only (λ (c : Column). bytes_eq c.name column) t.columns) schema.tables
 
 -- SELECT name FROM name
-abbrev pub select_from : List Place
+abbrev pub select_from : List Expected
 select_from = Spelled (codes "SELECT") ∷ (Named ∷ (Spelled (codes "FROM") ∷ (Named ∷ [])))
 
 -- tokens of this form ask for the one column of the one table, where the names are theirs

@@ -54,6 +54,15 @@ IsFromReading (status.ReadFault id) = ⊤
 IsFromReading (status.Unbuilt id) = ⊤
 IsFromReading status.NoMemory = ⊤
 
+-- reading a file gives these alone
+abbrev pub IsFromFile : Status → Type 0
+IsFromFile (status.ReadFault id) = ⊤
+IsFromFile (status.Unbuilt id) = ⊤
+IsFromFile status.NoMemory = ⊤
+IsFromFile status.Done = ⊥
+IsFromFile status.Usage = ⊥
+IsFromFile (status.WriteFault sink) = ⊥
+
 -- a refusal that follows from the words and the files alone
 abbrev pub IsRefusal : Status → Type 0
 IsRefusal status.Usage = ⊤

@@ -40,7 +40,7 @@ built id (Some x) = Ok x
 
 -- the words
 abbrev pub usage_unless : Result Command WordsError → Result Command Status
-usage_unless (Ok asked) = Ok asked
+usage_unless (Ok ask) = Ok ask
 usage_unless (Err words_error.Usage) = Err status.Usage
 
 abbrev pub command_stage : List (List ℕ) → Result Command Status
@@ -53,16 +53,16 @@ abbrev pub query_place : Command → ℕ
 query_place (command.Run schema query) = query
 
 abbrev pub schema_word : Command → List (List ℕ) → List ℕ
-schema_word asked words = slice_index_or words (schema_place asked) []
+schema_word ask words = slice_index_or words (schema_place ask) []
 
 abbrev pub query_word : Command → List (List ℕ) → List ℕ
-query_word asked words = slice_index_or words (query_place asked) []
+query_word ask words = slice_index_or words (query_place ask) []
 
 -- the schema file
 unfoldable pub schema_stage : List (List ℕ) → Files → Result Schema Status
 schema_stage words files = do
-  asked ← command_stage words
-  text ← read files file.Schema 1048576 (schema_word asked words)
+  ask ← command_stage words
+  text ← read files file.Schema 1048576 (schema_word ask words)
   built file.Schema (schema_of text)
 
 -- the query file
@@ -73,12 +73,12 @@ pub record Asked : Type 0 where
 unfoldable pub query_stage : List (List ℕ) → Files → Result Asked Status
 query_stage words files = do
   schema ← schema_stage words files
-  asked ← command_stage words
-  text ← read files file.Query 1048576 (query_word asked words)
+  ask ← command_stage words
+  text ← read files file.Query 1048576 (query_word ask words)
   query ← built file.Query (query_of schema text)
   Ok (record { schema = schema; query = query })
 
--- the query's table
+-- the schema's one table, which is the query's
 abbrev pub first_table : Schema → Option Table
 first_table schema = slice_get schema.tables 0
 

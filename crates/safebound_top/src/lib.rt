@@ -8,6 +8,7 @@
 //! stands on `verdict` (in `specs/Verdict.antt`): what the words and the files determine.
 #![tactic(auto)]
 
+mod examples;
 mod prepare;
 mod query;
 mod status;
@@ -18,6 +19,7 @@ mod top_call;
 mod words;
 mod write;
 
+pub use examples::worked_example;
 pub use query::{ColumnRef, Out, Query, QueryError, Source, read_query};
 pub use status::{FileId, SinkId, Status};
 pub use top_call::safebound;

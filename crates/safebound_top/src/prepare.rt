@@ -1,12 +1,12 @@
 //! Everything that a run reads.
-ghost use Rattle.std.specs.Prelude.{ℕ, ◌≡◌, ◌≢◌, ◌⊎◌, ◌≤◌, ◌++◌, codes, List, length, map, None, Some, Ok, Err, IfOk, IfErr, IsErrOf, OnOk, slice_index_or, string_bytes, []};
+ghost use Rattle.std.specs.Prelude.{ℕ, ◌≡◌, ◌≢◌, ◌↔◌, ◌⊎◌, ◌≤◌, ◌++◌, codes, List, length, map, None, Some, Ok, Err, IfOk, IfErr, IsOk, IsErrOf, OnOk, slice_index_or, string_bytes, []};
 ghost use Rattle.base_io.specs.Causes.{Rose};
 ghost use Rattle.base_io.specs.Files.{Files};
 ghost use Rattle.csv_tables.specs.Tables.{values_of};
 ghost use Rattle.safebound_top.specs.Faults.{IsText, NamesNoTable, fault_line, fault_text};
 ghost use Rattle.safebound_top.specs.Prepared.{accepted_of};
 ghost use Rattle.safebound_top.specs.Query.{SelectsFirst};
-ghost use Rattle.safebound_top.specs.Stages.{IsFromReading, IsReadFault, MayFail, MayRefuse, MissesNothing};
+ghost use Rattle.safebound_top.specs.Stages.{IsFromFile, IsFromReading, IsReadFault, MayFail, MayRefuse, MissesNothing};
 ghost use Rattle.safebound_top.specs.Verdict.{command_stage, numbers_in, query_stage, read, schema_stage, schema_word as word_of_schema, query_word as word_of_query, table_file, verdict};
 
 use crate::query::{Query, QueryError, read_query};
@@ -39,7 +39,7 @@ fn load<S: Store>(
     ensures untold { IfErr result (λ s. S.files store.old ≡ None → IsReadFault s → Rose (S.faults store.old) (S.faults store.new)) }
     ensures misses { (files : Files) → S.files store.old ≡ Some files → MissesNothing (read files file limit name.now) → S.misses store.new ≡ S.misses store.old }
     ensures names { IfErr result (λ s. IsText file → NamesNoTable s) }
-    ensures from_reading { IfErr result IsFromReading }
+    ensures from_file { IfErr result IsFromFile }
     ensures files { S.files store.new ≡ S.files store.old }
     ensures later { S.faults store.old ≤ S.faults store.new }
 {
@@ -92,6 +92,7 @@ fn load_schema<S: Store>(
     ensures untold { IfErr result (λ s. S.files store.old ≡ None → IsReadFault s → Rose (S.faults store.old) (S.faults store.new)) }
     ensures misses { (files : Files) → S.files store.old ≡ Some files
         → MissesNothing (schema_stage (map (λ w. w.now) words.now) files) → S.misses store.new ≡ S.misses store.old }
+    ensures usage { IfErr result (λ s. (s ≡ Status.Usage) ↔ (command_stage (map (λ w. w.now) words.now) ≡ Err Status.Usage)) }
     ensures names { IfErr result NamesNoTable }
     ensures from_reading { IfErr result IsFromReading }
     ensures files { S.files store.new ≡ S.files store.old }
@@ -126,11 +127,13 @@ fn load_query<S: Store>(alloc: Global, words: &[&str], store: &mut S) -> Result<
     ensures ok { IfOk result (λ read. (files : Files) → S.files store.old ≡ Some files
         → query_stage (map (λ w. w.now) words.now) files ≡ Ok (record { schema = read.schema; query = read.query })) }
     ensures shape { IfOk result (λ read. SelectsFirst read.query) }
+    ensures command { IfOk result (λ _. IsOk (command_stage (map (λ w. w.now) words.now))) }
     ensures refused { IfErr result (λ s. (files : Files) → S.files store.old ≡ Some files
         → MayRefuse (S.faults store.old) (S.faults store.new) (query_stage (map (λ w. w.now) words.now) files) (map (λ w. w.now) words.now) files s) }
     ensures untold { IfErr result (λ s. S.files store.old ≡ None → IsReadFault s → Rose (S.faults store.old) (S.faults store.new)) }
     ensures misses { (files : Files) → S.files store.old ≡ Some files
         → MissesNothing (query_stage (map (λ w. w.now) words.now) files) → S.misses store.new ≡ S.misses store.old }
+    ensures usage { IfErr result (λ s. (s ≡ Status.Usage) ↔ (command_stage (map (λ w. w.now) words.now) ≡ Err Status.Usage)) }
     ensures names { IfErr result NamesNoTable }
     ensures from_reading { IfErr result IsFromReading }
     ensures files { S.files store.new ≡ S.files store.old }
@@ -153,7 +156,7 @@ fn load_query<S: Store>(alloc: Global, words: &[&str], store: &mut S) -> Result<
 }
 
 // The name of a table's file: the table's in lower case, and `.csv`.
-fn file_name(alloc: Global, table: &Table) -> Result<String, NoMemory>
+fn table_file_name(alloc: Global, table: &Table) -> Result<String, NoMemory>
     ensures { IfOk result (λ name. string_bytes name ≡ table_file table.now) }
 {
     let mut name = table.name.as_str().to_ascii_lowercase(alloc)?;
@@ -174,7 +177,7 @@ fn load_table<S: Store>(
     ensures untold { IfErr result (λ s. S.files store.old ≡ None → IsReadFault s → Rose (S.faults store.old) (S.faults store.new)) }
     ensures misses { (files : Files) → S.files store.old ≡ Some files
         → MissesNothing (numbers_in files table.now name.now) → S.misses store.new ≡ S.misses store.old }
-    ensures from_reading { IfErr result IsFromReading }
+    ensures from_file { IfErr result IsFromFile }
     ensures later { S.faults store.old ≤ S.faults store.new }
 {
     let file = FileId::Table(0);
@@ -220,6 +223,8 @@ pub fn prepare<S: Store>(alloc: Global, words: &[&str], store: &mut S) -> Result
     ensures ok { IfOk result (λ p. (files : Files) → S.files store.old ≡ Some files
         → verdict (map (λ w. w.now) words.now) files ≡ Ok (accepted_of p)) }
     ensures shape { IfOk result (λ p. SelectsFirst p.query) }
+    ensures command { IfOk result (λ _. IsOk (command_stage (map (λ w. w.now) words.now))) }
+    ensures usage { IfErr result (λ r. (r.status ≡ Status.Usage) ↔ (command_stage (map (λ w. w.now) words.now) ≡ Err Status.Usage)) }
     ensures refused { IfErr result (λ r. (files : Files) → S.files store.old ≡ Some files
         → MayRefuse (S.faults store.old) (S.faults store.new) (verdict (map (λ w. w.now) words.now) files) (map (λ w. w.now) words.now) files r.status) }
     ensures line { IfErr result (λ r. (files : Files) → S.files store.old ≡ Some files
@@ -242,7 +247,7 @@ pub fn prepare<S: Store>(alloc: Global, words: &[&str], store: &mut S) -> Result
             },
         ));
     };
-    let Ok(table_file) = file_name(alloc, table) else {
+    let Ok(table_file) = table_file_name(alloc, table) else {
         return Err(refusal_of(alloc, Status::NoMemory));
     };
     match load_table(alloc, store, table, table_file.as_str()) {

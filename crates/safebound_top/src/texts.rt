@@ -42,7 +42,7 @@ pub fn write_texts<O: Sink, N: Sink>(
     ensures ok_notes { OnOk result (N.taken notes.new ≡ appended (N.taken notes.old) (plan_text (accepted_of prepared.now))) }
     ensures ok_out { OnOk result (O.taken out.new ≡ appended (O.taken out.old) (rows_text (accepted_of prepared.now))) }
     ensures notes { IsErrOf result SinkId.Notes → GrewByPrefix (N.taken notes.old) (N.taken notes.new) (plan_text (accepted_of prepared.now))
-        × (O.taken out.new ≡ O.taken out.old) × Rose (N.faults notes.old) (N.faults notes.new) }
+        × (O.taken out.new ≡ O.taken out.old) × (O.faults out.new ≡ O.faults out.old) × Rose (N.faults notes.old) (N.faults notes.new) }
     ensures out_notes { IsErrOf result SinkId.Out → N.taken notes.new ≡ appended (N.taken notes.old) (plan_text (accepted_of prepared.now)) }
     ensures out { IsErrOf result SinkId.Out → GrewByPrefix (O.taken out.old) (O.taken out.new) (rows_text (accepted_of prepared.now)) }
     ensures out_failed { IsErrOf result SinkId.Out → Rose (O.faults out.old) (O.faults out.new) }

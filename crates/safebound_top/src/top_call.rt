@@ -1,5 +1,5 @@
 //! The top call.
-ghost use Rattle.std.specs.Prelude.{◌≡◌, ◌≢◌, ◌⊎◌, ◌≤◌, List, ℕ, codes, map, Some, None, Ok, Err, IfOk, IsOk, IsOkAnd};
+ghost use Rattle.std.specs.Prelude.{◌≡◌, ◌≢◌, ◌↔◌, ◌⊎◌, ◌≤◌, List, ℕ, codes, map, Some, None, Ok, Err, IfOk, IsOk, IsOkAnd};
 ghost use Rattle.base_io.specs.Causes.{Rose};
 ghost use Rattle.base_io.specs.Files.{Files};
 ghost use Rattle.base_io.specs.Sinks.{appended, GrewByPrefix};
@@ -8,7 +8,7 @@ ghost use Rattle.safebound_top.specs.Faults.{fault_text};
 ghost use Rattle.safebound_top.specs.Headline.{Headline, status_of};
 ghost use Rattle.safebound_top.specs.Stages.{IsFromReading, IsRefusal, IsWriteFault, MissesNothing};
 ghost use Rattle.safebound_top.specs.Texts.{plan_text, rows_text};
-ghost use Rattle.safebound_top.specs.Verdict.{IsReached, verdict};
+ghost use Rattle.safebound_top.specs.Verdict.{IsReached, command_stage, verdict};
 
 use crate::prepare::{prepare, refusal_of};
 use crate::texts::{report, write_texts};
@@ -27,13 +27,13 @@ fn answered<S: Store, O: Sink, N: Sink>(
 ) -> Status
     ensures done { result ≡ Status.Done → (files : Files) → S.files store.old ≡ Some files → IsOkAnd (verdict (map (λ w. w.now) words.now) files)
         (λ run. (N.taken notes.new ≡ appended (N.taken notes.old) (plan_text run)) × (O.taken out.new ≡ appended (O.taken out.old) (rows_text run))) }
-    ensures out_same { IsFromReading result → O.taken out.new ≡ O.taken out.old }
+    ensures out_same { IsFromReading result → (O.taken out.new ≡ O.taken out.old) × (O.faults out.new ≡ O.faults out.old) }
     ensures memory { result ≡ Status.NoMemory → Tells (N.taken notes.old) (N.taken notes.new) (N.faults notes.old) (N.faults notes.new) (codes "error memory\n") }
     ensures tells { IsFromReading result → (files : Files) → S.files store.old ≡ Some files
         → Tells (N.taken notes.old) (N.taken notes.new) (N.faults notes.old) (N.faults notes.new) (fault_text result (map (λ w. w.now) words.now) files) }
 
     ensures cut_notes { result ≡ Status.WriteFault SinkId.Notes → Rose (N.faults notes.old) (N.faults notes.new) }
-    ensures cut_notes_out { result ≡ Status.WriteFault SinkId.Notes → O.taken out.new ≡ O.taken out.old }
+    ensures cut_notes_out { result ≡ Status.WriteFault SinkId.Notes → (O.taken out.new ≡ O.taken out.old) × (O.faults out.new ≡ O.faults out.old) }
     ensures cut_notes_text { result ≡ Status.WriteFault SinkId.Notes → (files : Files) → S.files store.old ≡ Some files
         → IsOkAnd (verdict (map (λ w. w.now) words.now) files)
         (λ run. CutThenTold (N.taken notes.old) (N.taken notes.new) (plan_text run) (fault_text result (map (λ w. w.now) words.now) files)) }
@@ -42,6 +42,7 @@ fn answered<S: Store, O: Sink, N: Sink>(
         → IsOkAnd (verdict (map (λ w. w.now) words.now) files) (λ run. GrewByPrefix (O.taken out.old) (O.taken out.new) (rows_text run)
         × Tells (appended (N.taken notes.old) (plan_text run)) (N.taken notes.new) (N.faults notes.old) (N.faults notes.new) (fault_text result (map (λ w. w.now) words.now) files)) }
 
+    ensures usage { (result ≡ Status.Usage) ↔ (command_stage (map (λ w. w.now) words.now) ≡ Err Status.Usage) }
     ensures refused { IsRefusal result → (files : Files) → S.files store.old ≡ Some files → verdict (map (λ w. w.now) words.now) files ≡ Err result }
     ensures read_fault { (file : FileId) → result ≡ Status.ReadFault file → (files : Files) → S.files store.old ≡ Some files
         → (verdict (map (λ w. w.now) words.now) files ≡ Err result)

@@ -1,6 +1,6 @@
 -- Which text spells which schema, in the first form.
 use Rattle.std.specs.Prelude.{ℕ, List, [], ◌∷◌, Option, None, Some, option_and_then, slice_index_or, codes, if◌then◌else◌}
-use Rattle.schema_types.specs.Shape.{Place, Spelled, Named, folded, has_form}
+use Rattle.schema_types.specs.Shape.{Expected, Spelled, Named, folded, has_form}
 use Rattle.schema_types.specs.Tokens.{tokens_of}
 use Rattle.schema_types.specs.declared.types.Schema.{Schema}
 use Rattle.schema_types.specs.declared.types.Kind.TheVariants.{Int}
@@ -17,7 +17,7 @@ one_column table column = record {
 }
 
 -- CREATE TABLE name ( name INTEGER NOT NULL )
-abbrev pub create_table : List Place
+abbrev pub create_table : List Expected
 create_table =
     Spelled (codes "CREATE") ∷ (Spelled (codes "TABLE") ∷ (Named ∷ (Spelled (codes "(") ∷ (Named ∷ (Spelled (codes "INTEGER")
     ∷ (Spelled (codes "NOT") ∷ (Spelled (codes "NULL") ∷ (Spelled (codes ")") ∷ []))))))))

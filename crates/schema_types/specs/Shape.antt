@@ -30,21 +30,21 @@ ends [] = true
 ends (token ∷ []) = spells token (codes ";")
 ends (token ∷ more ∷ tokens) = false
 
--- what stands at a place of a text: this word or symbol, or a name
-pub data Place : Type 0 where
-  Spelled : List ℕ → Place
-  Named : Place
+-- what a text is expected to have at a place: this word or symbol, or a name
+pub data Expected : Type 0 where
+  Spelled : List ℕ → Expected
+  Named : Expected
 
-abbrev pub place_of : Shape → Place
-place_of (shape.Spelled word) = Spelled word.now
-place_of shape.Named = Named
+abbrev pub expected_of : Shape → Expected
+expected_of (shape.Spelled word) = Spelled word.now
+expected_of shape.Named = Named
 
-abbrev pub stands_at : List ℕ → Place → Bool
+abbrev pub stands_at : List ℕ → Expected → Bool
 stands_at token (Spelled word) = spells token word
 stands_at token Named = is_name token
 
 -- a token stands at each place, one by one, and then comes nothing or one semicolon
-abbrev pub has_form : List (List ℕ) → List Place → Bool
+abbrev pub has_form : List (List ℕ) → List Expected → Bool
 has_form tokens [] = ends tokens
-has_form [] (place ∷ places) = false
-has_form (token ∷ tokens) (place ∷ places) = stands_at token place && has_form tokens places
+has_form [] (next ∷ expected) = false
+has_form (token ∷ tokens) (next ∷ expected) = stands_at token next && has_form tokens expected

@@ -1,7 +1,7 @@
 //! The shapes that the tokens of a text have, one for each place.
 ghost use Rattle.std.specs.Prelude.{◌≡◌, ◌∷◌, [], map, IfOk, IsErrOf, IsTrue};
 ghost use Rattle.std.specs.List.{list_any};
-ghost use Rattle.schema_types.specs.Shape.{ends, folded, has_form as formed, is_name as names, is_reserved as reserved, place_of, spells as same_word, stands_at};
+ghost use Rattle.schema_types.specs.Shape.{ends, folded, has_form as formed, is_name as names, is_reserved as reserved, expected_of, spells as same_word, stands_at};
 
 use crate::SchemaError;
 use crate::lexer::is_word;
@@ -68,7 +68,7 @@ fn is_end(tokens: &[&[u8]]) -> bool
 }
 
 fn has_shape(token: &[u8], shape: Shape) -> bool
-    ensures { result ≡ stands_at token.now (place_of shape) }
+    ensures { result ≡ stands_at token.now (expected_of shape) }
 {
     match shape {
         Shape::Spelled(word) => spells(token, word),
@@ -79,7 +79,7 @@ fn has_shape(token: &[u8], shape: Shape) -> bool
 /// Whether the tokens have these shapes, one by one, and then nothing or one semicolon.
 #[tactic(auto, using(crate::proofs::Forms::too_short))]
 pub fn has_form(tokens: &[&[u8]], form: &[Shape]) -> bool
-    ensures { result ≡ formed (map (λ t. t.now) tokens.now) (map place_of form.now) }
+    ensures { result ≡ formed (map (λ t. t.now) tokens.now) (map expected_of form.now) }
 {
     if tokens.len() < form.len() {
         return false;

@@ -9,5 +9,6 @@ invariant-turns g l = record {
   later : g.S.Store.faults l.initial.store ≤ g.S.Store.faults l.store;
   same : g.S.Store.files l.store ≡ g.S.Store.files l.initial.store;
   misses : g.S.Store.misses l.store ≡ g.S.Store.misses l.initial.store;
+  first : length l.items.items ≡ 0 → g.S.Store.faults l.store ≡ g.S.Store.faults l.initial.store;
   front : IsFront (told (g.S.Store.files l.initial.store) l.name) l.items.items;
 }

@@ -11,16 +11,23 @@ returns g c =
       done_is_exact = known.done;
       every_bound_holds = λ files told. bounds_hold (verdict _ files);
       the_rows_are_the_answer = λ files told. rows_are_the_answer (verdict _ files);
-      want_of_memory_leaves_nothing = λ e. (known.memory e, known.out_same (subst IsFromReading (sym e) tt));
-      notes_are_cut_with_cause = λ e. (known.cut_notes e, known.cut_notes_out e, known.cut_notes_text e);
-      out_is_cut_with_cause = λ e. (known.cut_out e, known.cut_out_text e);
-      refusals_are_the_verdict = λ refusal.
-          let reading = refusal_is_from_reading c.answered.result refusal in
-          (known.out_same reading, λ files told. (known.refused refusal files told, known.tells reading files told));
-      read_faults_have_their_cause = λ file e.
-          let reading = subst IsFromReading (sym e) tt in
-          (known.out_same reading, known.untold file e, λ files told. (known.read_fault file e files told, known.tells reading files told));
-      no_name_is_invented = known.misses;
-      nothing_is_refused_without_cause = known.complete;
-      undisturbed_is_the_verdict = known.undisturbed;
+      want_of_memory_leaves_its_line = λ e. (known.memory e, known.out_same (subst IsFromReading (sym e) tt));
+      write_faults_have_their_cause = record {
+        of_notes = λ e. (known.cut_notes e, known.cut_notes_out e, known.cut_notes_text e);
+        of_out = λ e. (known.cut_out e, known.cut_out_text e);
+      };
+      refusals_are_the_verdict = record {
+        usage = known.usage;
+        refused = λ refusal.
+            let reading = refusal_is_from_reading c.answered.result refusal in
+            (known.out_same reading, λ files told. (known.refused refusal files told, known.tells reading files told));
+      };
+      read_faults_have_their_cause = record {
+        told = λ file e.
+            let reading = subst IsFromReading (sym e) tt in
+            (known.out_same reading, λ files told. (known.read_fault file e files told, known.tells reading files told));
+        untold = known.untold;
+        misses = known.misses;
+      };
+      nothing_is_refused_without_cause = record { by_the_store = known.complete; by_the_sinks = known.undisturbed };
     }
