@@ -1,0 +1,122 @@
+-- One step of a walk from an entry through a class.
+use Rattle.std.proofs.Common.{◌≡◌, ◌≢◌, ℕ, Bool, true, false, not, List, [], ◌∷◌, ◌<◌, zero, suc, length, get_or, arith, refl, ap, sym, ◌∙◌, subst, ◌⊎◌, inl, inr, Option, Some, None}
+use Rattle.std.specs.Prelude.{⊤}
+use Rattle.std.specs.List.{Contains}
+use Rattle.std.proofs.lemmas.Bool.{cases_Bool, eq-eqb, false≢true}
+use Rattle.berge_tree.specs.declared.edges.Place.{Place}
+use Rattle.berge_tree.specs.Equalities.{same_place, side_seen, IsBridge}
+use Rattle.berge_tree.proofs.NoCycle.{same_place-true}
+use Rattle.berge_tree.specs.Equalities.{HasNoCycle}
+
+pub not_itself : (b : Bool) → b ≡ not b → ⊥
+not_itself true e = false≢true (sym e)
+not_itself false e = false≢true e
+
+pub same_place-refl : (p : Place) → same_place p p ≡ true
+same_place-refl p = rw (eq-eqb p.entry p.entry refl, eq-eqb p.column p.column refl) refl
+
+pub same_place-is : (p q : Place) → p ≡ q → same_place p q ≡ true
+same_place-is p q e = subst (λ u. same_place p u ≡ true) e (same_place-refl p)
+
+pub are_same : (p q : Place) → (p ≡ q) ⊎ (p ≢ q)
+are_same p q = elim (cases_Bool (same_place p q)) [
+  | inl t ↦ inl (same_place-true p q t)
+  | inr n ↦ inr (λ e. false≢true (sym n ∙ same_place-is p q e))
+]
+
+pub seen_off : (side : ℕ → Bool) (p q : Place) → q ≢ p → side_seen side p q ≡ side q.entry
+seen_off side p q ne = elim (cases_Bool (same_place q p)) [
+  | inl t ↦ absurd (ne (same_place-true q p t))
+  | inr n ↦ rw n refl
+]
+
+pub seen_at : (side : ℕ → Bool) (p : Place) → side_seen side p p ≡ not (side p.entry)
+seen_at side p = rw (same_place-refl p) refl
+
+pub one_in : {X : Type 0} (x : X) (xs : List X) (y : X) → Contains (x ∷ xs) y → Contains xs y ⊎ (y ≡ x)
+one_in x xs y h = at h.0 h.1 h.2
+  where
+    at : (k : ℕ) → k < suc (length xs) → get_or (x ∷ xs) k y ≡ y → Contains xs y ⊎ (y ≡ x)
+    at zero l e = inr (sym e)
+    at (suc k) l e = inl (k, omega arith, e)
+
+pub in_rest : {X : Type 0} (x : X) (xs : List X) (y : X) → Contains xs y → Contains (x ∷ xs) y
+in_rest x xs y h = (suc h.0, omega (arith, h.1), h.2)
+
+pub in_front : {X : Type 0} (x : X) (xs : List X) (y : X) → y ≡ x → Contains (x ∷ xs) y
+in_front x xs y e = (0, omega arith, sym e)
+
+pub in_none : {X : Type 0} (y : X) → Contains [] y → ⊥
+in_none y h = omega (arith, h.1)
+
+pub another : (c : ℕ) → Some c ≢ Some (suc c)
+another c e = less (subst (λ o. below o) e arith_own)
+  where
+    below : Option ℕ → Type 0
+    below None = ⊤
+    below (Some d) = d < suc c
+
+    arith_own : c < suc c
+    arith_own = omega arith
+
+    less : suc c < suc c → ⊥
+    less l = omega (arith, l)
+
+pub none_some : (c : ℕ) → None ≢ Some c
+none_some c e = subst (λ (o : Option ℕ). is_none o) e tt
+  where
+    is_none : Option ℕ → Type 0
+    is_none None = ⊤
+    is_none (Some d) = ⊥
+
+-- ---- an entry that is reached below the entries P, in its column `above`
+
+pub record IsReached (class : Place → Place) (P : List ℕ) (y : ℕ) (above : Option ℕ) : Type 0 where
+  pub connected : (side : ℕ → Bool) → ((u v : Place) → class u ≡ class v → Contains P u.entry → side u.entry ≡ side v.entry) → (a : ℕ) → Contains P a → side a ≡ side y
+  pub fresh : (r : Place) → r.entry ≡ y → above ≢ Some r.column → (p : Place) → Contains P p.entry → class p ≡ class r → ⊥
+
+pub root_reached : (class : Place → Place) (y : ℕ) → IsReached class [] y None
+root_reached class y = record { connected = λ side h a k. absurd (in_none a k); fresh = λ r at off p k e. in_none p.entry k }
+
+pub avoided : (class : Place → Place) (P : List ℕ) (y : ℕ) (above : Option ℕ) → IsReached class P y above → Contains P y → ⊥
+avoided class P y None h k = h.fresh (record { entry = y; column = 0 }) refl (none_some 0) (record { entry = y; column = 0 }) k refl
+avoided class P y (Some c) h k = h.fresh (record { entry = y; column = suc c }) refl (another c) (record { entry = y; column = suc c }) k refl
+
+-- away from the class of r its bridge has one side
+pub off_class : (class : Place → Place) (r : Place) (b : IsBridge class r) (u v : Place) → class u ≡ class v → class u ≢ class r → b.side u.entry ≡ b.side v.entry
+off_class class r b u v e differ =
+    sym (seen_off b.side r u (λ is. differ (ap class is))) ∙ b.together u v e ∙ seen_off b.side r v (λ is. differ (e ∙ ap class is))
+
+-- the other columns of r's class are on the far side
+pub far : (class : Place → Place) (r : Place) (b : IsBridge class r) (s : Place) → class r ≡ class s → s ≢ r → b.side s.entry ≡ not (b.side r.entry)
+far class r b s same ne = sym (seen_off b.side r s ne) ∙ b.together s r (sym same) ∙ seen_at b.side r
+
+pub step : (class : Place → Place) → HasNoCycle class → (P : List ℕ) (y : ℕ) (above : Option ℕ) → IsReached class P y above → (r s : Place) → r.entry ≡ y → above ≢ Some r.column
+    → class r ≡ class s → s ≢ r → IsReached class (y ∷ P) s.entry (Some s.column)
+step class nc P y above old r s r_at r_off same ne = record { connected = connected; fresh = fresh }
+  where
+    b : IsBridge class r
+    b = nc.bridges r
+
+    far_side : b.side s.entry ≡ not (b.side y)
+    far_side = far class r b s same ne ∙ ap (λ x. not (b.side x)) r_at
+
+    connected : (side : ℕ → Bool) → ((u v : Place) → class u ≡ class v → Contains (y ∷ P) u.entry → side u.entry ≡ side v.entry) → (a : ℕ) → Contains (y ∷ P) a → side a ≡ side s.entry
+    connected side h a k =
+        let here : side y ≡ side s.entry = ap side (sym r_at) ∙ h r s same (in_front y P r.entry r_at) in
+        elim (one_in y P a k) [
+          | inl in_P ↦ old.connected side (λ u v e m. h u v e (in_rest y P u.entry m)) a in_P ∙ here
+          | inr is ↦ ap side is ∙ here
+        ]
+
+    fresh : (t : Place) → t.entry ≡ s.entry → Some s.column ≢ Some t.column → (p : Place) → Contains (y ∷ P) p.entry → class p ≡ class t → ⊥
+    fresh t t_at t_off p k e = elim (one_in y P p.entry k) [
+      | inl in_P ↦
+          let differ : class p ≢ class r = λ is. old.fresh r r_at r_off p in_P is in
+          let to_y : b.side p.entry ≡ b.side y = old.connected b.side (λ u v f m. off_class class r b u v f (λ is. old.fresh r r_at r_off u m is)) p.entry in_P in
+          not_itself (b.side y) (sym to_y ∙ off_class class r b p t e differ ∙ ap b.side t_at ∙ far_side)
+      | inr is ↦ elim (are_same (class p) (class r)) [
+        | inl agree ↦ t_off (ap (λ (u : Place). Some u.column) (sym (nc.one_column t s (sym e ∙ agree ∙ same) t_at)))
+        | inr differ ↦ not_itself (b.side y) (ap b.side (sym is) ∙ off_class class r b p t e differ ∙ ap b.side t_at ∙ far_side)
+      ]
+    ]

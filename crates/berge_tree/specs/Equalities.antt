@@ -1,0 +1,70 @@
+-- Equalities of columns, the classes that they make of columns, and when they close no cycle between entries.
+use Rattle.std.specs.Prelude.{◌≡◌, ◌≢◌, ℕ, Bool, not, ◌&&◌, ◌==◌, if◌then◌else◌, ⊤, List, [], ◌∷◌}
+use Rattle.std.specs.List.{AllByRecursion, Contains}
+use Rattle.berge_tree.specs.declared.edges.Place.{Place}
+use Rattle.berge_tree.specs.declared.edges.Edge.{Edge}
+
+abbrev pub place : ℕ → ℕ → Place
+place entry column = record { entry = entry; column = column }
+
+abbrev pub same_place : Place → Place → Bool
+same_place p q = (p.entry == q.entry) && (p.column == q.column)
+
+-- the columns that equalities name
+abbrev pub places_of : List Edge → List Place
+places_of [] = []
+places_of (e ∷ es) = e.left ∷ (e.right ∷ places_of es)
+
+-- the equalities join entries of the set
+abbrev pub AreWithin : List ℕ → List Edge → Type 0
+AreWithin set es = AllByRecursion (λ e. Contains set e.left.entry × Contains set e.right.entry) es
+
+-- ---- connected entries
+
+-- nothing connects a with b: the entries fall into two sides so that each equality lies on one of them, but a and b don't
+pub record AreApart (es : List Edge) (a b : ℕ) : Type 0 where
+  pub side : ℕ → Bool
+  pub together : AllByRecursion (λ e. side e.left.entry ≡ side e.right.entry) es
+  pub across : side a ≢ side b
+
+-- each further equality joins two entries that nothing before it connects
+abbrev pub ClosesNoCycleAfter : List Edge → List Edge → Type 0
+ClosesNoCycleAfter earlier [] = ⊤
+ClosesNoCycleAfter earlier (e ∷ es) = AreApart earlier e.left.entry e.right.entry × ClosesNoCycleAfter (e ∷ earlier) es
+
+abbrev pub ClosesNoCycle : List Edge → Type 0
+ClosesNoCycle es = ClosesNoCycleAfter [] es
+
+-- ---- classes of columns
+
+-- each column has the name of its class. Where a and b become equal, the class of b takes the name of the class of a
+abbrev pub merged : (Place → Place) → Place → Place → Place → Place
+merged name a b p = if same_place (name p) (name b) then name a else name p
+
+abbrev pub classes_from : (Place → Place) → List Edge → Place → Place
+classes_from name [] = name
+classes_from name (e ∷ es) = classes_from (merged name e.left e.right) es
+
+-- the class of a column, where before the first equality each column is a class of its own
+abbrev pub class_of : List Edge → Place → Place
+class_of es = classes_from (λ p. p) es
+
+-- what is equal along all equalities is equal at the two columns
+abbrev pub AreJoined : List Edge → Place → Place → Type 0
+AreJoined es p q = (key : ℕ → ℕ → ℕ) → AllByRecursion (λ e. key e.left.entry e.left.column ≡ key e.right.entry e.right.column) es → key p.entry p.column ≡ key q.entry q.column
+
+-- ---- no cycle of entries and classes
+
+-- the side of a column's entry, but the other one at p itself
+abbrev pub side_seen : (ℕ → Bool) → Place → Place → Bool
+side_seen side p q = if same_place q p then not (side q.entry) else side q.entry
+
+-- the link of p's entry with p's class is the only way between them: the entries fall into two sides, and each class lies on one, where p's entry alone is seen on the other
+pub record IsBridge (class : Place → Place) (p : Place) : Type 0 where
+  pub side : ℕ → Bool
+  pub together : (q r : Place) → class q ≡ class r → side_seen side p q ≡ side_seen side p r
+
+-- no class has two columns of one entry, and entries and classes make no cycle
+pub record HasNoCycle (class : Place → Place) : Type 0 where
+  pub one_column : (p q : Place) → class p ≡ class q → p.entry ≡ q.entry → p ≡ q
+  pub bridges : (p : Place) → IsBridge class p

@@ -1,0 +1,9 @@
+pub mod Equalities
+pub mod Trees
+pub mod Rooted
+pub mod Nodes
+pub mod Valid
+pub mod Standing
+pub mod Walk
+pub mod Examples
+pub mod Testing

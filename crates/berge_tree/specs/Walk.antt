@@ -1,0 +1,157 @@
+-- How the trees are found. No public contract speaks of it.
+use Rattle.std.specs.Prelude.{◌≡◌, ◌≢◌, ℕ, zero, suc, ◌+◌, ◌<◌, ◌≤◌, Bool, true, false, not, ◌&&◌, ◌||◌, ◌==◌, nat_lt, if◌then◌else◌, ⊤, List, [], ◌∷◌, ◌++◌, length, map, filter, drop, slice_index_or, Option, Some, None}
+use Rattle.std.specs.List.{AllByRecursion, Contains}
+use Rattle.berge_tree.specs.declared.edges.Place.{Place}
+use Rattle.berge_tree.specs.declared.edges.Edge.{Edge}
+use Rattle.berge_tree.specs.declared.columns.Column.{Column}
+use Rattle.berge_tree.specs.declared.tree.Node.{Node}
+use Rattle.berge_tree.specs.Equalities.{same_place, places_of, class_of}
+use Rattle.berge_tree.specs.Trees.{Classes, no_class, and_class, Members, one_member, and_member, JoinTree, entries}
+use Rattle.berge_tree.specs.declared.tree.NodeKind.{NodeKind}
+use Rattle.berge_tree.specs.declared.tree.NodeKind.TheVariants as kind
+use Rattle.berge_tree.specs.declared.tree.Tree.{Tree}
+use Rattle.berge_tree.specs.Nodes.{nodes_of, nodes_of_members, nodes_within, classes_within}
+use Rattle.berge_tree.specs.Valid.{entries_in}
+
+-- ---- the columns that equalities name, in order, each with the name of its class
+
+-- by entries, then by the columns' numbers
+abbrev pub is_before : Place → Place → Bool
+is_before p q = nat_lt p.entry q.entry || ((p.entry == q.entry) && nat_lt p.column q.column)
+
+-- a column that is a class of its own, put in where it belongs, unless it is there
+abbrev pub put : Place → List Column → List Column
+put p [] = record { place = p; class = p } ∷ []
+put p (c ∷ cs) = if same_place c.place p then c ∷ cs else if is_before c.place p then c ∷ put p cs else record { place = p; class = p } ∷ (c ∷ cs)
+
+abbrev pub with_places : List Column → List Edge → List Column
+with_places cs [] = cs
+with_places cs (e ∷ es) = with_places (put e.right (put e.left cs)) es
+
+-- the name of the class of a column
+abbrev pub class_in : List Column → Place → Place
+class_in [] p = p
+class_in (c ∷ cs) p = if same_place c.place p then c.class else class_in cs p
+
+-- the columns of one class go over to another one
+abbrev pub renamed : Place → Place → Column → Column
+renamed old new c = record { place = c.place; class = if same_place c.class old then new else c.class }
+
+abbrev pub with_classes : List Column → List Edge → List Column
+with_classes cs [] = cs
+with_classes cs (e ∷ es) = with_classes (map (renamed (class_in cs e.right) (class_in cs e.left)) cs) es
+
+abbrev pub columns_of : List Edge → List Column
+columns_of es = with_classes (with_places [] es) es
+
+-- each column stands before the later ones
+abbrev pub Ascend : List Column → Type 0
+Ascend [] = ⊤
+Ascend (c ∷ cs) = AllByRecursion (λ d. is_before c.place d.place ≡ true) cs × Ascend cs
+
+-- what the columns of equalities are like
+pub record AreColumnsOf (es : List Edge) (columns : List Column) : Type 0 where
+  pub ascend : Ascend columns
+  pub named : (c : Column) → Contains columns c → Contains (places_of es) c.place × (c.class ≡ class_of es c.place)
+  pub all : (p : Place) → Contains (places_of es) p → (c : Column) × Contains columns c × (c.place ≡ p)
+
+-- ---- the walk
+
+abbrev pub is_above : Option ℕ → ℕ → Bool
+is_above None column = false
+is_above (Some above) column = above == column
+
+-- a column of the entry, but not the one above
+abbrev pub is_at : ℕ → Option ℕ → Column → Bool
+is_at entry above c = (c.place.entry == entry) && not (is_above above c.place.column)
+
+-- another column of the class
+abbrev pub is_other : Column → Column → Bool
+is_other above c = same_place above.class c.class && not (same_place above.place c.place)
+
+-- members, where there are any
+abbrev pub joined_members : ℕ → ℕ → Classes → Option Members → Option Members
+joined_members entry column below None = Some (one_member entry column below)
+joined_members entry column below (Some rest) = Some (and_member entry column below rest)
+
+abbrev pub members_with : (Column → Classes) → List Column → Option Members
+members_with below [] = None
+members_with below (c ∷ cs) = joined_members c.place.entry c.place.column (below c) (members_with below cs)
+
+abbrev pub joined_classes : ℕ → Option Members → Classes → Classes
+joined_classes column None rest = rest
+joined_classes column (Some members) rest = and_class column members rest
+
+abbrev pub classes_with : (Column → Option Members) → List Column → Classes
+classes_with members [] = no_class
+classes_with members (c ∷ cs) = joined_classes c.place.column (members c) (classes_with members cs)
+
+-- the classes below an entry, to a depth
+abbrev pub walked : ℕ → List Column → ℕ → Option ℕ → Classes
+walked zero columns entry above = no_class
+walked (suc depth) columns entry above =
+    classes_with (λ c. members_with (λ d. walked depth columns d.place.entry (Some d.place.column)) (filter (is_other c) columns)) (filter (is_at entry above) columns)
+
+-- the classes of those columns of an entry that stand from a place on, with the members to a depth below them
+abbrev pub classes_at : ℕ → List Column → ℕ → ℕ → Option ℕ → Classes
+classes_at depth columns from entry above =
+    classes_with (λ c. members_with (λ d. walked depth columns d.place.entry (Some d.place.column)) (filter (is_other c) columns)) (filter (is_at entry above) (drop from columns))
+
+-- those members of a class whose columns stand from a place on
+abbrev pub members_at : ℕ → List Column → ℕ → Column → Option Members
+members_at depth columns from above = members_with (λ d. walked depth columns d.place.entry (Some d.place.column)) (filter (is_other above) (drop from columns))
+
+-- each column has another one in its class
+abbrev pub HaveOthers : List Column → Type 0
+HaveOthers columns = (c : Column) → Contains columns c → filter (is_other c) columns ≢ []
+
+-- the next column from a place on that passes the test
+abbrev pub IsNext : (Column → Bool) → List Column → ℕ → Option ℕ → Type 0
+IsNext test columns from None = filter test (drop from columns) ≡ []
+IsNext test columns from (Some i) = (from ≤ i) × (i < length columns) × ((d : Column) → filter test (drop from columns) ≡ slice_index_or columns i d ∷ filter test (drop (i + 1) columns)) × ((d : Column) → test (slice_index_or columns i d) ≡ true)
+
+-- the link to a node, where nodes end behind it
+abbrev pub link_where : ℕ → ℕ → Option ℕ
+link_where at end = if nat_lt at end then Some at else None
+
+-- nodes and classes of members, where there are any
+abbrev pub nodes_of_some : ℕ → ℕ → Option Members → List Node
+nodes_of_some at number None = []
+nodes_of_some at number (Some members) = nodes_of_members at number members
+
+abbrev pub nodes_in : Option Members → ℕ
+nodes_in None = 0
+nodes_in (Some members) = nodes_within members
+
+abbrev pub classes_in : Option Members → ℕ
+classes_in None = 0
+classes_in (Some members) = classes_within members
+
+-- ---- a tree for each component
+
+abbrev pub tree_at : ℕ → List Column → ℕ → JoinTree
+tree_at depth columns entry = record { root = entry; below = walked depth columns entry None }
+
+abbrev pub is_among : List ℕ → ℕ → Bool
+is_among [] x = false
+is_among (y ∷ ys) x = if y == x then true else is_among ys x
+
+-- a tree for each entry that no tree before has
+abbrev pub forest : ℕ → List Column → List ℕ → List ℕ → List JoinTree
+forest depth columns done [] = []
+forest depth columns done (x ∷ xs) =
+    if is_among done x then forest depth columns done xs else tree_at depth columns x ∷ forest depth columns (entries (tree_at depth columns x) ++ done) xs
+
+-- the node is this entry
+abbrev pub is_kind : NodeKind → ℕ → Bool
+is_kind (kind.Entry own) entry = own == entry
+is_kind (kind.Class number) entry = false
+
+-- the entry stands in one of the trees
+abbrev pub stands_in : List Tree → ℕ → Bool
+stands_in [] x = false
+stands_in (t ∷ ts) x = is_among (entries_in t.nodes) x || stands_in ts x
+
+-- one more tree, for an entry that no tree has
+abbrev pub added : List Column → List Tree → ℕ → List (List Node)
+added columns trees x = if stands_in trees x then [] else nodes_of (tree_at 16 columns x) ∷ []

@@ -1,0 +1,80 @@
+//! What the definitions say, as laws. Each call does nothing.
+ghost use Rattle.std.specs.Prelude.{[], ◌∷◌, ◌≡◌, ◌≢◌, ◌↔◌, ◌<◌, ℕ, Bool, true, List};
+ghost use Rattle.std.specs.Int.{bit_at};
+ghost use Rattle.std.specs.List.{AllByRecursion, AllPairs, Contains};
+ghost use Rattle.berge_tree.specs.Equalities.{AreApart, AreJoined, AreWithin, ClosesNoCycle, HasNoCycle, class_of, place};
+ghost use Rattle.berge_tree.specs.Examples.{four_entries, four_entries_nodes, four_entries_tree, tree_of_one};
+ghost use Rattle.berge_tree.specs.Nodes.{nodes_of};
+ghost use Rattle.berge_tree.specs.Rooted.{AreAllTreesOf, IsTreeOf, entries_of_set};
+ghost use Rattle.berge_tree.specs.Testing.{has_entries, joins_parts};
+ghost use Rattle.berge_tree.specs.Trees.{JoinTree, entries};
+ghost use Rattle.berge_tree.specs.Valid.{IsValid, children_of};
+ghost use Rattle.berge_tree.specs.Standing.{StandsIn};
+ghost use Rattle.berge_tree.specs.declared.tree.Node.{Node};
+ghost use Rattle.berge_tree.specs.declared.edges.Edge.{Edge};
+ghost use Rattle.berge_tree.specs.declared.edges.Place.{Place};
+
+/// Columns have one class exactly where they are equal whenever all equalities hold.
+pub fn classes_are_joined_columns()
+    ensures { (es : List Edge) (p q : Place) → (class_of es p ≡ class_of es q) ↔ AreJoined es p q }
+{}
+
+/// Where equalities close no cycle between entries, no class has two columns of one entry, and entries and classes make no cycle.
+pub fn no_cycle_of_classes()
+    ensures { (es : List Edge) → ClosesNoCycle es → HasNoCycle (class_of es) }
+{}
+
+/// Two entries are apart where names tell them from one another that each equality keeps equal.
+pub fn names_keep_entries_apart()
+    ensures { (es : List Edge) (a b : ℕ) (name : ℕ → ℕ)
+        → AllByRecursion (λ e. name e.left.entry ≡ name e.right.entry) es
+        → name a ≢ name b → AreApart es a b }
+{}
+
+/// Equalities of which each in turn joins two parts close no cycle.
+pub fn joined_parts_close_no_cycle()
+    ensures { (es : List Edge) → joins_parts (λ e. e) es ≡ true → ClosesNoCycle es }
+{}
+
+/// Where a test of bits says so, equalities join entries of a set.
+pub fn bits_tell_what_a_set_has()
+    ensures { (subset : ℕ) (es : List Edge) → has_entries subset es ≡ true
+        → AreWithin (entries_of_set subset) es }
+{}
+
+/// A set has the entries below 16 whose bits are set.
+pub fn a_set_has_its_bits()
+    ensures { (subset x : ℕ) → Contains (entries_of_set subset) x ↔ ((x < 16) × (bit_at subset x ≡ 1)) }
+{}
+
+/// A tree of equalities is a component: it has all that they connect with one of its entries and nothing else, and each entry once.
+pub fn a_tree_is_a_component()
+    ensures whole { (es : List Edge) (t : JoinTree) → IsTreeOf es t
+        → (p q : Place) → Contains (entries t) p.entry → class_of es p ≡ class_of es q
+        → Contains (entries t) q.entry }
+    ensures one_part { (es : List Edge) (t : JoinTree) → ClosesNoCycle es → IsTreeOf es t
+        → (side : ℕ → Bool) → ((p q : Place) → class_of es p ≡ class_of es q → side p.entry ≡ side q.entry)
+        → AllByRecursion (λ e. side e ≡ side t.root) (entries t) }
+    ensures once { (es : List Edge) (t : JoinTree) → ClosesNoCycle es → IsTreeOf es t
+        → AllPairs (λ e f. e ≢ f) (entries t) }
+{}
+
+/// A tree stands in its own nodes, and in all valid nodes some tree stands.
+pub fn trees_stand_in_nodes()
+    ensures own { (t : JoinTree) → StandsIn (nodes_of t) t }
+    ensures valid { (nodes : List Node) → IsValid nodes → (t : JoinTree) × StandsIn nodes t }
+{}
+
+/// What the definitions give for four entries.
+pub fn examples()
+    ensures closes { ClosesNoCycle four_entries }
+    ensures within { AreWithin (0 ∷ 1 ∷ 2 ∷ 3 ∷ []) four_entries }
+    ensures one_class { class_of four_entries (place 2 0) ≡ class_of four_entries (place 0 0) }
+    ensures another_class { class_of four_entries (place 3 1) ≡ place 1 1 }
+    ensures tree { AreAllTreesOf four_entries (0 ∷ 1 ∷ 2 ∷ 3 ∷ []) (four_entries_tree ∷ []) }
+    ensures order { entries four_entries_tree ≡ 0 ∷ 1 ∷ 3 ∷ 2 ∷ [] }
+    ensures nodes { nodes_of four_entries_tree ≡ four_entries_nodes }
+    ensures children { children_of four_entries_nodes 1 ≡ 2 ∷ 5 ∷ [] }
+    ensures no_children { children_of four_entries_nodes 4 ≡ [] }
+    ensures single { AreAllTreesOf [] (0 ∷ 1 ∷ 2 ∷ []) (tree_of_one 0 ∷ tree_of_one 1 ∷ tree_of_one 2 ∷ []) }
+{}
