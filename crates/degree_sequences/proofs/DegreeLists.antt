@@ -46,3 +46,7 @@ places_fit s L dom =
 -- of different keys, the degrees are a weight that a list that dominates the keys dominates
 pub degrees_dominated : (s L : List ℕ) → DominatesKeys s L → DominatesWeights s (degree L)
 degrees_dominated s L dom A apart = omega (arith, count_by-degree L A apart, dom A apart)
+
+-- and a list that dominates the degrees of the keys dominates the keys
+pub keys_dominated : (s L : List ℕ) → DominatesWeights s (degree L) → DominatesKeys s L
+keys_dominated s L dom A apart = omega (arith, count_by-degree L A apart, dom A apart)

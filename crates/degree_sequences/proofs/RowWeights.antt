@@ -12,7 +12,7 @@ use Rattle.degree_sequences.proofs.Spread.{IsFalling-spread, get_or-spread, spre
 use Rattle.degree_sequences.specs.ByRank.{rank_product}
 use Rattle.degree_sequences.specs.Composition.{ChildLists, block_sums, composed, row_weights, weight_by_rank}
 use Rattle.degree_sequences.specs.Falling.{IsFalling}
-use Rattle.degree_sequences.specs.Families.{ChildIsAbove, IsChild}
+use Rattle.degree_sequences.specs.Families.{ChildIsAbove, ColumnFalls, IsChildOf}
 use Rattle.degree_sequences.specs.Rank.{rank}
 use Rattle.degree_sequences.specs.RunningSums.{IsAbove, running_sum}
 
@@ -26,7 +26,7 @@ pub IsFalling-ones : (n : ℕ) → IsFalling (replicate n 1)
 IsFalling-ones n = IsFalling-from_sums (replicate n 1) (λ r. omega (arith, running_sum-ones n r, running_sum-ones n (suc r), running_sum-ones n (suc (suc r))))
 
 -- row weights fall
-pub IsFalling-spreads : (total n : ℕ) (cs : List ChildLists) → AllByRecursion (IsChild total) cs → IsFalling (spreads cs n)
+pub IsFalling-spreads : (total n : ℕ) (cs : List ChildLists) → AllByRecursion (IsChildOf total) cs → IsFalling (spreads cs n)
 IsFalling-spreads total n [] all = IsFalling-ones n
 IsFalling-spreads total n (c ∷ cs) all = IsFalling-rank_product (spreads cs n) (spread c.column c.class) (IsFalling-spreads total n cs all.1) (IsFalling-spread c.column c.class all.0.class_falls)
 
@@ -37,7 +37,7 @@ get_or-row_weights cs total k h =
     ∙ ap (weight_by_rank cs) (get_or-range_with_len 1 total k 0 h ∙ omega arith)
 
 -- they are the row weights, for children with that sum
-pub get_or-weights : (total : ℕ) (cs : List ChildLists) → AllByRecursion (IsChild total) cs → (k : ℕ) → k < total → get_or (spreads cs total) k 0 ≡ weight_by_rank cs (suc k)
+pub get_or-weights : (total : ℕ) (cs : List ChildLists) → AllByRecursion (IsChildOf total) cs → (k : ℕ) → k < total → get_or (spreads cs total) k 0 ≡ weight_by_rank cs (suc k)
 get_or-weights total [] all k h = get_or-replicate total k 1 0 h
 get_or-weights total (c ∷ cs) all r h =
     get_or-rank_product (spreads cs total) (spread c.column c.class) r
@@ -46,7 +46,7 @@ get_or-weights total (c ∷ cs) all r h =
     ∙ ap (λ x. get_or c.class (rank c.column (suc r) - 1) 0 * x) (get_or-weights total cs all.1 r h)
 
 -- and so are their running sums
-pub running_sum-weights : (total : ℕ) (cs : List ChildLists) → AllByRecursion (IsChild total) cs → (m : ℕ) → m ≤ total → running_sum (row_weights cs total) m ≡ running_sum (spreads cs total) m
+pub running_sum-weights : (total : ℕ) (cs : List ChildLists) → AllByRecursion (IsChildOf total) cs → (m : ℕ) → m ≤ total → running_sum (row_weights cs total) m ≡ running_sum (spreads cs total) m
 running_sum-weights total cs all m h = running_sum-agree (row_weights cs total) (spreads cs total) m
     (λ k k_in. get_or-row_weights cs total k (omega arith) ∙ sym (get_or-weights total cs all k (omega arith)))
 
@@ -55,11 +55,11 @@ pub running_sum-composition : (g : List ℕ) (cs : List ChildLists) (r : ℕ) �
 running_sum-composition g cs r = running_sum-trimmed (block_sums g (row_weights cs (sum g))) r ∙ running_sum-block_sums g (row_weights cs (sum g)) r
 
 -- and so those of the weights child by child
-pub running_sum-composed : (g : List ℕ) (cs : List ChildLists) → AllByRecursion (IsChild (sum g)) cs → (r : ℕ) → running_sum (composed g cs) r ≡ running_sum (spreads cs (sum g)) (running_sum g r)
+pub running_sum-composed : (g : List ℕ) (cs : List ChildLists) → AllByRecursion (IsChildOf (sum g)) cs → (r : ℕ) → running_sum (composed g cs) r ≡ running_sum (spreads cs (sum g)) (running_sum g r)
 running_sum-composed g cs all r = running_sum-composition g cs r ∙ running_sum-weights (sum g) cs all (running_sum g r) (running_sum-le-sum g r)
 
 -- a composition falls
-pub IsFalling-composed : (g : List ℕ) (cs : List ChildLists) → IsFalling g → AllByRecursion (IsChild (sum g)) cs → IsFalling (composed g cs)
+pub IsFalling-composed : (g : List ℕ) (cs : List ChildLists) → IsFalling g → AllByRecursion (IsChildOf (sum g)) cs → IsFalling (composed g cs)
 IsFalling-composed g cs fall ok = IsFalling-from_sums (composed g cs) (λ r.
     let u : List ℕ = spreads cs (sum g) in
     let one : running_sum g r + get_or g r 0 ≡ running_sum g (suc r) = sym (running_sum-suc g r) in
@@ -74,26 +74,26 @@ IsFalling-composed g cs fall ok = IsFalling-from_sums (composed g cs) (λ r.
       window u (IsFalling-spreads (sum g) (sum g) cs ok) (running_sum g r) (running_sum g (suc r)) (get_or g r 0) (get_or g (suc r) 0) (running_sum-mono g r (suc r) (omega arith)) (fall r),
     ))
 
--- larger lists give larger row weights
-pub spreads-above : (total total' : ℕ) → total' ≤ total → (cs ds : List ChildLists) → AllByRecursion (IsChild total) cs → AllByRecursion (IsChild total') ds
-    → AllZip ChildIsAbove cs ds → IsAbove (spreads cs total) (spreads ds total')
-spreads-above total total' h [] [] ok ok' all = λ r. omega (arith, running_sum-ones total r, running_sum-ones total' r)
-spreads-above total total' h [] (d ∷ ds) ok ok' all = absurd all
-spreads-above total total' h (c ∷ cs) [] ok ok' all = absurd all
-spreads-above total total' h (c ∷ cs) (d ∷ ds) ok ok' all =
+-- larger lists give larger row weights. Of the columns only the lower ones need to fall
+pub spreads-above : (total total' : ℕ) → total' ≤ total → (cs ds : List ChildLists) → AllByRecursion (IsChildOf total) cs → AllByRecursion (IsChildOf total') ds
+    → AllByRecursion ColumnFalls ds → AllZip ChildIsAbove cs ds → IsAbove (spreads cs total) (spreads ds total')
+spreads-above total total' h [] [] ok ok' fall all = λ r. omega (arith, running_sum-ones total r, running_sum-ones total' r)
+spreads-above total total' h [] (d ∷ ds) ok ok' fall all = absurd all
+spreads-above total total' h (c ∷ cs) [] ok ok' fall all = absurd all
+spreads-above total total' h (c ∷ cs) (d ∷ ds) ok ok' fall all =
     rank_product-above (spreads cs total) (spread c.column c.class) (spreads ds total') (spread d.column d.class)
     (IsFalling-spread c.column c.class ok.0.class_falls) (IsFalling-spreads total' total' ds ok'.1)
-    (spreads-above total total' h cs ds ok.1 ok'.1 all.1)
-    (spread-above c.column c.class d.column d.class ok.0.class_falls ok'.0.column_falls all.0.column all.0.class)
+    (spreads-above total total' h cs ds ok.1 ok'.1 fall.1 all.1)
+    (spread-above c.column c.class d.column d.class ok.0.class_falls fall.0 all.0.column all.0.class)
 
 -- larger lists give a larger composition
-pub composed-above : (g h : List ℕ) (cs ds : List ChildLists) → AllByRecursion (IsChild (sum g)) cs → AllByRecursion (IsChild (sum h)) ds
-    → IsAbove g h → AllZip ChildIsAbove cs ds → IsAbove (composed g cs) (composed h ds)
-composed-above g h cs ds ok ok' above all r =
+pub composed-above : (g h : List ℕ) (cs ds : List ChildLists) → AllByRecursion (IsChildOf (sum g)) cs → AllByRecursion (IsChildOf (sum h)) ds
+    → AllByRecursion ColumnFalls ds → IsAbove g h → AllZip ChildIsAbove cs ds → IsAbove (composed g cs) (composed h ds)
+composed-above g h cs ds ok ok' fall above all r =
     omega (
       arith,
       running_sum-composed g cs ok r,
       running_sum-composed h ds ok' r,
-      spreads-above (sum g) (sum h) (sum-above g h above) cs ds ok ok' all (running_sum h r),
+      spreads-above (sum g) (sum h) (sum-above g h above) cs ds ok ok' fall all (running_sum h r),
       running_sum-mono (spreads cs (sum g)) (running_sum h r) (running_sum g r) (above r),
     )

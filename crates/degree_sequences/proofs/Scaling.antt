@@ -11,7 +11,7 @@ use Rattle.degree_sequences.proofs.Spread.{IsFalling-front, IsFalling-spread, ru
 use Rattle.degree_sequences.specs.ByRank.{rank_product}
 use Rattle.degree_sequences.specs.Composition.{ChildLists, composed}
 use Rattle.degree_sequences.specs.Falling.{IsFalling}
-use Rattle.degree_sequences.specs.Families.{IsChild, IsNear, IsWithin, MatchedChild, factors, scales}
+use Rattle.degree_sequences.specs.Families.{ColumnFalls, IsChildOf, IsNear, IsWithin, MatchedChild, factors, scales}
 use Rattle.degree_sequences.specs.RunningSums.{running_sum}
 
 -- each element times c
@@ -159,10 +159,10 @@ exacts ms = map (λ m. m.exact) ms
 
 -- row weights of children that are near, when both are stretched to one length
 pub spreads-near : (a n k : ℕ) → a * n ≤ (a + 1) * k → (ms : List MatchedChild) → AllByRecursion (IsNear a) ms
-    → AllByRecursion (IsChild n) (nears ms) → AllByRecursion (IsChild k) (exacts ms)
+    → AllByRecursion (IsChildOf n) (nears ms) → AllByRecursion (IsChildOf k) (exacts ms) → AllByRecursion ColumnFalls (nears ms)
     → IsWithin (scales ms) (factors ms) (stretched a (spreads (nears ms) n)) (stretched (a + 1) (spreads (exacts ms) k))
-spreads-near a n k h [] near ok ok' r = omega (arith, running_sum-stretched-ones a n r, running_sum-stretched-ones (a + 1) k r)
-spreads-near a n k h (m ∷ ms) near ok ok' r =
+spreads-near a n k h [] near ok ok' fall r = omega (arith, running_sum-stretched-ones a n r, running_sum-stretched-ones (a + 1) k r)
+spreads-near a n k h (m ∷ ms) near ok ok' fall r =
     let s' : List ℕ = spreads (nears ms) n in
     let t' : List ℕ = spread m.near.column m.near.class in
     let s : List ℕ = spreads (exacts ms) k in
@@ -171,15 +171,16 @@ spreads-near a n k h (m ∷ ms) near ok ok' r =
     rank_product-near (scales ms) (factors ms) m.scale m.factor (stretched (a + 1) s) (stretched (a + 1) t) (stretched a s') (stretched a t')
     (IsFalling-stretched (a + 1) t (IsFalling-spread m.exact.column m.exact.class ok'.0.class_falls))
     (IsFalling-stretched a s' (IsFalling-spreads n n (nears ms) ok.1))
-    (spreads-near a n k h ms near.1 ok.1 ok'.1)
-    (spread-near a (a + 1) m.scale m.factor m.near.column m.near.class m.exact.column m.exact.class ok'.0.class_falls ok.0.column_falls near.0.column near.0.class) r in
+    (spreads-near a n k h ms near.1 ok.1 ok'.1 fall.1)
+    (spread-near a (a + 1) m.scale m.factor m.near.column m.near.class m.exact.column m.exact.class ok'.0.class_falls fall.0 near.0.column near.0.class) r in
     rw (mul_comm m.scale (scales ms), mul_comm m.factor (factors ms), sym (rank_product-stretched a s' t'), sym (rank_product-stretched (a + 1) s t)) both
 
 -- lists that are near, by an accuracy and by two numbers for each class, give a composition that is near
 pub composed-near : (a : ℕ) (g f : List ℕ) (ms : List MatchedChild) → IsWithin a (a + 1) g f → AllByRecursion (IsNear a) ms
-    → AllByRecursion (IsChild (sum g)) (map (λ m. m.near) ms) → AllByRecursion (IsChild (sum f)) (map (λ m. m.exact) ms)
+    → AllByRecursion (IsChildOf (sum g)) (map (λ m. m.near) ms) → AllByRecursion (IsChildOf (sum f)) (map (λ m. m.exact) ms)
+    → AllByRecursion ColumnFalls (map (λ m. m.near) ms)
     → IsWithin (a * scales ms) ((a + 1) * factors ms) (composed g (map (λ m. m.near) ms)) (composed f (map (λ m. m.exact) ms))
-composed-near a g f ms near_g near ok ok' r =
+composed-near a g f ms near_g near ok ok' fall r =
     let u : List ℕ = spreads (exacts ms) (sum f) in
     let v : List ℕ = spreads (nears ms) (sum g) in
     let m : ℕ = running_sum g r in
@@ -194,7 +195,7 @@ composed-near a g f ms near_g near ok ok' r =
       arith,
       left,
       right,
-      spreads-near a (sum g) (sum f) fits ms near ok ok' (a * m),
+      spreads-near a (sum g) (sum f) fits ms near ok ok' fall (a * m),
       mul-le-mul_left (factors ms) (running_sum-mono (stretched (a + 1) u) (a * m) ((a + 1) * running_sum f r) (near_g r)),
     )
   where

@@ -5,11 +5,14 @@ use Rattle.degree_sequences.specs.Falling.{IsFalling}
 use Rattle.degree_sequences.specs.RunningSums.{running_sum, IsAbove}
 use Rattle.degree_sequences.specs.Composition.{ChildLists}
 
--- the lists of a child fall, and its column has this sum
-pub record IsChild (total : ℕ) (child : ChildLists) : Type 0 where
-  pub column_falls : IsFalling child.column
+-- a child of a table with so many rows: its class list falls, and its column has that sum
+pub record IsChildOf (total : ℕ) (child : ChildLists) : Type 0 where
   pub class_falls : IsFalling child.class
   pub column_sum : sum child.column ≡ total
+
+-- the column of a child falls
+abbrev pub ColumnFalls : ChildLists → Type 0
+ColumnFalls child = IsFalling child.column
 
 -- both lists of a child are above those of its match
 pub record ChildIsAbove (child other : ChildLists) : Type 0 where

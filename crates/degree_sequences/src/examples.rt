@@ -1,26 +1,29 @@
 //! Each definition at small numbers.
-ghost use Rattle.std.specs.Prelude.{◌≡◌, ◌∷◌, []};
+ghost use Rattle.std.specs.Prelude.{◌≡◌, ◌-◌, ◌^◌, ◌∷◌, [], map};
 ghost use Rattle.degree_sequences.specs.ByRank.{rank_product, rank_sum, rank_maximum};
 ghost use Rattle.degree_sequences.specs.Composition.{ChildLists, row_weights, composed, root_total};
-ghost use Rattle.degree_sequences.specs.Compression.{compressed};
+ghost use Rattle.degree_sequences.specs.Compression.{heads, compressed};
 ghost use Rattle.degree_sequences.specs.Degrees.{degree_list};
 ghost use Rattle.degree_sequences.specs.RunningSums.{lesser, cut_at};
+ghost use Rattle.degree_sequences.specs.Saturation.{saturated};
 
 /// Degree lists, and what compression makes of them at an accuracy.
 pub fn compression()
     ensures degrees { degree_list (8 ∷ 8 ∷ 8 ∷ 8 ∷ 8 ∷ 2 ∷ 2 ∷ 2 ∷ 5 ∷ []) ≡ 5 ∷ 3 ∷ 1 ∷ [] }
-    ensures one_head { compressed 1 (5 ∷ 3 ∷ 1 ∷ []) ≡ 5 ∷ 4 ∷ [] }
-    ensures head_kept { compressed 1 (3 ∷ 2 ∷ 1 ∷ []) ≡ 3 ∷ 3 ∷ [] }
-    ensures half_kept { compressed 1 (2 ∷ 1 ∷ 1 ∷ 1 ∷ []) ≡ 2 ∷ 2 ∷ 1 ∷ [] }
-    ensures coarse { compressed 1 (5 ∷ 4 ∷ 3 ∷ 1 ∷ []) ≡ 5 ∷ 5 ∷ 3 ∷ [] }
-    ensures fine { compressed 5 (5 ∷ 4 ∷ 3 ∷ 1 ∷ []) ≡ 5 ∷ 4 ∷ 3 ∷ 1 ∷ [] }
-    ensures steps { compressed 3 (3 ∷ 2 ∷ 1 ∷ []) ≡ 3 ∷ 2 ∷ 1 ∷ [] }
-    ensures one_step { compressed 3 (2 ∷ 1 ∷ 1 ∷ 1 ∷ []) ≡ 2 ∷ 1 ∷ 1 ∷ 1 ∷ [] }
+    ensures heads { heads 1 (5 ∷ 3 ∷ 1 ∷ []) ≡ 5 ∷ 5 ∷ 1 ∷ [] }
+    ensures five_three_one { compressed 1 (5 ∷ 3 ∷ 1 ∷ []) ≡ 5 ∷ 4 ∷ [] }
+    ensures three_two_one { compressed 1 (3 ∷ 2 ∷ 1 ∷ []) ≡ 3 ∷ 3 ∷ [] }
+    ensures two_and_three_ones { compressed 1 (2 ∷ 1 ∷ 1 ∷ 1 ∷ []) ≡ 2 ∷ 2 ∷ 1 ∷ [] }
+    ensures five_four_three_one { compressed 1 (5 ∷ 4 ∷ 3 ∷ 1 ∷ []) ≡ 5 ∷ 5 ∷ 3 ∷ [] }
+    ensures five_four_three_one_finer { compressed 5 (5 ∷ 4 ∷ 3 ∷ 1 ∷ []) ≡ 5 ∷ 4 ∷ 3 ∷ 1 ∷ [] }
+    ensures three_two_one_finer { compressed 3 (3 ∷ 2 ∷ 1 ∷ []) ≡ 3 ∷ 2 ∷ 1 ∷ [] }
+    ensures two_and_three_ones_finer { compressed 3 (2 ∷ 1 ∷ 1 ∷ 1 ∷ []) ≡ 2 ∷ 1 ∷ 1 ∷ 1 ∷ [] }
 {}
 
 /// Two lists rank by rank, and by their running sums.
 pub fn by_rank()
     ensures product { rank_product (2 ∷ 1 ∷ []) (3 ∷ 1 ∷ 1 ∷ []) ≡ 6 ∷ 1 ∷ [] }
+    ensures saturates { map saturated (rank_product (2 ^ 127 ∷ []) (2 ∷ [])) ≡ (2 ^ 128 - 1) ∷ [] }
     ensures sum { rank_sum (2 ∷ 1 ∷ []) (3 ∷ 1 ∷ 1 ∷ []) ≡ 5 ∷ 2 ∷ 1 ∷ [] }
     ensures maximum { rank_maximum (3 ∷ 1 ∷ []) (2 ∷ 2 ∷ 1 ∷ []) ≡ 3 ∷ 2 ∷ 1 ∷ [] }
     ensures lesser { lesser (3 ∷ 3 ∷ []) (4 ∷ 1 ∷ 1 ∷ []) ≡ 3 ∷ 2 ∷ 1 ∷ [] }

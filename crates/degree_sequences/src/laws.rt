@@ -8,14 +8,14 @@ ghost use Rattle.degree_sequences.specs.Compression.{slope, compressed};
 ghost use Rattle.degree_sequences.specs.Degrees.{degree, different, degree_list};
 ghost use Rattle.degree_sequences.specs.Domination.{DominatesKeys, DominatesWeights};
 ghost use Rattle.degree_sequences.specs.Falling.{IsFalling, trimmed};
-ghost use Rattle.degree_sequences.specs.Families.{IsChild};
+ghost use Rattle.degree_sequences.specs.Families.{IsChildOf};
 ghost use Rattle.degree_sequences.specs.Rank.{rank};
 ghost use Rattle.degree_sequences.specs.RunningSums.{running_sum, lesser, cut_at};
 ghost use Rattle.degree_sequences.specs.Runs.{runs};
 ghost use Rattle.degree_sequences.specs.Saturation.{saturated};
 
 /// A degree list rearranges the degrees of the different keys so that they fall, and dominates the keys. What
-/// dominates keys dominates their degrees as weights (Degree Sequence Bound, ICDT 2023).
+/// dominates keys dominates their degrees as weights, and the other way round (SafeBound, SIGMOD 2023).
 pub fn degree_lists()
     ensures different { (keys : List ℕ) → IsDistinct ◌==◌ (different keys) }
     ensures rearranged { (keys : List ℕ) → IsPermutation (map (degree keys) (different keys)) (degree_list keys) }
@@ -24,6 +24,7 @@ pub fn degree_lists()
     ensures sum { (keys : List ℕ) → sum (degree_list keys) ≡ length keys }
     ensures dominates { (keys : List ℕ) → DominatesKeys (degree_list keys) keys }
     ensures weights { (s keys : List ℕ) → DominatesKeys s keys → DominatesWeights s (degree keys) }
+    ensures from_weights { (s keys : List ℕ) → DominatesWeights s (degree keys) → DominatesKeys s keys }
 {}
 
 /// The rank of row t is the least whose running sum is at least t.
@@ -47,7 +48,8 @@ pub fn operations()
     ensures maximum_falls { (s t : List ℕ) → IsFalling s → IsFalling t → IsFalling (rank_maximum s t) }
 {}
 
-/// A compressed list dominates what its list does, has its sum, stays near it and has few runs (SafeBound, SIGMOD 2023).
+/// A compressed list is above its list, has its sum, stays near it and has few runs. Compression by heads and its
+/// accuracy are this project's own.
 pub fn compressions()
     // each element is the slope at the rows before it, or the rows that are left
     ensures element { (accuracy : ℕ) (f : List ℕ) (r : ℕ) → r < length (compressed accuracy f)
@@ -71,7 +73,7 @@ pub fn compositions()
     ensures blocks { (parent : List ℕ) (children : List ChildLists) (r : ℕ)
         → running_sum (composed parent children) r ≡ running_sum (row_weights children (sum parent)) (running_sum parent r) }
     ensures falls { (parent : List ℕ) (children : List ChildLists) → IsFalling parent
-        → AllByRecursion (IsChild (sum parent)) children → IsFalling (composed parent children) }
+        → AllByRecursion (IsChildOf (sum parent)) children → IsFalling (composed parent children) }
 {}
 
 /// Saturating at each step and once at the end is the same, for sums and products and for what is made of them.

@@ -1,8 +1,9 @@
 //! Falling lists of degrees: what a degree list is, when a list dominates keys, and what is made of such lists.
 //!
 //! The bounds of a query stand on these definitions: statistics are lists of degrees, compressed, and a
-//! bound is made of them by products rank by rank and by composition along a tree of joins
-//! (Degree Sequence Bound, ICDT 2023; SafeBound, SIGMOD 2023). Nothing here runs: the crate is
+//! bound is made of them by products rank by rank and by composition along a tree of joins. Degree lists and
+//! domination are those of SafeBound (SIGMOD 2023), products and composition those of Degree Sequence Bound
+//! (ICDT 2023), compression by heads is this project's own. Nothing here runs: the crate is
 //! definitions, their lemmas, and two modules of laws and examples, each the contract of an empty function.
 //!
 //! Callers cite `degree_list`, `running_sum`, `DominatesKeys`, `DominatesWeights`, `rank_product`,

@@ -11,7 +11,7 @@ use Rattle.degree_sequences.specs.Falling.{IsFalling}
 use Rattle.degree_sequences.specs.RunningSums.{running_sum, with_running_sums, cut_at}
 use Rattle.degree_sequences.specs.Runs.{runs}
 use Rattle.piece_math.specs.declared.pieces.Piece.{Piece}
-use Rattle.piece_math.specs.Expanded.{expanded, AreFalling, ArePieces, IsAppended}
+use Rattle.piece_math.specs.Expanded.{expanded, AreRuns, ArePieces, IsAppended}
 use Rattle.piece_math.proofs.Building.{HasRun, run_built, ends_at_zero}
 use Rattle.piece_math.proofs.Expansion.{IsFalling-expanded}
 use Rattle.piece_math.proofs.Places.{drop-drop}
@@ -164,7 +164,7 @@ module _ {ps : List Piece} (are : ArePieces ps) {n i left : ℕ} {list : List �
 pub value_positive : (ps : List Piece) (i : ℕ) (d : Piece) → ArePieces ps → i < length ps → 0 < (get_or ps i d).value
 value_positive ps i d are h = go ps i are.falls h
   where
-    go : (ps : List Piece) (i : ℕ) → AreFalling ps → i < length ps → 0 < (get_or ps i d).value
+    go : (ps : List Piece) (i : ℕ) → AreRuns ps → i < length ps → 0 < (get_or ps i d).value
     go [] i fall h = absurd (omega arith)
     go (p ∷ ps) zero fall h = omega (arith, fall.0)
     go (p ∷ ps) (suc i) fall h = go ps i fall.2 (omega arith)

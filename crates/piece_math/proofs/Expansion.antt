@@ -11,7 +11,7 @@ use Rattle.degree_sequences.proofs.Spread.{IsFalling-front}
 use Rattle.degree_sequences.specs.Falling.{IsFalling}
 use Rattle.degree_sequences.specs.Runs.{runs, runs_after}
 use Rattle.piece_math.specs.declared.pieces.Piece.{Piece}
-use Rattle.piece_math.specs.Expanded.{expanded, first_value, AreFalling, ArePieces}
+use Rattle.piece_math.specs.Expanded.{expanded, first_value, AreRuns, ArePieces}
 
 -- ---- one more piece
 
@@ -36,18 +36,18 @@ first-push : (ps : List Piece) (p q : Piece) → q.value ≡ p.value → first_v
 first-push [] p q same = same
 first-push (r ∷ ps) p q same = refl
 
-pub AreFalling-grown : (ps : List Piece) (p q : Piece) (n : ℕ) → q.value ≡ p.value → q.count ≡ p.count + n → AreFalling (ps ++ p ∷ []) → AreFalling (ps ++ q ∷ [])
-AreFalling-grown [] p q n same more h = (omega (arith, h.0), omega (arith, h.1), tt)
-AreFalling-grown (r ∷ ps) p q n same more h = (omega (arith, h.0, first-push ps p q same), h.1, AreFalling-grown ps p q n same more h.2)
+pub AreRuns-grown : (ps : List Piece) (p q : Piece) (n : ℕ) → q.value ≡ p.value → q.count ≡ p.count + n → AreRuns (ps ++ p ∷ []) → AreRuns (ps ++ q ∷ [])
+AreRuns-grown [] p q n same more h = (omega (arith, h.0), omega (arith, h.1), tt)
+AreRuns-grown (r ∷ ps) p q n same more h = (omega (arith, h.0, first-push ps p q same), h.1, AreRuns-grown ps p q n same more h.2)
 
 -- a smaller piece is appended
-pub AreFalling-push : (ps : List Piece) (p : Piece) → AreFalling ps → 0 < p.value → 0 < p.count → AllByRecursion (λ q. p.value < q.value) ps → AreFalling (ps ++ p ∷ [])
-AreFalling-push [] p fall pos some above = (pos, some, tt)
-AreFalling-push (q ∷ []) p fall pos some above = (above.0, fall.1, (pos, some, tt))
-AreFalling-push (q ∷ (r ∷ ps)) p fall pos some above = (fall.0, fall.1, AreFalling-push (r ∷ ps) p fall.2 pos some above.1)
+pub AreRuns-push : (ps : List Piece) (p : Piece) → AreRuns ps → 0 < p.value → 0 < p.count → AllByRecursion (λ q. p.value < q.value) ps → AreRuns (ps ++ p ∷ [])
+AreRuns-push [] p fall pos some above = (pos, some, tt)
+AreRuns-push (q ∷ []) p fall pos some above = (above.0, fall.1, (pos, some, tt))
+AreRuns-push (q ∷ (r ∷ ps)) p fall pos some above = (fall.0, fall.1, AreRuns-push (r ∷ ps) p fall.2 pos some above.1)
 
 -- values that fall to one above v are above v
-above_last : (v : ℕ) (ps : List Piece) (p : Piece) → AreFalling (ps ++ p ∷ []) → v < p.value → AllByRecursion (λ q. v < q.value) (ps ++ p ∷ [])
+above_last : (v : ℕ) (ps : List Piece) (p : Piece) → AreRuns (ps ++ p ∷ []) → v < p.value → AllByRecursion (λ q. v < q.value) (ps ++ p ∷ [])
 above_last v [] p fall h = (h, tt)
 above_last v (q ∷ []) p fall h = (omega (arith, fall.0), (h, tt))
 above_last v (q ∷ (r ∷ ps)) p fall h =
@@ -66,14 +66,14 @@ last_at_least v ps p some least = at p.count some (subst (All (λ x. v ≤ x)) (
         rw (get_or-append_seam (expanded ps) p.value (replicate c p.value) 0) at (all (length (expanded ps)) 0 within)
 
 -- the last of falling pieces has a positive count
-last_count : (ps : List Piece) (p : Piece) → AreFalling (ps ++ p ∷ []) → 0 < p.count
+last_count : (ps : List Piece) (p : Piece) → AreRuns (ps ++ p ∷ []) → 0 < p.count
 last_count [] p fall = fall.1
 last_count (q ∷ ps) p fall = last_count ps p fall.2
 
-pub AreFalling-added : (ps : List Piece) (p q : Piece) → AreFalling (ps ++ p ∷ []) → (p.value ≡ q.value → ⊥) → All (λ x. q.value ≤ x) (expanded (ps ++ p ∷ []))
-    → 0 < q.value → 0 < q.count → AreFalling (ps ++ p ∷ [] ++ q ∷ [])
-AreFalling-added ps p q fall other least pos some =
-    AreFalling-push (ps ++ p ∷ []) q fall pos some
+pub AreRuns-added : (ps : List Piece) (p q : Piece) → AreRuns (ps ++ p ∷ []) → (p.value ≡ q.value → ⊥) → All (λ x. q.value ≤ x) (expanded (ps ++ p ∷ []))
+    → 0 < q.value → 0 < q.count → AreRuns (ps ++ p ∷ [] ++ q ∷ [])
+AreRuns-added ps p q fall other least pos some =
+    AreRuns-push (ps ++ p ∷ []) q fall pos some
     (above_last q.value ps p fall (omega (arith, other, last_at_least q.value ps p (last_count ps p fall) least)))
 
 -- ---- the last piece
@@ -94,8 +94,8 @@ module _ (old : List Piece) (d : Piece) (v n : ℕ) (some : 0 < length old) (sam
   pub ArePieces-with_last : ArePieces old → length (expanded old) + n < 2 ^ 64
       → ArePieces (take (length old - 1) old ++ record { value = v; count = (get_or old (length old - 1) d).count + n } ∷ [])
   ArePieces-with_last are room = record {
-    falls = AreFalling-grown (take (length old - 1) old) (get_or old (length old - 1) d) (record { value = v; count = (get_or old (length old - 1) d).count + n }) n (sym same) refl
-        (subst AreFalling (split_last old d some) are.falls);
+    falls = AreRuns-grown (take (length old - 1) old) (get_or old (length old - 1) d) (record { value = v; count = (get_or old (length old - 1) d).count + n }) n (sym same) refl
+        (subst AreRuns (split_last old d some) are.falls);
     fits = omega (arith, ap length expanded-with_last, length-append (expanded old) (replicate n v), length-replicate n v);
   }
 
@@ -113,14 +113,14 @@ ArePieces-added old d v n other least pos some are room = record {
   fits = omega (arith, ap length (expanded-push old (record { value = v; count = n })), length-append (expanded old) (replicate n v), length-replicate n v);
 }
   where
-    falls_on : (old : List Piece) → (0 < length old → (get_or old (length old - 1) d).value ≡ v → ⊥) → All (λ x. v ≤ x) (expanded old) → AreFalling old
-        → AreFalling (old ++ record { value = v; count = n } ∷ [])
+    falls_on : (old : List Piece) → (0 < length old → (get_or old (length old - 1) d).value ≡ v → ⊥) → All (λ x. v ≤ x) (expanded old) → AreRuns old
+        → AreRuns (old ++ record { value = v; count = n } ∷ [])
     falls_on [] other least fall = (pos, some, tt)
     falls_on (q ∷ qs) other least fall =
         let split : q ∷ qs ≡ take (length (q ∷ qs) - 1) (q ∷ qs) ++ get_or (q ∷ qs) (length (q ∷ qs) - 1) d ∷ [] = split_last (q ∷ qs) d (omega arith) in
-        let G : List Piece → Type 0 = λ ps. AreFalling (ps ++ record { value = v; count = n } ∷ []) in
-        subst G (sym split) (AreFalling-added (take (length (q ∷ qs) - 1) (q ∷ qs)) (get_or (q ∷ qs) (length (q ∷ qs) - 1) d) (record { value = v; count = n })
-        (subst AreFalling split fall) (other (omega arith)) (subst (λ (ps : List Piece). All (λ x. v ≤ x) (expanded ps)) split least) pos some)
+        let G : List Piece → Type 0 = λ ps. AreRuns (ps ++ record { value = v; count = n } ∷ []) in
+        subst G (sym split) (AreRuns-added (take (length (q ∷ qs) - 1) (q ∷ qs)) (get_or (q ∷ qs) (length (q ∷ qs) - 1) d) (record { value = v; count = n })
+        (subst AreRuns split fall) (other (omega arith)) (subst (λ (ps : List Piece). All (λ x. v ≤ x) (expanded ps)) split least) pos some)
 
 -- ---- runs
 
@@ -132,13 +132,13 @@ runs_after-front : (v n x : ℕ) (s : List ℕ) → 0 < n → (x ≡ v → ⊥) 
 runs_after-front v zero x s h other = absurd (omega arith)
 runs_after-front v (suc n) x s h other = rw (ne_eqb x v other) (omega (arith, runs_after-same n x s))
 
-runs_after-pieces : (p : Piece) (ps : List Piece) → AreFalling (p ∷ ps) → runs_after p.value (expanded ps) ≡ length ps
+runs_after-pieces : (p : Piece) (ps : List Piece) → AreRuns (p ∷ ps) → runs_after p.value (expanded ps) ≡ length ps
 runs_after-pieces p [] fall = refl
 runs_after-pieces p (q ∷ ps) fall =
     runs_after-front p.value q.count q.value (expanded ps) fall.2.1 (λ e. omega (arith, fall.0)) ∙ ap suc (runs_after-pieces q ps fall.2)
 
 -- falling pieces are the runs of their list
-pub runs-expanded : (ps : List Piece) → AreFalling ps → length ps ≡ runs (expanded ps)
+pub runs-expanded : (ps : List Piece) → AreRuns ps → length ps ≡ runs (expanded ps)
 runs-expanded [] fall = refl
 runs-expanded (p ∷ ps) fall = sym (runs_after-front 0 p.count p.value (expanded ps) fall.1 (λ e. omega (arith, fall.0)) ∙ ap suc (runs_after-pieces p ps fall))
 
@@ -159,11 +159,11 @@ first-run : (n x : ℕ) (s : List ℕ) → get_or s 0 0 ≤ x → get_or (replic
 first-run zero x s h = h
 first-run (suc n) x s h = omega arith
 
-first-expanded : (ps : List Piece) → AreFalling ps → get_or (expanded ps) 0 0 ≤ first_value ps
+first-expanded : (ps : List Piece) → AreRuns ps → get_or (expanded ps) 0 0 ≤ first_value ps
 first-expanded [] fall = omega arith
 first-expanded (p ∷ ps) fall = first-run p.count p.value (expanded ps) (omega (arith, first-expanded ps fall.2, fall.0))
 
-pub IsFalling-expanded : (ps : List Piece) → AreFalling ps → IsFalling (expanded ps)
+pub IsFalling-expanded : (ps : List Piece) → AreRuns ps → IsFalling (expanded ps)
 IsFalling-expanded [] fall = λ r. omega arith
 IsFalling-expanded (p ∷ ps) fall = IsFalling-front p.count p.value (expanded ps) (omega (arith, first-expanded ps fall.2, fall.0)) (IsFalling-expanded ps fall.2)
 
@@ -171,7 +171,7 @@ positive-front : (n x : ℕ) (s : List ℕ) → 0 < x → AllByRecursion (λ x. 
 positive-front zero x s h all = all
 positive-front (suc n) x s h all = (h, positive-front n x s h all)
 
-pub positive-expanded : (ps : List Piece) → AreFalling ps → AllByRecursion (λ x. 0 < x) (expanded ps)
+pub positive-expanded : (ps : List Piece) → AreRuns ps → AllByRecursion (λ x. 0 < x) (expanded ps)
 positive-expanded [] fall = tt
 positive-expanded (p ∷ ps) fall = positive-front p.count p.value (expanded ps) (omega (arith, fall.0)) (positive-expanded ps fall.2)
 

@@ -13,7 +13,7 @@ use Rattle.degree_sequences.specs.Runs.{runs}
 use Rattle.degree_sequences.specs.Saturation.{saturated}
 use Rattle.piece_math.specs.declared.pieces.Piece.{Piece}
 use Rattle.piece_math.specs.declared.walk.Place.{Place}
-use Rattle.piece_math.specs.Expanded.{expanded, AreFalling, ArePieces, IsAppended}
+use Rattle.piece_math.specs.Expanded.{expanded, AreRuns, ArePieces, IsAppended}
 use Rattle.piece_math.specs.Places.{rest_from, first_left, ahead_of, IsPlace}
 use Rattle.piece_math.proofs.Building.{HasRun, run_built, ends_at_zero, get_or-saturated, IsFalling-saturated, positive-saturated}
 use Rattle.piece_math.proofs.Expansion.{IsFalling-expanded}
@@ -256,7 +256,7 @@ module _ {g u : List Piece} (are_g : ArePieces g) (are_u : ArePieces u) where
     }
 
 -- sizes of blocks are positive
-pub block_positive : (ps : List Piece) (i used : ℕ) → AreFalling ps → i < length ps → 0 < (first_left (drop i ps) used).value
+pub block_positive : (ps : List Piece) (i used : ℕ) → AreRuns ps → i < length ps → 0 < (first_left (drop i ps) used).value
 block_positive [] i used fall h = absurd (omega arith)
 block_positive (p ∷ ps) zero used fall h = omega (arith, fall.0)
 block_positive (p ∷ ps) (suc i) used fall h = block_positive ps i used fall.2 (omega arith)

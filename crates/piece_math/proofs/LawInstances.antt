@@ -1,12 +1,12 @@
--- Each law at small numbers, whose premises are met.
+-- Each law at small numbers: its premises, all met, and its conclusion.
 use Rattle.std.proofs.Common.{ℕ, zero, suc, ◌+◌, ◌*◌, ◌≤◌, List, [], ◌∷◌, refl, arith}
 use Rattle.std.specs.List.{sum_by, range_with_len}
 use Rattle.degree_sequences.specs.ByRank.{rank_product, rank_product_of}
 use Rattle.degree_sequences.specs.Composition.{ChildLists, composed, root_total}
 use Rattle.degree_sequences.specs.Degrees.{degree, degree_list}
-use Rattle.degree_sequences.specs.Domination.{DominatesWeights}
+use Rattle.degree_sequences.specs.Domination.{DominatesKeys, DominatesWeights}
 use Rattle.degree_sequences.specs.Falling.{IsFalling}
-use Rattle.degree_sequences.specs.Families.{IsChild, IsWithin, MatchedChild}
+use Rattle.degree_sequences.specs.Families.{ChildIsAbove, IsChildOf, IsNear, IsWithin, MatchedChild}
 use Rattle.degree_sequences.specs.KeyedRows.{ChildKeys, DominatesChild, weight_of_row, weight_of_key}
 use Rattle.degree_sequences.specs.RunningSums.{IsAbove, running_sum}
 use Rattle.degree_sequences.proofs.DegreeLists.{degree_list_dominates, degrees_dominated, IsFalling-degree_list}
@@ -18,7 +18,7 @@ use Rattle.degree_sequences.proofs.RowWeights.{composed-above}
 use Rattle.degree_sequences.proofs.Scaling.{composed-near}
 
 -- a list dominates the degrees that it is the degree list of
-dominated : (keys : List ℕ) → DominatesWeights (degree_list keys) (degree keys)
+pub dominated : (keys : List ℕ) → DominatesWeights (degree_list keys) (degree keys)
 dominated keys = degrees_dominated (degree_list keys) keys (degree_list_dominates keys)
 
 pub product : DominatesWeights (rank_product (2 ∷ 1 ∷ []) (3 ∷ 1 ∷ 1 ∷ [])) (λ a. degree (7 ∷ 7 ∷ 8 ∷ []) a * degree (7 ∷ 7 ∷ 7 ∷ 8 ∷ 9 ∷ []) a)
@@ -33,7 +33,7 @@ child_lists = record { column = 2 ∷ 2 ∷ 2 ∷ []; class = 4 ∷ 1 ∷ [] }
 abbrev child_keys : ChildKeys
 child_keys = record { keys = 5 ∷ 5 ∷ 6 ∷ 6 ∷ 7 ∷ 7 ∷ []; weight = degree (5 ∷ 5 ∷ 5 ∷ 5 ∷ 6 ∷ []) }
 
-child_dominates : DominatesChild 6 child_lists child_keys
+pub child_dominates : DominatesChild 6 child_lists child_keys
 child_dominates = record {
   column = degree_list_dominates (5 ∷ 5 ∷ 6 ∷ 6 ∷ 7 ∷ 7 ∷ []);
   class = dominated (5 ∷ 5 ∷ 5 ∷ 5 ∷ 6 ∷ []);
@@ -50,10 +50,10 @@ pub rows : sum_by (weight_of_row (child_keys ∷ [])) (range_with_len 0 6) ≤ r
 rows = root_at_least 6 6 (omega arith) (child_lists ∷ []) (child_keys ∷ []) (child_dominates, tt)
 
 -- lists of two or three elements that fall
-falls_two : (x y : ℕ) → y ≤ x → IsFalling (x ∷ y ∷ [])
+pub falls_two : (x y : ℕ) → y ≤ x → IsFalling (x ∷ y ∷ [])
 falls_two x y h = IsFalling-cons x (y ∷ []) h (IsFalling-cons y [] (omega arith) (λ r. omega arith))
 
-falls_three : (x y z : ℕ) → y ≤ x → z ≤ y → IsFalling (x ∷ y ∷ z ∷ [])
+pub falls_three : (x y z : ℕ) → y ≤ x → z ≤ y → IsFalling (x ∷ y ∷ z ∷ [])
 falls_three x y z h k = IsFalling-cons x (y ∷ z ∷ []) h (falls_two y z k)
 
 above_two : (x y a b : ℕ) → a ≤ x → a + b ≤ x + y → IsAbove (x ∷ y ∷ []) (a ∷ b ∷ [])
@@ -62,7 +62,7 @@ above_two x y a b h k (suc zero) = omega arith
 above_two x y a b h k (suc (suc zero)) = omega arith
 above_two x y a b h k (suc (suc (suc r))) = omega arith
 
-above_three : (x y a b c : ℕ) → a ≤ x → a + b ≤ x + y → a + b + c ≤ x + y → IsAbove (x ∷ y ∷ []) (a ∷ b ∷ c ∷ [])
+pub above_three : (x y a b c : ℕ) → a ≤ x → a + b ≤ x + y → a + b + c ≤ x + y → IsAbove (x ∷ y ∷ []) (a ∷ b ∷ c ∷ [])
 above_three x y a b c h k l zero = omega arith
 above_three x y a b c h k l (suc zero) = omega arith
 above_three x y a b c h k l (suc (suc zero)) = omega arith
@@ -82,22 +82,24 @@ larger_child = record { column = 3 ∷ 3 ∷ []; class = 4 ∷ 1 ∷ [] }
 abbrev smaller_child : ChildLists
 smaller_child = record { column = 3 ∷ 2 ∷ 1 ∷ []; class = 3 ∷ 2 ∷ [] }
 
-larger_is_child : IsChild 6 larger_child
-larger_is_child = record { column_falls = falls_two 3 3 (omega arith); class_falls = falls_two 4 1 (omega arith); column_sum = refl }
+pub larger_is_child : IsChildOf 6 larger_child
+larger_is_child = record { class_falls = falls_two 4 1 (omega arith); column_sum = refl }
 
-smaller_is_child : IsChild 6 smaller_child
-smaller_is_child = record { column_falls = falls_three 3 2 1 (omega arith) (omega arith); class_falls = falls_two 3 2 (omega arith); column_sum = refl }
+pub smaller_is_child : IsChildOf 6 smaller_child
+smaller_is_child = record { class_falls = falls_two 3 2 (omega arith); column_sum = refl }
+
+pub larger_is_above : ChildIsAbove larger_child smaller_child
+larger_is_above = record { column = above_three 3 3 3 2 1 (omega arith) (omega arith) (omega arith); class = above_two 4 1 3 2 (omega arith) (omega arith) }
 
 pub larger_composition : IsAbove (composed (3 ∷ 3 ∷ []) (larger_child ∷ [])) (composed (3 ∷ 2 ∷ 1 ∷ []) (smaller_child ∷ []))
 larger_composition =
     composed-above (3 ∷ 3 ∷ []) (3 ∷ 2 ∷ 1 ∷ []) (larger_child ∷ []) (smaller_child ∷ []) (larger_is_child, tt) (smaller_is_child, tt)
-    (above_three 3 3 3 2 1 (omega arith) (omega arith) (omega arith))
-    (record { column = above_three 3 3 3 2 1 (omega arith) (omega arith) (omega arith); class = above_two 4 1 3 2 (omega arith) (omega arith) }, tt)
+    (falls_three 3 2 1 (omega arith) (omega arith), tt) (above_three 3 3 3 2 1 (omega arith) (omega arith) (omega arith)) (larger_is_above, tt)
 
 abbrev matched : MatchedChild
 matched = record { near = record { column = 3 ∷ 3 ∷ []; class = 6 ∷ 1 ∷ [] }; exact = record { column = 3 ∷ 2 ∷ 1 ∷ []; class = 4 ∷ 1 ∷ [] }; scale = 2; factor = 3 }
 
-near_three : (r : ℕ) → 1 * running_sum (3 ∷ 3 ∷ []) r ≤ 2 * running_sum (3 ∷ 2 ∷ 1 ∷ []) r
+pub near_three : (r : ℕ) → 1 * running_sum (3 ∷ 3 ∷ []) r ≤ 2 * running_sum (3 ∷ 2 ∷ 1 ∷ []) r
 near_three zero = omega arith
 near_three (suc zero) = omega arith
 near_three (suc (suc zero)) = omega arith
@@ -110,8 +112,16 @@ near_class (suc zero) = omega arith
 near_class (suc (suc zero)) = omega arith
 near_class (suc (suc (suc r))) = omega arith
 
+pub matched_is_near : IsNear 1 matched
+matched_is_near = record { column = near_three; class = near_class }
+
+pub near_is_child : IsChildOf 6 matched.near
+near_is_child = record { class_falls = falls_two 6 1 (omega arith); column_sum = refl }
+
+pub exact_is_child : IsChildOf 6 matched.exact
+exact_is_child = record { class_falls = falls_two 4 1 (omega arith); column_sum = refl }
+
 pub scaled_composition : IsWithin 2 6 (composed (3 ∷ 3 ∷ []) (matched.near ∷ [])) (composed (3 ∷ 2 ∷ 1 ∷ []) (matched.exact ∷ []))
 scaled_composition =
-    composed-near 1 (3 ∷ 3 ∷ []) (3 ∷ 2 ∷ 1 ∷ []) (matched ∷ []) near_three (record { column = near_three; class = near_class }, tt)
-    (record { column_falls = falls_two 3 3 (omega arith); class_falls = falls_two 6 1 (omega arith); column_sum = refl }, tt)
-    (record { column_falls = falls_three 3 2 1 (omega arith) (omega arith); class_falls = falls_two 4 1 (omega arith); column_sum = refl }, tt)
+    composed-near 1 (3 ∷ 3 ∷ []) (3 ∷ 2 ∷ 1 ∷ []) (matched ∷ []) near_three (matched_is_near, tt) (near_is_child, tt) (exact_is_child, tt)
+    (falls_two 3 3 (omega arith), tt)

@@ -7,7 +7,7 @@ use Rattle.std.proofs.lemmas.List.{get_or-drop, get_or-replicate, length-replica
 use Rattle.std.proofs.lemmas.Bool.{cases_lt}
 use Rattle.piece_math.specs.declared.pieces.Piece.{Piece}
 use Rattle.piece_math.specs.declared.walk.Place.{Place}
-use Rattle.piece_math.specs.Expanded.{expanded, AreFalling, ArePieces}
+use Rattle.piece_math.specs.Expanded.{expanded, AreRuns, ArePieces}
 use Rattle.piece_math.specs.Places.{rest_from, first_left, ahead_of, IsPlace}
 
 pub drop-drop : (m n : ℕ) (s : List ℕ) → drop n (drop m s) ≡ drop (m + n) s
@@ -37,7 +37,7 @@ equal_ahead ps place k h = equal_first (drop place.at ps) place.used k h
 
 -- ---- the place after
 
-some_first : (ps : List Piece) → AreFalling ps → (i : ℕ) → 0 < (first_left (drop i ps) 0).count
+some_first : (ps : List Piece) → AreRuns ps → (i : ℕ) → 0 < (first_left (drop i ps) 0).count
 some_first [] fall i = rw (drop-nil i) (omega arith)
 some_first (p ∷ ps) fall zero = omega (arith, fall.1)
 some_first (p ∷ ps) fall (suc i) = some_first ps fall.2 i

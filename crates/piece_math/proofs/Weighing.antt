@@ -13,7 +13,7 @@ use Rattle.degree_sequences.proofs.SaturationLaws.{min-mul-min_left, saturated-r
 use Rattle.degree_sequences.specs.ByRank.{rank_product}
 use Rattle.degree_sequences.specs.Composition.{ChildLists, row_weights, weight_by_rank}
 use Rattle.degree_sequences.specs.Falling.{IsFalling, trimmed}
-use Rattle.degree_sequences.specs.Families.{IsChild}
+use Rattle.degree_sequences.specs.Families.{IsChildOf}
 use Rattle.degree_sequences.specs.Rank.{rank}
 use Rattle.degree_sequences.specs.Runs.{runs, runs_after}
 use Rattle.degree_sequences.specs.Saturation.{saturated}
@@ -55,7 +55,7 @@ weight_by_rank-push (d ∷ cs) c t =
 get_or-row_weights_past : (cs : List ChildLists) (n r : ℕ) → n ≤ r → get_or (row_weights cs n) r 0 ≡ 0
 get_or-row_weights_past cs n r h = get_or_past (row_weights cs n) r 0 (omega (arith, length-row_weights cs n))
 
-IsFalling-row_weights : (n : ℕ) (cs : List ChildLists) → AllByRecursion (IsChild n) cs → IsFalling (row_weights cs n)
+IsFalling-row_weights : (n : ℕ) (cs : List ChildLists) → AllByRecursion (IsChildOf n) cs → IsFalling (row_weights cs n)
 IsFalling-row_weights n cs all r = elim (cases_lt (suc r) n) [
   | inl inside ↦ omega (
     arith,
@@ -73,14 +73,14 @@ AllByRecursion-push P [] c all h = (h, tt)
 AllByRecursion-push P (d ∷ cs) c all h = (all.0, AllByRecursion-push P cs c all.1 h)
 
 -- the weights of one child more are a product
-rank_product-row_weights : (n : ℕ) (cs : List ChildLists) (c : ChildLists) → AllByRecursion (IsChild n) cs → IsChild n c
+rank_product-row_weights : (n : ℕ) (cs : List ChildLists) (c : ChildLists) → AllByRecursion (IsChildOf n) cs → IsChildOf n c
     → rank_product (trimmed (row_weights cs n)) (trimmed (row_weights (c ∷ []) n)) ≡ trimmed (row_weights (cs ++ c ∷ []) n)
 rank_product-row_weights n cs c all one =
     same_by_elements (rank_product (trimmed (row_weights cs n)) (trimmed (row_weights (c ∷ []) n))) (trimmed (row_weights (cs ++ c ∷ []) n))
     (positive-rank_product (trimmed (row_weights cs n)) (trimmed (row_weights (c ∷ []) n))
     (trimmed_positive (row_weights cs n) (IsFalling-row_weights n cs all))
     (trimmed_positive (row_weights (c ∷ []) n) (IsFalling-row_weights n (c ∷ []) (one, tt))))
-    (trimmed_positive (row_weights (cs ++ c ∷ []) n) (IsFalling-row_weights n (cs ++ c ∷ []) (AllByRecursion-push (IsChild n) cs c all one)))
+    (trimmed_positive (row_weights (cs ++ c ∷ []) n) (IsFalling-row_weights n (cs ++ c ∷ []) (AllByRecursion-push (IsChildOf n) cs c all one)))
     (λ r. get_or-rank_product (trimmed (row_weights cs n)) (trimmed (row_weights (c ∷ []) n)) r
     ∙ rw (get_or-trimmed (row_weights cs n) r, get_or-trimmed (row_weights (c ∷ []) n) r, get_or-trimmed (row_weights (cs ++ c ∷ []) n) r) (at r))
   where
@@ -122,7 +122,7 @@ runs-saturated s = runs_after-saturated 0 s
 -- ---- the loop
 
 pub record WeightsSoFar (cs : List Child) (rows i : ℕ) (weights : List ℕ) : Type 0 where
-  pub lists : AllByRecursion (IsChild rows) (map lists_of (take i cs))
+  pub lists : AllByRecursion (IsChildOf rows) (map lists_of (take i cs))
   pub value : weights ≡ map saturated (trimmed (row_weights (map lists_of (take i cs)) rows))
   pub few : 0 < i → runs weights ≤ class_runs (take i cs)
 
@@ -134,11 +134,11 @@ weights_start cs rows put = record {
 }
 
 pub weights_step : (cs : List Child) (rows i : ℕ) (weights own new : List ℕ) (c : Child) → i < length cs → c ≡ get_or cs i c → sum c.column ≡ rows
-    → IsChild (sum c.column) (lists_of c) → own ≡ trimmed (row_weights (lists_of c ∷ []) (sum c.column)) → runs own ≤ runs c.class
+    → IsChildOf (sum c.column) (lists_of c) → own ≡ trimmed (row_weights (lists_of c ∷ []) (sum c.column)) → runs own ≤ runs c.class
     → new ≡ map saturated (rank_product weights own) → runs new ≤ runs weights + runs own → WeightsSoFar cs rows i weights → WeightsSoFar cs rows (i + 1) new
 weights_step cs rows i weights own new c h at total lists own_is own_few new_is new_few so_far =
     let before : List ChildLists = map lists_of (take i cs) in
-    let child : IsChild rows (lists_of c) = subst (λ n. IsChild n (lists_of c)) total lists in
+    let child : IsChildOf rows (lists_of c) = subst (λ n. IsChildOf n (lists_of c)) total lists in
     let more : map lists_of (take (i + 1) cs) ≡ before ++ lists_of c ∷ [] = map_more lists_of cs i c h ∙ ap (λ x. before ++ lists_of x ∷ []) (sym at) in
     let own_rows : own ≡ trimmed (row_weights (lists_of c ∷ []) rows) = own_is ∙ ap (λ n. trimmed (row_weights (lists_of c ∷ []) n)) total in
     let value : new ≡ map saturated (trimmed (row_weights (before ++ lists_of c ∷ []) rows)) =
@@ -146,7 +146,7 @@ weights_step cs rows i weights own new c h at total lists own_is own_few new_is 
     (saturated-rank_product_left (trimmed (row_weights before rows)) (trimmed (row_weights (lists_of c ∷ []) rows))
     ∙ ap (map saturated) (rank_product-row_weights rows before (lists_of c) so_far.lists child)) in
     record {
-      lists = subst (AllByRecursion (IsChild rows)) (sym more) (AllByRecursion-push (IsChild rows) before (lists_of c) so_far.lists child);
+      lists = subst (AllByRecursion (IsChildOf rows)) (sym more) (AllByRecursion-push (IsChildOf rows) before (lists_of c) so_far.lists child);
       value = value ∙ ap (λ cs. map saturated (trimmed (row_weights cs rows))) (sym more);
       few = λ some. elim (cases_lt 0 i) as (λ x. runs new ≤ class_runs (take (i + 1) cs)) [
         | inl later ↦ omega (arith, so_far.few later, new_few, own_few, sum_by_more (λ (child : Child). runs child.class) cs i c h, ap (λ (x : Child). runs x.class) at)

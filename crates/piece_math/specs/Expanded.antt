@@ -13,14 +13,14 @@ abbrev pub first_value : List Piece → ℕ
 first_value [] = 0
 first_value (p ∷ ps) = p.value
 
--- values strictly fall, and values and counts are positive
-abbrev pub AreFalling : List Piece → Type 0
-AreFalling [] = ⊤
-AreFalling (p ∷ ps) = (first_value ps < p.value) × (0 < p.count) × AreFalling ps
+-- each piece is a run of its own: values strictly fall, and values and counts are positive
+abbrev pub AreRuns : List Piece → Type 0
+AreRuns [] = ⊤
+AreRuns (p ∷ ps) = (first_value ps < p.value) × (0 < p.count) × AreRuns ps
 
 -- pieces that stand for a list whose length fits 64 bits
 pub record ArePieces (ps : List Piece) : Type 0 where
-  pub falls : AreFalling ps
+  pub falls : AreRuns ps
   pub fits : length (expanded ps) < 2 ^ 64
 
 -- a list with so many more elements of a value, unless they are zeros

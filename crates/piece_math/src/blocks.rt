@@ -52,7 +52,7 @@ fn grouped(parent: &Pieces, weights: &Pieces) -> Result<Pieces, NoMemory>
     ensures falls { IsFalling parent.now }
     ensures positive { All (λ x. 0 < x) parent.now }
     ensures value { IfOk result (λ list. list ≡ map saturated (trimmed (block_sums parent.now weights.now))) }
-    ensures few { IfOk result (λ list. runs list ≤ runs parent.now + 2 * runs weights.now) }
+    ensures few_pieces { IfOk result (λ list. runs list ≤ runs parent.now + 2 * runs weights.now) }
 {
     let blocks = parent.pieces();
     let rows = weights.pieces();
@@ -83,7 +83,7 @@ pub fn compose(alloc: Global, parent: &Pieces, children: &[Child]) -> Result<Pie
     requires columns { All (λ child. sum child.column ≡ sum parent.now) children.now }
     requires small { sum parent.now ≤ 2 ^ 32 }
     ensures value { IfOk result (λ list. list ≡ map saturated (composed parent.now (map lists_of children.now))) }
-    ensures few { IfOk result (λ list. runs list ≤ runs parent.now + 2 * class_runs children.now) }
+    ensures few_pieces { IfOk result (λ list. runs list ≤ runs parent.now + 2 * class_runs children.now) }
 {
     let rows = parent.total() as u64;
     let weights = row_weights(alloc, children, rows)?;

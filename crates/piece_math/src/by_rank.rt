@@ -32,7 +32,7 @@ impl Combination {
 // Both lists are walked together, one turn for each stretch of ranks on which neither changes.
 fn combine(how: Combination, left: &Pieces, right: &Pieces) -> Result<Pieces, NoMemory>
     ensures value { IfOk result (λ list. list ≡ map saturated (combined_by_rank how left.now right.now)) }
-    ensures few { IfOk result (λ list. runs list ≤ runs left.now + runs right.now) }
+    ensures few_pieces { IfOk result (λ list. runs list ≤ runs left.now + runs right.now) }
 {
     let a = left.pieces();
     let b = right.pieces();
@@ -53,7 +53,7 @@ impl Pieces {
     /// The product of the two numbers of each rank. It ends with the shorter list.
     pub fn product(&self, other: &Pieces) -> Result<Pieces, NoMemory>
         ensures value { IfOk result (λ list. list ≡ map saturated (rank_product self.now other.now)) }
-        ensures few { IfOk result (λ list. runs list ≤ runs self.now + runs other.now) }
+        ensures few_pieces { IfOk result (λ list. runs list ≤ runs self.now + runs other.now) }
     {
         combine(Combination::Product, self, other)
     }
@@ -61,7 +61,7 @@ impl Pieces {
     /// The sum of the two numbers of each rank, where a list is 0 past its end.
     pub fn sum(&self, other: &Pieces) -> Result<Pieces, NoMemory>
         ensures value { IfOk result (λ list. list ≡ map saturated (rank_sum self.now other.now)) }
-        ensures few { IfOk result (λ list. runs list ≤ runs self.now + runs other.now) }
+        ensures few_pieces { IfOk result (λ list. runs list ≤ runs self.now + runs other.now) }
     {
         combine(Combination::Sum, self, other)
     }
@@ -69,7 +69,7 @@ impl Pieces {
     /// The larger of the two numbers of each rank, where a list is 0 past its end.
     pub fn greater(&self, other: &Pieces) -> Result<Pieces, NoMemory>
         ensures value { IfOk result (λ list. list ≡ map saturated (rank_maximum self.now other.now)) }
-        ensures few { IfOk result (λ list. runs list ≤ runs self.now + runs other.now) }
+        ensures few_pieces { IfOk result (λ list. runs list ≤ runs self.now + runs other.now) }
     {
         combine(Combination::Maximum, self, other)
     }

@@ -1,8 +1,8 @@
 //! Why bounds are safe: five laws of falling lists.
 //!
-//! Lists are of whole numbers without a limit, they fall, and past its end a list is 0. The different keys of
-//! a domination are taken in any order. No law computes anything: the bodies are empty, and the contract is
-//! the law (Degree Sequence Bound, ICDT 2023, for products and compositions of dominating lists).
+//! Lists are of whole numbers without a limit, and past its end a list is 0; each law says which of them have to
+//! fall. The different keys of a domination are taken in any order. No law computes anything: the bodies are
+//! empty, and the contract is the law (Degree Sequence Bound, ICDT 2023, for products and compositions of dominating lists).
 ghost use Rattle.std.specs.Prelude.{◌≡◌, ℕ, ◌+◌, ◌*◌, ◌≤◌, List, [], ◌∷◌, length, map};
 ghost use Rattle.std.specs.List.{AllByRecursion, AllZip, sum, sum_by, range_with_len};
 ghost use Rattle.degree_sequences.specs.ByRank.{rank_product, rank_product_of};
@@ -10,7 +10,7 @@ ghost use Rattle.degree_sequences.specs.Composition.{ChildLists, composed, root_
 ghost use Rattle.degree_sequences.specs.Degrees.{degree};
 ghost use Rattle.degree_sequences.specs.Domination.{DominatesKeys, DominatesWeights};
 ghost use Rattle.degree_sequences.specs.Falling.{IsFalling};
-ghost use Rattle.degree_sequences.specs.Families.{IsChild, ChildIsAbove, IsWithin, MatchedChild, IsNear, scales, factors};
+ghost use Rattle.degree_sequences.specs.Families.{IsChildOf, ColumnFalls, ChildIsAbove, IsWithin, MatchedChild, IsNear, scales, factors};
 ghost use Rattle.degree_sequences.specs.KeyedRows.{ChildKeys, DominatesChild, weight_of_row, weight_of_key};
 ghost use Rattle.degree_sequences.specs.RunningSums.{IsAbove};
 
@@ -22,8 +22,8 @@ pub fn product_dominates()
 {}
 
 /// Composition dominates, for rows that have a parent key and a key for each child. Its lists dominate the parent
-/// keys, the keys of each child, and the class weights of these. The lists of keys need not share one sum: each has
-/// at least the number of rows.
+/// keys, the keys of each child, and the class weights of these. The lists of keys need not share one sum: each then
+/// has a sum of at least the number of rows.
 pub fn compose_dominates()
     // the composition dominates the weights that the rows give to the parent keys
     ensures keys { (parent parent_keys : List ℕ) (lists : List ChildLists) (children : List ChildKeys)
@@ -43,39 +43,70 @@ pub fn product_is_monotone()
 {}
 
 /// Composition is monotone in the same way. In each family the parent list and the columns share one sum; that of
-/// the family above is then at least the other's.
+/// the family above is then at least the other's. Of the columns only those of the family below need to fall.
 pub fn compose_is_monotone()
     ensures { (parent lower_parent : List ℕ) (children lower : List ChildLists)
-        → AllByRecursion (IsChild (sum parent)) children → AllByRecursion (IsChild (sum lower_parent)) lower
-        → IsAbove parent lower_parent → AllZip ChildIsAbove children lower
+        → AllByRecursion (IsChildOf (sum parent)) children → AllByRecursion (IsChildOf (sum lower_parent)) lower
+        → AllByRecursion ColumnFalls lower → IsAbove parent lower_parent → AllZip ChildIsAbove children lower
         → IsAbove (composed parent children) (composed lower_parent lower) }
 {}
 
 /// Composition scales: how far lists lie apart multiplies up to how far their compositions do. Parent and columns
-/// are within K and K + 1 of the exact ones, each class list within two numbers of its own.
+/// are within K and K + 1 of the exact ones, each class list within two numbers of its own. Of the columns only
+/// those that are near need to fall.
 pub fn compose_scales()
     ensures { (accuracy : ℕ) (parent exact_parent : List ℕ) (children : List MatchedChild)
         → IsWithin accuracy (accuracy + 1) parent exact_parent → AllByRecursion (IsNear accuracy) children
-        → AllByRecursion (IsChild (sum parent)) (map (λ child. child.near) children)
-        → AllByRecursion (IsChild (sum exact_parent)) (map (λ child. child.exact) children)
+        → AllByRecursion (IsChildOf (sum parent)) (map (λ child. child.near) children)
+        → AllByRecursion (IsChildOf (sum exact_parent)) (map (λ child. child.exact) children)
+        → AllByRecursion ColumnFalls (map (λ child. child.near) children)
         → IsWithin (accuracy * scales children) ((accuracy + 1) * factors children)
         (composed parent (map (λ child. child.near) children)) (composed exact_parent (map (λ child. child.exact) children)) }
 {}
 
-/// Each law at small numbers, whose premises are met.
+/// Each law at small numbers: its premises, all met, and its conclusion.
 pub fn instances()
     // the keys 7, 7, 8 joined with 7, 7, 7, 8, 9
-    ensures product_dominates { DominatesWeights (rank_product (2 ∷ 1 ∷ []) (3 ∷ 1 ∷ 1 ∷ []))
-        (λ a. degree (7 ∷ 7 ∷ 8 ∷ []) a * degree (7 ∷ 7 ∷ 7 ∷ 8 ∷ 9 ∷ []) a) }
+    ensures product_dominates { let left : List ℕ = 7 ∷ 7 ∷ 8 ∷ [] in
+        let right : List ℕ = 7 ∷ 7 ∷ 7 ∷ 8 ∷ 9 ∷ [] in
+        IsFalling (3 ∷ 1 ∷ 1 ∷ [])
+        × DominatesWeights (2 ∷ 1 ∷ []) (degree left)
+        × DominatesWeights (3 ∷ 1 ∷ 1 ∷ []) (degree right)
+        × DominatesWeights (rank_product (2 ∷ 1 ∷ []) (3 ∷ 1 ∷ 1 ∷ [])) (λ a. degree left a * degree right a) }
     // six rows with the parent keys 1 and 2, whose child keys 5, 6 and 7 weigh 4, 1 and 0
-    ensures compose_dominates { DominatesWeights (composed (3 ∷ 3 ∷ []) (record { column = 2 ∷ 2 ∷ 2 ∷ []; class = 4 ∷ 1 ∷ [] } ∷ []))
-        (weight_of_key (1 ∷ 1 ∷ 1 ∷ 2 ∷ 2 ∷ 2 ∷ []) (record { keys = 5 ∷ 5 ∷ 6 ∷ 6 ∷ 7 ∷ 7 ∷ []; weight = degree (5 ∷ 5 ∷ 5 ∷ 5 ∷ 6 ∷ []) } ∷ [])) }
-    ensures root_dominates { sum_by (weight_of_row (record { keys = 5 ∷ 5 ∷ 6 ∷ 6 ∷ 7 ∷ 7 ∷ []; weight = degree (5 ∷ 5 ∷ 5 ∷ 5 ∷ 6 ∷ []) } ∷ [])) (range_with_len 0 6)
-        ≤ root_total (record { column = 2 ∷ 2 ∷ 2 ∷ []; class = 4 ∷ 1 ∷ [] } ∷ []) 6 }
-    ensures product_is_monotone { IsAbove (rank_product_of ((3 ∷ 3 ∷ []) ∷ (5 ∷ 4 ∷ []) ∷ [])) (rank_product_of ((3 ∷ 2 ∷ 1 ∷ []) ∷ (5 ∷ 3 ∷ 1 ∷ []) ∷ [])) }
-    ensures compose_is_monotone { IsAbove (composed (3 ∷ 3 ∷ []) (record { column = 3 ∷ 3 ∷ []; class = 4 ∷ 1 ∷ [] } ∷ []))
-        (composed (3 ∷ 2 ∷ 1 ∷ []) (record { column = 3 ∷ 2 ∷ 1 ∷ []; class = 3 ∷ 2 ∷ [] } ∷ [])) }
+    ensures compose_dominates { let parent_keys : List ℕ = 1 ∷ 1 ∷ 1 ∷ 2 ∷ 2 ∷ 2 ∷ [] in
+        let lists : List ChildLists = record { column = 2 ∷ 2 ∷ 2 ∷ []; class = 4 ∷ 1 ∷ [] } ∷ [] in
+        let children : List ChildKeys = record { keys = 5 ∷ 5 ∷ 6 ∷ 6 ∷ 7 ∷ 7 ∷ []; weight = degree (5 ∷ 5 ∷ 5 ∷ 5 ∷ 6 ∷ []) } ∷ [] in
+        DominatesKeys (3 ∷ 3 ∷ []) parent_keys
+        × AllZip (DominatesChild (length parent_keys)) lists children
+        × DominatesWeights (composed (3 ∷ 3 ∷ []) lists) (weight_of_key parent_keys children) }
+    ensures root_dominates { let lists : List ChildLists = record { column = 2 ∷ 2 ∷ 2 ∷ []; class = 4 ∷ 1 ∷ [] } ∷ [] in
+        let children : List ChildKeys = record { keys = 5 ∷ 5 ∷ 6 ∷ 6 ∷ 7 ∷ 7 ∷ []; weight = degree (5 ∷ 5 ∷ 5 ∷ 5 ∷ 6 ∷ []) } ∷ [] in
+        (6 ≤ 6)
+        × AllZip (DominatesChild 6) lists children
+        × (sum_by (weight_of_row children) (range_with_len 0 6) ≤ root_total lists 6) }
+    ensures product_is_monotone { let lists : List (List ℕ) = (3 ∷ 3 ∷ []) ∷ (5 ∷ 4 ∷ []) ∷ [] in
+        let lower : List (List ℕ) = (3 ∷ 2 ∷ 1 ∷ []) ∷ (5 ∷ 3 ∷ 1 ∷ []) ∷ [] in
+        AllByRecursion IsFalling lists
+        × AllByRecursion IsFalling lower
+        × AllZip IsAbove lists lower
+        × IsAbove (rank_product_of lists) (rank_product_of lower) }
+    ensures compose_is_monotone { let children : List ChildLists = record { column = 3 ∷ 3 ∷ []; class = 4 ∷ 1 ∷ [] } ∷ [] in
+        let lower : List ChildLists = record { column = 3 ∷ 2 ∷ 1 ∷ []; class = 3 ∷ 2 ∷ [] } ∷ [] in
+        AllByRecursion (IsChildOf (sum (3 ∷ 3 ∷ []))) children
+        × AllByRecursion (IsChildOf (sum (3 ∷ 2 ∷ 1 ∷ []))) lower
+        × AllByRecursion ColumnFalls lower
+        × IsAbove (3 ∷ 3 ∷ []) (3 ∷ 2 ∷ 1 ∷ [])
+        × AllZip ChildIsAbove children lower
+        × IsAbove (composed (3 ∷ 3 ∷ []) children) (composed (3 ∷ 2 ∷ 1 ∷ []) lower) }
     // accuracy 1; twice the class list 6, 1 against three times 4, 1
-    ensures compose_scales { IsWithin 2 6 (composed (3 ∷ 3 ∷ []) (record { column = 3 ∷ 3 ∷ []; class = 6 ∷ 1 ∷ [] } ∷ []))
-        (composed (3 ∷ 2 ∷ 1 ∷ []) (record { column = 3 ∷ 2 ∷ 1 ∷ []; class = 4 ∷ 1 ∷ [] } ∷ [])) }
+    ensures compose_scales { let near : ChildLists = record { column = 3 ∷ 3 ∷ []; class = 6 ∷ 1 ∷ [] } in
+        let exact : ChildLists = record { column = 3 ∷ 2 ∷ 1 ∷ []; class = 4 ∷ 1 ∷ [] } in
+        let child : MatchedChild = record { near = near; exact = exact; scale = 2; factor = 3 } in
+        IsWithin 1 2 (3 ∷ 3 ∷ []) (3 ∷ 2 ∷ 1 ∷ [])
+        × AllByRecursion (IsNear 1) (child ∷ [])
+        × AllByRecursion (IsChildOf (sum (3 ∷ 3 ∷ []))) (near ∷ [])
+        × AllByRecursion (IsChildOf (sum (3 ∷ 2 ∷ 1 ∷ []))) (exact ∷ [])
+        × AllByRecursion ColumnFalls (near ∷ [])
+        × IsWithin 2 6 (composed (3 ∷ 3 ∷ []) (near ∷ [])) (composed (3 ∷ 2 ∷ 1 ∷ []) (exact ∷ [])) }
 {}

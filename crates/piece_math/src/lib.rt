@@ -10,6 +10,7 @@
 
 mod blocks;
 mod by_rank;
+pub mod examples;
 pub mod laws;
 mod minima;
 mod pieces;

@@ -81,7 +81,7 @@ impl Pieces {
         requires own_total { sum self.now < 2 ^ 128 }
         requires other_total { sum other.now < 2 ^ 128 }
         ensures value { IfOk result (λ list. list ≡ lesser self.now other.now) }
-        ensures few { IfOk result (λ list. runs list ≤ 3 * (runs self.now + runs other.now)) }
+        ensures few_pieces { IfOk result (λ list. runs list ≤ 3 * (runs self.now + runs other.now)) }
     {
         let a = self.pieces();
         let b = other.pieces();
@@ -116,7 +116,7 @@ impl Pieces {
     /// The list whose running sums are the minima of those of this list and `n`.
     pub fn cap(&self, n: u64) -> Result<Pieces, NoMemory>
         ensures value { IfOk result (λ list. list ≡ cut_at self.now n) }
-        ensures few { IfOk result (λ list. runs list ≤ runs self.now + 1) }
+        ensures few_pieces { IfOk result (λ list. runs list ≤ runs self.now + 1) }
     {
         let mut list = Pieces::empty(self.alloc());
         let mut left = u128::from(n);

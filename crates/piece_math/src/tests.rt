@@ -108,8 +108,10 @@ fn running_sums_are_minima(rt: HostRuntime) -> Result<(), Fail> {
 
 #[test]
 fn products_stop_at_128_bits(rt: HostRuntime) -> Result<(), Fail> {
-    let large = made(rt.alloc(), &[piece(1 << 127, 1)])?;
-    let two = made(rt.alloc(), &[piece(2, 1)])?;
+    let half = Pieces::from_list(rt.alloc(), &[1 << 63])?;
+    let two = Pieces::from_list(rt.alloc(), &[2])?;
+    let large = half.product(&half)?.product(&two)?;
+    assert_eq!(rt; large.total(), 1 << 127);
     let product = large.product(&two)?;
     assert_eq!(rt; product.total(), u128::MAX);
     assert!(rt; has(Ok(product), &[piece(u128::MAX, 1)]));

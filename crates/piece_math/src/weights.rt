@@ -3,7 +3,7 @@ ghost use Rattle.std.specs.Prelude.{◌≡◌, ◌^◌, ◌<◌, ◌≤◌, [], 
 ghost use Rattle.std.specs.List.{All, sum};
 ghost use Rattle.degree_sequences.specs.Composition.{row_weights as weights_of, root_total as total_of};
 ghost use Rattle.degree_sequences.specs.Falling.{trimmed};
-ghost use Rattle.degree_sequences.specs.Families.{IsChild};
+ghost use Rattle.degree_sequences.specs.Families.{IsChildOf};
 ghost use Rattle.degree_sequences.specs.Runs.{runs};
 ghost use Rattle.degree_sequences.specs.Saturation.{saturated};
 ghost use Rattle.piece_math.specs.Children.{lists_of, class_runs};
@@ -23,9 +23,9 @@ pub struct Child {
 // The class weight of each row, by its rank in the column.
 fn spread(child: &Child) -> Result<Pieces, NoMemory>
     requires { sum child.now.column ≤ 2 ^ 32 }
-    ensures lists { IsChild (sum child.now.column) (lists_of child.now) }
+    ensures lists { IsChildOf (sum child.now.column) (lists_of child.now) }
     ensures value { IfOk result (λ list. list ≡ trimmed (weights_of (lists_of child.now ∷ []) (sum child.now.column))) }
-    ensures few { IfOk result (λ list. runs list ≤ runs child.now.class) }
+    ensures few_pieces { IfOk result (λ list. runs list ≤ runs child.now.class) }
 {
     let column = child.column.pieces();
     let class = child.class.pieces();
@@ -48,7 +48,7 @@ pub fn row_weights(alloc: Global, children: &[Child], rows: u64) -> Result<Piece
     requires columns { All (λ child. sum child.column ≡ rows) children.now }
     requires small { rows ≤ 2 ^ 32 }
     ensures value { IfOk result (λ weights. weights ≡ map saturated (trimmed (weights_of (map lists_of children.now) rows))) }
-    ensures few { IfOk result (λ weights. 0 < length children.now → runs weights ≤ class_runs children.now) }
+    ensures few_pieces { IfOk result (λ weights. 0 < length children.now → runs weights ≤ class_runs children.now) }
 {
     let mut weights = Pieces::empty(alloc);
     weights.put(1, rows)?;

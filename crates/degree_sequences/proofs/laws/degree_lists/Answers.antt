@@ -1,6 +1,6 @@
 use Rattle.degree_sequences.proofs.Counting.{IsDistinct-different}
 use Rattle.degree_sequences.proofs.Rearranged.{degree_list_rearranged, degree_list_positive}
-use Rattle.degree_sequences.proofs.DegreeLists.{IsFalling-degree_list, sum-degree_list, degree_list_dominates, degrees_dominated}
+use Rattle.degree_sequences.proofs.DegreeLists.{IsFalling-degree_list, sum-degree_list, degree_list_dominates, degrees_dominated, keys_dominated}
 use Rattle.degree_sequences.proofs.laws.degree_lists.Goals as goal
 
 pub returns-clause-different : goal.returns-clause-different
@@ -23,3 +23,6 @@ returns-clause-dominates c = degree_list_dominates
 
 pub returns-clause-weights : goal.returns-clause-weights
 returns-clause-weights c = degrees_dominated
+
+pub returns-clause-from_weights : goal.returns-clause-from_weights
+returns-clause-from_weights c = keys_dominated

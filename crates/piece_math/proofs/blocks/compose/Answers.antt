@@ -15,7 +15,7 @@ returns-clause-value c =
     composed_value c.grouped.result c.args.parent.now c.in_ok-weights.weights (map lists_of c.args.children.now)
     (c.in_ok-weights.ensures.value ∙ ap (λ n. map saturated (trimmed (row_weights (map lists_of c.args.children.now) n))) rows_is) c.grouped.ensures.value
 
-pub returns-clause-few : goal.returns-clause-few
-returns-clause-few c =
+pub returns-clause-few_pieces : goal.returns-clause-few_pieces
+returns-clause-few_pieces c =
     composed_few c.grouped.result c.args.parent.now c.in_ok-weights.weights c.args.children.now c.grouped.ensures.falls c.grouped.ensures.positive
-    c.in_ok-weights.ensures.few (returns-clause-value c) c.grouped.ensures.few
+    c.in_ok-weights.ensures.few_pieces (returns-clause-value c) c.grouped.ensures.few_pieces

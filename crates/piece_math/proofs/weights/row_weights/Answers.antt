@@ -12,4 +12,4 @@ loop-child-preserved c =
     weights_step c.args.children.now c.args.rows c.loop-child.child-index c.loop-child.weights c.in_ok-own.own c.in_ok-weights.weights c.child-item.result
     c.loop-child-test.true c.child-item.is
     (ap (λ (child : Child). sum child.column) c.child-item.is ∙ c.requires.columns c.loop-child.child-index c.child-item.result c.loop-child-test.true)
-    c.spread.ensures.lists c.in_ok-own.ensures.value c.in_ok-own.ensures.few c.in_ok-weights.ensures.value c.in_ok-weights.ensures.few c.loop-child.invariant
+    c.spread.ensures.lists c.in_ok-own.ensures.value c.in_ok-own.ensures.few_pieces c.in_ok-weights.ensures.value c.in_ok-weights.ensures.few_pieces c.loop-child.invariant

@@ -32,7 +32,7 @@ pub returns-clause-value : goal.returns-clause-value
 returns-clause-value c =
     rw (← spread-row_weights (lists_of c.args.child.now), c.pieces-column.ensures.stands_for, c.pieces-class.ensures.stands_for) (spread_end c.pieces-column.ensures.whole c.pieces-class.ensures.whole c.loop-places.invariant c.if-places-column.false)
 
-pub returns-clause-few : goal.returns-clause-few
-returns-clause-few c =
+pub returns-clause-few_pieces : goal.returns-clause-few_pieces
+returns-clause-few_pieces c =
     rw (c.pieces-class.ensures.stands_for, spread_end c.pieces-column.ensures.whole c.pieces-class.ensures.whole c.loop-places.invariant c.if-places-column.false)
     (runs_after-spread 0 (expanded c.pieces-column.result.now) (expanded c.pieces-class.result.now) (positive-expanded c.pieces-class.result.now c.pieces-class.ensures.whole.falls))
