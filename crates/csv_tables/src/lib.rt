@@ -5,8 +5,9 @@
 //! In its first form a table has one column of numbers, and neither keys nor references.
 //!
 //! Callers cite `table_cells` (in `specs/Tables.antt`), which says which bytes spell which cells of a
-//! table; below it stand `column_numbers` (a column's numbers in the records of a file) and
-//! `number_of` (the number that a field spells).
+//! table, and beside it `numbers_of_table` and `values_of`, the same as numbers; below them stand
+//! `column_numbers` (a column's numbers in the records of a file) and `number_of` (the number that a
+//! field spells).
 #![tactic(auto)]
 
 mod cases;
