@@ -1,8 +1,9 @@
 //! Compression: from a degree list to a list of few pieces that dominates the same keys.
 //!
 //! In comes the degree list of a column, or of some of its rows, which can be as long as the column has keys.
-//! Out go its pieces, which statistics keep and bounds are made of (SafeBound, SIGMOD 2023). At accuracy K the
-//! list exceeds the degrees by at most one K-th at each rank, and keeps their sum.
+//! Out go its pieces, which statistics keep and bounds are made of. At accuracy K the list exceeds the degrees by
+//! at most one K-th at each rank, and keeps their sum. Compression by heads is this project's own; that a list
+//! dominates keys is meant as in SafeBound (SIGMOD 2023).
 //!
 //! Callers cite `compressed` of crate `degree_sequences` and `most_pieces`:
 //! `let list = compress(alloc, counts.as_slice(), 1)?;` gives `list ≡ compressed 1 counts`.
@@ -45,7 +46,7 @@ pub fn compress(alloc: Global, falling: &[u64], accuracy: u8) -> Result<Pieces, 
     ensures dominates { IfOk result (λ list. (keys : List ℕ) → degree_list keys ≡ falling.now → DominatesKeys list keys) }
     ensures sum { IfOk result (λ list. sum list ≡ sum falling.now) }
     ensures near { IfOk result (λ list. (r : ℕ) → accuracy * slice_index list r ≤ (accuracy + 1) * slice_index falling.now r) }
-    ensures few { IfOk result (λ list. runs list ≤ most_pieces (slice_index falling.now 0) accuracy) }
+    ensures few_pieces { IfOk result (λ list. runs list ≤ most_pieces (slice_index falling.now 0) accuracy) }
 {
     let mut pieces = Pieces::empty(alloc);
     let mut head = falling.first().copied().unwrap_or(0);
@@ -124,23 +125,60 @@ fn finish(pieces: &mut Pieces, run: Run, excess: u64) -> Result<(), NoMemory>
 #[cfg(test)]
 mod tests {
     use super::*;
+    use piece_math::Piece;
     use std::test::Fail;
+
+    fn piece(value: u128, count: u64) -> Piece {
+        Piece { value, count }
+    }
+
+    // Whether a degree list compresses to these pieces.
+    fn gives(
+        alloc: Global,
+        falling: &[u64],
+        accuracy: u8,
+        pieces: &[Piece],
+    ) -> Result<bool, NoMemory>
+        requires falls { IsFalling falling.now }
+        requires positive { All (λ degree. 0 < degree) falling.now }
+        requires small { sum falling.now ≤ 2 ^ 32 }
+        requires accuracy { (0 < accuracy) × (accuracy ≤ 64) }
+    {
+        let list = compress(alloc, falling, accuracy)?;
+        Ok(list.pieces() == pieces)
+    }
 
     #[test]
     fn heads_hold(rt: HostRuntime) -> Result<(), Fail> {
-        let list = compress(rt.alloc(), &[5, 4, 3, 1], 1)?;
-        let pieces = list.pieces();
-        assert_eq!(rt; pieces.len(), 2);
-        assert_eq!(rt; (pieces[0].value, pieces[0].count), (5, 2));
-        assert_eq!(rt; (pieces[1].value, pieces[1].count), (3, 1));
+        let alloc = rt.alloc();
+        assert!(rt; gives(alloc, &[5, 3, 1], 1, &[piece(5, 1), piece(4, 1)])?);
+        assert!(rt; gives(alloc, &[3, 2, 1], 1, &[piece(3, 2)])?);
+        assert!(rt; gives(alloc, &[2, 1, 1, 1], 1, &[piece(2, 2), piece(1, 1)])?);
+        assert!(rt; gives(alloc, &[5, 4, 3, 1], 1, &[piece(5, 2), piece(3, 1)])?);
         assert_eq!(rt; pieces_at_most(5, 1), 4);
         Ok(())
     }
 
     #[test]
     fn finer_heads_follow(rt: HostRuntime) -> Result<(), Fail> {
-        let list = compress(rt.alloc(), &[5, 4, 3, 1], 5)?;
-        assert_eq!(rt; list.pieces().len(), 4);
+        let alloc = rt.alloc();
+        assert!(rt;
+            gives(
+                alloc,
+                &[5, 4, 3, 1],
+                5,
+                &[piece(5, 1), piece(4, 1), piece(3, 1), piece(1, 1)]
+            )?
+        );
+        assert!(rt;
+            gives(
+                alloc,
+                &[3, 2, 1],
+                3,
+                &[piece(3, 1), piece(2, 1), piece(1, 1)]
+            )?
+        );
+        assert!(rt; gives(alloc, &[2, 1, 1, 1], 3, &[piece(2, 1), piece(1, 3)])?);
         Ok(())
     }
 }

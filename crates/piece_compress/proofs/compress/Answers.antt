@@ -72,7 +72,7 @@ returns-clause-sum c = rw (returns-clause-compressed c) (sum-compressed c.args.a
 pub returns-clause-near : goal.returns-clause-near
 returns-clause-near c = rw (returns-clause-compressed c) (compressed-near c.args.accuracy c.args.falling.now c.requires.falls)
 
-pub returns-clause-few : goal.returns-clause-few
-returns-clause-few c =
+pub returns-clause-few_pieces : goal.returns-clause-few_pieces
+returns-clause-few_pieces c =
     let f : List ℕ = c.args.falling.now in
     rw (returns-clause-compressed c) (compressed_is_short c.args.accuracy c.requires.accuracy.0 f c.requires.falls c.requires.positive (binary_digits (get_or f 0 0)) (digits_hold (get_or f 0 0)))
