@@ -75,6 +75,13 @@ pub IsFalling-rank_sum : (s t : List ℕ) → IsFalling s → IsFalling t → Is
 IsFalling-rank_sum s t fs ft = IsFalling-from_sums (rank_sum s t)
     (λ r. omega (arith, running_sum-rank_sum s t r, running_sum-rank_sum s t (suc r), running_sum-rank_sum s t (suc (suc r)), sums_fall s fs r, sums_fall t ft r))
 
+-- each element is the sum of the two
+pub get_or-rank_sum : (s t : List ℕ) (r : ℕ) → get_or (rank_sum s t) r 0 ≡ get_or s r 0 + get_or t r 0
+get_or-rank_sum [] t r = omega arith
+get_or-rank_sum (x ∷ s) [] r = omega arith
+get_or-rank_sum (x ∷ s) (y ∷ t) zero = refl
+get_or-rank_sum (x ∷ s) (y ∷ t) (suc r) = get_or-rank_sum s t r
+
 -- each element is the greater of the two
 pub get_or-rank_maximum : (s t : List ℕ) (r : ℕ) → get_or (rank_maximum s t) r 0 ≡ max (get_or s r 0) (get_or t r 0)
 get_or-rank_maximum [] t r = omega arith

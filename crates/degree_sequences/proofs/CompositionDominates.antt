@@ -7,6 +7,7 @@ use Rattle.std.proofs.lemmas.List.Sums.{count_by-le-length, length-filter, sum_b
 use Rattle.std.specs.List.{AllByRecursion, AllZip, IsDistinct, filter, range_with_len, sum_by}
 use Rattle.degree_sequences.proofs.ByRank.{get_or-rank_product}
 use Rattle.degree_sequences.proofs.Counting.{All-filter, IsDistinct-different, IsDistinct-filter, everywhere, is_in, is_in-different, sum_by-both, sum_by-filter, sum_by-map, sum_by-nothing, sum_by-same, weaker}
+use Rattle.degree_sequences.proofs.DegreeLists.{places_fit}
 use Rattle.degree_sequences.proofs.Places.{All-range, IsDistinct-range, count_by-degree, count_by-le-places, is_in-range, key_weight, length-le-members, length-range, sum_by-keys, sum_by-places}
 use Rattle.degree_sequences.proofs.ProductDominates.{rank_product_dominates}
 use Rattle.degree_sequences.proofs.RowWeights.{get_or-row_weights, spreads}
@@ -47,9 +48,9 @@ keys_dominated g keys dom B apart below E apart_E =
     )
 
 -- the rows of one child are dominated by its class list spread over its column
-pub child_dominates : (total n : ℕ) (c : ChildLists) (k : ChildKeys) → DominatesChild total n c k
+pub child_dominates : (n : ℕ) (c : ChildLists) (k : ChildKeys) → DominatesChild n c k
     → DominatesWeights (spread c.column c.class) (λ i. cond (ltb i n) (k.weight (get_or k.keys i 0)) 0)
-child_dominates total n c k d A apart =
+child_dominates n c k d A apart =
     let key : ℕ → ℕ = λ i. get_or k.keys i 0 in
     let B : List ℕ = filter (λ i. ltb i n) A in
     let apart_B : IsDistinct eqb B = IsDistinct-filter (λ i. ltb i n) A apart in
@@ -71,7 +72,7 @@ child_dominates total n c k d A apart =
     )
 
 -- the rows of all children are dominated by the row weights
-pub rows_dominated : (total n : ℕ) → n ≤ total → (cs : List ChildLists) (ks : List ChildKeys) → AllZip (DominatesChild total n) cs ks
+pub rows_dominated : (total n : ℕ) → n ≤ total → (cs : List ChildLists) (ks : List ChildKeys) → AllZip (DominatesChild n) cs ks
     → DominatesWeights (spreads cs total) (λ i. cond (ltb i n) (weight_of_row ks i) 0)
 rows_dominated total n fits [] [] all A apart =
     let B : List ℕ = filter (λ i. ltb i n) A in
@@ -90,34 +91,34 @@ rows_dominated total n fits (c ∷ cs) (k ∷ ks) all A apart =
       arith,
       sum_by-same (λ i. cond (ltb i n) (k.weight (get_or k.keys i 0) * weight_of_row ks i) 0) (λ i. v i * w i) both A,
       rank_product_dominates (spreads cs total) (spread c.column c.class) v w (IsFalling-spread c.column c.class all.0.class_falls)
-          (rows_dominated total n fits cs ks all.1) (child_dominates total n c k all.0) A apart,
+          (rows_dominated total n fits cs ks all.1) (child_dominates n c k all.0) A apart,
     )
   where
     times : (b : Bool) (x y : ℕ) → cond b (x * y) 0 ≡ cond b y 0 * cond b x 0
     times true x y = mul_comm x y
     times false x y = refl
 
--- they are the row weights
-pub get_or-spreads : (total n : ℕ) (cs : List ChildLists) (ks : List ChildKeys) → AllZip (DominatesChild total n) cs ks → (k : ℕ) → k < total
+-- for rows that are there, they are the row weights
+pub get_or-spreads : (total n : ℕ) → n ≤ total → (cs : List ChildLists) (ks : List ChildKeys) → AllZip (DominatesChild n) cs ks → (k : ℕ) → k < n
     → get_or (spreads cs total) k 0 ≡ weight_by_rank cs (suc k)
-get_or-spreads total n [] [] all k h = get_or-replicate total k 1 0 h
-get_or-spreads total n [] (k ∷ ks) all r h = absurd all
-get_or-spreads total n (c ∷ cs) [] all r h = absurd all
-get_or-spreads total n (c ∷ cs) (k ∷ ks) all r h =
+get_or-spreads total n fits [] [] all k h = get_or-replicate total k 1 0 (omega arith)
+get_or-spreads total n fits [] (k ∷ ks) all r h = absurd all
+get_or-spreads total n fits (c ∷ cs) [] all r h = absurd all
+get_or-spreads total n fits (c ∷ cs) (k ∷ ks) all r h =
     get_or-rank_product (spreads cs total) (spread c.column c.class) r
     ∙ mul_comm (get_or (spreads cs total) r 0) (get_or (spread c.column c.class) r 0)
-    ∙ ap (λ x. x * get_or (spreads cs total) r 0) (get_or-spread c.column c.class r (omega (arith, all.0.column_sum)))
-    ∙ ap (λ x. get_or c.class (rank c.column (suc r) - 1) 0 * x) (get_or-spreads total n cs ks all.1 r h)
+    ∙ ap (λ x. x * get_or (spreads cs total) r 0) (get_or-spread c.column c.class r (omega (arith, places_fit c.column k.keys all.0.column, all.0.key_per_row)))
+    ∙ ap (λ x. get_or c.class (rank c.column (suc r) - 1) 0 * x) (get_or-spreads total n fits cs ks all.1 r h)
 
 -- different rows below n weigh at most the first elements of the row weights
-pub rows_within : (total n : ℕ) → n ≤ total → (cs : List ChildLists) (ks : List ChildKeys) → AllZip (DominatesChild total n) cs ks
+pub rows_within : (total n : ℕ) → n ≤ total → (cs : List ChildLists) (ks : List ChildKeys) → AllZip (DominatesChild n) cs ks
     → (R : List ℕ) → IsDistinct eqb R → AllByRecursion (λ i. i < n) R → sum_by (weight_of_row ks) R ≤ running_sum (row_weights cs total) (length R)
 rows_within total n fits cs ks all R apart below =
     let few : length R ≤ length (range_with_len 0 n) = length-le-members R (range_with_len 0 n) apart
     (weaker (λ a. a < n) (λ b. is_in (range_with_len 0 n) b ≡ true) (λ b k. is_in-range 0 n b (omega arith) (omega arith)) R below) in
     let agree : running_sum (spreads cs total) (length R) ≡ running_sum (row_weights cs total) (length R) =
     running_sum-agree (spreads cs total) (row_weights cs total) (length R)
-    (λ k h. get_or-spreads total n cs ks all k (omega (arith, few, length-range 0 n)) ∙ sym (get_or-row_weights cs total k (omega (arith, few, length-range 0 n)))) in
+    (λ k h. get_or-spreads total n fits cs ks all k (omega (arith, few, length-range 0 n)) ∙ sym (get_or-row_weights cs total k (omega (arith, few, length-range 0 n)))) in
     omega (arith, agree, whole R below, rows_dominated total n fits cs ks all R apart)
   where
     whole : (R : List ℕ) → AllByRecursion (λ i. i < n) R → sum_by (weight_of_row ks) R ≡ sum_by (λ i. cond (ltb i n) (weight_of_row ks i) 0) R
@@ -141,9 +142,9 @@ by_parent h key A apart (i ∷ R) =
     )
 
 -- a composition dominates the weights of the parent keys
-pub composed_dominates : (g parents : List ℕ) (cs : List ChildLists) (ks : List ChildKeys) → DominatesKeys g parents → length parents ≤ sum g
-    → AllZip (DominatesChild (sum g) (length parents)) cs ks → DominatesWeights (composed g cs) (weight_of_key parents ks)
-composed_dominates g parents cs ks dom fits all A apart =
+pub composed_dominates : (g parents : List ℕ) (cs : List ChildLists) (ks : List ChildKeys) → DominatesKeys g parents
+    → AllZip (DominatesChild (length parents)) cs ks → DominatesWeights (composed g cs) (weight_of_key parents ks)
+composed_dominates g parents cs ks dom all A apart =
     let n : ℕ = length parents in
     let key : ℕ → ℕ = λ i. get_or parents i 0 in
     let R : List ℕ = filter (λ i. is_in A (key i)) (range_with_len 0 n) in
@@ -151,7 +152,7 @@ composed_dominates g parents cs ks dom fits all A apart =
     let many : length R ≤ running_sum g (length A) =
     omega (arith, length-filter (λ i. is_in A (key i)) (range_with_len 0 n), sum_by-places (λ x. cond (is_in A x) 1 0) parents, dom A apart) in
     let rows : sum_by (weight_of_row ks) R ≤ running_sum U (length R) =
-    rows_within (sum g) n fits cs ks all R (IsDistinct-filter (λ i. is_in A (key i)) (range_with_len 0 n) (IsDistinct-range 0 n))
+    rows_within (sum g) n (places_fit g parents dom) cs ks all R (IsDistinct-filter (λ i. is_in A (key i)) (range_with_len 0 n) (IsDistinct-range 0 n))
     (All-filter (λ i. i < n) (λ i. is_in A (key i)) (range_with_len 0 n) (All-range 0 n n (omega arith))) in
     omega (
       arith,
@@ -164,7 +165,7 @@ composed_dominates g parents cs ks dom fits all A apart =
     )
 
 -- the root total is at least the sum of the weights of the rows
-pub root_at_least : (total n : ℕ) → n ≤ total → (cs : List ChildLists) (ks : List ChildKeys) → AllZip (DominatesChild total n) cs ks
+pub root_at_least : (total n : ℕ) → n ≤ total → (cs : List ChildLists) (ks : List ChildKeys) → AllZip (DominatesChild n) cs ks
     → sum_by (weight_of_row ks) (range_with_len 0 n) ≤ root_total cs total
 root_at_least total n fits cs ks all =
     omega (

@@ -1,12 +1,12 @@
 -- A degree list has one row for each place of the keys, and dominates them.
-use Rattle.std.proofs.Common.{List, arith, length, map, sum, true, ℕ, ◌≡◌}
+use Rattle.std.proofs.Common.{List, arith, length, map, sum, true, ℕ, ◌≡◌, ◌≤◌}
 use Rattle.std.proofs.lemmas.List.Sums.{sum-map}
 use Rattle.std.specs.List.{count_by}
 use Rattle.degree_sequences.proofs.Counting.{IsDistinct-different, all-count, count_by-is_in, count_by-keys, is_in, is_in-different}
 use Rattle.degree_sequences.proofs.FallingOrder.{IsFalling-in_falling_order, picked-le, sum-in_falling_order}
-use Rattle.degree_sequences.proofs.RunningSums.{running_sum-mono}
+use Rattle.degree_sequences.proofs.RunningSums.{running_sum-mono, running_sum-le-sum}
 use Rattle.degree_sequences.specs.Degrees.{degree, degree_list, different}
-use Rattle.degree_sequences.proofs.Places.{count_by-degree}
+use Rattle.degree_sequences.proofs.Places.{count_by-degree, count_by-passing}
 use Rattle.degree_sequences.specs.Domination.{DominatesKeys, DominatesWeights}
 use Rattle.degree_sequences.specs.Falling.{IsFalling}
 
@@ -36,6 +36,12 @@ degree_list_dominates L A apart =
       picked-le (degree L) (is_in A) D,
       running_sum-mono (degree_list L) (count_by (is_in A) D) (length A) (count_by-is_in D (IsDistinct-different L) A),
     )
+
+-- a list that dominates keys has no smaller sum than there are places
+pub places_fit : (s L : List ℕ) → DominatesKeys s L → length L ≤ sum s
+places_fit s L dom =
+    let D : List ℕ = different L in
+    omega (arith, count_by-passing (is_in D) L (is_in-different L), dom D (IsDistinct-different L), running_sum-le-sum s (length D))
 
 -- of different keys, the degrees are a weight that a list that dominates the keys dominates
 pub degrees_dominated : (s L : List ℕ) → DominatesKeys s L → DominatesWeights s (degree L)

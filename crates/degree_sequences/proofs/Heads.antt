@@ -9,32 +9,32 @@ use Rattle.degree_sequences.specs.Falling.{IsFalling}
 -- no element is above its head
 pub heads-above : (k h : ℕ) (s : List ℕ) → IsFalling s → get_or s 0 0 ≤ h → (i : ℕ) → get_or s i 0 ≤ get_or (heads_from k h s) i 0
 heads-above k h [] fall below i = omega arith
-heads-above k h (x ∷ s) fall below zero = cond_both (ltb ((k + 1) * x) (k * h)) (x ∷ heads_from k x s) (h ∷ heads_from k h s) (λ l. x ≤ get_or l 0 0)
+heads-above k h (x ∷ s) fall below zero = cond_both (ltb ((k + 1) * x) (k * h)) x h (λ y. x ≤ get_or (y ∷ heads_from k y s) 0 0)
     (λ e. omega arith)
     (λ e. below)
-heads-above k h (x ∷ s) fall below (suc i) = cond_both (ltb ((k + 1) * x) (k * h)) (x ∷ heads_from k x s) (h ∷ heads_from k h s) (λ l. get_or s i 0 ≤ get_or l (suc i) 0)
+heads-above k h (x ∷ s) fall below (suc i) = cond_both (ltb ((k + 1) * x) (k * h)) x h (λ y. get_or s i 0 ≤ get_or (y ∷ heads_from k y s) (suc i) 0)
     (λ e. heads-above k x s (λ r. fall (suc r)) (fall 0) i)
     (λ e. heads-above k h s (λ r. fall (suc r)) (omega (arith, fall 0)) i)
 
 -- a head exceeds an element by at most one part of k
 pub heads-near : (k h : ℕ) (s : List ℕ) (i : ℕ) → k * get_or (heads_from k h s) i 0 ≤ (k + 1) * get_or s i 0
 heads-near k h [] i = omega (arith, mul-zero k)
-heads-near k h (x ∷ s) zero = cond_both (ltb ((k + 1) * x) (k * h)) (x ∷ heads_from k x s) (h ∷ heads_from k h s) (λ l. k * get_or l 0 0 ≤ (k + 1) * x)
+heads-near k h (x ∷ s) zero = cond_both (ltb ((k + 1) * x) (k * h)) x h (λ y. k * get_or (y ∷ heads_from k y s) 0 0 ≤ (k + 1) * x)
     (λ e. mul-le-mul_right x (omega arith))
     (λ e. ltb-false ((k + 1) * x) (k * h) e)
-heads-near k h (x ∷ s) (suc i) = cond_both (ltb ((k + 1) * x) (k * h)) (x ∷ heads_from k x s) (h ∷ heads_from k h s) (λ l. k * get_or l (suc i) 0 ≤ (k + 1) * get_or s i 0)
+heads-near k h (x ∷ s) (suc i) = cond_both (ltb ((k + 1) * x) (k * h)) x h (λ y. k * get_or (y ∷ heads_from k y s) (suc i) 0 ≤ (k + 1) * get_or s i 0)
     (λ e. heads-near k x s i)
     (λ e. heads-near k h s i)
 
 -- the first head is at most the one before
 pub heads-head : (k h : ℕ) (s : List ℕ) → get_or s 0 0 ≤ h → get_or (heads_from k h s) 0 0 ≤ h
 heads-head k h [] below = omega arith
-heads-head k h (x ∷ s) below = cond_both (ltb ((k + 1) * x) (k * h)) (x ∷ heads_from k x s) (h ∷ heads_from k h s) (λ l. get_or l 0 0 ≤ h) (λ e. below) (λ e. omega arith)
+heads-head k h (x ∷ s) below = cond_both (ltb ((k + 1) * x) (k * h)) x h (λ y. get_or (y ∷ heads_from k y s) 0 0 ≤ h) (λ e. below) (λ e. omega arith)
 
 -- heads fall
 pub heads-fall : (k h : ℕ) (s : List ℕ) → IsFalling s → get_or s 0 0 ≤ h → IsFalling (heads_from k h s)
 heads-fall k h [] fall below = λ r. omega arith
-heads-fall k h (x ∷ s) fall below = cond_both (ltb ((k + 1) * x) (k * h)) (x ∷ heads_from k x s) (h ∷ heads_from k h s) IsFalling
+heads-fall k h (x ∷ s) fall below = cond_both (ltb ((k + 1) * x) (k * h)) x h (λ y. IsFalling (y ∷ heads_from k y s))
     (λ e. IsFalling-cons x (heads_from k x s) (heads-head k x s (fall 0)) (heads-fall k x s (λ r. fall (suc r)) (fall 0)))
     (λ e. IsFalling-cons h (heads_from k h s) (heads-head k h s (omega (arith, fall 0))) (heads-fall k h s (λ r. fall (suc r)) (omega (arith, fall 0))))
 
@@ -48,9 +48,9 @@ lower_head k x h less = elim (cases_lt x h) [
 -- no head is above the first
 pub heads-le : (k h : ℕ) (s : List ℕ) (j : ℕ) → get_or (heads_from k h s) j 0 ≤ h
 heads-le k h [] j = omega arith
-heads-le k h (x ∷ s) zero = cond_both (ltb ((k + 1) * x) (k * h)) (x ∷ heads_from k x s) (h ∷ heads_from k h s) (λ l. get_or l 0 0 ≤ h)
+heads-le k h (x ∷ s) zero = cond_both (ltb ((k + 1) * x) (k * h)) x h (λ y. get_or (y ∷ heads_from k y s) 0 0 ≤ h)
     (λ e. omega (arith, lower_head k x h (ltb-true ((k + 1) * x) (k * h) e))) (λ e. omega arith)
-heads-le k h (x ∷ s) (suc j) = cond_both (ltb ((k + 1) * x) (k * h)) (x ∷ heads_from k x s) (h ∷ heads_from k h s) (λ l. get_or l (suc j) 0 ≤ h)
+heads-le k h (x ∷ s) (suc j) = cond_both (ltb ((k + 1) * x) (k * h)) x h (λ y. get_or (y ∷ heads_from k y s) (suc j) 0 ≤ h)
     (λ e. omega (arith, lower_head k x h (ltb-true ((k + 1) * x) (k * h) e), heads-le k x s j)) (λ e. heads-le k h s j)
 
 -- v is the head h, or as far below it as a next head is
@@ -64,9 +64,9 @@ far_below k v x h below less = omega (arith, mul-le-mul_left (k + 1) below)
 -- a head is the first one or far below it
 pub heads-later : (k h : ℕ) (s : List ℕ) (j : ℕ) → 0 < k * h → IsLater k (get_or (heads_from k h s) j 0) h
 heads-later k h [] j pos = inr (omega (arith, mul-zero (k + 1)))
-heads-later k h (x ∷ s) zero pos = cond_both (ltb ((k + 1) * x) (k * h)) (x ∷ heads_from k x s) (h ∷ heads_from k h s) (λ l. IsLater k (get_or l 0 0) h)
+heads-later k h (x ∷ s) zero pos = cond_both (ltb ((k + 1) * x) (k * h)) x h (λ y. IsLater k (get_or (y ∷ heads_from k y s) 0 0) h)
     (λ e. inr (ltb-true ((k + 1) * x) (k * h) e)) (λ e. inl refl)
-heads-later k h (x ∷ s) (suc j) pos = cond_both (ltb ((k + 1) * x) (k * h)) (x ∷ heads_from k x s) (h ∷ heads_from k h s) (λ l. IsLater k (get_or l (suc j) 0) h)
+heads-later k h (x ∷ s) (suc j) pos = cond_both (ltb ((k + 1) * x) (k * h)) x h (λ y. IsLater k (get_or (y ∷ heads_from k y s) (suc j) 0) h)
     (λ e. inr (far_below k (get_or (heads_from k x s) j 0) x h (heads-le k x s j) (ltb-true ((k + 1) * x) (k * h) e))) (λ e. heads-later k h s j pos)
 
 -- of two heads, the later is the same or far below
@@ -74,10 +74,8 @@ pub heads-between : (k h : ℕ) (s : List ℕ) (i j : ℕ) → i ≤ j → 0 < k
     → IsLater k (get_or (heads_from k h s) j 0) (get_or (heads_from k h s) i 0)
 heads-between k h [] i j le pos = absurd (omega (arith, mul-zero k))
 heads-between k h (x ∷ s) zero zero le pos = inl refl
-heads-between k h (x ∷ s) zero (suc j) le pos = cond_both (ltb ((k + 1) * x) (k * h)) (x ∷ heads_from k x s) (h ∷ heads_from k h s)
-    (λ l. 0 < k * get_or l 0 0 → IsLater k (get_or l (suc j) 0) (get_or l 0 0))
+heads-between k h (x ∷ s) zero (suc j) le pos = cond_both (ltb ((k + 1) * x) (k * h)) x h (λ y. 0 < k * get_or (y ∷ heads_from k y s) 0 0 → IsLater k (get_or (y ∷ heads_from k y s) (suc j) 0) (get_or (y ∷ heads_from k y s) 0 0))
     (λ e pos. heads-later k x s j pos) (λ e pos. heads-later k h s j pos) pos
 heads-between k h (x ∷ s) (suc i) zero le pos = absurd (omega arith)
-heads-between k h (x ∷ s) (suc i) (suc j) le pos = cond_both (ltb ((k + 1) * x) (k * h)) (x ∷ heads_from k x s) (h ∷ heads_from k h s)
-    (λ l. 0 < k * get_or l (suc i) 0 → IsLater k (get_or l (suc j) 0) (get_or l (suc i) 0))
+heads-between k h (x ∷ s) (suc i) (suc j) le pos = cond_both (ltb ((k + 1) * x) (k * h)) x h (λ y. 0 < k * get_or (y ∷ heads_from k y s) (suc i) 0 → IsLater k (get_or (y ∷ heads_from k y s) (suc j) 0) (get_or (y ∷ heads_from k y s) (suc i) 0))
     (λ e pos. heads-between k x s i j (omega arith) pos) (λ e pos. heads-between k h s i j (omega arith) pos) pos

@@ -19,3 +19,5 @@ pub mod Heads
 pub mod CompressedLists
 pub mod FewRuns
 pub mod Scaling
+pub mod Rearranged
+pub mod Elements

@@ -50,9 +50,13 @@ pub running_sum-weights : (total : ℕ) (cs : List ChildLists) → AllByRecursio
 running_sum-weights total cs all m h = running_sum-agree (row_weights cs total) (spreads cs total) m
     (λ k k_in. get_or-row_weights cs total k (omega arith) ∙ sym (get_or-weights total cs all k (omega arith)))
 
--- the running sums of a composition are those of the row weights
+-- the running sums of a composition are those of the row weights, at those of the parent
+pub running_sum-composition : (g : List ℕ) (cs : List ChildLists) (r : ℕ) → running_sum (composed g cs) r ≡ running_sum (row_weights cs (sum g)) (running_sum g r)
+running_sum-composition g cs r = running_sum-trimmed (block_sums g (row_weights cs (sum g))) r ∙ running_sum-block_sums g (row_weights cs (sum g)) r
+
+-- and so those of the weights child by child
 pub running_sum-composed : (g : List ℕ) (cs : List ChildLists) → AllByRecursion (IsChild (sum g)) cs → (r : ℕ) → running_sum (composed g cs) r ≡ running_sum (spreads cs (sum g)) (running_sum g r)
-running_sum-composed g cs all r = running_sum-trimmed (block_sums g (row_weights cs (sum g))) r ∙ running_sum-block_sums g (row_weights cs (sum g)) r ∙ running_sum-weights (sum g) cs all (running_sum g r) (running_sum-le-sum g r)
+running_sum-composed g cs all r = running_sum-composition g cs r ∙ running_sum-weights (sum g) cs all (running_sum g r) (running_sum-le-sum g r)
 
 -- a composition falls
 pub IsFalling-composed : (g : List ℕ) (cs : List ChildLists) → IsFalling g → AllByRecursion (IsChild (sum g)) cs → IsFalling (composed g cs)

@@ -10,7 +10,7 @@ pub record ChildLists : Type 0 where
   pub column : List ℕ
   pub class : List ℕ
 
--- the weight of row t, counted from 1: the product over the children of the class weight at the row's rank in the column
+-- what row t weighs, counted from 1: each child gives the class weight at the row's rank in its column, and these are multiplied
 abbrev pub weight_by_rank : List ChildLists → ℕ → ℕ
 weight_by_rank [] t = 1
 weight_by_rank (child ∷ children) t = slice_index child.class (rank child.column t - 1) * weight_by_rank children t
@@ -24,7 +24,7 @@ abbrev pub block_sums : List ℕ → List ℕ → List ℕ
 block_sums [] weights = []
 block_sums (count ∷ g) weights = running_sum weights count ∷ block_sums g (drop count weights)
 
--- the composition: element r is the sum of the weights of the rows of rank r in the parent column
+-- the composition: the rows of each rank of the parent column, weighed together
 abbrev pub composed : List ℕ → List ChildLists → List ℕ
 composed parent children = trimmed (block_sums parent (row_weights children (sum parent)))
 

@@ -4,21 +4,24 @@ use Rattle.std.specs.Prelude.{ℕ, zero, suc, ◌+◌, ◌-◌, ◌*◌, min, na
 use Rattle.std.specs.List.{sum}
 use Rattle.degree_sequences.specs.Rank.{rank}
 
--- the head in force at each element: a head holds until an element lies so far below it, and that is the next head
+-- the head after an element: the element itself where it lies so far below the head, which else stays in force
+abbrev pub next_head : ℕ → ℕ → ℕ → ℕ
+next_head accuracy head x = if nat_lt ((accuracy + 1) * x) (accuracy * head) then x else head
+
+-- the head in force at each element
 abbrev pub heads_from : ℕ → ℕ → List ℕ → List ℕ
 heads_from accuracy head [] = []
-heads_from accuracy head (x ∷ s) = if nat_lt ((accuracy + 1) * x) (accuracy * head) then x ∷ heads_from accuracy x s else (head ∷ heads_from accuracy head s)
+heads_from accuracy head (x ∷ s) = next_head accuracy head x ∷ heads_from accuracy (next_head accuracy head x) s
 
 -- the heads of the whole list, of which the first is its first element
 abbrev pub heads : ℕ → List ℕ → List ℕ
 heads accuracy f = heads_from accuracy (slice_index f 0) f
 
--- the head in force at the element in which row m + 1 lies
+-- the head that governs row m + 1: that of the element to which the row belongs
 abbrev pub slope : ℕ → List ℕ → ℕ → ℕ
 slope accuracy f m = slice_index (heads accuracy f) (rank f (suc m) - 1)
 
--- the elements that follow where the earlier ones sum to m, and at most `count` of them:
--- each is the slope there, until the sum of f is reached
+-- what comes after elements that sum to m, in at most `count` steps: a step takes the slope there, or what is left of the sum
 abbrev pub compressed_from : ℕ → List ℕ → ℕ → ℕ → List ℕ
 compressed_from accuracy f zero m = []
 compressed_from accuracy f (suc count) m =

@@ -2,7 +2,7 @@
 use Rattle.std.specs.Prelude.{ℕ, ◌==◌, nat_le, not, if◌then◌else◌, List, [], ◌∷◌, map}
 use Rattle.std.specs.List.{count_by, filter}
 
--- the degree of a key: the number of places that hold it
+-- the degree of a key: how often it stands in the list
 abbrev pub degree : List ℕ → ℕ → ℕ
 degree keys a = count_by (λ key. key == a) keys
 
@@ -21,6 +21,6 @@ abbrev pub in_falling_order : List ℕ → List ℕ
 in_falling_order [] = []
 in_falling_order (n ∷ ns) = put_in n (in_falling_order ns)
 
--- the degree list of keys: the degrees of the different keys in falling order
+-- the degree list of keys: what the different keys have as degrees, from the greatest down
 abbrev pub degree_list : List ℕ → List ℕ
 degree_list keys = in_falling_order (map (degree keys) (different keys))

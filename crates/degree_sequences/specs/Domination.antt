@@ -3,10 +3,10 @@ use Rattle.std.specs.Prelude.{ℕ, ◌≤◌, ◌==◌, List, length}
 use Rattle.std.specs.List.{sum_by, count_by, list_any, IsDistinct}
 use Rattle.degree_sequences.specs.RunningSums.{running_sum}
 
--- for any different keys A, the number of places whose key is in A is at most the running sum of s at their number
+-- however different keys are picked, they stand at no more places than as many first elements of s sum to
 abbrev pub DominatesKeys : List ℕ → List ℕ → Type 0
-DominatesKeys s keys = (A : List ℕ) → IsDistinct ◌==◌ A → count_by (λ key. list_any (λ a. key == a) A) keys ≤ running_sum s (length A)
+DominatesKeys s keys = (picked : List ℕ) → IsDistinct ◌==◌ picked → count_by (λ key. list_any (λ a. key == a) picked) keys ≤ running_sum s (length picked)
 
--- for any different keys A, the sum of their weights is at most the running sum of s at their number
+-- however different keys are picked, they weigh no more than as many first elements of s sum to
 abbrev pub DominatesWeights : List ℕ → (ℕ → ℕ) → Type 0
-DominatesWeights s weight = (A : List ℕ) → IsDistinct ◌==◌ A → sum_by weight A ≤ running_sum s (length A)
+DominatesWeights s weight = (picked : List ℕ) → IsDistinct ◌==◌ picked → sum_by weight picked ≤ running_sum s (length picked)

@@ -1,6 +1,6 @@
 -- Rows with a parent key and one key for each child, and when lists dominate them.
 use Rattle.std.specs.Prelude.{◌≡◌, ℕ, ◌*◌, ◌==◌, if◌then◌else◌, List, [], ◌∷◌, length, slice_index}
-use Rattle.std.specs.List.{sum, sum_by, range_with_len}
+use Rattle.std.specs.List.{sum_by, range_with_len}
 use Rattle.degree_sequences.specs.Falling.{IsFalling}
 use Rattle.degree_sequences.specs.Domination.{DominatesKeys, DominatesWeights}
 use Rattle.degree_sequences.specs.Composition.{ChildLists}
@@ -10,12 +10,11 @@ pub record ChildKeys : Type 0 where
   pub keys : List ℕ
   pub weight : ℕ → ℕ
 
--- the lists of a child dominate its keys and their class weights: one key for each row, and a column of this sum
-pub record DominatesChild (total rows : ℕ) (lists : ChildLists) (child : ChildKeys) : Type 0 where
+-- the lists of a child dominate its keys, one for each row, and their class weights
+pub record DominatesChild (rows : ℕ) (lists : ChildLists) (child : ChildKeys) : Type 0 where
   pub column : DominatesKeys lists.column child.keys
   pub class : DominatesWeights lists.class child.weight
   pub class_falls : IsFalling lists.class
-  pub column_sum : sum lists.column ≡ total
   pub key_per_row : length child.keys ≡ rows
 
 -- the weight of row i, counted from 0: the product over the children of the class weights of its keys

@@ -3,12 +3,11 @@
 //! The bounds of a query stand on these definitions: statistics are lists of degrees, compressed, and a
 //! bound is made of them by products rank by rank and by composition along a tree of joins
 //! (Degree Sequence Bound, ICDT 2023; SafeBound, SIGMOD 2023). Nothing here runs: the crate is
-//! definitions, their lemmas, and the examples below.
+//! definitions, their lemmas, and two modules of laws and examples, each the contract of an empty function.
 //!
 //! Callers cite `degree_list`, `running_sum`, `DominatesKeys`, `DominatesWeights`, `rank_product`,
 //! `rank_sum`, `rank_maximum`, `lesser`, `cut_at`, `compressed`, `composed`, `root_total`, `runs` and `saturated`.
 #![tactic(auto)]
 
-mod examples;
-
-pub use examples::{by_rank, composition, compression};
+pub mod examples;
+pub mod laws;

@@ -33,19 +33,18 @@ child_lists = record { column = 2 ∷ 2 ∷ 2 ∷ []; class = 4 ∷ 1 ∷ [] }
 abbrev child_keys : ChildKeys
 child_keys = record { keys = 5 ∷ 5 ∷ 6 ∷ 6 ∷ 7 ∷ 7 ∷ []; weight = degree (5 ∷ 5 ∷ 5 ∷ 5 ∷ 6 ∷ []) }
 
-child_dominates : DominatesChild 6 6 child_lists child_keys
+child_dominates : DominatesChild 6 child_lists child_keys
 child_dominates = record {
   column = degree_list_dominates (5 ∷ 5 ∷ 6 ∷ 6 ∷ 7 ∷ 7 ∷ []);
   class = dominated (5 ∷ 5 ∷ 5 ∷ 5 ∷ 6 ∷ []);
   class_falls = IsFalling-degree_list (5 ∷ 5 ∷ 5 ∷ 5 ∷ 6 ∷ []);
-  column_sum = refl;
   key_per_row = refl;
 }
 
 pub keys : DominatesWeights (composed (3 ∷ 3 ∷ []) (child_lists ∷ [])) (weight_of_key (1 ∷ 1 ∷ 1 ∷ 2 ∷ 2 ∷ 2 ∷ []) (child_keys ∷ []))
 keys =
     composed_dominates (3 ∷ 3 ∷ []) (1 ∷ 1 ∷ 1 ∷ 2 ∷ 2 ∷ 2 ∷ []) (child_lists ∷ []) (child_keys ∷ [])
-    (degree_list_dominates (1 ∷ 1 ∷ 1 ∷ 2 ∷ 2 ∷ 2 ∷ [])) (omega arith) (child_dominates, tt)
+    (degree_list_dominates (1 ∷ 1 ∷ 1 ∷ 2 ∷ 2 ∷ 2 ∷ [])) (child_dominates, tt)
 
 pub rows : sum_by (weight_of_row (child_keys ∷ [])) (range_with_len 0 6) ≤ root_total (child_lists ∷ []) 6
 rows = root_at_least 6 6 (omega arith) (child_lists ∷ []) (child_keys ∷ []) (child_dominates, tt)

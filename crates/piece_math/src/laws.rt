@@ -14,53 +14,52 @@ ghost use Rattle.degree_sequences.specs.Families.{IsChild, ChildIsAbove, IsWithi
 ghost use Rattle.degree_sequences.specs.KeyedRows.{ChildKeys, DominatesChild, weight_of_row, weight_of_key};
 ghost use Rattle.degree_sequences.specs.RunningSums.{IsAbove};
 
-/// Product dominates: where two lists dominate weights over keys, their rank-wise product dominates the products
-/// of the weights. One of the two has to fall.
+/// Product dominates: lists that dominate two weights of the same keys have a rank-wise product that dominates the
+/// weights multiplied key by key. One of the two lists has to fall.
 pub fn product_dominates()
     ensures { (s t : List ℕ) (v w : ℕ → ℕ) → IsFalling t
         → DominatesWeights s v → DominatesWeights t w → DominatesWeights (rank_product s t) (λ a. v a * w a) }
 {}
 
-/// Composition dominates. Take rows, each with a parent key and one key for each child, and lists that dominate
-/// the parent keys, the keys of each child and its class weights, where the lists of keys have one sum that is
+/// Composition dominates, for rows that have a parent key and a key for each child. Its lists dominate the parent
+/// keys, the keys of each child, and the class weights of these. The lists of keys need not share one sum: each has
 /// at least the number of rows.
 pub fn compose_dominates()
     // the composition dominates the weights that the rows give to the parent keys
     ensures keys { (parent parent_keys : List ℕ) (lists : List ChildLists) (children : List ChildKeys)
-        → DominatesKeys parent parent_keys → length parent_keys ≤ sum parent
-        → AllZip (DominatesChild (sum parent) (length parent_keys)) lists children
+        → DominatesKeys parent parent_keys → AllZip (DominatesChild (length parent_keys)) lists children
         → DominatesWeights (composed parent lists) (weight_of_key parent_keys children) }
     // the row weights by rank sum to at least the weights of the rows
     ensures rows { (total rows : ℕ) (lists : List ChildLists) (children : List ChildKeys)
-        → rows ≤ total → AllZip (DominatesChild total rows) lists children
+        → rows ≤ total → AllZip (DominatesChild rows) lists children
         → sum_by (weight_of_row children) (range_with_len 0 rows) ≤ root_total lists total }
 {}
 
-/// Product is monotone: where the running sums of each list of one family are at every rank at least those of
-/// its match in another, so are those of the rank-wise product.
+/// Product is monotone: lists that are above others, one by one, have a product that is above theirs. Above means
+/// at least in the running sum of every rank.
 pub fn product_is_monotone()
-    ensures { (ss ts : List (List ℕ)) → AllByRecursion IsFalling ss → AllByRecursion IsFalling ts
-        → AllZip IsAbove ss ts → IsAbove (rank_product_of ss) (rank_product_of ts) }
+    ensures { (lists lower : List (List ℕ)) → AllByRecursion IsFalling lists → AllByRecursion IsFalling lower
+        → AllZip IsAbove lists lower → IsAbove (rank_product_of lists) (rank_product_of lower) }
 {}
 
-/// Composition is monotone, likewise, where the parent list and the column lists of each family have one sum.
-/// The sum of the first family is then at least that of the second.
+/// Composition is monotone in the same way. In each family the parent list and the columns share one sum; that of
+/// the family above is then at least the other's.
 pub fn compose_is_monotone()
-    ensures { (g h : List ℕ) (cs ds : List ChildLists)
-        → AllByRecursion (IsChild (sum g)) cs → AllByRecursion (IsChild (sum h)) ds
-        → IsAbove g h → AllZip ChildIsAbove cs ds → IsAbove (composed g cs) (composed h ds) }
+    ensures { (parent lower_parent : List ℕ) (children lower : List ChildLists)
+        → AllByRecursion (IsChild (sum parent)) children → AllByRecursion (IsChild (sum lower_parent)) lower
+        → IsAbove parent lower_parent → AllZip ChildIsAbove children lower
+        → IsAbove (composed parent children) (composed lower_parent lower) }
 {}
 
-/// Composition scales. Where the running sums of parent and column lists are within an accuracy K of others,
-/// K times the ones at most K + 1 times the others, and those of the class lists are within two numbers of
-/// their own for each child, those of the composition are within the products of all these numbers.
+/// Composition scales: how far lists lie apart multiplies up to how far their compositions do. Parent and columns
+/// are within K and K + 1 of the exact ones, each class list within two numbers of its own.
 pub fn compose_scales()
-    ensures { (accuracy : ℕ) (g f : List ℕ) (children : List MatchedChild)
-        → IsWithin accuracy (accuracy + 1) g f → AllByRecursion (IsNear accuracy) children
-        → AllByRecursion (IsChild (sum g)) (map (λ child. child.near) children)
-        → AllByRecursion (IsChild (sum f)) (map (λ child. child.exact) children)
+    ensures { (accuracy : ℕ) (parent exact_parent : List ℕ) (children : List MatchedChild)
+        → IsWithin accuracy (accuracy + 1) parent exact_parent → AllByRecursion (IsNear accuracy) children
+        → AllByRecursion (IsChild (sum parent)) (map (λ child. child.near) children)
+        → AllByRecursion (IsChild (sum exact_parent)) (map (λ child. child.exact) children)
         → IsWithin (accuracy * scales children) ((accuracy + 1) * factors children)
-        (composed g (map (λ child. child.near) children)) (composed f (map (λ child. child.exact) children)) }
+        (composed parent (map (λ child. child.near) children)) (composed exact_parent (map (λ child. child.exact) children)) }
 {}
 
 /// Each law at small numbers, whose premises are met.

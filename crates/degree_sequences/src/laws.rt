@@ -1,0 +1,86 @@
+//! What the definitions mean, in the words of the subject: no law computes anything, and the contract is the law.
+ghost use Rattle.std.specs.Prelude.{◌≡◌, ℕ, ◌+◌, ◌-◌, ◌*◌, ◌^◌, ◌<◌, ◌≤◌, ◌==◌, min, max, List, length, map, slice_index};
+ghost use Rattle.std.specs.List.{All, AllByRecursion, Contains, IsDistinct, sum};
+ghost use Rattle.std.specs.List.Sorted.{IsPermutation};
+ghost use Rattle.degree_sequences.specs.ByRank.{rank_product, rank_sum, rank_maximum};
+ghost use Rattle.degree_sequences.specs.Composition.{ChildLists, row_weights, block_sums, composed};
+ghost use Rattle.degree_sequences.specs.Compression.{slope, compressed};
+ghost use Rattle.degree_sequences.specs.Degrees.{degree, different, degree_list};
+ghost use Rattle.degree_sequences.specs.Domination.{DominatesKeys, DominatesWeights};
+ghost use Rattle.degree_sequences.specs.Falling.{IsFalling, trimmed};
+ghost use Rattle.degree_sequences.specs.Families.{IsChild};
+ghost use Rattle.degree_sequences.specs.Rank.{rank};
+ghost use Rattle.degree_sequences.specs.RunningSums.{running_sum, lesser, cut_at};
+ghost use Rattle.degree_sequences.specs.Runs.{runs};
+ghost use Rattle.degree_sequences.specs.Saturation.{saturated};
+
+/// A degree list rearranges the degrees of the different keys so that they fall, and dominates the keys. What
+/// dominates keys dominates their degrees as weights (Degree Sequence Bound, ICDT 2023).
+pub fn degree_lists()
+    ensures different { (keys : List ℕ) → IsDistinct ◌==◌ (different keys) }
+    ensures rearranged { (keys : List ℕ) → IsPermutation (map (degree keys) (different keys)) (degree_list keys) }
+    ensures falls { (keys : List ℕ) → IsFalling (degree_list keys) }
+    ensures positive { (keys : List ℕ) → All (λ x. 0 < x) (degree_list keys) }
+    ensures sum { (keys : List ℕ) → sum (degree_list keys) ≡ length keys }
+    ensures dominates { (keys : List ℕ) → DominatesKeys (degree_list keys) keys }
+    ensures weights { (s keys : List ℕ) → DominatesKeys s keys → DominatesWeights s (degree keys) }
+{}
+
+/// The rank of row t is the least whose running sum is at least t.
+pub fn ranks()
+    ensures reaches { (s : List ℕ) (t : ℕ) → t ≤ sum s → t ≤ running_sum s (rank s t) }
+    ensures least { (s : List ℕ) (t r : ℕ) → 0 < t → r < rank s t → running_sum s r < t }
+{}
+
+/// Lists that are known by their running sums, and the operations rank by rank: each answer falls where its lists do.
+pub fn operations()
+    ensures lesser { (s t : List ℕ) (r : ℕ) → running_sum (lesser s t) r ≡ min (running_sum s r) (running_sum t r) }
+    ensures cut { (s : List ℕ) (n r : ℕ) → running_sum (cut_at s n) r ≡ min (running_sum s r) n }
+    ensures product { (s t : List ℕ) (r : ℕ) → slice_index (rank_product s t) r ≡ slice_index s r * slice_index t r }
+    ensures sum { (s t : List ℕ) (r : ℕ) → slice_index (rank_sum s t) r ≡ slice_index s r + slice_index t r }
+    ensures maximum { (s t : List ℕ) (r : ℕ)
+        → slice_index (rank_maximum s t) r ≡ max (slice_index s r) (slice_index t r) }
+    ensures lesser_falls { (s t : List ℕ) → IsFalling s → IsFalling t → IsFalling (lesser s t) }
+    ensures cut_falls { (s : List ℕ) (n : ℕ) → IsFalling s → IsFalling (cut_at s n) }
+    ensures product_falls { (s t : List ℕ) → IsFalling s → IsFalling t → IsFalling (rank_product s t) }
+    ensures sum_falls { (s t : List ℕ) → IsFalling s → IsFalling t → IsFalling (rank_sum s t) }
+    ensures maximum_falls { (s t : List ℕ) → IsFalling s → IsFalling t → IsFalling (rank_maximum s t) }
+{}
+
+/// A compressed list dominates what its list does, has its sum, stays near it and has few runs (SafeBound, SIGMOD 2023).
+pub fn compressions()
+    // each element is the slope at the rows before it, or the rows that are left
+    ensures element { (accuracy : ℕ) (f : List ℕ) (r : ℕ) → r < length (compressed accuracy f)
+        → slice_index (compressed accuracy f) r
+        ≡ min (slope accuracy f (running_sum (compressed accuracy f) r)) (sum f - running_sum (compressed accuracy f) r) }
+    // the list goes on until its sum is that of the list, and no further
+    ensures goes_on { (accuracy : ℕ) (f : List ℕ) (r : ℕ) → r < length (compressed accuracy f)
+        → running_sum (compressed accuracy f) r < sum f }
+    ensures sum { (accuracy : ℕ) (f : List ℕ) → IsFalling f → sum (compressed accuracy f) ≡ sum f }
+    ensures falls { (accuracy : ℕ) (f : List ℕ) → IsFalling f → IsFalling (compressed accuracy f) }
+    ensures above { (accuracy : ℕ) (f : List ℕ) → IsFalling f → (r : ℕ)
+        → running_sum f r ≤ running_sum (compressed accuracy f) r }
+    ensures near { (accuracy : ℕ) (f : List ℕ) → IsFalling f → (r : ℕ)
+        → accuracy * slice_index (compressed accuracy f) r ≤ (accuracy + 1) * slice_index f r }
+    ensures few { (accuracy : ℕ) → 0 < accuracy → (f : List ℕ) → IsFalling f → All (λ x. 0 < x) f
+        → (digits : ℕ) → slice_index f 0 < 2 ^ digits → runs (compressed accuracy f) ≤ accuracy * digits + 1 }
+{}
+
+/// The running sums of a composition are those of the row weights, at the parent's running sums.
+pub fn compositions()
+    ensures blocks { (parent : List ℕ) (children : List ChildLists) (r : ℕ)
+        → running_sum (composed parent children) r ≡ running_sum (row_weights children (sum parent)) (running_sum parent r) }
+    ensures falls { (parent : List ℕ) (children : List ChildLists) → IsFalling parent
+        → AllByRecursion (IsChild (sum parent)) children → IsFalling (composed parent children) }
+{}
+
+/// Saturating at each step and once at the end is the same, for sums and products and for what is made of them.
+pub fn saturations()
+    ensures sums { (a b : ℕ) → saturated (saturated a + saturated b) ≡ saturated (a + b) }
+    ensures products { (a b : ℕ) → saturated (saturated a * saturated b) ≡ saturated (a * b) }
+    ensures rank_products { (s t : List ℕ)
+        → map saturated (rank_product (map saturated s) (map saturated t)) ≡ map saturated (rank_product s t) }
+    ensures blocks { (counts weights : List ℕ)
+        → map saturated (block_sums counts (map saturated weights)) ≡ map saturated (block_sums counts weights) }
+    ensures zeros { (s : List ℕ) → map saturated (trimmed s) ≡ trimmed (map saturated s) }
+{}

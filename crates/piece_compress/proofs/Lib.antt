@@ -1,0 +1,2 @@
+pub mod DigitCounts
+pub mod Growing

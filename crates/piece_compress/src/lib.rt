@@ -1,0 +1,146 @@
+//! Compression: from a degree list to a list of few pieces that dominates the same keys.
+//!
+//! In comes the degree list of a column, or of some of its rows, which can be as long as the column has keys.
+//! Out go its pieces, which statistics keep and bounds are made of (SafeBound, SIGMOD 2023). At accuracy K the
+//! list exceeds the degrees by at most one K-th at each rank, and keeps their sum.
+//!
+//! Callers cite `compressed` of crate `degree_sequences` and `most_pieces`:
+//! `let list = compress(alloc, counts.as_slice(), 1)?;` gives `list ≡ compressed 1 counts`.
+#![tactic(auto)]
+
+ghost use Rattle.std.specs.Prelude.{◌≡◌, ℕ, ◌+◌, ◌-◌, ◌*◌, ◌^◌, ◌<◌, ◌≤◌, List, slice_index, IfOk, length, replicate, ◌++◌, OnOk};
+ghost use Rattle.std.specs.List.{All, sum};
+ghost use Rattle.degree_sequences.specs.Compression.{compressed, next_head};
+ghost use Rattle.degree_sequences.specs.Degrees.{degree_list};
+ghost use Rattle.degree_sequences.specs.Domination.{DominatesKeys};
+ghost use Rattle.degree_sequences.specs.Falling.{IsFalling};
+ghost use Rattle.degree_sequences.specs.Runs.{runs};
+ghost use Rattle.piece_compress.specs.BinaryDigits.{most_pieces};
+
+use base_io::NoMemory;
+use piece_math::Pieces;
+use std::alloc::Global;
+
+/// The most pieces that a compressed list can have whose first degree is `first`.
+pub fn pieces_at_most(first: u64, accuracy: u8) -> u32
+    ensures { result ≡ most_pieces first accuracy }
+{
+    u32::from(accuracy) * (u64::BITS - first.leading_zeros()) + 1
+}
+
+// Equal elements at the end of the answer, not yet among its pieces.
+#[derive(Clone, Copy)]
+struct Run {
+    value: u64,
+    count: u64,
+}
+
+/// A degree list compressed with an accuracy from 1 to 64.
+pub fn compress(alloc: Global, falling: &[u64], accuracy: u8) -> Result<Pieces, NoMemory>
+    requires falls { IsFalling falling.now }
+    requires positive { All (λ degree. 0 < degree) falling.now }
+    requires small { sum falling.now ≤ 2 ^ 32 }
+    requires accuracy { (0 < accuracy) × (accuracy ≤ 64) }
+    ensures compressed { IfOk result (λ list. list ≡ compressed accuracy falling.now) }
+    ensures dominates { IfOk result (λ list. (keys : List ℕ) → degree_list keys ≡ falling.now → DominatesKeys list keys) }
+    ensures sum { IfOk result (λ list. sum list ≡ sum falling.now) }
+    ensures near { IfOk result (λ list. (r : ℕ) → accuracy * slice_index list r ≤ (accuracy + 1) * slice_index falling.now r) }
+    ensures few { IfOk result (λ list. runs list ≤ most_pieces (slice_index falling.now 0) accuracy) }
+{
+    let mut pieces = Pieces::empty(alloc);
+    let mut head = falling.first().copied().unwrap_or(0);
+    let mut run = Run {
+        value: head,
+        count: 0,
+    };
+    let mut rows: u64 = 0;
+    let mut covered: u64 = 0;
+    for &degree in falling {
+        head = head_after(head, degree, accuracy);
+        rows += degree;
+        if covered < rows {
+            run = extended(&mut pieces, run, head)?;
+            covered += head;
+        }
+    }
+    if run.count > 0 {
+        finish(&mut pieces, run, covered - rows)?;
+    }
+    Ok(pieces)
+}
+
+// A degree that lies far enough below the head is the next head.
+fn head_after(head: u64, degree: u64, accuracy: u8) -> u64
+    requires head { head ≤ 2 ^ 32 }
+    requires degree { degree ≤ head }
+    requires accuracy { accuracy ≤ 64 }
+    ensures { result ≡ next_head accuracy head degree }
+{
+    let accuracy = u64::from(accuracy);
+    if (accuracy + 1) * degree < accuracy * head {
+        degree
+    } else {
+        head
+    }
+}
+
+// The run with one more element. Where that has another value, the run goes to the pieces first.
+fn extended(pieces: &mut Pieces, run: Run, value: u64) -> Result<Run, NoMemory>
+    requires positive { 0 < value }
+    requires lower { value ≤ run.value }
+    requires falls { All (λ x. run.value ≤ x) pieces.old }
+    requires room { length pieces.old + run.count + 1 < 2 ^ 64 }
+    ensures value { IfOk result (λ longer. longer.value ≡ value) }
+    ensures one_more { IfOk result (λ longer. 0 < longer.count) }
+    ensures before { IfOk result (λ longer. pieces.new ++ replicate (longer.count - 1) longer.value ≡ pieces.old ++ replicate run.count run.value) }
+    ensures falls { IfOk result (λ longer. All (λ x. longer.value ≤ x) pieces.new) }
+{
+    if run.value == value {
+        return Ok(Run {
+            value,
+            count: run.count + 1,
+        });
+    }
+    if run.count > 0 {
+        pieces.push_run(u128::from(run.value), run.count)?;
+    }
+    Ok(Run { value, count: 1 })
+}
+
+// Ends the answer with the run, whose last element has so many rows too many.
+fn finish(pieces: &mut Pieces, run: Run, excess: u64) -> Result<(), NoMemory>
+    requires some { 0 < run.count }
+    requires excess { excess < run.value }
+    requires falls { All (λ x. run.value ≤ x) pieces.old }
+    requires room { length pieces.old + run.count < 2 ^ 64 }
+    ensures { OnOk result (pieces.new ≡ (pieces.old ++ replicate (run.count - 1) run.value) ++ replicate 1 (run.value - excess)) }
+{
+    if run.count > 1 {
+        pieces.push_run(u128::from(run.value), run.count - 1)?;
+    }
+    pieces.push_run(u128::from(run.value - excess), 1)
+}
+
+#[cfg(test)]
+mod tests {
+    use super::*;
+    use std::test::Fail;
+
+    #[test]
+    fn heads_hold(rt: HostRuntime) -> Result<(), Fail> {
+        let list = compress(rt.alloc(), &[5, 4, 3, 1], 1)?;
+        let pieces = list.pieces();
+        assert_eq!(rt; pieces.len(), 2);
+        assert_eq!(rt; (pieces[0].value, pieces[0].count), (5, 2));
+        assert_eq!(rt; (pieces[1].value, pieces[1].count), (3, 1));
+        assert_eq!(rt; pieces_at_most(5, 1), 4);
+        Ok(())
+    }
+
+    #[test]
+    fn finer_heads_follow(rt: HostRuntime) -> Result<(), Fail> {
+        let list = compress(rt.alloc(), &[5, 4, 3, 1], 5)?;
+        assert_eq!(rt; list.pieces().len(), 4);
+        Ok(())
+    }
+}
