@@ -9,6 +9,7 @@ use Rattle.degree_sequences.specs.Saturation.{saturated}
 use Rattle.piece_math.specs.Expanded.{IsAppended}
 use Rattle.piece_math.proofs.Falling.{at_least_next}
 
+-- equal elements at the start
 first_run : (s : List ℕ) (c v : ℕ) → ((k : ℕ) → k < c → get_or s k 0 ≡ v) → 0 < v → take c s ≡ replicate c v
 first_run s zero v same pos = refl
 first_run [] (suc c) v same pos = absurd (omega (arith, same 0 (omega arith)))
@@ -20,6 +21,7 @@ first_run (x ∷ s) (suc c) v same pos =
 pub record HasRun (s : List ℕ) (n c v : ℕ) : Type 0 where
   pub same : (k : ℕ) → k < c → get_or s (n + k) 0 ≡ v
 
+-- equal elements later on
 take_run : (n : ℕ) (s : List ℕ) (c v : ℕ) → ((k : ℕ) → k < c → get_or s (n + k) 0 ≡ v) → 0 < v → take (n + c) s ≡ take n s ++ replicate c v
 take_run zero s c v same pos =
     ap (λ k. take k s) (zero-add c) ∙ first_run s c v (λ k h. ap (λ i. get_or s i 0) (sym (zero-add k)) ∙ same k h) pos
@@ -42,6 +44,7 @@ module _ {goal list : List ℕ} {n c v : ℕ} (so_far : list ≡ take n goal) (r
       let e : get_or goal n 0 ≡ v = ap (λ i. get_or goal i 0) (sym (add-zero n)) ∙ run.same 0 some in
       subst (All (λ x. v ≤ x)) (sym so_far) (subst (λ (y : ℕ). All (λ x. y ≤ x) (take n goal)) e (at_least_next goal fall n))
 
+  -- and it fits
   pub run_fits : 0 < v → length list + c ≤ length goal
   run_fits pos =
       omega (
@@ -67,14 +70,17 @@ module _ {goal list : List ℕ} {n c v : ℕ} (so_far : list ≡ take n goal) (r
 
 -- ---- saturated lists
 
+-- saturation of each element
 pub get_or-saturated : (s : List ℕ) (r : ℕ) → get_or (map saturated s) r 0 ≡ saturated (get_or s r 0)
 get_or-saturated [] r = refl
 get_or-saturated (x ∷ s) zero = refl
 get_or-saturated (x ∷ s) (suc r) = get_or-saturated s r
 
+-- saturated numbers of a falling list fall
 pub IsFalling-saturated : (s : List ℕ) → IsFalling s → IsFalling (map saturated s)
 IsFalling-saturated s fall r = omega (arith, fall r, get_or-saturated s r, get_or-saturated s (suc r))
 
+-- and positive ones stay positive
 pub positive-saturated : (s : List ℕ) → AllByRecursion (λ x. 0 < x) s → AllByRecursion (λ x. 0 < x) (map saturated s)
 positive-saturated [] all = tt
 positive-saturated (x ∷ s) all = (omega (arith, all.0), positive-saturated s all.1)

@@ -6,7 +6,7 @@ use Rattle.std.proofs.lemmas.List.{length-map, take_all}
 use Rattle.degree_sequences.proofs.ByRank.{get_or-rank_product, get_or-rank_maximum, IsFalling-rank_product, IsFalling-rank_sum, IsFalling-rank_maximum}
 use Rattle.degree_sequences.specs.Falling.{IsFalling}
 use Rattle.degree_sequences.specs.Saturation.{saturated}
-use Rattle.degree_sequences.specs.ByRank.{rank_sum}
+use Rattle.degree_sequences.specs.ByRank.{rank_product, rank_sum}
 use Rattle.degree_sequences.specs.Runs.{runs}
 use Rattle.piece_math.specs.declared.pieces.Piece.{Piece}
 use Rattle.piece_math.specs.declared.walk.Places.{Places}
@@ -39,11 +39,15 @@ IsFalling-combined Product s t fs ft = IsFalling-rank_product s t fs ft
 IsFalling-combined Sum s t fs ft = IsFalling-rank_sum s t fs ft
 IsFalling-combined Maximum s t fs ft = IsFalling-rank_maximum s t fs ft
 
--- and positive ones are positive
+-- products of positive numbers are positive
+pub positive-rank_product : (s t : List ℕ) → AllByRecursion (λ x. 0 < x) s → AllByRecursion (λ x. 0 < x) t → AllByRecursion (λ x. 0 < x) (rank_product s t)
+positive-rank_product [] t ps pt = tt
+positive-rank_product (x ∷ s) [] ps pt = tt
+positive-rank_product (x ∷ s) (y ∷ t) ps pt = (mul-pos ps.0 pt.0, positive-rank_product s t ps.1 pt.1)
+
+-- and combined positive lists are positive
 positive-combined : (how : Combination) (s t : List ℕ) → AllByRecursion (λ x. 0 < x) s → AllByRecursion (λ x. 0 < x) t → AllByRecursion (λ x. 0 < x) (combined_by_rank how s t)
-positive-combined Product [] t ps pt = tt
-positive-combined Product (x ∷ s) [] ps pt = tt
-positive-combined Product (x ∷ s) (y ∷ t) ps pt = (mul-pos ps.0 pt.0, positive-combined Product s t ps.1 pt.1)
+positive-combined Product s t ps pt = positive-rank_product s t ps pt
 positive-combined Sum [] t ps pt = pt
 positive-combined Sum (x ∷ s) [] ps pt = ps
 positive-combined Sum (x ∷ s) (y ∷ t) ps pt = (omega (arith, ps.0), positive-combined Sum s t ps.1 pt.1)
@@ -65,27 +69,33 @@ length-combined-le Maximum (x ∷ s) (y ∷ t) = omega (arith, length-combined-l
 
 -- ---- the list of the walk
 
+-- the list that the walk builds
 abbrev pub goal_of : Combination → List Piece → List Piece → List ℕ
 goal_of how a b = map saturated (combined_by_rank how (expanded a) (expanded b))
 
+-- the list is built as far as the places
 pub record Combined (how : Combination) (a b : List Piece) (places : Places) (list : List ℕ) : Type 0 where
   pub walked : Walked a b places
   pub built : list ≡ take walked.rank (goal_of how a b)
   pub few : runs list ≤ places.left.at + places.right.at
 
+-- that list falls
 pub goal_falls : (how : Combination) (a b : List Piece) → ArePieces a → ArePieces b → IsFalling (goal_of how a b)
 goal_falls how a b are_a are_b =
     IsFalling-saturated (combined_by_rank how (expanded a) (expanded b))
     (IsFalling-combined how (expanded a) (expanded b) (IsFalling-expanded a are_a.falls) (IsFalling-expanded b are_b.falls))
 
+-- is positive
 pub goal_positive : (how : Combination) (a b : List Piece) → ArePieces a → ArePieces b → AllByRecursion (λ x. 0 < x) (goal_of how a b)
 goal_positive how a b are_a are_b =
     positive-saturated (combined_by_rank how (expanded a) (expanded b))
     (positive-combined how (expanded a) (expanded b) (positive-expanded a are_a.falls) (positive-expanded b are_b.falls))
 
+-- and is no longer than the longer one
 pub goal_short : (how : Combination) (a b : List Piece) → length (goal_of how a b) ≤ max (length (expanded a)) (length (expanded b))
 goal_short how a b = omega (arith, length-map (combined_by_rank how (expanded a) (expanded b)) saturated, length-combined-le how (expanded a) (expanded b))
 
+-- the elements of a turn
 pub goal_run : (how : Combination) (a b : List Piece) (places : Places) (turn : Turn) (v : ℕ) → (t : IsTurn a b places turn) (w : Walked a b places)
     → v ≡ saturated (combined how turn.left turn.right) → HasRun (goal_of how a b) w.rank turn.count v
 goal_run how a b places turn v t w is = record {
@@ -94,18 +104,22 @@ goal_run how a b places turn v t w is = record {
       ∙ sym is;
 }
 
+-- before the first turn
 pub combine_start : (how : Combination) (a b : List Piece) → ArePieces a → ArePieces b
     → Combined how a b (record { left = record { at = 0; used = 0 }; right = record { at = 0; used = 0 } }) []
 combine_start how a b are_a are_b = record { walked = walk_start a b are_a are_b; built = refl; few = omega arith }
 
 module _ {how : Combination} {a b : List Piece} {places : Places} {turn : Turn} {list : List ℕ} {v : ℕ} (are_a : ArePieces a) (are_b : ArePieces b)
     (so_far : Combined how a b places list) (t : IsTurn a b places turn) (value : v ≡ saturated (combined how turn.left turn.right)) where
+  -- the elements of a turn may be appended
   pub combine_falls : 0 < turn.count → All (λ x. v ≤ x) list
   combine_falls some = run_falls so_far.built (goal_run how a b places turn v t so_far.walked value) (goal_falls how a b are_a are_b) some
 
+  -- they fit
   pub combine_fits : 0 < v → length list + turn.count < 2 ^ 64
   combine_fits pos = omega (arith, run_fits so_far.built (goal_run how a b places turn v t so_far.walked value) pos, goal_short how a b, are_a.fits, are_b.fits)
 
+  -- after a turn
   pub combine_step : {new : List ℕ} → IsAppended list new v turn.count → Combined how a b turn.next new
   combine_step put = record {
     walked = walk_on t so_far.walked;
@@ -113,6 +127,7 @@ module _ {how : Combination} {a b : List Piece} {places : Places} {turn : Turn} 
     few = omega (arith, put.few, so_far.few, t.onward);
   }
 
+-- at the end of both lists
 pub combine_end : (how : Combination) (a b : List Piece) (places : Places) (list : List ℕ) → Combined how a b places list → length a ≤ places.left.at → length b ≤ places.right.at
     → list ≡ goal_of how a b
 combine_end how a b places list so_far over_a over_b =

@@ -31,6 +31,7 @@ saturated-composed g u =
     ∙ sym (saturated-trimmed (block_sums g (trimmed u)))
     ∙ ap (λ s. map saturated (trimmed s)) (block_sums-same g (trimmed u) u (λ r. running_sum-trimmed u r))
 
+-- the two forms of a fact on each element
 All-recursion : (s : List ℕ) → All (λ x. 0 < x) s → AllByRecursion (λ x. 0 < x) s
 All-recursion [] all = tt
 All-recursion (x ∷ s) all = (all 0 0 (omega arith), All-recursion s (λ i d h. all (suc i) d (omega arith)))

@@ -19,9 +19,11 @@ use Rattle.piece_math.proofs.RunningMinima.{element_from_sums, running_sum-has_r
 
 -- ---- before piece i
 
+-- the elements of a rank on are those of piece i and the later ones
 pub record IsBefore (ps : List Piece) (i rank : ℕ) : Type 0 where
   pub rest : drop rank (expanded ps) ≡ expanded (drop i ps)
 
+-- the list from piece i on begins with its elements
 expanded-drop : (ps : List Piece) (i : ℕ) (d : Piece) → i < length ps → expanded (drop i ps) ≡ replicate (get_or ps i d).count (get_or ps i d).value ++ expanded (drop (i + 1) ps)
 expanded-drop ps i d h = ap expanded (drop_more ps i d h)
 
@@ -33,6 +35,7 @@ piece_run ps i rank d h before = record {
       ∙ get_or-front (get_or ps i d).count (get_or ps i d).value (expanded (drop (i + 1) ps)) k j;
 }
 
+-- the place before the next piece
 pub piece_passed : (ps : List Piece) (i rank : ℕ) (d : Piece) → i < length ps → IsBefore ps i rank → IsBefore ps (i + 1) (rank + (get_or ps i d).count)
 piece_passed ps i rank d h before = record {
   rest = sym (drop-drop rank (get_or ps i d).count (expanded ps))
@@ -42,6 +45,7 @@ piece_passed ps i rank d h before = record {
 
 -- ---- the cut list
 
+-- a cut list is positive
 positive-cut_at : (s : List ℕ) (n : ℕ) → IsFalling s → AllByRecursion (λ y. 0 < y) (cut_at s n)
 positive-cut_at s n fall = positive-falling_trimmed (with_running_sums (λ r. min (running_sum s r) n) (length s)) (IsFalling-cut_at s n fall)
 
@@ -52,6 +56,7 @@ cut_no_longer s n r fall over =
     (element_from_sums (cut_at s n) r 0
     (omega (arith, running_sum-cut_at s n r, running_sum-cut_at s n (r + 1), running_sum-past s r over, running_sum-past s (r + 1) (omega arith))))
 
+-- the cut list is built up to piece i, and so much of n is left
 pub record CutSoFar (ps : List Piece) (n i left : ℕ) (list : List ℕ) : Type 0 where
   pub rank : ℕ
   pub before : IsBefore ps i rank
@@ -59,6 +64,7 @@ pub record CutSoFar (ps : List Piece) (n i left : ℕ) (list : List ℕ) : Type 
   pub left_over : left + running_sum (expanded ps) rank ≡ n
   pub few : runs list ≤ i
 
+-- before the first piece
 pub cut_start : (ps : List Piece) (n left : ℕ) → left ≡ n → CutSoFar ps n 0 left []
 cut_start ps n left h = record { rank = 0; before = record { rest = refl }; built = refl; left_over = omega arith; few = omega arith }
 
@@ -69,9 +75,11 @@ module _ {ps : List Piece} (are : ArePieces ps) {n i left : ℕ} {list : List �
   pub cut_positive : AllByRecursion (λ y. 0 < y) (cut_at (expanded ps) n)
   cut_positive = positive-cut_at (expanded ps) n (IsFalling-expanded ps are.falls)
 
+  -- it is short enough
   pub cut_fits : length (cut_at (expanded ps) n) < 2 ^ 64
   cut_fits = omega (arith, are.fits, cut_no_longer (expanded ps) n (length (expanded ps)) (IsFalling-expanded ps are.falls) (omega arith))
 
+  -- at the end of the list
   pub cut_end : length ps ≤ i → list ≡ cut_at (expanded ps) n
   cut_end over =
       let nothing : drop so_far.rank (expanded ps) ≡ [] = so_far.before.rest ∙ ap expanded (drop_all i ps over) in
@@ -80,6 +88,7 @@ module _ {ps : List Piece} (are : ArePieces ps) {n i left : ℕ} {list : List �
       (cut_no_longer (expanded ps) n so_far.rank (IsFalling-expanded ps are.falls) (omega (arith, ap length nothing, length-drop so_far.rank (expanded ps))))
 
   module _ (d : Piece) (within : i < length ps) where
+    -- running sums within a piece
     cut_sums : (k : ℕ) → k ≤ (get_or ps i d).count → running_sum (cut_at (expanded ps) n) (so_far.rank + k) ≡ min (running_sum (expanded ps) so_far.rank + k * (get_or ps i d).value) n
     cut_sums k h =
         omega (
@@ -134,10 +143,12 @@ module _ {ps : List Piece} (are : ArePieces ps) {n i left : ℕ} {list : List �
           less,
         )))
 
+    -- after elements that stay as they are
     pub built_kept : {one : List ℕ} (c : ℕ) → c ≤ (get_or ps i d).count → c * (get_or ps i d).value ≤ left → IsAppended list one (get_or ps i d).value c
         → one ≡ take (so_far.rank + c) (cut_at (expanded ps) n)
     built_kept c within_piece below put = run_built so_far.built (kept_run c within_piece below) cut_positive put
 
+    -- after a piece that stays as it is
     pub cut_step : {new : List ℕ} → (get_or ps i d).count * (get_or ps i d).value ≤ left → IsAppended list new (get_or ps i d).value (get_or ps i d).count
         → CutSoFar ps n (i + 1) (left - (get_or ps i d).value * (get_or ps i d).count) new
     cut_step below put = record {
@@ -153,6 +164,7 @@ module _ {ps : List Piece} (are : ArePieces ps) {n i left : ℕ} {list : List �
       few = omega (arith, put.few, so_far.few);
     }
 
+    -- after the element that is cut
     pub cut_done : {one two : List ℕ} (q rest : ℕ) → q < (get_or ps i d).count → left ≡ q * (get_or ps i d).value + rest → rest < (get_or ps i d).value
         → IsAppended list one (get_or ps i d).value q → IsAppended one two rest 1 → two ≡ cut_at (expanded ps) n
     cut_done q rest within_piece split less put1 put2 =
@@ -161,6 +173,7 @@ module _ {ps : List Piece} (are : ArePieces ps) {n i left : ℕ} {list : List �
 
 -- ---- how often a value goes into what is left
 
+-- values are positive
 pub value_positive : (ps : List Piece) (i : ℕ) (d : Piece) → ArePieces ps → i < length ps → 0 < (get_or ps i d).value
 value_positive ps i d are h = go ps i are.falls h
   where
@@ -169,8 +182,10 @@ value_positive ps i d are h = go ps i are.falls h
     go (p ∷ ps) zero fall h = omega (arith, fall.0)
     go (p ∷ ps) (suc i) fall h = go ps i fall.2 (omega arith)
 
+-- so often the value goes into what is left
 pub whole_below : (left v c : ℕ) → c ≤ left / v → c * v ≤ left
 whole_below left v c h = omega (arith, mul-le-mul_right v h, div-mul-le_self left v)
 
+-- and this remains
 pub whole_split : (left v : ℕ) → 0 < v → left ≡ left / v * v + left % v
 whole_split left v pos = omega arith

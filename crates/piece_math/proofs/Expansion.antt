@@ -1,10 +1,9 @@
 -- Pieces and the list that they stand for.
 use Rattle.std.proofs.Common.{eqb, ◌≡◌, ℕ, zero, suc, ◌+◌, ◌-◌, ◌*◌, ◌^◌, ◌<◌, ◌≤◌, List, [], ◌∷◌, ◌++◌, length, get_or, take, replicate, refl, ap, sym, ◌∙◌, subst, sum, arith, length-append, zero-add}
 use Rattle.std.specs.List.{AllByRecursion, All}
-use Rattle.std.proofs.Math.Nat.{suc-add}
 use Rattle.std.proofs.Math.Seq.{get_or-append_seam}
 use Rattle.std.proofs.lemmas.Bool.{cond_both, eq-eqb, ne_eqb}
-use Rattle.std.proofs.lemmas.List.{append_assoc, append-nil, length-replicate, take_all, take_more}
+use Rattle.std.proofs.lemmas.List.{replicate-append-replicate, append_assoc, append-nil, length-replicate, take_all, take_more}
 use Rattle.std.proofs.lemmas.List.Folds.{sum_by-replicate}
 use Rattle.std.proofs.lemmas.List.Sums.{sum_by-append}
 use Rattle.degree_sequences.proofs.Spread.{IsFalling-front}
@@ -15,13 +14,14 @@ use Rattle.piece_math.specs.Expanded.{expanded, first_value, AreRuns, ArePieces}
 
 -- ---- one more piece
 
+-- the list of one more piece
 pub expanded-push : (ps : List Piece) (p : Piece) → expanded (ps ++ p ∷ []) ≡ expanded ps ++ replicate p.count p.value
 expanded-push [] p = append-nil (replicate p.count p.value)
 expanded-push (q ∷ ps) p = ap (λ (s : List ℕ). replicate q.count q.value ++ s) (expanded-push ps p) ∙ sym (append_assoc (replicate q.count q.value) (expanded ps) (replicate p.count p.value))
 
+-- a run in two parts
 pub replicate-add : (m n x : ℕ) → replicate (m + n) x ≡ replicate m x ++ replicate n x
-replicate-add zero n x = ap (λ k. replicate k x) (zero-add n)
-replicate-add (suc m) n x = ap (λ k. replicate k x) (suc-add m n) ∙ ap (λ (s : List ℕ). x ∷ s) (replicate-add m n x)
+replicate-add m n x = sym (replicate-append-replicate m n x)
 
 -- the last piece grows
 pub expanded-grown : (ps : List Piece) (p q : Piece) (n : ℕ) → q.value ≡ p.value → q.count ≡ p.count + n
@@ -32,10 +32,12 @@ expanded-grown ps p q n same more =
     ∙ sym (append_assoc (expanded ps) (replicate p.count p.value) (replicate n q.value))
     ∙ ap (λ (s : List ℕ). s ++ replicate n q.value) (sym (expanded-push ps p))
 
+-- the first value stays where the last value does
 first-push : (ps : List Piece) (p q : Piece) → q.value ≡ p.value → first_value (ps ++ q ∷ []) ≡ first_value (ps ++ p ∷ [])
 first-push [] p q same = same
 first-push (r ∷ ps) p q same = refl
 
+-- pieces still fall where the last one has a larger count
 pub AreRuns-grown : (ps : List Piece) (p q : Piece) (n : ℕ) → q.value ≡ p.value → q.count ≡ p.count + n → AreRuns (ps ++ p ∷ []) → AreRuns (ps ++ q ∷ [])
 AreRuns-grown [] p q n same more h = (omega (arith, h.0), omega (arith, h.1), tt)
 AreRuns-grown (r ∷ ps) p q n same more h = (omega (arith, h.0, first-push ps p q same), h.1, AreRuns-grown ps p q n same more h.2)
@@ -70,6 +72,7 @@ last_count : (ps : List Piece) (p : Piece) → AreRuns (ps ++ p ∷ []) → 0 < 
 last_count [] p fall = fall.1
 last_count (q ∷ ps) p fall = last_count ps p fall.2
 
+-- and where a smaller piece follows
 pub AreRuns-added : (ps : List Piece) (p q : Piece) → AreRuns (ps ++ p ∷ []) → (p.value ≡ q.value → ⊥) → All (λ x. q.value ≤ x) (expanded (ps ++ p ∷ []))
     → 0 < q.value → 0 < q.count → AreRuns (ps ++ p ∷ [] ++ q ∷ [])
 AreRuns-added ps p q fall other least pos some =
@@ -91,6 +94,7 @@ module _ (old : List Piece) (d : Piece) (v n : ℕ) (some : 0 < length old) (sam
       expanded-grown (take (length old - 1) old) (get_or old (length old - 1) d) (record { value = v; count = (get_or old (length old - 1) d).count + n }) n (sym same) refl
       ∙ ap (λ ps. expanded ps ++ replicate n v) (sym (split_last old d some))
 
+  -- the pieces are still well formed
   pub ArePieces-with_last : ArePieces old → length (expanded old) + n < 2 ^ 64
       → ArePieces (take (length old - 1) old ++ record { value = v; count = (get_or old (length old - 1) d).count + n } ∷ [])
   ArePieces-with_last are room = record {
@@ -99,6 +103,7 @@ module _ (old : List Piece) (d : Piece) (v n : ℕ) (some : 0 < length old) (sam
     fits = omega (arith, ap length expanded-with_last, length-append (expanded old) (replicate n v), length-replicate n v);
   }
 
+-- no piece is longer than the list
 pub last_fits : (old : List Piece) (d : Piece) → 0 < length old → (get_or old (length old - 1) d).count ≤ length (expanded old)
 last_fits old d some =
     let ps : List Piece = take (length old - 1) old in
@@ -124,14 +129,17 @@ ArePieces-added old d v n other least pos some are room = record {
 
 -- ---- runs
 
+-- a run goes on
 runs_after-same : (n x : ℕ) (s : List ℕ) → runs_after x (replicate n x ++ s) ≡ runs_after x s
 runs_after-same zero x s = refl
 runs_after-same (suc n) x s = rw (eq-eqb x x refl, zero-add) (runs_after-same n x s)
 
+-- a run begins
 runs_after-front : (v n x : ℕ) (s : List ℕ) → 0 < n → (x ≡ v → ⊥) → runs_after v (replicate n x ++ s) ≡ suc (runs_after x s)
 runs_after-front v zero x s h other = absurd (omega arith)
 runs_after-front v (suc n) x s h other = rw (ne_eqb x v other) (omega (arith, runs_after-same n x s))
 
+-- each later piece begins a run
 runs_after-pieces : (p : Piece) (ps : List Piece) → AreRuns (p ∷ ps) → runs_after p.value (expanded ps) ≡ length ps
 runs_after-pieces p [] fall = refl
 runs_after-pieces p (q ∷ ps) fall =
@@ -150,31 +158,38 @@ runs_after-push v [] (suc n) x = cond_both (eqb x v) 0 1 (λ k. k + runs_after x
     (λ e. omega (arith, runs_after-same n x [], ap (runs_after x) (append-nil (replicate n x))))
 runs_after-push v (y ∷ s) n x = omega (arith, runs_after-push y s n x)
 
+-- at most one run more
 pub runs-push : (s : List ℕ) (n x : ℕ) → runs (s ++ replicate n x) ≤ runs s + 1
 runs-push s n x = omega (arith, runs_after-push 0 s n x)
 
 -- ---- the list falls and is positive
 
+-- the first element of a run
 first-run : (n x : ℕ) (s : List ℕ) → get_or s 0 0 ≤ x → get_or (replicate n x ++ s) 0 0 ≤ x
 first-run zero x s h = h
 first-run (suc n) x s h = omega arith
 
+-- the first element of a list
 first-expanded : (ps : List Piece) → AreRuns ps → get_or (expanded ps) 0 0 ≤ first_value ps
 first-expanded [] fall = omega arith
 first-expanded (p ∷ ps) fall = first-run p.count p.value (expanded ps) (omega (arith, first-expanded ps fall.2, fall.0))
 
+-- the list of falling pieces falls
 pub IsFalling-expanded : (ps : List Piece) → AreRuns ps → IsFalling (expanded ps)
 IsFalling-expanded [] fall = λ r. omega arith
 IsFalling-expanded (p ∷ ps) fall = IsFalling-front p.count p.value (expanded ps) (omega (arith, first-expanded ps fall.2, fall.0)) (IsFalling-expanded ps fall.2)
 
+-- a run of positive numbers
 positive-front : (n x : ℕ) (s : List ℕ) → 0 < x → AllByRecursion (λ x. 0 < x) s → AllByRecursion (λ x. 0 < x) (replicate n x ++ s)
 positive-front zero x s h all = all
 positive-front (suc n) x s h all = (h, positive-front n x s h all)
 
+-- the list of falling pieces is positive
 pub positive-expanded : (ps : List Piece) → AreRuns ps → AllByRecursion (λ x. 0 < x) (expanded ps)
 positive-expanded [] fall = tt
 positive-expanded (p ∷ ps) fall = positive-front p.count p.value (expanded ps) (omega (arith, fall.0)) (positive-expanded ps fall.2)
 
+-- the two forms of a fact on each element
 pub All-from_recursion : (P : ℕ → Type 0) (s : List ℕ) → AllByRecursion P s → All P s
 All-from_recursion P [] all i d h = absurd (omega arith)
 All-from_recursion P (x ∷ s) all zero d h = all.0
@@ -182,6 +197,7 @@ All-from_recursion P (x ∷ s) all (suc i) d h = All-from_recursion P s all.1 i 
 
 -- ---- totals
 
+-- the sum with one more piece
 pub sum-expanded-push : (ps : List Piece) (p : Piece) → sum (expanded (ps ++ p ∷ [])) ≡ sum (expanded ps) + p.count * p.value
 sum-expanded-push ps p =
     ap sum (expanded-push ps p) ∙ sum_by-append (λ (x : ℕ). x) (expanded ps) (replicate p.count p.value)

@@ -10,6 +10,7 @@ use Rattle.piece_math.specs.declared.walk.Place.{Place}
 use Rattle.piece_math.specs.Expanded.{expanded, AreRuns, ArePieces}
 use Rattle.piece_math.specs.Places.{rest_from, first_left, ahead_of, IsPlace}
 
+-- what is left in two steps
 pub drop-drop : (m n : ℕ) (s : List ℕ) → drop n (drop m s) ≡ drop (m + n) s
 drop-drop zero n s = ap (λ k. drop k s) (sym (zero-add n))
 drop-drop (suc m) n [] = drop-nil n ∙ sym (drop-nil (suc m + n))
@@ -21,6 +22,7 @@ first_left-at [] i used d h = absurd (omega arith)
 first_left-at (p ∷ ps) zero used d h = refl
 first_left-at (p ∷ ps) (suc i) used d h = first_left-at ps i used d (omega arith)
 
+-- past the end
 pub first_left-end : (ps : List Piece) (i used : ℕ) → length ps ≤ i → first_left (drop i ps) used ≡ record { value = 0; count = 2 ^ 64 - 1 }
 first_left-end ps i used h = rw (drop_all i ps h) refl
 
@@ -32,19 +34,23 @@ equal_first (p ∷ ps) used k h =
     ∙ get_or-append (replicate p.count p.value) (expanded ps) 0 (used + k) (omega (arith, length-replicate p.count p.value))
     ∙ get_or-replicate p.count (used + k) p.value 0 (omega arith)
 
+-- in a list at a place
 pub equal_ahead : (ps : List Piece) (place : Place) (k : ℕ) → k < (ahead_of ps place).count → get_or (rest_from ps place) k 0 ≡ (ahead_of ps place).value
 equal_ahead ps place k h = equal_first (drop place.at ps) place.used k h
 
 -- ---- the place after
 
+-- there are elements at the start of each piece
 some_first : (ps : List Piece) → AreRuns ps → (i : ℕ) → 0 < (first_left (drop i ps) 0).count
 some_first [] fall i = rw (drop-nil i) (omega arith)
 some_first (p ∷ ps) fall zero = omega (arith, fall.1)
 some_first (p ∷ ps) fall (suc i) = some_first ps fall.2 i
 
+-- the next piece is a place
 pub IsPlace-next : (ps : List Piece) (i : ℕ) → ArePieces ps → i < length ps → IsPlace ps (record { at = i + 1; used = 0 })
 IsPlace-next ps i are h = record { within = omega arith; inside = some_first ps are.falls (i + 1) }
 
+-- and so is the start
 pub IsPlace-start : (ps : List Piece) → ArePieces ps → IsPlace ps (record { at = 0; used = 0 })
 IsPlace-start ps are = record { within = omega arith; inside = some_first ps are.falls 0 }
 
@@ -73,9 +79,11 @@ places_onward a b x y x' y' n are_a are_b in_a in_b shorter more stays_a stays_b
   ]
 ]
   where
+    -- zeros without end
     end_count : (ps : List Piece) (z : Place) → length ps ≤ z.at → (ahead_of ps z).count ≡ 2 ^ 64 - 1
     end_count ps z over = ap (λ (p : Piece). p.count) (first_left-end ps z.at z.used over)
 
+    -- no more than 64 bits count
     at_most : (ps : List Piece) (z : Place) → ArePieces ps → IsPlace ps z → (ahead_of ps z).count ≤ 2 ^ 64 - 1
     at_most ps z are place = elim (cases_lt z.at (length ps)) [
       | inl inside ↦ omega (arith, are.fits, place_fits ps z.at z.used (ahead_of ps z).count inside place.inside (omega arith))

@@ -6,6 +6,12 @@
 //!
 //! Callers cite a `Pieces` as the list that it stands for, `expanded` for the list of a slice of pieces, and
 //! `runs` for the number of pieces of a list.
+//!
+//! ```text
+//! let degrees = Pieces::from_list(alloc, &[4, 4, 1])?;        // pieces (4, 2), (1, 1)
+//! let bounds = compose(alloc, &degrees, &children)?;          // each child's column has the total 9
+//! let rows = root_total(alloc, &others, 9)?;
+//! ```
 #![tactic(auto)]
 
 mod blocks;
