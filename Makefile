@@ -21,7 +21,11 @@ test:
 	.ci/run
 
 bench: build
+	@cd crates/bench_degrees && rt run -- time > build.log 2>&1 || { cat build.log; exit 1; }
+	@cd crates/bench_link_index && rt run -- time > build.log 2>&1 || { cat build.log; exit 1; }
 	bench/one-table
+	bench/degrees
+	bench/link-index
 
 clean:
 	rm -rf crates/*/out

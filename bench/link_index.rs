@@ -1,6 +1,6 @@
 // The plain side of the benchmark of link_index: the same layout, the same mix and the same calls, in Rust without contracts.
 //
-//     rustc -O bench/link_index.rs -o /tmp/link_index && /tmp/link_index
+// bench/link-index builds and runs it beside the proved program.
 //
 // For each list of keys: the nanoseconds that `load`, `first` and `after` took for all of them, the least of five rounds, and the longest walk to a key.
 use std::hint::black_box;
