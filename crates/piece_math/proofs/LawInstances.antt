@@ -4,7 +4,7 @@ use Rattle.std.specs.List.{sum_by, range_with_len}
 use Rattle.degree_sequences.specs.ByRank.{rank_product, rank_product_of}
 use Rattle.degree_sequences.specs.Composition.{ChildLists, composed, root_total}
 use Rattle.degree_sequences.specs.Degrees.{degree, degree_list}
-use Rattle.degree_sequences.specs.Domination.{DominatesKeys, DominatesWeights}
+use Rattle.degree_sequences.specs.Domination.{DominatesWeights}
 use Rattle.degree_sequences.specs.Falling.{IsFalling}
 use Rattle.degree_sequences.specs.Families.{ChildIsAbove, IsChildOf, IsNear, IsWithin, MatchedChild}
 use Rattle.degree_sequences.specs.KeyedRows.{ChildKeys, DominatesChild, weight_of_row, weight_of_key}

@@ -1,5 +1,5 @@
 -- What holds of every run, and of every refusal.
-use Rattle.std.proofs.Common.{◌≡◌, ℕ, ◌≤◌, List, length, Result, Ok, Err, refl, arith}
+use Rattle.std.proofs.Common.{Result, Ok, Err, arith}
 use Rattle.std.specs.Prelude.{IfOk}
 use Rattle.std.proofs.lemmas.List.Sorted.{IsPermutation-refl}
 use Rattle.safebound_top.specs.Accepted.{Accepted, BoundsHold, RowsAreTheAnswer, printed}

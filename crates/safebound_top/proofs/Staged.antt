@@ -1,10 +1,10 @@
 -- The stages of the verdict, step by step.
-use Rattle.std.proofs.Common.{◌≡◌, ℕ, List, Option, None, Some, Result, Ok, Err, refl}
+use Rattle.std.proofs.Common.{◌≡◌, ℕ, List, Result, Ok, Err, refl}
 use Rattle.base_io.specs.Files.{Files}
 use Rattle.schema_types.specs.Form.{schema_of}
 use Rattle.schema_types.specs.declared.types.Schema.{Schema}
 use Rattle.safebound_top.specs.Stages.{MissesNothing}
-use Rattle.safebound_top.specs.Verdict.{◌>>=◌, Asked, built, command_stage, first_table, query_stage, query_word, read, schema_stage, schema_word, verdict}
+use Rattle.safebound_top.specs.Verdict.{◌>>=◌, built, command_stage, query_stage, query_word, read, schema_stage, schema_word}
 use Rattle.safebound_top.specs.Query.{query_of}
 use Rattle.safebound_top.specs.declared.words.Command.{Command}
 use Rattle.safebound_top.specs.declared.status.Status.{Status}

@@ -1,5 +1,5 @@
 -- A query with its table's rows, and what they mean together.
-use Rattle.std.specs.Prelude.{ℕ, ℤ, pos, ◌≤◌, List, [], ◌∷◌, map, length, slice_index_or, IsPermutation}
+use Rattle.std.specs.Prelude.{ℕ, ℤ, pos, ◌≤◌, List, map, length, slice_index_or, IsPermutation}
 use Rattle.safebound_top.specs.declared.query.Query.{Query}
 use Rattle.safebound_top.specs.declared.query.Out.{Out}
 

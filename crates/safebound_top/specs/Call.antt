@@ -1,5 +1,5 @@
 -- What a call saw and left.
-use Rattle.std.specs.Prelude.{ℕ, ◌≡◌, List, Option, None, Some}
+use Rattle.std.specs.Prelude.{ℕ, ◌≡◌, List, Option}
 use Rattle.base_io.specs.Causes.{Rose}
 use Rattle.base_io.specs.Files.{Files}
 use Rattle.base_io.specs.Sinks.{appended, GrewByPrefix}

@@ -1,5 +1,5 @@
 -- The line of each status but Done.
-use Rattle.std.specs.Prelude.{ℕ, List, [], ◌∷◌, ◌++◌, codes, slice_index_or, ⊤}
+use Rattle.std.specs.Prelude.{ℕ, List, [], ◌++◌, codes, slice_index_or, ⊤}
 use Rattle.base_io.specs.Files.{Files}
 use Rattle.safebound_top.specs.Verdict.{table_name}
 use Rattle.safebound_top.specs.declared.status.Status.{Status}

@@ -1,5 +1,5 @@
 -- What a call of the program answers, and why: eight sentences about the words, the files and the two streams.
-use Rattle.std.specs.Prelude.{ℕ, ◌≡◌, ◌↔◌, ◌⊎◌, List, codes, Option, None, Some, Result, Ok, Err, IfOk, IsOkAnd}
+use Rattle.std.specs.Prelude.{ℕ, ◌≡◌, ◌↔◌, ◌⊎◌, List, codes, None, Some, Result, Ok, Err, IfOk, IsOkAnd}
 use Rattle.base_io.specs.Causes.{Rose}
 use Rattle.base_io.specs.Files.{Files}
 use Rattle.base_io.specs.Sinks.{appended, GrewByPrefix}
@@ -10,7 +10,6 @@ use Rattle.safebound_top.specs.Stages.{IsRefusal, IsWriteFault, MissesNothing}
 use Rattle.safebound_top.specs.Texts.{plan_text, rows_text}
 use Rattle.safebound_top.specs.Verdict.{IsReached, command_stage, verdict}
 use Rattle.safebound_top.specs.declared.status.FileId.{FileId}
-use Rattle.safebound_top.specs.declared.status.SinkId.{SinkId}
 use Rattle.safebound_top.specs.declared.status.SinkId.TheVariants as sink
 use Rattle.safebound_top.specs.declared.status.Status.{Status}
 use Rattle.safebound_top.specs.declared.status.Status.TheVariants as status

@@ -1,5 +1,5 @@
 -- Which query a text asks of a schema, in the first form.
-use Rattle.std.specs.Prelude.{ℕ, ◌≡◌, Bool, true, false, ◌&&◌, List, [], ◌∷◌, Option, None, Some, codes, option_and_then, slice_index_or, if◌then◌else◌}
+use Rattle.std.specs.Prelude.{ℕ, ◌≡◌, Bool, false, ◌&&◌, List, [], ◌∷◌, Option, None, Some, codes, option_and_then, slice_index_or, if◌then◌else◌}
 use Rattle.std.specs.Str.{bytes_eq}
 use Rattle.schema_types.specs.Shape.{Expected, Spelled, Named, folded, has_form}
 use Rattle.schema_types.specs.Tokens.{tokens_of}

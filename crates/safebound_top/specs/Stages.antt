@@ -1,5 +1,5 @@
 -- How the answer of a reading step follows from the verdict's stage.
-use Rattle.std.specs.Prelude.{ℕ, ◌≡◌, ◌⊎◌, List, Option, Result, Ok, Err, ⊤}
+use Rattle.std.specs.Prelude.{ℕ, ◌≡◌, ◌⊎◌, List, Result, Ok, Err, ⊤}
 use Rattle.base_io.specs.Causes.{Rose}
 use Rattle.base_io.specs.Files.{Files}
 use Rattle.safebound_top.specs.Verdict.{IsReached}
@@ -79,3 +79,12 @@ IsWriteFault status.Usage = ⊥
 IsWriteFault (status.ReadFault id) = ⊥
 IsWriteFault (status.Unbuilt id) = ⊥
 IsWriteFault status.NoMemory = ⊥
+
+-- what the words and the files alone can refuse: a run that is done, a write and want of memory aren't among it
+abbrev pub IsOfTheVerdict : Status → Type 0
+IsOfTheVerdict status.Usage = ⊤
+IsOfTheVerdict (status.ReadFault id) = ⊤
+IsOfTheVerdict (status.Unbuilt id) = ⊤
+IsOfTheVerdict status.Done = ⊥
+IsOfTheVerdict (status.WriteFault sink) = ⊥
+IsOfTheVerdict status.NoMemory = ⊥

@@ -19,7 +19,7 @@ mod top_call;
 mod words;
 mod write;
 
-pub use examples::worked_example;
+pub use examples::{verdict_refuses, worked_example};
 pub use query::{ColumnRef, Out, Query, QueryError, Source, read_query};
 pub use status::{FileId, SinkId, Status};
 pub use top_call::safebound;

@@ -1,7 +1,6 @@
-use Rattle.std.proofs.Common.{◌≡◌, ◌∙◌, List, ℕ, map, ap, sym, subst, string_bytes}
+use Rattle.std.proofs.Common.{List, ℕ, map, sym, subst, string_bytes}
 use denote.Bor.{Bor}
-use Rattle.safebound_top.specs.Faults.{NamesNoTable, fault_line}
-use Rattle.safebound_top.specs.Verdict.{table_name}
+use Rattle.safebound_top.specs.Faults.{NamesNoTable}
 use Rattle.safebound_top.proofs.FaultLines.{same_line}
 use Rattle.safebound_top.proofs.prepare.prepare.Goals as goal
 

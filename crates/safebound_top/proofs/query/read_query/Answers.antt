@@ -1,4 +1,4 @@
-use Rattle.std.proofs.Common.{◌≡◌, ◌<◌, ◌≤◌, ◌∙◌, List, ℕ, [], length, map, refl, arith, sym}
+use Rattle.std.proofs.Common.{◌∙◌, List, ℕ, map, refl, arith, sym}
 use Rattle.std.proofs.lemmas.List.{length-map}
 use denote.Bor.{Bor}
 use Rattle.schema_types.proofs.Forms.{enough, named_at}

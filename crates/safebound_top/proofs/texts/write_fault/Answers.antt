@@ -1,5 +1,3 @@
-use Rattle.std.proofs.Common.{◌≡◌, ◌++◌, ◌∙◌, ap}
-use Rattle.safebound_top.specs.declared.status.Status.TheVariants as status
 use Rattle.safebound_top.proofs.texts.write_fault.Goals as goal
 
 pub returns-in-ReadFault-clause-ok : goal.returns-in-ReadFault-clause-ok

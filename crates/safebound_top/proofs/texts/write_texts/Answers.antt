@@ -1,4 +1,4 @@
-use Rattle.std.proofs.Common.{◌≡◌, ◌≤◌, ◌∙◌, length, get_or, ap, sym, arith}
+use Rattle.std.proofs.Common.{◌≡◌, ◌∙◌, length, ap, sym, arith}
 use Rattle.safebound_top.specs.Prepared.{accepted_of}
 use Rattle.safebound_top.specs.Texts.{column_text, rows_text}
 use Rattle.safebound_top.proofs.Columns.{rows_text_is}

@@ -1,4 +1,4 @@
-use Rattle.std.proofs.Common.{◌≡◌, sym, subst}
+use Rattle.std.proofs.Common.{sym, subst}
 use Rattle.safebound_top.specs.Stages.{IsFromReading}
 use Rattle.safebound_top.specs.Verdict.{verdict}
 use Rattle.safebound_top.proofs.Meanings.{bounds_hold, refusal_is_from_reading, rows_are_the_answer}

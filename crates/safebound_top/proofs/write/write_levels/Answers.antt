@@ -1,4 +1,4 @@
-use Rattle.std.proofs.Common.{◌≡◌, ◌≤◌, ◌+◌, ◌++◌, List, ℕ, drop, ap, sym, ◌∙◌, arith}
+use Rattle.std.proofs.Common.{◌+◌, ◌++◌, drop, ap, sym, ◌∙◌, arith}
 use Rattle.base_io.proofs.BufferFacts.{cut_step, took_step}
 use Rattle.safebound_top.specs.Texts.{level_line, level_lines}
 use Rattle.safebound_top.proofs.Lines.{next_level, one_more_done}

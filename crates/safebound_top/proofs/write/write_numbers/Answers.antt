@@ -1,4 +1,4 @@
-use Rattle.std.proofs.Common.{◌≡◌, ◌≤◌, ◌++◌, take, List, ℕ, ap, arith}
+use Rattle.std.proofs.Common.{arith}
 use Rattle.base_io.proofs.BufferFacts.{cut_part, took_part}
 use Rattle.safebound_top.specs.Texts.{cell_record}
 use Rattle.safebound_top.proofs.write.write_numbers.Goals as goal

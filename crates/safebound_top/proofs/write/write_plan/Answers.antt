@@ -1,4 +1,3 @@
-use Rattle.std.proofs.Common.{◌≡◌, ◌++◌, List, ℕ, []}
 use Rattle.base_io.proofs.SinkFacts.{prefix_of_all}
 use Rattle.base_io.proofs.BufferFacts.{cut_next, cut_off, took_next, went_on}
 use Rattle.safebound_top.proofs.write.write_plan.Goals as goal

@@ -1,4 +1,4 @@
-use Rattle.std.proofs.Common.{◌≡◌, ◌≤◌, ◌++◌, take, List, ℕ, ap, arith}
+use Rattle.std.proofs.Common.{ap, arith}
 use Rattle.base_io.proofs.BufferFacts.{cut_item, took_item}
 use Rattle.safebound_top.specs.Texts.{scan_line}
 use Rattle.safebound_top.specs.declared.query.Source.{Source}

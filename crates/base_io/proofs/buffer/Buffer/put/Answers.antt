@@ -1,6 +1,5 @@
-use Rattle.std.proofs.Common.{◌≡◌, ◌++◌, []}
 use Rattle.base_io.proofs.BufferFacts.{took_whole}
-use Rattle.base_io.proofs.SinkFacts.{prefix_after_first, prefix_of_all, prefix_of_first, whole_after_first}
+use Rattle.base_io.proofs.SinkFacts.{prefix_after_first, prefix_of_first, whole_after_first}
 use Rattle.base_io.proofs.buffer.Buffer.put.Goals as goal
 
 pub returns-in_err-flush-clause-prefix : goal.returns-in_err-flush-clause-prefix

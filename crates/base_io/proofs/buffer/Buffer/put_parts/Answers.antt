@@ -1,4 +1,4 @@
-use Rattle.std.proofs.Common.{◌≡◌, ◌≤◌, ◌++◌, take, List, ℕ, arith}
+use Rattle.std.proofs.Common.{arith}
 use Rattle.base_io.proofs.BufferFacts.{cut_part, took_part}
 use Rattle.base_io.proofs.buffer.Buffer.put_parts.Goals as goal
 
