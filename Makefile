@@ -13,8 +13,9 @@ build:
 
 # The program over the example at once, compiled with checks and nothing proved.
 try:
-	rt try safebound_cli --data schema.sql=examples/first/schema.sql --data query.sql=examples/first/query.sql \
-	    --data r.csv=examples/first/r.csv -- run schema.sql query.sql
+	cd crates/safebound_cli && rt try --data schema.sql=../../examples/first/schema.sql \
+	    --data query.sql=../../examples/first/query.sql --data r.csv=../../examples/first/r.csv \
+	    -- run schema.sql query.sql
 
 # Everything: each proof from nothing, the edits that must fail, the tests, the stored runs.
 test:
