@@ -1,13 +1,14 @@
-//! What every other crate stands on: files by name, takers of bytes, lists, names and want of memory.
+//! What every other crate stands on: files by name, takers of bytes, lists, boxes, names and want of memory.
 //!
 //! The first stage of a query's way reads a file whole with `read_file`, and its last stage
 //! writes texts with `write_all` and `write_parts`.
 //!
 //! Callers cite `told` (what a store tells of a name), `ReadsFile` (what reading a file answers),
 //! `appended` and `GrewByPrefix` (what a sink took), and `Rose` (a count of faults rose). They see
-//! `Seq` as the list of its items and `Name` as its bytes.
+//! `Seq` as the list of its items, `Boxed` as its value and `Name` as its bytes.
 #![tactic(auto)]
 
+mod boxed;
 mod buffer;
 mod cases;
 mod errors;
@@ -21,6 +22,7 @@ mod sink;
 mod store;
 mod write;
 
+pub use boxed::Boxed;
 pub use buffer::Buffer;
 pub use cases::examples;
 pub use errors::{Failed, NoMemory, ReadError, StoreError};

@@ -1,6 +1,6 @@
 use crate::{
-    Failed, MemSink, MemStore, Name, NullSink, ReadError, Seq, Sink, Store, StoreError, read_file,
-    write_all, write_parts,
+    Boxed, Failed, MemSink, MemStore, Name, NullSink, ReadError, Seq, Sink, Store, StoreError,
+    read_file, write_all, write_parts,
 };
 use std::alloc::Global;
 use std::test::Fail;
@@ -34,6 +34,14 @@ fn lists_and_names(rt: HostRuntime) -> Result<(), Fail> {
     assert_eq!(rt; items.as_slice(), b"xb".as_slice());
     let name = Name::from_str(rt.alloc(), "r.csv")?;
     assert_eq!(rt; name.as_str(), "r.csv");
+    Ok(())
+}
+
+#[test]
+fn a_value_on_the_heap(rt: HostRuntime) -> Result<(), Fail> {
+    let boxed = Boxed::new(rt.alloc(), 7_u8)?;
+    assert_eq!(rt; *boxed.get(), 7);
+    assert_eq!(rt; boxed.into_inner(), 7);
     Ok(())
 }
 

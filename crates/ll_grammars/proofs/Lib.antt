@@ -1,0 +1,13 @@
+pub mod Theory
+pub mod Sets
+pub mod Steps
+pub mod Repeats
+pub mod Tails
+pub mod Loops
+pub mod Combined
+pub mod Ends
+pub mod Otherwise
+pub mod Growing
+pub mod Alike
+pub mod Keeping
+pub mod KeepingRules

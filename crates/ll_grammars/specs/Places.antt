@@ -1,0 +1,19 @@
+-- The place of a refusal.
+use Rattle.std.specs.Prelude.{◌≡◌, ℕ, ⊤, List}
+use Rattle.ll_grammars.specs.declared.lexeme.Lexeme.{Lexeme}
+use Rattle.ll_grammars.specs.declared.syntax_error.SyntaxError.{SyntaxError}
+use Rattle.ll_grammars.specs.declared.syntax_error.SyntaxError.TheVariants as error
+use Rattle.ll_grammars.specs.Language.{Language, GoesWrong}
+use Rattle.ll_grammars.specs.Rules.{place}
+
+-- the start of the first token with which the tokens so far are no viable prefix of the language, or the text's
+-- length where more tokens are needed
+pub record IsSyntaxPlace {A : Type 0} (L : Language A) (tokens : List Lexeme) (text_len at : ℕ) : Type 0 where
+  pub rest : List Lexeme
+  pub wrong : GoesWrong L tokens rest
+  pub here : at ≡ place rest text_len
+
+-- what a refusal says of the tokens: the place where they go wrong, and of want of memory nothing
+abbrev pub IsSyntaxError : {A : Type 0} → Language A → List Lexeme → ℕ → SyntaxError → Type 0
+IsSyntaxError L tokens text_len (error.At at) = IsSyntaxPlace L tokens text_len at
+IsSyntaxError L tokens text_len error.NoMemory = ⊤

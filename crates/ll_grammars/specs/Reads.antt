@@ -1,0 +1,53 @@
+-- What a parser has to do with a language, so that it can be put together with others as an LL(1) grammar's rules are.
+use Rattle.std.specs.Prelude.{◌≡◌, Bool, true, false, Option, Some, None, List, [], ◌∷◌, ◌++◌, ⊤}
+use Rattle.ll_grammars.specs.declared.lexeme.Lexeme.{Lexeme}
+use Rattle.ll_grammars.specs.declared.terminal.Terminal.{Terminal}
+use Rattle.ll_grammars.specs.Terminals.{among}
+use Rattle.ll_grammars.specs.Language.{Language, IsViablePrefix}
+use Rattle.ll_grammars.specs.Reading.{Parser}
+
+-- what LL(1) asks of a language and its parser: the FIRST set (the terminals with which its texts begin), whether it is
+-- nullable (the empty list is a text), and the terminals with which the parser goes on behind a text
+pub record Shape : Type 0 where
+  pub first : List Terminal
+  pub nullable : Bool
+  pub more : List Terminal
+
+-- a text begins in the FIRST set, or is empty where the language is nullable
+abbrev pub BeginsIn : Shape → List Lexeme → Type 0
+BeginsIn s [] = s.nullable ≡ true
+BeginsIn s (token ∷ rest) = among s.first token.terminal ≡ true
+
+-- what follows does not begin with these terminals
+abbrev pub Stops : List Terminal → List Lexeme → Type 0
+Stops more [] = ⊤
+Stops more (token ∷ rest) = among more token.terminal ≡ false
+
+-- no token, or the same first one
+pub data SameHead : List Lexeme → List Lexeme → Type 0 where
+  nothing : SameHead [] []
+  token : (t : Lexeme) (xs ys : List Lexeme) → SameHead (t ∷ xs) (t ∷ ys)
+
+-- what was read up to where it stopped: a text of the value, or a viable prefix where there is none
+abbrev pub Spelled : {A : Type 0} → Language A → List Lexeme → Option A → Type 0
+Spelled L front None = IsViablePrefix L front
+Spelled L front (Some value) = L front value
+
+-- what was read and what is left are the text
+pub record Splits {A : Type 0} (L : Language A) (text : List Lexeme) (value : Option A) (rest : List Lexeme) : Type 0 where
+  pub front : List Lexeme
+  pub whole : text ≡ front ++ rest
+  pub spelled : Spelled L front value
+
+-- the parser reads the language
+pub record Reads {A : Type 0} (L : Language A) (s : Shape) (p : Parser A) : Type 0 where
+  -- the language has a text
+  pub some : IsViablePrefix L []
+  -- the shape is the language's
+  pub begins : (text : List Lexeme) (value : A) → L text value → BeginsIn s text
+  -- nothing is read that begins no text
+  pub splits : (text : List Lexeme) → Splits L text (p text).0 (p text).1
+  -- each text is found, whatever follows with which the parser doesn't go on
+  pub complete : (front rest : List Lexeme) (value : A) → L front value → Stops s.more rest → p (front ++ rest) ≡ (Some value, rest)
+  -- it looks at no token past the one at which it stops
+  pub looks : (front rest other : List Lexeme) → SameHead rest other → (p (front ++ rest)).1 ≡ rest → p (front ++ other) ≡ ((p (front ++ rest)).0, other)

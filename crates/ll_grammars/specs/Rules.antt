@@ -1,0 +1,58 @@
+-- Forms of rules that grammars share, and the same read from left to right.
+use Rattle.std.specs.Prelude.{◌≡◌, ℕ, Bool, true, false, ⊤, List, [], ◌∷◌, Some, None, Result, Ok, Err}
+use Rattle.ll_grammars.specs.declared.lexeme.Lexeme.{Lexeme}
+use Rattle.ll_grammars.specs.declared.terminal.Terminal.{Terminal}
+use Rattle.ll_grammars.specs.declared.terminal.Terminal.TheVariants as terminal
+use Rattle.ll_grammars.specs.declared.stop.Stop.{Stop}
+use Rattle.ll_grammars.specs.declared.stop.Stop.TheVariants as stop
+use Rattle.ll_grammars.specs.Language.{Language, one, ◌▸◌, made, many}
+use Rattle.ll_grammars.specs.Reading.{Parser, Answer, read_one, read_then, read_made}
+
+-- ---- values
+
+-- a first item and the others
+abbrev pub all : {A : Type 0} → A × List A → List A
+all parts = parts.0 ∷ parts.1
+
+abbrev pub second : {A B : Type 0} → A × B → B
+second parts = parts.1
+
+abbrev pub middle : {A B C : Type 0} → A × (B × C) → B
+middle parts = parts.1.0
+
+-- ---- rules
+
+-- one terminal
+abbrev pub word : Terminal → Language Lexeme
+word t = one (t ∷ [])
+
+-- L { separator L }
+abbrev pub listed : {A : Type 0} → Terminal → Language A → Language (List A)
+listed separator L = made all (L ▸ many (made second (word separator ▸ L)))
+
+-- "(" L ")"
+abbrev pub in_parentheses : {A : Type 0} → Language A → Language A
+in_parentheses L = made middle (word terminal.Open ▸ L ▸ word terminal.Close)
+
+-- ---- from left to right
+
+abbrev pub read_word : Terminal → Parser Lexeme
+read_word t = read_one (t ∷ [])
+
+abbrev pub read_in_parentheses : {A : Type 0} → Parser A → Parser A
+read_in_parentheses p = read_made middle (read_then (read_word terminal.Open) (read_then p (read_word terminal.Close)))
+
+-- what a function gave, and the tokens that it left, is what reading gives, unless memory was wanting
+abbrev pub Gives : {A : Type 0} → Result A Stop → List Lexeme → Answer A → Type 0
+Gives (Ok a) rest answer = answer ≡ (Some a, rest)
+Gives (Err stop.Syntax) rest answer = answer ≡ (None, rest)
+Gives (Err stop.NoMemory) rest answer = ⊤
+
+-- the start of the next token, or the text's end
+abbrev pub place : List Lexeme → ℕ → ℕ
+place [] end = end
+place (token ∷ rest) end = token.start
+
+abbrev pub is_empty : List Lexeme → Bool
+is_empty [] = true
+is_empty (token ∷ rest) = false

@@ -1,0 +1,21 @@
+//! Why reading stopped.
+ghost use Rattle.std.specs.Prelude.{◌≡◌};
+ghost use Rattle.ll_grammars.specs.declared.stop.Stop.TheVariants as reason;
+
+use base_io::NoMemory;
+
+/// Why a reader gave no value: with the next token the tokens so far are no viable prefix of the rule, or
+/// memory was wanting.
+#[derive(Clone, Copy, Debug, PartialEq, Eq)]
+pub enum Stop {
+    Syntax,
+    NoMemory,
+}
+
+impl From<NoMemory> for Stop {
+    ghost from_gives = { λ _ e. e ≡ reason.NoMemory };
+
+    fn from(_: NoMemory) -> Stop {
+        Stop::NoMemory
+    }
+}
