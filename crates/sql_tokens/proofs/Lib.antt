@@ -1,0 +1,15 @@
+pub mod Spelling
+pub mod LexemeFacts
+pub mod Unquoting
+pub mod Digits
+pub mod Closing
+pub mod Walk
+pub mod Characters
+pub mod RunFacts
+pub mod Quoting
+pub mod Fronts
+pub mod Computed
+pub mod Readings
+pub mod Places
+pub mod WholeTexts
+pub mod LongestFront

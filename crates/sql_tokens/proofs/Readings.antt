@@ -1,0 +1,147 @@
+-- The walk over pieces and the relation agree.
+use Rattle.std.proofs.Common.{◌≡◌, ℕ, zero, suc, ◌+◌, ◌<◌, ◌≤◌, false, List, [], ◌∷◌, ◌++◌, length, drop, Ok, Err, refl, sym, ap, ◌∙◌, subst, inl, inr, arith, length-append, length-drop}
+use Rattle.std.proofs.lemmas.Bool.{false≢true}
+use Rattle.std.proofs.lemmas.List.{drop_at, append-nil}
+use Rattle.sql_tokens.specs.declared.token.Token.{Token}
+use Rattle.sql_tokens.specs.declared.token.TokenKind.{TokenKind}
+use Rattle.sql_tokens.specs.declared.token.TokenKind.TheVariants as kind
+use Rattle.sql_tokens.specs.declared.pieces.Piece.{Piece}
+use Rattle.sql_tokens.specs.declared.pieces.Piece.TheVariants as piece_
+use Rattle.sql_tokens.specs.Tokens.{IsToken, goes_on, IsSeparator}
+use Rattle.sql_tokens.specs.Lexing.{Leads, stay, over_gap, over_token, IsOffence, IsOffenceAt}
+use Rattle.sql_tokens.specs.Pieces.{piece, Walked, before, step, tokens_at, with_front}
+use Rattle.sql_tokens.proofs.Fronts.{Sees, sees_piece}
+use Rattle.sql_tokens.proofs.Computed.{gap_piece, token_piece, offence_piece}
+use Rattle.sql_tokens.proofs.Walk.{tokens_step, piece_long, IsLong, walk_start}
+
+-- ---- what the walk gives is so
+
+abbrev pub IsTold : ℕ → List ℕ → Walked → Type 0
+IsTold at text (Ok tokens) = Leads at text tokens (at + length text) []
+IsTold at text (Err place) = IsOffenceAt at text place
+
+to_same : (at : ℕ) (text : List ℕ) (tokens : List Token) (to other : ℕ) (last : List ℕ) → to ≡ other → Leads at text tokens to last → Leads at text tokens other last
+to_same at text tokens to other last e l = subst (λ (x : ℕ). Leads at text tokens x last) e l
+
+split_len : (text bytes rest : List ℕ) → text ≡ bytes ++ rest → length text ≡ length bytes + length rest
+split_len text bytes rest whole = ap length whole ∙ length-append bytes rest
+
+told_gap : (at : ℕ) (text bytes rest : List ℕ) (walked : Walked) → text ≡ bytes ++ rest → IsSeparator bytes rest → IsTold (at + length bytes) rest walked → IsTold at text walked
+told_gap at text bytes rest (Ok tokens) whole s told =
+    let l = split_len text bytes rest whole in
+    to_same at text tokens ((at + length bytes) + length rest) (at + length text) [] (omega arith) (over_gap at text bytes rest tokens ((at + length bytes) + length rest) [] whole s told)
+told_gap at text bytes rest (Err place) whole s told = record {
+  tokens = told.tokens;
+  to = told.to;
+  rest = told.rest;
+  offset = told.offset;
+  leads = over_gap at text bytes rest told.tokens told.to told.rest whole s told.leads;
+  offence = told.offence;
+  here = told.here;
+}
+
+told_token : (at : ℕ) (text bytes rest : List ℕ) (k : TokenKind) (walked : Walked) → text ≡ bytes ++ rest → IsToken k bytes → goes_on k bytes rest ≡ false → IsTold (at + length bytes) rest walked
+    → IsTold at text (before (record { kind = k; start = at; end = at + length bytes }) walked)
+told_token at text bytes rest k (Ok tokens) whole form ends told =
+    let l = split_len text bytes rest whole in
+    let t : Token = record { kind = k; start = at; end = at + length bytes } in
+    to_same at text (t ∷ tokens) ((at + length bytes) + length rest) (at + length text) [] (omega arith) (over_token at text bytes rest k tokens ((at + length bytes) + length rest) [] whole form ends told)
+told_token at text bytes rest k (Err place) whole form ends told = record {
+  tokens = record { kind = k; start = at; end = at + length bytes } ∷ told.tokens;
+  to = told.to;
+  rest = told.rest;
+  offset = told.offset;
+  leads = over_token at text bytes rest k told.tokens told.to told.rest whole form ends told.leads;
+  offence = told.offence;
+  here = told.here;
+}
+
+-- what is told of what follows n bytes, where these are the bytes of the piece
+told_on : (at n : ℕ) (text bytes rest : List ℕ) (walked : Walked) → text ≡ bytes ++ rest → n ≡ length bytes → IsTold (at + n) (drop n text) walked → IsTold (at + length bytes) rest walked
+told_on at n text bytes rest walked whole len told =
+    let left : drop n text ≡ rest = ap (drop n) whole ∙ drop_at bytes rest n (sym len) in
+    subst (λ (x : ℕ). IsTold (at + x) rest walked) len (subst (λ (x : List ℕ). IsTold (at + n) x walked) left told)
+
+told_step : (at : ℕ) (text : List ℕ) (p : Piece) → Sees text p → IsLong p → ((to : ℕ) (rest : List ℕ) → length rest < length text → IsTold to rest (tokens_at to rest)) → 0 < length text → IsTold at text (step tokens_at at p text)
+told_step at text (piece_.Gap n) s long told some =
+    told_gap at text s.bytes s.rest (tokens_at (at + n) (drop n text)) s.whole s.separator
+    (told_on at n text s.bytes s.rest (tokens_at (at + n) (drop n text)) s.whole s.len (told (at + n) (drop n text) (omega (arith, length-drop n text))))
+told_step at text (piece_.Token k n) s long told some =
+    let walked : Walked = tokens_at (at + n) (drop n text) in
+    let here : IsTold at text (before (record { kind = k; start = at; end = at + length s.bytes }) walked) =
+    told_token at text s.bytes s.rest k walked s.whole s.form s.ends (told_on at n text s.bytes s.rest walked s.whole s.len (told (at + n) (drop n text) (omega (arith, length-drop n text)))) in
+    subst (λ (x : ℕ). IsTold at text (before (record { kind = k; start = at; end = at + x }) walked)) (sym s.len) here
+told_step at text (piece_.Wrong n) s long told some = record { tokens = []; to = at; rest = text; offset = n; leads = stay at text; offence = s; here = refl }
+
+told_empty : (at : ℕ) → IsTold at [] (tokens_at at [])
+unfolding tokens_at
+told_empty at = to_same at [] [] at (at + 0) [] (omega arith) (stay at [])
+
+told_up_to : (n at : ℕ) (text : List ℕ) → length text ≤ n → IsTold at text (tokens_at at text)
+told_up_to n at [] le = told_empty at
+told_up_to zero at (b ∷ rest) le = absurd (omega arith)
+told_up_to (suc n) at (b ∷ rest) le =
+    subst (λ (w : Walked). IsTold at (b ∷ rest) w) (sym (tokens_step at b rest))
+    (told_step at (b ∷ rest) (piece (b ∷ rest)) (sees_piece b rest) (piece_long b rest) (λ to left lt. told_up_to n to left (omega arith)) (omega arith))
+
+pub told : (at : ℕ) (text : List ℕ) → IsTold at text (tokens_at at text)
+told at text = told_up_to (length text) at text (omega arith)
+
+-- ---- the walk gives what is so
+
+separator_len : (bytes rest : List ℕ) → IsSeparator bytes rest → 0 < length bytes
+separator_len bytes rest (inl s) = let l = ap length s.whole in omega arith
+separator_len bytes rest (inr s) = let l = ap length s.whole in omega arith
+
+pub token_len : (k : TokenKind) (bytes : List ℕ) → IsToken k bytes → 0 < length bytes
+token_len kind.Word [] form = absurd (false≢true form)
+token_len kind.Number [] form = absurd (false≢true form)
+token_len kind.Symbol [] form = absurd (false≢true form)
+token_len kind.Word (b ∷ rest) form = omega arith
+token_len kind.Number (b ∷ rest) form = omega arith
+token_len kind.Symbol (b ∷ rest) form = omega arith
+token_len kind.Quoted bytes form = let l = ap length form.enclosed.whole in omega arith
+token_len kind.Text bytes form = let l = ap length form.enclosed.whole in omega arith
+
+offence_len : (text : List ℕ) (offset : ℕ) → IsOffence text offset → 0 < length text
+offence_len text offset (inl h) = let l = ap length h.whole in omega arith
+offence_len text offset (inr (inl h)) = let l = ap length h.whole in omega arith
+offence_len text offset (inr (inr (inl h))) = let l = ap length h.whole in omega arith
+offence_len text offset (inr (inr (inr h))) = let l = ap length h.whole in omega arith
+
+walk_one : (at : ℕ) (text : List ℕ) → 0 < length text → tokens_at at text ≡ step tokens_at at (piece text) text
+walk_one at [] some = absurd (omega arith)
+walk_one at (b ∷ rest) some = tokens_step at b rest
+
+before_front : (t : Token) (tokens : List Token) (walked : Walked) → before t (with_front tokens walked) ≡ with_front (t ∷ tokens) walked
+before_front t tokens (Ok ts) = refl
+before_front t tokens (Err place) = refl
+
+pub leads_walk : (at : ℕ) (text : List ℕ) (tokens : List Token) (to : ℕ) (last : List ℕ) → Leads at text tokens to last → tokens_at at text ≡ with_front tokens (tokens_at to last)
+leads_walk at text tokens to last (stay a t) = sym (walk_start at text)
+leads_walk at text tokens to last (over_gap a t bytes rest ts o la whole s l) =
+    let len : length text ≡ length bytes + length rest = split_len text bytes rest whole in
+    let some : 0 < length bytes = separator_len bytes rest s in
+    walk_one at text (omega arith) ∙ ap (λ (p : Piece). step tokens_at at p text) (gap_piece text bytes rest whole s)
+    ∙ ap (tokens_at (at + length bytes)) (ap (drop (length bytes)) whole ∙ drop_at bytes rest (length bytes) refl)
+    ∙ leads_walk (at + length bytes) rest tokens to last l
+leads_walk at text tokens to last (over_token a t bytes rest k ts o la whole form ends l) =
+    let len : length text ≡ length bytes + length rest = split_len text bytes rest whole in
+    let some : 0 < length bytes = token_len k bytes form in
+    let this : Token = record { kind = k; start = at; end = at + length bytes } in
+    walk_one at text (omega arith) ∙ ap (λ (p : Piece). step tokens_at at p text) (token_piece k text bytes rest whole form ends)
+    ∙ ap (λ (x : List ℕ). before this (tokens_at (at + length bytes) x)) (ap (drop (length bytes)) whole ∙ drop_at bytes rest (length bytes) refl)
+    ∙ ap (before this) (leads_walk (at + length bytes) rest ts to last l) ∙ before_front this ts (tokens_at to last)
+
+pub offence_walk : (at : ℕ) (text : List ℕ) (offset : ℕ) → IsOffence text offset → tokens_at at text ≡ Err (at + offset)
+offence_walk at text offset h = walk_one at text (offence_len text offset h) ∙ ap (λ (p : Piece). step tokens_at at p text) (offence_piece text offset h)
+
+walk_empty : (at : ℕ) → tokens_at at [] ≡ Ok []
+unfolding tokens_at
+walk_empty at = refl
+
+pub leads_all : (at : ℕ) (text : List ℕ) (tokens : List Token) (to : ℕ) → Leads at text tokens to [] → tokens_at at text ≡ Ok tokens
+leads_all at text tokens to l = leads_walk at text tokens to [] l ∙ ap (with_front tokens) (walk_empty to) ∙ ap (λ (x : List Token). Ok x) (append-nil tokens)
+
+pub offence_all : (at : ℕ) (text : List ℕ) (place : ℕ) → IsOffenceAt at text place → tokens_at at text ≡ Err place
+offence_all at text place h = leads_walk at text h.tokens h.to h.rest h.leads ∙ ap (with_front h.tokens) (offence_walk h.to h.rest h.offset h.offence) ∙ ap (λ (x : ℕ). Err x) (sym h.here)

@@ -1,0 +1,98 @@
+-- The same by computation: what stands at the front of a text, and a walk over it. The code keeps to this, and
+-- `Lexing` says what it comes to.
+use Rattle.std.specs.Prelude.{◌≡◌, ℕ, zero, suc, ◌+◌, ◌<◌, ◌≤◌, Bool, ◌&&◌, ◌==◌, nat_lt, if◌then◌else◌, List, [], ◌∷◌, ◌++◌, length, drop, slice_index, Option, Some, None, Result, Ok, Err, ⊤}
+use Rattle.std.specs.List.{prefix_len}
+use Rattle.sql_tokens.specs.declared.token.Token.{Token}
+use Rattle.sql_tokens.specs.declared.token.TokenKind.TheVariants as kind
+use Rattle.sql_tokens.specs.declared.token.LexError.{LexError}
+use Rattle.sql_tokens.specs.declared.token.LexError.TheVariants as error
+use Rattle.sql_tokens.specs.declared.pieces.Piece.{Piece}
+use Rattle.sql_tokens.specs.declared.pieces.Piece.TheVariants as piece_
+use Rattle.sql_tokens.specs.declared.runs.Run.{Run}
+use Rattle.sql_tokens.specs.declared.runs.Run.TheVariants as run
+use Rattle.sql_tokens.specs.Tokens.{is_blank, is_letter, is_digit, is_word_byte, is_in_line, is_plain, is_sign, is_pair}
+
+abbrev pub is_in : Run → ℕ → Bool
+is_in run.Word b = is_word_byte b
+is_in run.Digits b = is_digit b
+is_in run.Line b = is_in_line b
+is_in run.Plain b = is_plain b
+
+abbrev pub further : ℕ → Option ℕ → Option ℕ
+further k None = None
+further k (Some n) = Some (k + n)
+
+-- the number of bytes up to the quote that closes, with it
+unfoldable pub closed : ℕ → List ℕ → Option ℕ
+closed quote [] = None
+closed quote (b ∷ []) = if b == quote then Some 1 else None
+closed quote (b ∷ c ∷ rest) = if b == quote then (if c == quote then further 2 (closed quote rest) else Some 1) else further 1 (closed quote (c ∷ rest))
+
+-- behind the quote that opens a delimited identifier, which is closed so many bytes on
+abbrev pub identifier_to : Option ℕ → List ℕ → Piece
+identifier_to None rest = piece_.Wrong 0
+identifier_to (Some n) rest =
+    if n == 1 then piece_.Wrong 0
+    else (if nat_lt (prefix_len is_plain rest) n then piece_.Wrong (prefix_len is_plain rest + 1) else piece_.Token kind.Quoted (n + 1))
+
+unfoldable pub identifier : List ℕ → Piece
+identifier rest = identifier_to (closed 34 rest) rest
+
+abbrev pub literal_to : Option ℕ → Piece
+literal_to None = piece_.Wrong 0
+literal_to (Some n) = piece_.Token kind.Text (n + 1)
+
+unfoldable pub literal : List ℕ → Piece
+literal rest = literal_to (closed 39 rest)
+
+unfoldable pub symbol : ℕ → List ℕ → Piece
+symbol b rest = if is_pair b (slice_index rest 0) then piece_.Token kind.Symbol 2 else (if is_sign b then piece_.Token kind.Symbol 1 else piece_.Wrong 0)
+
+-- what stands at the front of a text
+unfoldable pub piece : List ℕ → Piece
+piece [] = piece_.Gap 0
+piece (b ∷ rest) =
+    if is_blank b then piece_.Gap 1
+    else (if is_letter b then piece_.Token kind.Word (prefix_len is_word_byte rest + 1)
+    else (if is_digit b then piece_.Token kind.Number (prefix_len is_digit rest + 1)
+    else (if b == 34 then identifier rest
+    else (if b == 39 then literal rest
+    else (if (b == 45) && (slice_index rest 0 == 45) then piece_.Gap (prefix_len is_in_line rest + 1)
+    else symbol b rest)))))
+
+-- it takes a byte or more, and no more than there are
+abbrev pub Fits : Piece → ℕ → Type 0
+Fits (piece_.Gap n) len = (1 ≤ n) × (n ≤ len)
+Fits (piece_.Token k n) len = (1 ≤ n) × (n ≤ len)
+Fits (piece_.Wrong n) len = n < len
+
+abbrev pub Walked : Type 0
+Walked = Result (List Token) ℕ
+
+abbrev pub before : Token → Walked → Walked
+before t (Ok ts) = Ok (t ∷ ts)
+before t (Err at) = Err at
+
+abbrev pub step : (ℕ → List ℕ → Walked) → ℕ → Piece → List ℕ → Walked
+step others at (piece_.Gap n) bytes = others (at + n) (drop n bytes)
+step others at (piece_.Token k n) bytes = before (record { kind = k; start = at; end = at + n }) (others (at + n) (drop n bytes))
+step others at (piece_.Wrong n) bytes = Err (at + n)
+
+abbrev pub pieces_up_to : ℕ → ℕ → List ℕ → Walked
+pieces_up_to zero at bytes = Ok []
+pieces_up_to (suc n) at [] = Ok []
+pieces_up_to (suc n) at (b ∷ rest) = step (pieces_up_to n) at (piece (b ∷ rest)) (b ∷ rest)
+
+-- the tokens of the bytes, which begin at a place of a text, or the place where they go wrong
+unfoldable pub tokens_at : ℕ → List ℕ → Walked
+tokens_at at bytes = pieces_up_to (length bytes) at bytes
+
+abbrev pub with_front : List Token → Walked → Walked
+with_front front (Ok ts) = Ok (front ++ ts)
+with_front front (Err at) = Err at
+
+-- what a walk over the pieces gave
+abbrev pub Gave : Result (List Token) LexError → Walked → Type 0
+Gave (Ok ts) walked = walked ≡ Ok ts
+Gave (Err (error.Bad at)) walked = walked ≡ Err at
+Gave (Err error.NoMemory) walked = ⊤

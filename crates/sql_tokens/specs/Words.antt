@@ -1,0 +1,157 @@
+-- What a token is to a grammar (its terminal), and what it names or counts.
+use Rattle.std.specs.Prelude.{ℕ, ◌+◌, ◌-◌, ◌*◌, ◌≤◌, Bool, ◌==◌, if◌then◌else◌, List, [], ◌∷◌, ◌++◌, map, length, slice_index, slice_range, codes}
+use denote.Ref.{Bor}
+use Rattle.std.specs.Char.{to_ascii_uppercase}
+use Rattle.std.specs.List.{list_all}
+use Rattle.std.specs.Str.{IsUtf8, bytes_eq}
+use Rattle.ll_grammars.specs.declared.terminal.Terminal.{Terminal}
+use Rattle.ll_grammars.specs.declared.terminal.Terminal.TheVariants as terminal
+use Rattle.ll_grammars.specs.declared.lexeme.Lexeme.{Lexeme}
+use Rattle.sql_tokens.specs.declared.token.Token.{Token}
+use Rattle.sql_tokens.specs.declared.token.TokenKind.{TokenKind}
+use Rattle.sql_tokens.specs.declared.token.TokenKind.TheVariants as kind
+
+-- the bytes of a text from one place up to another
+abbrev pub slice : List ℕ → ℕ → ℕ → List ℕ
+slice text start end = slice_range text start end
+
+-- a token lies in the text, and its bytes are a text of their own
+pub record IsTokenOf (text : List ℕ) (token : Token) : Type 0 where
+  pub begins : token.start ≤ token.end
+  pub within : token.end ≤ length text
+  pub utf8 : IsUtf8 (slice text token.start token.end)
+
+pub record IsLexemeOf (text : List ℕ) (lexeme : Lexeme) : Type 0 where
+  pub begins : lexeme.start ≤ lexeme.end
+  pub within : lexeme.end ≤ length text
+  pub utf8 : IsUtf8 (slice text lexeme.start lexeme.end)
+
+-- ---- words
+
+-- ASCII letters in upper case, all else as it is
+abbrev pub folded : List ℕ → List ℕ
+folded bytes = map to_ascii_uppercase bytes
+
+-- the words that a rule of the grammars reads
+abbrev pub read_words : List (List ℕ × Terminal)
+read_words =
+    (codes "AND", terminal.And) ∷ (codes "AS", terminal.As) ∷ (codes "BETWEEN", terminal.Between)
+    ∷ (codes "BIGINT", terminal.Bigint) ∷ (codes "CHAR", terminal.Char) ∷ (codes "CHARACTER", terminal.Character)
+    ∷ (codes "CONSTRAINT", terminal.Constraint) ∷ (codes "CREATE", terminal.Create) ∷ (codes "DEFAULT", terminal.Default)
+    ∷ (codes "DELETE", terminal.Delete) ∷ (codes "FOREIGN", terminal.Foreign) ∷ (codes "FROM", terminal.From)
+    ∷ (codes "IN", terminal.In) ∷ (codes "INNER", terminal.Inner) ∷ (codes "INT", terminal.Int)
+    ∷ (codes "INTEGER", terminal.Integer) ∷ (codes "JOIN", terminal.Join) ∷ (codes "NOT", terminal.Not)
+    ∷ (codes "NULL", terminal.Null) ∷ (codes "ON", terminal.On) ∷ (codes "OR", terminal.Or)
+    ∷ (codes "PRIMARY", terminal.Primary) ∷ (codes "REFERENCES", terminal.References) ∷ (codes "SELECT", terminal.Select)
+    ∷ (codes "SET", terminal.Set) ∷ (codes "SMALLINT", terminal.Smallint) ∷ (codes "TABLE", terminal.Table)
+    ∷ (codes "UNIQUE", terminal.Unique) ∷ (codes "UPDATE", terminal.Update) ∷ (codes "VARCHAR", terminal.Varchar)
+    ∷ (codes "VARYING", terminal.Varying) ∷ (codes "WHERE", terminal.Where)
+    -- these are names where no rule reads them
+    ∷ (codes "KEY", terminal.Key) ∷ (codes "NO", terminal.No) ∷ (codes "ACTION", terminal.Action)
+    ∷ (codes "CASCADE", terminal.Cascade) ∷ []
+
+-- further reserved words of SQL-92, which no rule reads and which are no names
+abbrev pub reserved_words : List (List ℕ)
+reserved_words =
+    codes "ALL" ∷ codes "ANY" ∷ codes "ASC" ∷ codes "BY" ∷ codes "CASE" ∷ codes "CAST" ∷ codes "CHECK" ∷ codes "CROSS"
+    ∷ codes "DESC" ∷ codes "DISTINCT" ∷ codes "EXCEPT" ∷ codes "EXISTS" ∷ codes "FULL" ∷ codes "GROUP" ∷ codes "HAVING"
+    ∷ codes "INTERSECT" ∷ codes "IS" ∷ codes "LEFT" ∷ codes "LIKE" ∷ codes "NATURAL" ∷ codes "ORDER" ∷ codes "OUTER"
+    ∷ codes "RIGHT" ∷ codes "UNION" ∷ codes "USING" ∷ codes "VALUES" ∷ []
+
+abbrev pub reserved : List ℕ → List ℕ × Terminal
+reserved word = (word, terminal.Reserved)
+
+-- the words that are no names everywhere, with their terminals
+abbrev pub keywords : List (List ℕ × Terminal)
+keywords = read_words ++ map reserved reserved_words
+
+-- a word and its terminal, as the code lists them
+abbrev pub entry_of : Bor (List ℕ) × Terminal → List ℕ × Terminal
+entry_of entry = (entry.0.now, entry.1)
+
+-- the terminal of a word in a list of words, where it is there, else that of a name
+abbrev pub terminal_in : List (List ℕ × Terminal) → List ℕ → Terminal
+terminal_in [] word = terminal.Name
+terminal_in (entry ∷ rest) word = if bytes_eq entry.0 word then entry.1 else terminal_in rest word
+
+-- ---- terminals
+
+-- < > = ( ) , . ; * + -
+abbrev pub sign_terminal : ℕ → Terminal
+sign_terminal b =
+    if b == 60 then terminal.Less
+    else (if b == 62 then terminal.Greater
+    else (if b == 61 then terminal.Equal
+    else (if b == 40 then terminal.Open
+    else (if b == 41 then terminal.Close
+    else (if b == 44 then terminal.Comma
+    else (if b == 46 then terminal.Dot
+    else (if b == 59 then terminal.Semicolon
+    else (if b == 42 then terminal.Star
+    else (if b == 43 then terminal.Plus
+    else terminal.Minus)))))))))
+
+-- <> <= >=
+abbrev pub pair_terminal : ℕ → ℕ → Terminal
+pair_terminal b c = if b == 62 then terminal.GreaterOrEqual else (if c == 62 then terminal.NotEqual else terminal.LessOrEqual)
+
+-- the terminal of a symbol's bytes
+abbrev pub symbol_terminal : List ℕ → Terminal
+symbol_terminal bytes = if length bytes == 2 then pair_terminal (slice_index bytes 0) (slice_index bytes 1) else sign_terminal (slice_index bytes 0)
+
+abbrev pub is_zero_digit : ℕ → Bool
+is_zero_digit b = b == 48
+
+-- a number whose digits are all 0 has a terminal of its own
+abbrev pub number_terminal : List ℕ → Terminal
+number_terminal bytes = if list_all is_zero_digit bytes then terminal.Zero else terminal.Number
+
+-- what a token of these bytes is to a grammar; a delimited identifier is a name whatever it says
+unfoldable pub terminal_of : TokenKind → List ℕ → Terminal
+terminal_of kind.Word bytes = terminal_in keywords (folded bytes)
+terminal_of kind.Quoted bytes = terminal.Name
+terminal_of kind.Number bytes = number_terminal bytes
+terminal_of kind.Text bytes = terminal.Text
+terminal_of kind.Symbol bytes = symbol_terminal bytes
+
+-- the token with its terminal
+abbrev pub lexeme_of : List ℕ → Token → Lexeme
+lexeme_of text token = record {
+  terminal = terminal_of token.kind (slice text token.start token.end);
+  start = token.start;
+  end = token.end;
+}
+
+-- ---- names, text literals and numbers
+
+-- up to the quote that closes, each doubled quote single
+abbrev pub single : ℕ → List ℕ → List ℕ
+single quote [] = []
+single quote (b ∷ []) = if b == quote then [] else b ∷ []
+single quote (b ∷ c ∷ rest) = if b == quote then (if c == quote then quote ∷ single quote rest else []) else b ∷ single quote (c ∷ rest)
+
+-- a delimited identifier is kept as it is written, without its quotes; a word is folded
+abbrev pub name_of_bytes : List ℕ → List ℕ
+name_of_bytes [] = []
+name_of_bytes (b ∷ rest) = if b == 34 then single 34 rest else folded (b ∷ rest)
+
+-- the name that a token is (SQL-92 5.2: equal names are equal lists)
+unfoldable pub name_of : List ℕ → Lexeme → List ℕ
+name_of text lexeme = name_of_bytes (slice text lexeme.start lexeme.end)
+
+abbrev pub literal_of_bytes : List ℕ → List ℕ
+literal_of_bytes [] = []
+literal_of_bytes (b ∷ rest) = if b == 39 then single 39 rest else b ∷ rest
+
+-- the characters of a text literal, without its quotes
+unfoldable pub literal_of : List ℕ → Lexeme → List ℕ
+literal_of text lexeme = literal_of_bytes (slice text lexeme.start lexeme.end)
+
+-- the value of digits behind a number
+abbrev pub digits_from : ℕ → List ℕ → ℕ
+digits_from value [] = value
+digits_from value (b ∷ rest) = digits_from (value * 10 + (b - 48)) rest
+
+-- the value of digits, however many
+unfoldable pub number_of : List ℕ → ℕ
+number_of bytes = digits_from 0 bytes

@@ -1,0 +1,42 @@
+//! What holds of every text and its tokens.
+ghost use Rattle.std.specs.Prelude.{◌≡◌, ℕ, ◌≤◌, List, ◌++◌, length, All, ◌⊎◌, false};
+ghost use Rattle.sql_tokens.specs.declared.token.Token.{Token};
+ghost use Rattle.sql_tokens.specs.declared.token.TokenKind.{TokenKind};
+ghost use Rattle.sql_tokens.specs.Tokens.{IsToken, goes_on};
+ghost use Rattle.sql_tokens.specs.Lexing.{IsLexed, IsBad, HasItsForm, AreInOrder};
+
+/// A text has one list of tokens at most.
+pub fn one_reading()
+    ensures { (text : List ℕ) (tokens others : List Token) → IsLexed text tokens → IsLexed text others → tokens ≡ others }
+{}
+
+/// A text goes wrong at one place at most.
+pub fn one_offence()
+    ensures { (text : List ℕ) (at other : ℕ) → IsBad text at → IsBad text other → at ≡ other }
+{}
+
+/// A text with tokens goes nowhere wrong.
+pub fn not_both()
+    ensures { (text : List ℕ) (tokens : List Token) (at : ℕ) → IsLexed text tokens → IsBad text at → ⊥ }
+{}
+
+/// Each text has tokens or goes wrong.
+pub fn each_text()
+    ensures { (text : List ℕ) → ((tokens : List Token) × IsLexed text tokens) ⊎ ((at : ℕ) × IsBad text at) }
+{}
+
+/// The part of the text that a token is has the form of its kind.
+pub fn forms()
+    ensures { (text : List ℕ) (tokens : List Token) → IsLexed text tokens → All (HasItsForm text) tokens }
+{}
+
+/// The spans of a text's tokens are in order, and none is empty.
+pub fn spans()
+    ensures { (text : List ℕ) (tokens : List Token) → IsLexed text tokens → AreInOrder 0 (length text) tokens }
+{}
+
+/// The token that stands before what follows it is the longest front that has the form of a token.
+pub fn longest()
+    ensures { (kind other : TokenKind) (token rest longer more : List ℕ) → IsToken kind token → goes_on kind token rest ≡ false
+        → token ++ rest ≡ longer ++ more → IsToken other longer → length longer ≤ length token }
+{}

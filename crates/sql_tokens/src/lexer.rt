@@ -1,0 +1,77 @@
+//! The tokens of a text, from its front to its end.
+ghost use Rattle.std.specs.Prelude.{◌≡◌, ◌+◌, ◌<◌, ◌≤◌, drop, length, IfOk, IfErr, All};
+ghost use Rattle.sql_tokens.specs.Words.{IsTokenOf};
+ghost use Rattle.sql_tokens.specs.Pieces.{tokens_at, Gave};
+ghost use Rattle.sql_tokens.specs.Lexing.{mark_len, IsLexed, IsRefusal, AreInOrder};
+
+use crate::pieces::{Piece, piece_at};
+use crate::{LexError, Token};
+use base_io::Seq;
+use std::alloc::Global;
+
+/// The tokens of what stands from the place `start` on, or the first place where it goes wrong.
+#[tactic(auto, using(crate::proofs::Walk::walk_gap, crate::proofs::Walk::walk_token, crate::proofs::Walk::walk_wrong, crate::proofs::Walk::walk_done, crate::proofs::Walk::walk_start))]
+fn tokens_from(alloc: Global, start: u32, text: &[u8]) -> Result<Seq<Token>, LexError>
+    requires { start + length text.now ≤ 1048576 }
+    ensures { Gave result (tokens_at start text.now) }
+{
+    let mut tokens = Seq::new(alloc);
+    let mut rest = text;
+    let mut at = start;
+    'pieces: while let Some((first, tail)) = rest.split_first() {
+        match piece_at(*first, tail) {
+            Piece::Gap(n) => {
+                rest = rest.split_at(n).1;
+                at += n as u32;
+            }
+            Piece::Token(kind, n) => {
+                tokens.push(Token {
+                    kind,
+                    start: at,
+                    end: at + n as u32,
+                })?;
+                rest = rest.split_at(n).1;
+                at += n as u32;
+            }
+            Piece::Wrong(n) => {
+                return Err(LexError::Bad { at: at + n as u32 });
+            }
+        }
+    }
+    Ok(tokens)
+}
+
+/// The length of the byte order mark at the very start.
+fn mark_len_of(text: &[u8]) -> usize
+    ensures value { result ≡ mark_len text.now }
+    ensures within { result ≤ length text.now }
+    ensures small { result ≤ 3 }
+{
+    match text {
+        [0xef, 0xbb, 0xbf, ..] => 3,
+        _ => 0,
+    }
+}
+
+/// The tokens of a text. A byte order mark at the very start is skipped, and counts for the places.
+/// Bytes that are no UTF-8 are refused before all else, at the first of the first bad sequence; else
+/// the first offence in text order is: a character that begins no token (at it), a quote that nothing
+/// closes or an identifier of no characters (at the quote that opens), or a control character in a
+/// delimited identifier (at it).
+pub fn tokens(alloc: Global, text: &[u8]) -> Result<Seq<Token>, LexError>
+    requires { length text.now ≤ 1048576 }
+    ensures ok { IfOk result (λ found. IsLexed text.now found) }
+    ensures bad { IfErr result (λ error. IsRefusal text.now error) }
+    ensures in_order { IfOk result (λ found. AreInOrder 0 (length text.now) found) }
+    ensures within { IfOk result (λ found. All (IsTokenOf text.now) found) }
+{
+    match std::str::from_utf8(text) {
+        Ok(_) => {
+            let start = mark_len_of(text);
+            tokens_from(alloc, start as u32, &text[start..])
+        }
+        Err(error) => Err(LexError::Bad {
+            at: error.valid_up_to() as u32,
+        }),
+    }
+}

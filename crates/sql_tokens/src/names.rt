@@ -1,0 +1,95 @@
+//! The names, text literals and numbers that tokens are.
+ghost use Rattle.std.specs.Prelude.{◌≡◌, ◌<◌, ◌-◌, ◌^◌, IfOk, min, string_bytes};
+ghost use Rattle.sql_tokens.specs.Words.{IsLexemeOf, slice, name_of, literal_of, number_of, single, name_of_bytes, literal_of_bytes};
+
+use base_io::{Name, NoMemory};
+use ll_grammars::Lexeme;
+use std::alloc::Global;
+
+/// The token's part of the text.
+fn part<'a>(text: &'a [u8], lexeme: &Lexeme) -> &'a str
+    requires { IsLexemeOf text.now lexeme.now }
+    ensures { result.now ≡ slice text.now lexeme.now.start lexeme.now.end }
+{
+    match std::str::from_utf8(&text[lexeme.start as usize..lexeme.end as usize]) {
+        Ok(part) => part,
+        Err(_) => unreachable!(),
+    }
+}
+
+/// What stands before the quote that closes, each doubled quote single.
+#[tactic(auto, using(crate::proofs::Unquoting::single_goes_on, crate::proofs::Unquoting::single_ends, crate::proofs::Unquoting::single_whole))]
+fn unquote(alloc: Global, quote: char, text: &str) -> Result<String, NoMemory>
+    requires { quote < 128 }
+    ensures { IfOk result (λ found. string_bytes found ≡ single quote text.now) }
+{
+    let mut found = String::new(alloc);
+    let mut rest = text;
+    'quotes: while let Some((before, after)) = rest.split_once(quote) {
+        found.push_str(before)?;
+        match after.strip_prefix(quote) {
+            None => return Ok(found),
+            Some(more) => {
+                found.push(quote)?;
+                rest = more;
+            }
+        }
+    }
+    found.push_str(rest)?;
+    Ok(found)
+}
+
+fn name_text(alloc: Global, bytes: &str) -> Result<String, NoMemory>
+    ensures { IfOk result (λ found. string_bytes found ≡ name_of_bytes bytes.now) }
+{
+    match bytes.strip_prefix('"') {
+        Some(rest) => unquote(alloc, '"', rest),
+        None => Ok(bytes.to_ascii_uppercase(alloc)?),
+    }
+}
+
+fn literal_text(alloc: Global, bytes: &str) -> Result<String, NoMemory>
+    ensures { IfOk result (λ found. string_bytes found ≡ literal_of_bytes bytes.now) }
+{
+    match bytes.strip_prefix('\'') {
+        Some(rest) => unquote(alloc, '\'', rest),
+        None => Ok(String::from_str(alloc, bytes)?),
+    }
+}
+
+/// The name that a token is: a word in upper case, or a delimited identifier as it is written, without
+/// its outer quotes and each doubled quote single (SQL-92 5.2).
+#[tactic(auto, unfolding(crate::specs::Words::name_of))]
+pub fn name(alloc: Global, text: &[u8], lexeme: &Lexeme) -> Result<Name, NoMemory>
+    requires { IsLexemeOf text.now lexeme.now }
+    ensures { IfOk result (λ name. name ≡ name_of text.now lexeme.now) }
+{
+    let found = name_text(alloc, part(text, lexeme))?;
+    Name::from_str(alloc, found.as_str())
+}
+
+/// The characters of a text literal, each doubled quote single (SQL-92 5.3).
+#[tactic(auto, unfolding(crate::specs::Words::literal_of))]
+pub fn literal(alloc: Global, text: &[u8], lexeme: &Lexeme) -> Result<Name, NoMemory>
+    requires { IsLexemeOf text.now lexeme.now }
+    ensures { IfOk result (λ name. name ≡ literal_of text.now lexeme.now) }
+{
+    let found = literal_text(alloc, part(text, lexeme))?;
+    Name::from_str(alloc, found.as_str())
+}
+
+/// The value of a number, or `u64::MAX` where it is larger.
+#[tactic(auto, using(crate::proofs::Digits::one_digit_more, crate::proofs::Digits::no_digit_more), unfolding(crate::specs::Words::number_of))]
+pub fn number(text: &[u8], lexeme: &Lexeme) -> u64
+    requires { IsLexemeOf text.now lexeme.now }
+    ensures { result ≡ min (number_of (slice text.now lexeme.now.start lexeme.now.end)) (2 ^ 64 - 1) }
+{
+    let digits = &text[lexeme.start as usize..lexeme.end as usize];
+    let mut value: u64 = 0;
+    'all: for digit in digits {
+        value = value
+            .saturating_mul(10)
+            .saturating_add(u64::from(digit.saturating_sub(b'0')));
+    }
+    value
+}

@@ -1,0 +1,146 @@
+//! What stands at the front of a text: a separator, a token or an offence.
+ghost use Rattle.std.specs.Prelude.{◌≡◌, ◌∷◌, ◌+◌, ◌<◌, ◌≤◌, length, slice_index, IfSome};
+ghost use Rattle.sql_tokens.specs.Tokens.{is_blank, is_sign, is_pair};
+ghost use Rattle.sql_tokens.specs.Pieces.{closed, identifier, literal, symbol, piece, Fits};
+
+use crate::TokenKind;
+use crate::runs::Run;
+
+/// What a text begins with, and how many bytes that takes; or how far on it goes wrong.
+#[derive(Clone, Copy, Debug)]
+pub enum Piece {
+    Gap(usize),
+    Token(TokenKind, usize),
+    Wrong(usize),
+}
+
+/// How many bytes there are up to the quote that closes, with it.
+#[tactic(auto, using(crate::proofs::Closing::closed_keeps_one, crate::proofs::Closing::closed_keeps_two, crate::proofs::Closing::closed_last, crate::proofs::Closing::closed_here, crate::proofs::Closing::closed_never))]
+fn closed_len(quote: u8, bytes: &[u8]) -> Option<usize>
+    ensures value { result ≡ closed quote bytes.now }
+    ensures within { IfSome result (λ n. (1 ≤ n) × (n ≤ length bytes.now)) }
+{
+    let mut n = 0;
+    'all: while n < bytes.len() {
+        if bytes[n] != quote {
+            n += 1;
+        } else if n + 1 == bytes.len() {
+            return Some(n + 1);
+        } else if bytes[n + 1] != quote {
+            return Some(n + 1);
+        } else {
+            n += 2;
+        }
+    }
+    None
+}
+
+#[tactic(auto, unfolding(crate::specs::Pieces::identifier))]
+fn identifier_piece(rest: &[u8]) -> Piece
+    requires { length rest.now < 1048576 }
+    ensures value { result ≡ identifier rest.now }
+    ensures fits { Fits result (length rest.now + 1) }
+{
+    match closed_len(b'"', rest) {
+        None => Piece::Wrong(0),
+        Some(n) => {
+            if n == 1 {
+                return Piece::Wrong(0);
+            }
+            let plain = Run::Plain.len(rest);
+            if plain < n {
+                Piece::Wrong(plain + 1)
+            } else {
+                Piece::Token(TokenKind::Quoted, n + 1)
+            }
+        }
+    }
+}
+
+#[tactic(auto, unfolding(crate::specs::Pieces::literal))]
+fn literal_piece(rest: &[u8]) -> Piece
+    requires { length rest.now < 1048576 }
+    ensures value { result ≡ literal rest.now }
+    ensures fits { Fits result (length rest.now + 1) }
+{
+    match closed_len(b'\'', rest) {
+        None => Piece::Wrong(0),
+        Some(n) => Piece::Token(TokenKind::Text, n + 1),
+    }
+}
+
+fn is_blank_byte(byte: u8) -> bool
+    ensures { result ≡ is_blank byte }
+{
+    byte == b' ' || byte == b'\t' || byte == b'\r' || byte == b'\n'
+}
+
+fn is_pair_of(first: u8, second: u8) -> bool
+    ensures { result ≡ is_pair first second }
+{
+    (first == b'<' && second == b'>')
+        || (first == b'<' && second == b'=')
+        || (first == b'>' && second == b'=')
+}
+
+fn is_sign_byte(byte: u8) -> bool
+    ensures { result ≡ is_sign byte }
+{
+    byte == b'='
+        || byte == b'<'
+        || byte == b'>'
+        || byte == b'('
+        || byte == b')'
+        || byte == b','
+        || byte == b'.'
+        || byte == b';'
+        || byte == b'*'
+        || byte == b'+'
+        || byte == b'-'
+}
+
+fn first_or_zero(bytes: &[u8]) -> u8
+    ensures value { result ≡ slice_index bytes.now 0 }
+    ensures one { (0 < result) → 0 < length bytes.now }
+{
+    if bytes.is_empty() { 0 } else { bytes[0] }
+}
+
+#[tactic(auto, unfolding(crate::specs::Pieces::symbol))]
+fn symbol_piece(first: u8, rest: &[u8]) -> Piece
+    ensures value { result ≡ symbol first rest.now }
+    ensures fits { Fits result (length rest.now + 1) }
+{
+    let second = first_or_zero(rest);
+    if is_pair_of(first, second) {
+        Piece::Token(TokenKind::Symbol, 2)
+    } else if is_sign_byte(first) {
+        Piece::Token(TokenKind::Symbol, 1)
+    } else {
+        Piece::Wrong(0)
+    }
+}
+
+/// What the bytes begin with.
+#[tactic(auto, unfolding(crate::specs::Pieces::piece))]
+pub fn piece_at(first: u8, rest: &[u8]) -> Piece
+    requires { length rest.now < 1048576 }
+    ensures value { result ≡ piece (first ∷ rest.now) }
+    ensures fits { Fits result (length rest.now + 1) }
+{
+    if is_blank_byte(first) {
+        Piece::Gap(1)
+    } else if first.is_ascii_alphabetic() {
+        Piece::Token(TokenKind::Word, Run::Word.len(rest) + 1)
+    } else if first.is_ascii_digit() {
+        Piece::Token(TokenKind::Number, Run::Digits.len(rest) + 1)
+    } else if first == b'"' {
+        identifier_piece(rest)
+    } else if first == b'\'' {
+        literal_piece(rest)
+    } else if first == b'-' && first_or_zero(rest) == b'-' {
+        Piece::Gap(Run::Line.len(rest) + 1)
+    } else {
+        symbol_piece(first, rest)
+    }
+}

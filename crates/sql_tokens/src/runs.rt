@@ -1,0 +1,38 @@
+//! Runs of bytes of one class.
+ghost use Rattle.std.specs.Prelude.{◌≡◌, ◌≤◌, length};
+ghost use Rattle.std.specs.List.{prefix_len};
+ghost use Rattle.sql_tokens.specs.Pieces.{is_in};
+
+/// A class of bytes: those of words, digits, all but LF, and all but control characters.
+#[derive(Clone, Copy, Debug)]
+pub enum Run {
+    Word,
+    Digits,
+    Line,
+    Plain,
+}
+
+impl Run {
+    fn has(self, byte: u8) -> bool
+        ensures { result ≡ is_in self byte }
+    {
+        match self {
+            Run::Word => byte.is_ascii_alphanumeric() || byte == b'_',
+            Run::Digits => byte.is_ascii_digit(),
+            Run::Line => byte != b'\n',
+            Run::Plain => byte >= b' ',
+        }
+    }
+
+    /// How many bytes of this class there are at the front.
+    pub fn len(self, bytes: &[u8]) -> usize
+        ensures value { result ≡ prefix_len (is_in self) bytes.now }
+        ensures within { result ≤ length bytes.now }
+    {
+        let mut n = 0;
+        'all: while n < bytes.len() && self.has(bytes[n]) {
+            n += 1;
+        }
+        n
+    }
+}

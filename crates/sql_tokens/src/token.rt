@@ -1,0 +1,41 @@
+//! Tokens, and why a text has none.
+ghost use Rattle.std.specs.Prelude.{◌≡◌};
+ghost use Rattle.sql_tokens.specs.declared.token.LexError.TheVariants as error;
+
+use base_io::NoMemory;
+
+/// What a token is (SQL-92 5.2 to 5.3): an identifier or key word, a delimited identifier, an unsigned
+/// integer, a character string literal, or a sign.
+#[derive(Clone, Copy, Debug, PartialEq, Eq)]
+pub enum TokenKind {
+    Word,
+    Quoted,
+    Number,
+    Text,
+    Symbol,
+}
+
+/// A token, which lies from `start` to `end` in its text, in bytes.
+#[derive(Clone, Copy, Debug)]
+pub struct Token {
+    pub kind: TokenKind,
+    pub start: u32,
+    pub end: u32,
+}
+
+/// Why a text has no tokens.
+#[derive(Clone, Copy, Debug, PartialEq, Eq)]
+pub enum LexError {
+    /// The text goes wrong at this byte.
+    Bad { at: u32 },
+    /// Memory was wanting.
+    NoMemory,
+}
+
+impl From<NoMemory> for LexError {
+    ghost from_gives = { λ _ e. e ≡ error.NoMemory };
+
+    fn from(_: NoMemory) -> LexError {
+        LexError::NoMemory
+    }
+}
