@@ -1,0 +1,155 @@
+-- The grammar of schema texts, rule by rule, after SQL-92 11.3 (tables), 11.4 (columns), 11.7 (unique and primary keys)
+-- and 11.8 (references).
+use Rattle.std.specs.Prelude.{List, [], ◌∷◌, Option}
+use Rattle.ll_grammars.specs.declared.lexeme.Lexeme.{Lexeme}
+use Rattle.ll_grammars.specs.declared.terminal.Terminal.{Terminal}
+use Rattle.ll_grammars.specs.declared.terminal.Terminal.TheVariants as terminal
+use Rattle.ll_grammars.specs.Language.{Language, one, ◌▸◌, made, ◌∪◌, maybe, many}
+use Rattle.ll_grammars.specs.Rules.{second, word, listed, in_parentheses}
+use Rattle.schema_grammar.specs.declared.tree.TargetText.{TargetText}
+use Rattle.schema_grammar.specs.declared.tree.TypeText.{TypeText}
+use Rattle.schema_grammar.specs.declared.tree.TypeText.TheVariants as type
+use Rattle.schema_grammar.specs.declared.tree.ColumnRule.{ColumnRule}
+use Rattle.schema_grammar.specs.declared.tree.ColumnRule.TheVariants as column_rule
+use Rattle.schema_grammar.specs.declared.tree.ColumnText.{ColumnText}
+use Rattle.schema_grammar.specs.declared.tree.TableRule.{TableRule}
+use Rattle.schema_grammar.specs.declared.tree.TableRule.TheVariants as table_rule
+use Rattle.schema_grammar.specs.declared.tree.Element.{Element}
+use Rattle.schema_grammar.specs.declared.tree.Element.TheVariants as element
+use Rattle.schema_grammar.specs.declared.tree.TableText.{TableText}
+
+-- ---- the values of texts put together
+
+-- a text that is read and dropped
+abbrev pub nothing : {A : Type 0} → A → Unit {0}
+nothing value = tt
+
+abbrev pub target : Lexeme × (Option (List Lexeme) × Unit {0}) → TargetText
+target parts = record { table = parts.0; columns = parts.1.0 }
+
+abbrev pub number_type : Lexeme → TypeText
+number_type word = type.Number
+
+abbrev pub text_type : Lexeme × Lexeme → TypeText
+text_type parts = type.Text parts.1
+
+abbrev pub varying_type : Lexeme × (Lexeme × Lexeme) → TypeText
+varying_type parts = type.Text parts.1.1
+
+abbrev pub not_null : Lexeme × Lexeme → ColumnRule
+not_null words = column_rule.NotNull
+
+abbrev pub primary_key : Lexeme × Lexeme → ColumnRule
+primary_key words = column_rule.PrimaryKey words.0
+
+abbrev pub unique : Lexeme → ColumnRule
+unique word = column_rule.Unique
+
+abbrev pub references : Lexeme × TargetText → ColumnRule
+references parts = column_rule.References parts.1
+
+abbrev pub column : Lexeme × (TypeText × List ColumnRule) → ColumnText
+column parts = record { name = parts.0; kind = parts.1.0; rules = parts.1.1 }
+
+abbrev pub primary_key_over : Lexeme × (Lexeme × List Lexeme) → TableRule
+primary_key_over parts = table_rule.PrimaryKey parts.0 parts.1.1
+
+abbrev pub unique_over : Lexeme × List Lexeme → TableRule
+unique_over parts = table_rule.Unique parts.1
+
+abbrev pub foreign_key : Lexeme × (Lexeme × (List Lexeme × (Lexeme × TargetText))) → TableRule
+foreign_key parts = table_rule.ForeignKey parts.1.1.0 parts.1.1.1.1
+
+abbrev pub of_column : ColumnText → Element
+of_column c = element.Column c
+
+abbrev pub of_rule : TableRule → Element
+of_rule rule = element.Rule rule
+
+abbrev pub table : Lexeme × (Lexeme × (Lexeme × List Element)) → TableText
+table parts = record { name = parts.1.1.0; elements = parts.1.1.1 }
+
+abbrev pub tables : TableText × (List TableText × Option Lexeme) → List TableText
+tables parts = parts.0 ∷ parts.1.0
+
+-- ---- names
+
+-- KEY, NO, ACTION and CASCADE are words only in their places, and names elsewhere
+abbrev pub name_terminals : List Terminal
+name_terminals = terminal.Name ∷ terminal.Key ∷ terminal.No ∷ terminal.Action ∷ terminal.Cascade ∷ []
+
+abbrev pub Name : Language Lexeme
+Name = one name_terminals
+
+-- name { "," name }
+abbrev pub Names : Language (List Lexeme)
+Names = listed terminal.Comma Name
+
+-- ---- types
+
+-- INT | INTEGER | SMALLINT | BIGINT
+abbrev pub number_types : List Terminal
+number_types = terminal.Int ∷ terminal.Integer ∷ terminal.Smallint ∷ terminal.Bigint ∷ []
+
+-- "(" n ")"
+abbrev pub Length : Language Lexeme
+Length = in_parentheses (word terminal.Number)
+
+abbrev pub DataType : Language TypeText
+DataType = made number_type (one number_types)
+    ∪ made text_type (word terminal.Varchar ▸ Length)
+    ∪ made varying_type (one (terminal.Char ∷ terminal.Character ∷ []) ▸ word terminal.Varying ▸ Length)
+
+-- ---- references
+
+-- NO ACTION | CASCADE | SET NULL | SET DEFAULT
+abbrev pub ReferentialAction : Language (Unit {0})
+ReferentialAction = made nothing (word terminal.No ▸ word terminal.Action)
+    ∪ made nothing (word terminal.Cascade)
+    ∪ made nothing (word terminal.Set ▸ one (terminal.Null ∷ terminal.Default ∷ []))
+
+-- ON ( DELETE | UPDATE ) action
+abbrev pub TriggeredAction : Language (Unit {0})
+TriggeredAction = made nothing (word terminal.On ▸ one (terminal.Delete ∷ terminal.Update ∷ []) ▸ ReferentialAction)
+
+-- name [ "(" names ")" ] { ON .. }
+abbrev pub Target : Language TargetText
+Target = made target (Name ▸ maybe (in_parentheses Names) ▸ made nothing (many TriggeredAction))
+
+-- ---- rules of columns and of tables
+
+-- [ CONSTRAINT name ]
+abbrev pub ConstraintName : Language (Unit {0})
+ConstraintName = made nothing (maybe (word terminal.Constraint ▸ Name))
+
+abbrev pub named : {A : Type 0} → Language A → Language A
+named L = made second (ConstraintName ▸ L)
+
+abbrev pub ColumnConstraint : Language ColumnRule
+ColumnConstraint = made not_null (word terminal.Not ▸ word terminal.Null)
+    ∪ made primary_key (word terminal.Primary ▸ word terminal.Key)
+    ∪ made unique (word terminal.Unique)
+    ∪ made references (word terminal.References ▸ Target)
+
+abbrev pub TableConstraint : Language TableRule
+TableConstraint = made primary_key_over (word terminal.Primary ▸ word terminal.Key ▸ in_parentheses Names)
+    ∪ made unique_over (word terminal.Unique ▸ in_parentheses Names)
+    ∪ made foreign_key (word terminal.Foreign ▸ word terminal.Key ▸ in_parentheses Names ▸ word terminal.References ▸ Target)
+
+-- ---- tables
+
+-- name type { [ CONSTRAINT name ] rule }
+abbrev pub ColumnDefinition : Language ColumnText
+ColumnDefinition = made column (Name ▸ DataType ▸ many (named ColumnConstraint))
+
+-- column | [ CONSTRAINT name ] rule
+abbrev pub TableElement : Language Element
+TableElement = made of_column ColumnDefinition ∪ made of_rule (named TableConstraint)
+
+-- CREATE TABLE name "(" element { "," element } ")"
+abbrev pub TableDefinition : Language TableText
+TableDefinition = made table (word terminal.Create ▸ word terminal.Table ▸ Name ▸ in_parentheses (listed terminal.Comma TableElement))
+
+-- table { ";" table } [ ";" ]
+unfoldable pub SchemaText : Language (List TableText)
+SchemaText = made tables (TableDefinition ▸ many (made second (word terminal.Semicolon ▸ TableDefinition)) ▸ maybe (word terminal.Semicolon))

@@ -1,0 +1,67 @@
+//! The grammar of schema texts: lexemes come in, and the syntax trees of tables go out, or the place where
+//! the lexemes go wrong. What the trees' names mean is looked at above.
+//!
+//! Callers cite `SchemaText` (which lists of tokens spell which tables), `IsSyntaxError` of `ll_grammars`
+//! and `AreOf` (the trees' tokens are those of the list).
+//!
+//! ```text
+//! let tables = read_tables(alloc, lexemes.as_slice(), text_len)?;
+//! ```
+#![tactic(auto)]
+
+mod columns;
+pub mod examples;
+mod names;
+mod references;
+mod tables;
+mod terminals;
+mod tree;
+
+ghost use Rattle.std.specs.Prelude.{◌≡◌, Contains, IfErr, IfOk, List, MatchResult};
+ghost use Rattle.ll_grammars.specs.declared.lexeme.Lexeme.{Lexeme as Token};
+ghost use Rattle.ll_grammars.specs.Places.{IsSyntaxError};
+ghost use Rattle.schema_grammar.specs.declared.tree.TableText.{TableText as Table};
+ghost use Rattle.schema_grammar.specs.Grammar.{SchemaText};
+ghost use Rattle.schema_grammar.specs.Lexemes.{AreOf};
+
+use base_io::Seq;
+use ll_grammars::{Lexeme, Reader, Stop, SyntaxError};
+use std::alloc::Global;
+pub use tree::{ColumnRule, ColumnText, Element, TableRule, TableText, TargetText, TypeText};
+
+/// The tables that the tokens spell, in order. `text_len` is the length of their text in bytes.
+///
+/// `SyntaxError::At` comes exactly where they spell no schema, and is where the first token begins with which
+/// the tokens so far begin none, or `text_len` where more tokens are needed. One pass, one token ahead.
+#[tactic(auto, using(crate::proofs::Ends::spelled, crate::proofs::Ends::wrong_at, crate::proofs::Ends::all_found))]
+pub fn read_tables(
+    alloc: Global,
+    tokens: &[Lexeme],
+    text_len: u32,
+) -> Result<Seq<TableText>, SyntaxError>
+    ensures ok { IfOk result (λ tables. SchemaText tokens.now tables) }
+    ensures from_tokens { IfOk result (λ tables. AreOf (Contains tokens.now) tables) }
+    ensures syntax { IfErr result (λ e. IsSyntaxError SchemaText tokens.now text_len e) }
+    ensures complete { (tables : List Table) → SchemaText tokens.now tables → MatchResult result (λ found. found ≡ tables) (λ e. e ≡ SyntaxError.NoMemory) }
+{
+    let mut reader = Reader::new(alloc, tokens);
+    match tables::tables(&mut reader) {
+        Ok(tables) => {
+            if reader.is_done() {
+                Ok(tables)
+            } else {
+                Err(SyntaxError::At(reader.place(text_len)))
+            }
+        }
+        Err(Stop::Syntax) => Err(SyntaxError::At(reader.place(text_len))),
+        Err(Stop::NoMemory) => Err(SyntaxError::NoMemory),
+    }
+}
+
+/// No list of tokens spells two lists of tables.
+pub fn one_meaning()
+    ensures { (tokens : List Token) (a b : List Table) → SchemaText tokens a → SchemaText tokens b → a ≡ b }
+{}
+
+#[cfg(test)]
+mod tests;
