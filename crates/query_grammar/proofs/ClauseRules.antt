@@ -1,0 +1,72 @@
+-- The readers of FROM, WHERE and whole queries read their rules, where conditions are the texts of C, and c reads them.
+use Rattle.std.proofs.Common.{refl}
+use Rattle.ll_grammars.specs.declared.terminal.Terminal.TheVariants as terminal
+use Rattle.ll_grammars.specs.Language.{Language, ◌▸◌, made, many}
+use Rattle.ll_grammars.specs.Reading.{Parser}
+use Rattle.ll_grammars.specs.Reads.{Shape, Reads}
+use Rattle.ll_grammars.specs.Rules.{all, second, word, listed}
+use Rattle.ll_grammars.proofs.Steps.{then_shape, maybe_shape}
+use Rattle.ll_grammars.proofs.Repeats.{many_shape}
+use Rattle.ll_grammars.proofs.Combined.{row, value, option, repeat, a_word, word_shape, next_shape, listed_shape}
+use Rattle.query_grammar.specs.declared.tree.CondText.{CondText}
+use Rattle.query_grammar.specs.Values.{source, join, part, query}
+use Rattle.query_grammar.specs.Grammar.{TableReference, QualifiedJoin, FromPart, WhereClause, QueryOf}
+use Rattle.query_grammar.specs.Readers.{read_source, read_join, read_joins, read_part, read_next_part, read_parts, read_condition_behind_where, read_filter, read_query}
+use Rattle.query_grammar.proofs.OperandRules.{name_shape, new_name_shape, reads_name, reads_new_name}
+use Rattle.query_grammar.proofs.ConditionRules.{cond_shape}
+use Rattle.query_grammar.proofs.OutputRules.{outs_shape, reads_outs}
+
+abbrev pub source_shape : Shape
+source_shape = then_shape name_shape new_name_shape
+
+pub reads_source : Reads TableReference source_shape read_source
+unfolding read_source
+reads_source = value source (row reads_name reads_new_name refl)
+
+abbrev pub join_shape : Shape
+join_shape = then_shape (maybe_shape (word_shape terminal.Inner)) (then_shape (word_shape terminal.Join) (then_shape source_shape (then_shape (word_shape terminal.On) cond_shape)))
+
+abbrev pub part_shape : Shape
+part_shape = then_shape source_shape (many_shape join_shape)
+
+abbrev pub parts_shape : Shape
+parts_shape = listed_shape terminal.Comma part_shape
+
+abbrev pub where_shape : Shape
+where_shape = next_shape terminal.Where cond_shape
+
+abbrev pub query_shape : Shape
+query_shape = then_shape (word_shape terminal.Select) (then_shape outs_shape (then_shape (word_shape terminal.From) (then_shape parts_shape (then_shape (maybe_shape where_shape) (maybe_shape (word_shape terminal.Semicolon))))))
+
+module _ {C : Language CondText} {c : Parser CondText} (reads : Reads C cond_shape c) where
+  pub reads_join : Reads (QualifiedJoin C) join_shape (read_join c)
+  unfolding read_join
+  reads_join = value join (row (option (a_word terminal.Inner refl) refl) (row (a_word terminal.Join refl) (row reads_source (row (a_word terminal.On refl) reads refl) refl) refl) refl)
+
+  pub reads_joins : Reads (many (QualifiedJoin C)) (many_shape join_shape) (read_joins c)
+  unfolding read_joins
+  reads_joins = repeat reads_join refl refl
+
+  pub reads_part : Reads (FromPart C) part_shape (read_part c)
+  unfolding read_part
+  reads_part = value part (row reads_source reads_joins refl)
+
+  pub reads_next_part : Reads (made second (word terminal.Comma ▸ FromPart C)) (next_shape terminal.Comma part_shape) (read_next_part c)
+  unfolding read_next_part
+  reads_next_part = value second (row (a_word terminal.Comma refl) reads_part refl)
+
+  pub reads_parts : Reads (listed terminal.Comma (FromPart C)) parts_shape (read_parts c)
+  unfolding read_parts
+  reads_parts = value all (row reads_part (repeat reads_next_part refl refl) refl)
+
+  pub reads_where : Reads (made second (word terminal.Where ▸ C)) where_shape (read_condition_behind_where c)
+  unfolding read_condition_behind_where
+  reads_where = value second (row (a_word terminal.Where refl) reads refl)
+
+  pub reads_filter : Reads (WhereClause C) (maybe_shape where_shape) (read_filter c)
+  unfolding read_filter
+  reads_filter = option reads_where refl
+
+  pub reads_query : Reads (QueryOf C) query_shape (read_query c)
+  unfolding read_query
+  reads_query = value query (row (a_word terminal.Select refl) (row reads_outs (row (a_word terminal.From refl) (row reads_parts (row reads_filter (option (a_word terminal.Semicolon refl) refl) refl) refl) refl) refl) refl)

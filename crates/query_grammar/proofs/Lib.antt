@@ -1,0 +1,14 @@
+pub mod OperandRules
+pub mod PredicateRules
+pub mod ConditionRules
+pub mod OutputRules
+pub mod ClauseRules
+pub mod Counting
+pub mod Balanced
+pub mod EnoughDepth
+pub mod AnyDepth
+pub mod Whole
+pub mod CountingOn
+pub mod CondTokens
+pub mod Kept
+pub mod SmallTexts

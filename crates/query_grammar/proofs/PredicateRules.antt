@@ -1,0 +1,96 @@
+-- The reader of predicates reads their rule. It reads the left operand before it knows which predicate it is, so it reads
+-- the rule with that operand in front first, and then the rule as it is written.
+use Rattle.std.proofs.Common.{◌≡◌, Bool, List, inl, inr, refl, ap, ◌∙◌}
+use Rattle.ll_grammars.specs.declared.lexeme.Lexeme.{Lexeme}
+use Rattle.ll_grammars.specs.declared.terminal.Terminal.TheVariants as terminal
+use Rattle.ll_grammars.specs.Language.{Language, Then, ◌▸◌, made, ◌∪◌}
+use Rattle.ll_grammars.specs.Reads.{Shape, Reads}
+use Rattle.ll_grammars.specs.Rules.{word}
+use Rattle.ll_grammars.proofs.Steps.{then_shape, either_shape}
+use Rattle.ll_grammars.proofs.Combined.{row, value, choice, a_word, word_shape, reads_same}
+use Rattle.query_grammar.specs.declared.tree.OperandText.{OperandText}
+use Rattle.query_grammar.specs.declared.tree.TestText.{TestText}
+use Rattle.query_grammar.specs.Values.{tested}
+use Rattle.query_grammar.specs.Grammar.{Operand, ComparisonOperator, Negation, InValueList, Predicate}
+use Rattle.query_grammar.specs.Readers.{applied, compare, ranged, listed_in, read_predicate, read_flat}
+use Rattle.query_grammar.proofs.OperandRules.{operand_shape, operator_shape, negation_shape, value_list_shape, reads_operand, reads_operator, reads_negation, reads_value_list}
+
+abbrev BehindNot : Language (Bool → OperandText → TestText)
+BehindNot = made ranged (word terminal.Between ▸ Operand ▸ word terminal.And ▸ Operand)
+    ∪ made listed_in (word terminal.In ▸ InValueList)
+
+abbrev Behind : Language (OperandText → TestText)
+Behind = made compare (ComparisonOperator ▸ Operand)
+    ∪ made applied (Negation ▸ BehindNot)
+
+abbrev Factored : Language TestText
+Factored = made applied (Operand ▸ Behind)
+
+to_predicates : (text : List Lexeme) (v : TestText) → Factored text v → Predicate text v
+to_predicates text v l = at l.2.second where
+  behind_not : (parts : Bool × (Bool → OperandText → TestText)) → applied parts ≡ l.0.1 → (t : Then Negation BehindNot l.2.rest parts) → BehindNot t.rest parts.1 → Predicate text v
+  behind_not parts e t (inl b) = inr (inl (
+    (l.0.0, (parts.0, b.0)),
+    ap (λ (g : Bool → OperandText → TestText). g parts.0 l.0.0) b.1 ∙ ap (λ (f : OperandText → TestText). f l.0.0) e ∙ l.1,
+    record { front = l.2.front; rest = l.2.rest; whole = l.2.whole; first = l.2.first; second = record { front = t.front; rest = t.rest; whole = t.whole; first = t.first; second = b.2 } },
+  ))
+  behind_not parts e t (inr b) = inr (inr (
+    (l.0.0, (parts.0, b.0)),
+    ap (λ (g : Bool → OperandText → TestText). g parts.0 l.0.0) b.1 ∙ ap (λ (f : OperandText → TestText). f l.0.0) e ∙ l.1,
+    record { front = l.2.front; rest = l.2.rest; whole = l.2.whole; first = l.2.first; second = record { front = t.front; rest = t.rest; whole = t.whole; first = t.first; second = b.2 } },
+  ))
+
+  at : Behind l.2.rest l.0.1 → Predicate text v
+  at (inl m) = inl ((l.0.0, m.0), ap (λ (f : OperandText → TestText). f l.0.0) m.1 ∙ l.1, record { front = l.2.front; rest = l.2.rest; whole = l.2.whole; first = l.2.first; second = m.2 })
+  at (inr m) = behind_not m.0 m.1 m.2 m.2.second
+
+from_predicates : (text : List Lexeme) (v : TestText) → Predicate text v → Factored text v
+from_predicates text v (inl l) = ((l.0.0, compare l.0.1), l.1, record { front = l.2.front; rest = l.2.rest; whole = l.2.whole; first = l.2.first; second = inl (l.0.1, refl, l.2.second) })
+from_predicates text v (inr (inl l)) =
+    let t = l.2.second in
+    let parts : Bool × (Bool → OperandText → TestText) = (l.0.1.0, ranged l.0.1.1) in (
+      (l.0.0, applied parts),
+      l.1,
+      record {
+        front = l.2.front;
+        rest = l.2.rest;
+        whole = l.2.whole;
+        first = l.2.first;
+        second = inr (parts, refl, record { front = t.front; rest = t.rest; whole = t.whole; first = t.first; second = inl (l.0.1.1, refl, t.second) });
+      },
+    )
+from_predicates text v (inr (inr l)) =
+    let t = l.2.second in
+    let parts : Bool × (Bool → OperandText → TestText) = (l.0.1.0, listed_in l.0.1.1) in (
+      (l.0.0, applied parts),
+      l.1,
+      record {
+        front = l.2.front;
+        rest = l.2.rest;
+        whole = l.2.whole;
+        first = l.2.first;
+        second = inr (parts, refl, record { front = t.front; rest = t.rest; whole = t.whole; first = t.first; second = inr (l.0.1.1, refl, t.second) });
+      },
+    )
+
+abbrev pub between_shape : Shape
+between_shape = then_shape (word_shape terminal.Between) (then_shape operand_shape (then_shape (word_shape terminal.And) operand_shape))
+
+abbrev pub behind_not_shape : Shape
+behind_not_shape = either_shape between_shape (then_shape (word_shape terminal.In) value_list_shape)
+
+abbrev pub predicate_shape : Shape
+predicate_shape = then_shape operand_shape (either_shape (then_shape operator_shape operand_shape) (then_shape negation_shape behind_not_shape))
+
+pub reads_predicate : Reads Predicate predicate_shape read_predicate
+unfolding read_predicate
+reads_predicate =
+    let between_ = row (a_word terminal.Between refl) (row reads_operand (row (a_word terminal.And refl) reads_operand refl) refl) refl in
+    let in_ = row (a_word terminal.In refl) reads_value_list refl in
+    let behind_not_ = choice (value ranged between_) (value listed_in in_) refl refl refl in
+    let compared_ = row reads_operator reads_operand refl in
+    reads_same to_predicates from_predicates (value applied (row reads_operand (choice (value compare compared_) (value applied (row reads_negation behind_not_ refl)) refl refl refl) refl))
+
+pub reads_flat : Reads (made tested Predicate) predicate_shape read_flat
+unfolding read_flat
+reads_flat = value tested reads_predicate

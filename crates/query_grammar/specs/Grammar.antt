@@ -1,0 +1,146 @@
+-- The grammar of query texts (SQL-92 7.4 to 7.9 and 8.1 to 8.12, as profiled), rule by rule.
+use Rattle.std.specs.Prelude.{ℕ, zero, suc, Bool, Option, List, [], ◌∷◌}
+use Rattle.ll_grammars.specs.declared.lexeme.Lexeme.{Lexeme}
+use Rattle.ll_grammars.specs.declared.terminal.Terminal.{Terminal}
+use Rattle.ll_grammars.specs.declared.terminal.Terminal.TheVariants as terminal
+use Rattle.ll_grammars.specs.Language.{Language, one, ◌▸◌, made, ◌∪◌, maybe, many}
+use Rattle.ll_grammars.specs.Rules.{second, word, listed, in_parentheses}
+use Rattle.query_grammar.specs.declared.tree.ColumnText.{ColumnText}
+use Rattle.query_grammar.specs.declared.tree.LiteralText.{LiteralText}
+use Rattle.query_grammar.specs.declared.tree.OperandText.{OperandText}
+use Rattle.query_grammar.specs.declared.tree.Op.{Op}
+use Rattle.query_grammar.specs.declared.tree.Op.TheVariants as op
+use Rattle.query_grammar.specs.declared.tree.TestText.{TestText}
+use Rattle.query_grammar.specs.declared.tree.CondText.{CondText}
+use Rattle.query_grammar.specs.declared.tree.SourceText.{SourceText}
+use Rattle.query_grammar.specs.declared.tree.JoinText.{JoinText}
+use Rattle.query_grammar.specs.declared.tree.PartText.{PartText}
+use Rattle.query_grammar.specs.declared.tree.OutText.{OutText}
+use Rattle.query_grammar.specs.declared.tree.OutsText.{OutsText}
+use Rattle.query_grammar.specs.declared.tree.QueryText.{QueryText}
+use Rattle.query_grammar.specs.Values.{stands, meaning, column, number, text, of_column, of_literal, comparison, between, among_values, tested, negate, all_of, any_of, source, join, part, all_columns, one_column, everything, these_outs, query}
+
+-- KEY, NO, ACTION and CASCADE are names here
+abbrev pub name_terminals : List Terminal
+name_terminals = terminal.Name ∷ terminal.Key ∷ terminal.No ∷ terminal.Action ∷ terminal.Cascade ∷ []
+
+abbrev pub sign_terminals : List Terminal
+sign_terminals = terminal.Plus ∷ terminal.Minus ∷ []
+
+abbrev pub digit_terminals : List Terminal
+digit_terminals = terminal.Number ∷ terminal.Zero ∷ []
+
+-- ---- names, columns, literals
+
+abbrev pub Name : Language Lexeme
+Name = one name_terminals
+
+-- [ [ AS ] name ]
+abbrev pub NewName : Language (Option Lexeme)
+NewName = maybe (made second (maybe (word terminal.As) ▸ Name))
+
+-- name [ "." name ]
+abbrev pub ColumnReference : Language ColumnText
+ColumnReference = made column (Name ▸ maybe (made second (word terminal.Dot ▸ Name)))
+
+-- [ "+" | "-" ] Number | Text
+abbrev pub Literal : Language LiteralText
+Literal = made number (maybe (one sign_terminals) ▸ one digit_terminals)
+    ∪ made text (word terminal.Text)
+
+-- ---- tests
+
+-- colref | literal
+abbrev pub Operand : Language OperandText
+Operand = made of_column ColumnReference
+    ∪ made of_literal Literal
+
+-- "=" | "<>" | "<" | "<=" | ">" | ">="
+abbrev pub ComparisonOperator : Language Op
+ComparisonOperator = made (meaning op.Eq) (word terminal.Equal)
+    ∪ made (meaning op.Ne) (word terminal.NotEqual)
+    ∪ made (meaning op.Lt) (word terminal.Less)
+    ∪ made (meaning op.Le) (word terminal.LessOrEqual)
+    ∪ made (meaning op.Gt) (word terminal.Greater)
+    ∪ made (meaning op.Ge) (word terminal.GreaterOrEqual)
+
+-- [ NOT ]
+abbrev pub Negation : Language Bool
+Negation = made stands (maybe (word terminal.Not))
+
+-- "(" literal { "," literal } ")"
+abbrev pub InValueList : Language (List LiteralText)
+InValueList = in_parentheses (listed terminal.Comma Literal)
+
+-- operand op operand | operand [ NOT ] BETWEEN operand AND operand | operand [ NOT ] IN "(" literal { "," literal } ")"
+abbrev pub Predicate : Language TestText
+Predicate = made comparison (Operand ▸ ComparisonOperator ▸ Operand)
+    ∪ made between (Operand ▸ Negation ▸ word terminal.Between ▸ Operand ▸ word terminal.And ▸ Operand)
+    ∪ made among_values (Operand ▸ Negation ▸ word terminal.In ▸ InValueList)
+
+-- "(" cond ")" or a predicate, where conditions are the texts of C
+abbrev pub BooleanTest : Language CondText → Language CondText
+BooleanTest C = in_parentheses C
+    ∪ made tested Predicate
+
+-- ---- conditions, where tests are the texts of T
+
+-- [ NOT ] test
+abbrev pub BooleanFactor : Language CondText → Language CondText
+BooleanFactor T = made negate (Negation ▸ T)
+
+-- factor { AND factor }
+abbrev pub BooleanTerm : Language CondText → Language CondText
+BooleanTerm T = made all_of (listed terminal.And (BooleanFactor T))
+
+-- term { OR term }
+abbrev pub ConditionOf : Language CondText → Language CondText
+ConditionOf T = made any_of (listed terminal.Or (BooleanTerm T))
+
+-- no text at all
+abbrev pub Nothing : {A : Type 0} → Language A
+Nothing text value = ⊥
+
+-- the tests with at most so many parentheses, one within the other, around conditions
+abbrev pub TestWithin : ℕ → Language CondText
+TestWithin zero = BooleanTest Nothing
+TestWithin (suc n) = BooleanTest (ConditionOf (TestWithin n))
+
+-- the conditions, with any number of parentheses
+unfoldable pub SearchCondition : Language CondText
+SearchCondition text value = (n : ℕ) × ConditionOf (TestWithin n) text value
+
+-- ---- queries, where conditions are the texts of C
+
+-- name [ [ AS ] name ]
+abbrev pub TableReference : Language SourceText
+TableReference = made source (Name ▸ NewName)
+
+-- [ INNER ] JOIN source ON cond
+abbrev pub QualifiedJoin : Language CondText → Language JoinText
+QualifiedJoin C = made join (maybe (word terminal.Inner) ▸ word terminal.Join ▸ TableReference ▸ word terminal.On ▸ C)
+
+-- source { [ INNER ] JOIN source ON cond }
+abbrev pub FromPart : Language CondText → Language PartText
+FromPart C = made part (TableReference ▸ many (QualifiedJoin C))
+
+-- name "." "*" | colref [ [ AS ] name ]
+abbrev pub SelectSublist : Language OutText
+SelectSublist = made all_columns (Name ▸ word terminal.Dot ▸ word terminal.Star)
+    ∪ made one_column (ColumnReference ▸ NewName)
+
+-- "*" | out { "," out }
+abbrev pub SelectList : Language OutsText
+SelectList = made everything (word terminal.Star)
+    ∪ made these_outs (listed terminal.Comma SelectSublist)
+
+-- [ WHERE cond ]
+abbrev pub WhereClause : Language CondText → Language (Option CondText)
+WhereClause C = maybe (made second (word terminal.Where ▸ C))
+
+-- SELECT outs FROM part { "," part } [ WHERE cond ] [ ";" ]
+abbrev pub QueryOf : Language CondText → Language QueryText
+QueryOf C = made query (word terminal.Select ▸ SelectList ▸ word terminal.From ▸ listed terminal.Comma (FromPart C) ▸ WhereClause C ▸ maybe (word terminal.Semicolon))
+
+unfoldable pub QuerySpecification : Language QueryText
+QuerySpecification = QueryOf SearchCondition

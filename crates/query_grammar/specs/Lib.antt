@@ -1,0 +1,6 @@
+pub mod Values
+pub mod Grammar
+pub mod Nesting
+pub mod Readers
+pub mod Lexemes
+pub mod Examples

@@ -1,0 +1,37 @@
+//! How deep parentheses are nested.
+ghost use Rattle.std.specs.Prelude.{◌≡◌, ◌+◌, ◌<◌, ◌^◌};
+ghost use Rattle.query_grammar.specs.Nesting.{nesting, behind};
+
+use crate::terminals::{CLOSE, OPEN};
+use ll_grammars::{Lexeme, is_among};
+
+/// How many parentheses may be open at one place of a query text.
+pub const MAX_NESTING: u32 = 64;
+
+/// How many parentheses are open behind a token, where so many are open before it.
+fn open_behind(opened: u64, token: Lexeme) -> u64
+    requires { opened + 1 < 2 ^ 64 }
+    ensures { result ≡ behind opened token }
+{
+    if is_among(token.terminal, OPEN) {
+        opened + 1
+    } else if is_among(token.terminal, CLOSE) {
+        opened.saturating_sub(1)
+    } else {
+        opened
+    }
+}
+
+/// The greatest number of parentheses that are open at one place of the tokens. A `)` where none is open closes
+/// nothing. Parentheses around the values of IN count as others do.
+pub fn nesting(tokens: &[Lexeme]) -> u64
+    ensures { result ≡ nesting tokens.now }
+{
+    let mut open = 0;
+    let mut greatest = 0;
+    for token in tokens {
+        open = open_behind(open, *token);
+        greatest = greatest.max(open);
+    }
+    greatest
+}

@@ -1,0 +1,48 @@
+//! The parser of whole query texts.
+ghost use Rattle.std.specs.Prelude.{◌≡◌, ◌≤◌, List, Contains, IfOk, IfErr, MatchResult};
+ghost use Rattle.ll_grammars.specs.declared.lexeme.Lexeme.{Lexeme};
+ghost use Rattle.ll_grammars.specs.Places.{IsSyntaxError};
+ghost use Rattle.query_grammar.specs.declared.tree.QueryText.{QueryText};
+ghost use Rattle.query_grammar.specs.Grammar.{QuerySpecification};
+ghost use Rattle.query_grammar.specs.Lexemes.{IsQueryOf};
+ghost use Rattle.query_grammar.specs.Nesting.{nesting};
+
+use crate::clauses::query;
+use crate::depth::MAX_NESTING;
+use crate::tree::QueryText;
+use ll_grammars::{Lexeme, Reader, Stop, SyntaxError};
+use std::alloc::Global;
+
+/// The query that the tokens spell, or where they go wrong: the start of the first token with which the tokens so
+/// far begin no query, or `text_len`, the length of their text in bytes, where more tokens are needed. One pass
+/// over the tokens; the recursion is as deep as parentheses are nested, and no deeper.
+#[tactic(auto, using(crate::proofs::Whole::spelled, crate::proofs::Whole::wrong_after, crate::proofs::Whole::wrong_at, crate::proofs::Whole::all_found))]
+pub fn read_query_text(
+    alloc: Global,
+    tokens: &[Lexeme],
+    text_len: u32,
+) -> Result<QueryText, SyntaxError>
+    requires { nesting tokens.now ≤ MAX_NESTING }
+    ensures ok { IfOk result (λ query. QuerySpecification tokens.now query) }
+    ensures from_tokens { IfOk result (IsQueryOf (Contains tokens.now)) }
+    ensures syntax { IfErr result (IsSyntaxError QuerySpecification tokens.now text_len) }
+    ensures complete { (query : QueryText) → QuerySpecification tokens.now query → MatchResult result (λ found. found ≡ query) (λ e. e ≡ SyntaxError.NoMemory) }
+{
+    let mut reader = Reader::new(alloc, tokens);
+    match query(&mut reader) {
+        Ok(query) => {
+            if reader.is_done() {
+                Ok(query)
+            } else {
+                Err(SyntaxError::At(reader.place(text_len)))
+            }
+        }
+        Err(Stop::Syntax) => Err(SyntaxError::At(reader.place(text_len))),
+        Err(Stop::NoMemory) => Err(SyntaxError::NoMemory),
+    }
+}
+
+/// No list of tokens spells two queries.
+pub fn one_meaning()
+    ensures { (tokens : List Lexeme) (a b : QueryText) → QuerySpecification tokens a → QuerySpecification tokens b → a ≡ b }
+{}

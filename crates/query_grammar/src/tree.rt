@@ -1,0 +1,117 @@
+//! The syntax tree of a query text. Names, numbers and texts are its tokens, as they stand in the text.
+use base_io::{Boxed, Seq};
+use ll_grammars::Lexeme;
+
+/// A column's reference (SQL-92 6.4): its name, and the alias of its source where one is written.
+#[derive(Clone, Copy, Debug)]
+pub struct ColumnText {
+    pub table: Option<Lexeme>,
+    pub column: Lexeme,
+}
+
+/// A literal (SQL-92 5.3): a number with its sign, or a text.
+#[derive(Clone, Copy, Debug)]
+pub enum LiteralText {
+    Number {
+        sign: Option<Lexeme>,
+        digits: Lexeme,
+    },
+    Text(Lexeme),
+}
+
+/// What a test compares.
+#[derive(Clone, Copy, Debug)]
+pub enum OperandText {
+    Column(ColumnText),
+    Literal(LiteralText),
+}
+
+/// How two operands are compared (SQL-92 8.2).
+#[derive(Clone, Copy, Debug, PartialEq, Eq)]
+pub enum Op {
+    Eq,
+    Ne,
+    Lt,
+    Le,
+    Gt,
+    Ge,
+}
+
+/// A predicate: a comparison (SQL-92 8.2), BETWEEN (8.3) or IN (8.4). `negated` says that NOT stands before
+/// BETWEEN or IN.
+#[derive(Debug, Drop)]
+pub enum TestText {
+    Compare {
+        left: OperandText,
+        op: Op,
+        right: OperandText,
+    },
+    Between {
+        operand: OperandText,
+        negated: bool,
+        low: OperandText,
+        high: OperandText,
+    },
+    In {
+        operand: OperandText,
+        negated: bool,
+        values: Seq<LiteralText>,
+    },
+}
+
+/// A search condition (SQL-92 8.12). `And` and `Or` have two members or more, in the order of the text.
+/// Parentheses leave no trace but their grouping.
+#[derive(Debug, Drop)]
+pub enum CondText {
+    And(Seq<CondText>),
+    Or(Seq<CondText>),
+    Not(Boxed<CondText>),
+    Test(TestText),
+}
+
+/// A source of rows (SQL-92 6.3): a table, and its alias where one is written.
+#[derive(Clone, Copy, Debug)]
+pub struct SourceText {
+    pub table: Lexeme,
+    pub alias: Option<Lexeme>,
+}
+
+/// A source that is joined, and the condition of the join (SQL-92 7.5).
+#[derive(Debug, Drop)]
+pub struct JoinText {
+    pub source: SourceText,
+    pub on: CondText,
+}
+
+/// What stands between the commas of FROM (SQL-92 7.4): a source and what is joined to it, from left to right.
+#[derive(Debug, Drop)]
+pub struct PartText {
+    pub first: SourceText,
+    pub joins: Seq<JoinText>,
+}
+
+/// An output (SQL-92 7.9): all columns of the source of this alias, or a column and its new name where one is
+/// written.
+#[derive(Clone, Copy, Debug)]
+pub enum OutText {
+    All(Lexeme),
+    Column {
+        column: ColumnText,
+        name: Option<Lexeme>,
+    },
+}
+
+/// The outputs: all columns of all sources, or those that are listed.
+#[derive(Debug, Drop)]
+pub enum OutsText {
+    All,
+    Listed(Seq<OutText>),
+}
+
+/// A query (SQL-92 7.9): its outputs, the parts of FROM, and the condition of WHERE (7.6).
+#[derive(Debug, Drop)]
+pub struct QueryText {
+    pub outs: OutsText,
+    pub parts: Seq<PartText>,
+    pub filter: Option<CondText>,
+}
