@@ -1,11 +1,15 @@
 -- The fields of a header, gone through one after another.
-use Rattle.std.proofs.Common.{ℕ, ◌≡◌, ◌+◌, ◌<◌, ◌≤◌, List, [], ◌∷◌, ◌++◌, length, drop, Option, None, Some, true, false, refl, ap, ◌∙◌, append-nil}
+use Rattle.std.proofs.Common.{ℕ, ◌≡◌, ◌+◌, ◌<◌, ◌≤◌, List, [], ◌∷◌, ◌++◌, length, drop, Option, None, Some, true, false, refl, ap, sym, ◌∙◌, append-nil, get_or}
 use Rattle.std.specs.Option.{is_some}
 use Rattle.std.specs.Str.{str_eq_ignore_ascii_case}
 use Rattle.std.proofs.lemmas.List.{drop_more, drop_all}
 use Rattle.csv.specs.Records.{field_at}
 use Rattle.csv.proofs.RecordFacts.{field-get}
-use Rattle.csv_tables.specs.Columns.{only, places_from, place_of, Record}
+use Rattle.csv_tables.specs.Header.{only, places_from, column_place as place_of, column_places}
+use Rattle.csv_tables.specs.Steps.{or_refuse, then_all}
+use Rattle.csv_tables.specs.declared.types.TableError.TheVariants as error
+use Rattle.schema_types.specs.declared.types.Column.{Column}
+use Rattle.csv_tables.specs.Records.{Record}
 
 -- the place that was found, as a list
 abbrev pub listed : Option ℕ → List ℕ
@@ -50,3 +54,10 @@ only-listed (Some place) = refl
 pub found_all : (name : List ℕ) (fields : Record) (found : Option ℕ) (at : ℕ) → length fields ≤ at → FoundSoFar name fields found at → place_of name fields ≡ found
 found_all name fields found at end so_far =
     ap only (so_far ∙ ap (λ rest. listed found ++ places_from at name rest) (drop_all at fields end) ∙ append-nil (listed found)) ∙ only-listed found
+
+-- the places from a column on
+pub places_of_next : (columns : List Column) (number : ℕ) (column : Column) (header : Record) → number < length columns → column ≡ get_or columns number column
+    → column_places number (drop number columns) header
+    ≡ then_all (or_refuse (error.Header number) (place_of column.name header)) (column_places (number + 1) (drop (number + 1) columns) header)
+places_of_next columns number column header within is =
+    ap (λ rest. column_places number rest header) (drop_more columns number column within ∙ ap (λ c. c ∷ drop (number + 1) columns) (sym is))

@@ -1,11 +1,12 @@
 -- A record takes bytes, so that a file has no more records than its bytes can hold.
-use Rattle.std.proofs.Common.{◌≡◌, ◌⊎◌, inl, inr, ℕ, zero, suc, ◌+◌, ◌≤◌, ◌<◌, List, [], ◌∷◌, length, Option, None, Some, Bool, true, false, refl, ap, arith, ◌&&◌, if◌then◌else◌}
+use Rattle.std.proofs.Common.{◌≡◌, ◌⊎◌, inl, inr, ℕ, zero, suc, ◌+◌, ◌≤◌, ◌<◌, List, [], ◌∷◌, length, Option, None, Some, Bool, true, false, refl, ap, arith, length-append, ◌&&◌, if◌then◌else◌}
 use Rattle.std.specs.Prelude.{◌==◌}
 use Rattle.csv.specs.Machine.{Read, next_record, step, is_end, ends_at_end, in_field, start_field, start_record, after_end, ends_with, is_byte, line_feed, carriage_return, fields_after, field_after}
 use Rattle.csv.specs.Reading.{records_from, NextIs}
 use Rattle.csv.specs.declared.parser.Config.{Config}
 use Rattle.csv.specs.declared.parser.State.{State}
 use Rattle.csv.specs.declared.parser.Action.{Action}
+use Rattle.csv.specs.declared.parser.Action.TheVariants as act
 use Rattle.csv.specs.declared.parser.Terminator.{Terminator}
 use Rattle.csv.specs.declared.parser.Terminator.TheVariants as term
 use Rattle.csv.specs.declared.parser.State.TheVariants as st
@@ -49,7 +50,7 @@ step_closes cfg st.InComment c = pick (c == line_feed) _ _ (goes_on _ _ refl) (g
 step_closes cfg st.AfterCr c = pick (c == line_feed) _ _ (goes_on _ _ refl) (start_record_closes cfg c)
 
 -- which side an answer came from
-from_if : (b : Bool) (q p : Read) (x : Option Read) → (if b then Some q else x) ≡ Some p → ((b ≡ true) × (q ≡ p)) ⊎ ((b ≡ false) × (x ≡ Some p))
+pub from_if : (b : Bool) (q p : Read) (x : Option Read) → (if b then Some q else x) ≡ Some p → ((b ≡ true) × (q ≡ p)) ⊎ ((b ≡ false) × (x ≡ Some p))
 from_if true q p x e = inl (refl, cc)
 from_if false q p x e = inr (refl, e)
 
@@ -74,6 +75,30 @@ next_takes cfg s fields field (c ∷ rest) p e =
           record { closed = t.closed; less = λ open'. omega arith; no_more = omega arith }
     ]
 
+one_field : (a : Action) (fields : List (List ℕ)) (field : List ℕ) → length (fields_after a fields field) ≤ length fields + 1
+one_field act.EndField fields field = omega (arith, length-append fields (field ∷ []))
+one_field act.EndRecord fields field = omega (arith, length-append fields (field ∷ []))
+one_field act.Skip fields field = omega arith
+one_field act.Copy fields field = omega arith
+
+-- a byte ends at most one field
+next_wide : (cfg : Config) (s : State) (fields : List (List ℕ)) (field xs : List ℕ) (p : Read) → next_record cfg s fields field xs ≡ Some p
+    → length p.0 + length p.2 ≤ length fields + 1 + length xs
+unfolding next_record
+next_wide cfg s fields field [] p e =
+    elim (from_if (ends_at_end s) _ p None e) [
+      | inl h ↦ rw (← h.1) (omega (arith, length-append fields (field ∷ [])))
+      | inr h ↦ absurd (cc)
+    ]
+next_wide cfg s fields field (c ∷ rest) p e =
+    elim (from_if (is_end (step cfg s c).1) _ p _ e) [
+      | inl h ↦ rw (← h.1) (omega (arith, one_field (step cfg s c).1 fields field))
+      | inr h ↦
+          let t : length p.0 + length p.2 ≤ length (fields_after (step cfg s c).1 fields field) + 1 + length rest =
+          next_wide cfg (step cfg s c).0 (fields_after (step cfg s c).1 fields field) (field_after (step cfg s c).1 c field) rest p h.1 in
+          omega (arith, one_field (step cfg s c).1 fields field)
+    ]
+
 -- the records of some bytes are the same for every number of turns that is enough for them
 turns_after : (cfg : Config) (s : State) (xs : List ℕ) (n m : ℕ) (o : Option Read) → next_record cfg s [] [] xs ≡ o
     → ((p : Read) → o ≡ Some p → records_from cfg n p.1 p.2 ≡ records_from cfg m p.1 p.2)
@@ -95,6 +120,8 @@ enough_turns cfg s xs (suc n) (suc m) between long more =
 -- what a read that found a record says
 pub record Found (cfg : Config) (s : State) (xs : List ℕ) (fields : List (List ℕ)) (s2 : State) (ys : List ℕ) : Type 0 where
   pub between : ends_at_end s2 ≡ false
+  pub shorter : length ys ≤ length xs
+  pub wide : length fields ≤ length xs + 1
   pub first : records_from cfg (length xs + 1) s xs ≡ fields ∷ records_from cfg (length ys + 1) s2 ys
 
 found_read : (cfg : Config) (s : State) (xs : List ℕ) (p : Read) → ends_at_end s ≡ false → next_record cfg s [] [] xs ≡ Some p → Found cfg s xs p.0 p.1 p.2
@@ -105,6 +132,8 @@ found_read cfg s xs p between e =
     let one : length xs + 1 ≡ suc (length xs) = omega arith in
     record {
       between = t.closed;
+      shorter = omega arith;
+      wide = omega (arith, next_wide cfg s [] [] xs p e);
       first = rw one (rw e (ap (λ rest. p.0 ∷ rest) (enough_turns cfg p.1 p.2 (length xs) (length p.2 + 1) t.closed shorter (omega arith))));
     }
 

@@ -1,84 +1,80 @@
--- The records of a file, read one after another into cells.
-use Rattle.std.proofs.Common.{ℕ, ℤ, ◌≡◌, ◌+◌, ◌≤◌, List, [], ◌∷◌, ◌++◌, length, map, Option, None, Some, refl, ap, sym, ◌∙◌, true, false, arith, append_assoc, append-nil, length-append, inl, inr}
-use Rattle.std.specs.Prelude.{option_map, option_and_then, nat_le, if◌then◌else◌}
-use Rattle.csv_tables.specs.Numbers.{bits_of}
-use Rattle.csv_tables.specs.Columns.{column_numbers, followed_by, numbers_of, place_of, row_number, NoColumn, Record}
+-- The values of a record, read one after another.
+use Rattle.std.proofs.Common.{◌≡◌, ℕ, ◌+◌, ◌<◌, ◌≤◌, List, [], ◌∷◌, ◌++◌, length, get_or, take, drop, None, Some, Err, refl, sym, ap, ◌∙◌, subst, arith}
+use Rattle.std.proofs.lemmas.List.{drop_more, drop_all, take_more, take_all, map-append}
+use Rattle.schema_types.specs.declared.types.Column.{Column}
+use Rattle.csv_tables.specs.declared.types.TableError.TheVariants as error
+use Rattle.csv_tables.specs.Cells.{value_of_cell, IsCell}
+use Rattle.csv_tables.specs.Pools.{BeginsWith}
+use Rattle.csv_tables.specs.Reads.{kinds_of, AreCellsOfRow, HoldsRow}
+use Rattle.csv_tables.specs.Records.{Record}
+use Rattle.csv_tables.specs.Rows.{values_of_record, Row}
+use Rattle.csv_tables.specs.Steps.{or_refuse, then_all}
+use Rattle.csv_tables.specs.Values.{value_of_field}
+use Rattle.csv_tables.proofs.GrowFacts.{begins_itself, begins_then, row-grown, row-push}
+use Rattle.csv_tables.proofs.StepFacts.{ReadTo, read_all, read_none, read_one, read_refused}
 
--- the cells of these records are those that were read, and then those of the records that are left
-pub record ReadSoFar (width place : ℕ) (rows : List Record) (read : List ℕ) (left : List Record) : Type 0 where
-  pub cells : option_map (map bits_of) (numbers_of width place rows) ≡ option_map (λ numbers. read ++ map bits_of numbers) (numbers_of width place left)
-  pub count : length rows ≡ length read + length left
+-- the cells of a record's first values, in a pool that grew
+pub record RowSoFar (number at : ℕ) (columns : List Column) (places : List ℕ) (fields : Record) (old texts : List (List ℕ)) (cells : List ℕ) : Type 0 where
+  pub row : Row
+  pub read : ReadTo (values_of_record number 0 columns places fields) row (values_of_record number at (drop at columns) (drop at places) fields)
+  pub cells_of_row : AreCellsOfRow texts (kinds_of (take at columns)) row cells
+  pub begins : BeginsWith old texts
+  pub few : length texts ≤ length old + at
 
-pub read_none : (width place : ℕ) (rows : List Record) → ReadSoFar width place rows [] rows
-read_none width place rows = record { cells = refl; count = omega arith }
-
-further : (cells : List ℕ) (number : ℤ) (numbers : Option (List ℤ))
-    → option_map (λ ns. cells ++ map bits_of ns) (followed_by (Some number) numbers) ≡ option_map (λ ns. (cells ++ bits_of number ∷ []) ++ map bits_of ns) numbers
-further cells number None = refl
-further cells number (Some ns) = ap Some (sym (append_assoc cells (bits_of number ∷ []) (map bits_of ns)))
-
--- a record with a number
-pub read_one : (width place : ℕ) (rows : List Record) (cells : List ℕ) (left after : List Record) (row : Record) (number : ℤ)
-    → left ≡ row ∷ after → row_number width place row ≡ Some number → ReadSoFar width place rows cells left
-    → ReadSoFar width place rows (cells ++ bits_of number ∷ []) after
-read_one width place rows cells left after row number e n so_far = record {
-  cells = so_far.cells ∙ ap (λ rest. option_map (λ ns. cells ++ map bits_of ns) (numbers_of width place rest)) e
-      ∙ ap (λ first. option_map (λ ns. cells ++ map bits_of ns) (followed_by first (numbers_of width place after))) n
-      ∙ further cells number (numbers_of width place after);
-  count = omega (arith, so_far.count, ap length e, length-append cells (bits_of number ∷ []));
+pub row_none : (number : ℕ) (columns : List Column) (places : List ℕ) (fields : Record) (texts : List (List ℕ)) (cells : List ℕ)
+    → cells ≡ [] → RowSoFar number 0 columns places fields texts texts cells
+row_none number columns places fields texts cells e = record {
+  row = [];
+  read = read_none _;
+  cells_of_row = subst (AreCellsOfRow texts [] []) (sym e) tt;
+  begins = begins_itself texts;
+  few = omega arith;
 }
 
-none_before : (f g : List ℤ → List ℕ) (x y : Option (List ℤ)) → option_map f x ≡ option_map g y → y ≡ None → x ≡ None
-none_before f g None y e n = refl
-none_before f g (Some x) None e n = absurd (cc e)
-none_before f g (Some x) (Some y) e n = absurd (cc n)
+values_next : (number at : ℕ) (columns : List Column) (places : List ℕ) (fields : Record) (column : Column)
+    → at < length columns → at < length places → column ≡ get_or columns at column
+    → values_of_record number at (drop at columns) (drop at places) fields
+    ≡ then_all (or_refuse (error.Field number at) (value_of_field column.kind (get_or fields (get_or places at 0) [])))
+    (values_of_record number (at + 1) (drop (at + 1) columns) (drop (at + 1) places) fields)
+values_next number at columns places fields column l m c =
+    ap (λ cs. values_of_record number at cs (drop at places) fields) (drop_more columns at column l ∙ ap (λ k. k ∷ drop (at + 1) columns) (sym c))
+    ∙ ap (λ ps. values_of_record number at (column ∷ drop (at + 1) columns) ps fields) (drop_more places at 0 m)
 
--- a record without a number
-pub read_bad : (width place : ℕ) (rows : List Record) (cells : List ℕ) (left after : List Record) (row : Record)
-    → left ≡ row ∷ after → row_number width place row ≡ None → ReadSoFar width place rows cells left → NoColumn width place rows
-read_bad width place rows cells left after row e n so_far =
-    inr (none_before (map bits_of) (λ ns. cells ++ map bits_of ns) _ (numbers_of width place left) so_far.cells
-    (ap (numbers_of width place) e ∙ ap (λ first. followed_by first (numbers_of width place after)) n))
+-- a field without a value of its column
+pub row_bad : (number at : ℕ) (columns : List Column) (places : List ℕ) (fields : Record) (old texts : List (List ℕ)) (cells : List ℕ) (column : Column) (field : List ℕ)
+    → at < length columns → at < length places → column ≡ get_or columns at column → field ≡ get_or fields (get_or places at 0) []
+    → RowSoFar number at columns places fields old texts cells → None ≡ value_of_field column.kind field
+    → values_of_record number 0 columns places fields ≡ Err (error.Field number at)
+row_bad number at columns places fields old texts cells column field l m c f so_far bad =
+    read_refused _ _ _ _ _ _ so_far.read (values_next number at columns places fields column l m c)
+    (ap (λ x. or_refuse (error.Field number at) (value_of_field column.kind x)) (sym f) ∙ ap (or_refuse (error.Field number at)) (sym bad))
 
--- one record too many
-pub read_many : (width place : ℕ) (rows : List Record) (cells : List ℕ) (left after : List Record) (row : Record)
-    → left ≡ row ∷ after → 1000000 ≤ length cells → ReadSoFar width place rows cells left → NoColumn width place rows
-read_many width place rows cells left after row e many so_far = inl (omega (arith, so_far.count, ap length e, many))
+-- a field with one
+pub row_more : (number at : ℕ) (columns : List Column) (places : List ℕ) (fields : Record) (old texts new : List (List ℕ)) (cells : List ℕ) (column : Column) (field : List ℕ) (cell : ℕ)
+    → at < length columns → at < length places → column ≡ get_or columns at column → field ≡ get_or fields (get_or places at 0) []
+    → RowSoFar number at columns places fields old texts cells → Some (value_of_cell new column.kind cell) ≡ value_of_field column.kind field
+    → IsCell new column.kind cell → BeginsWith texts new → length new ≤ length texts + 1
+    → RowSoFar number (at + 1) columns places fields old new (cells ++ cell ∷ [])
+row_more number at columns places fields old texts new cells column field cell l m c f so_far good is grew few =
+    let value = value_of_cell new column.kind cell in
+    let kinds : kinds_of (take (at + 1) columns) ≡ kinds_of (take at columns) ++ column.kind ∷ [] =
+    ap kinds_of (take_more columns at column l ∙ ap (λ k. take at columns ++ k ∷ []) (sym c)) ∙ map-append (λ (k : Column). k.kind) (take at columns) (column ∷ []) in
+    record {
+      row = so_far.row ++ value ∷ [];
+      read = read_one _ _ _ _ value _ so_far.read (values_next number at columns places fields column l m c)
+          (ap (λ x. or_refuse (error.Field number at) (value_of_field column.kind x)) (sym f) ∙ ap (or_refuse (error.Field number at)) (sym good));
+      cells_of_row = subst (λ ks. AreCellsOfRow new ks (so_far.row ++ value ∷ []) (cells ++ cell ∷ [])) (sym kinds)
+          (row-push new (kinds_of (take at columns)) so_far.row cells column.kind value cell (row-grown texts new _ so_far.row cells grew so_far.cells_of_row) (record { value_is = refl; is_cell = is }));
+      begins = begins_then old texts new so_far.begins grew;
+      few = omega (arith, so_far.few, few);
+    }
 
--- no further record
-pub read_all : (width place : ℕ) (rows : List Record) (cells : List ℕ) (left : List Record)
-    → left ≡ [] → ReadSoFar width place rows cells left → option_map (map bits_of) (numbers_of width place rows) ≡ Some cells
-read_all width place rows cells left e so_far =
-    so_far.cells ∙ ap (λ rest. option_map (λ ns. cells ++ map bits_of ns) (numbers_of width place rest)) e ∙ ap Some (append-nil cells)
-
--- a file whose records are few enough has the column of its header's place
-pub column_of_rows : (name : List ℕ) (records : List Record) (header : Record) (rows : List Record) (place : ℕ)
-    → records ≡ header ∷ rows → length rows ≤ 1000000 → place_of name header ≡ Some place
-    → column_numbers name records ≡ numbers_of (length header) place rows
-column_of_rows name records header rows place e few p =
-    let fits : nat_le (length rows) 1000000 ≡ true = grind (arith, few) in
-    ap (column_numbers name) e ∙ rw (fits, p) refl
-
-no_place_by : (name : List ℕ) (header : Record) (rows : List Record) → place_of name header ≡ None → column_numbers name (header ∷ rows) ≡ None
-no_place_by name header rows p = elim (nat_le (length rows) 1000000) as (λ v. (if v then option_and_then (λ place. numbers_of (length header) place rows) (place_of name header) else None) ≡ None) [
-  | true ↦ rw p refl
-  | false ↦ refl
-]
-
--- a header without the column
-pub no_place : (name : List ℕ) (records : List Record) (header : Record) (rows : List Record)
-    → records ≡ header ∷ rows → place_of name header ≡ None → column_numbers name records ≡ None
-no_place name records header rows e p = ap (column_numbers name) e ∙ no_place_by name header rows p
-
-no_column_by : (name : List ℕ) (header : Record) (rows : List Record) (place : ℕ)
-    → place_of name header ≡ Some place → NoColumn (length header) place rows → column_numbers name (header ∷ rows) ≡ None
-no_column_by name header rows place p (inl many) = let above : nat_le (length rows) 1000000 ≡ false = grind (arith, many) in rw above refl
-no_column_by name header rows place p (inr none) = elim (nat_le (length rows) 1000000) as (λ v. (if v then option_and_then (λ place. numbers_of (length header) place rows) (place_of name header) else None) ≡ None) [
-  | true ↦ rw (p, none) refl
-  | false ↦ refl
-]
-
--- records that give no column
-pub no_column : (name : List ℕ) (records : List Record) (header : Record) (rows : List Record) (place : ℕ)
-    → records ≡ header ∷ rows → place_of name header ≡ Some place → NoColumn (length header) place rows → column_numbers name records ≡ None
-no_column name records header rows place e p h = ap (column_numbers name) e ∙ no_column_by name header rows place p h
+-- no more fields
+pub row_all : (number at : ℕ) (columns : List Column) (places : List ℕ) (fields : Record) (old texts : List (List ℕ)) (cells : List ℕ)
+    → length columns ≤ at → RowSoFar number at columns places fields old texts cells
+    → HoldsRow (values_of_record number 0 columns places fields) texts (kinds_of columns) cells
+row_all number at columns places fields old texts cells end so_far = record {
+  row = so_far.row;
+  is_row = read_all _ _ _ so_far.read (ap (λ cs. values_of_record number at cs (drop at places) fields) (drop_all at columns end));
+  cells_of_row = subst (λ cs. AreCellsOfRow texts (kinds_of cs) so_far.row cells) (take_all at columns end) so_far.cells_of_row;
+}

@@ -1,5 +1,6 @@
 -- UTF-8 as a test.
-use Rattle.std.proofs.Common.{ℕ, List, Bool, true, false, ◌≡◌, refl}
+use Rattle.std.proofs.Common.{ℕ, zero, suc, List, [], ◌∷◌, Bool, true, false, None, ◌≡◌, refl, get_or}
+use Rattle.csv.specs.Records.{field_at}
 use Rattle.std.specs.Prelude.{IsUtf8}
 use Rattle.std.specs.Str.{is_utf8}
 use Rattle.std.proofs.lemmas.Str.{IsUtf8-from_is_utf8, is_utf8-from_IsUtf8}
@@ -13,3 +14,10 @@ pub not_text : (bytes : List ℕ) → ¬ (IsUtf8 bytes) → is_utf8 bytes ≡ fa
 not_text bytes invalid = by_test bytes (is_utf8 bytes) refl invalid
 
 pub ruleset text_steps = (is_utf8-from_IsUtf8, not_text)
+
+-- past the last field
+pub no_field : (fields : List (List ℕ)) (i : ℕ) → field_at fields i ≡ None → get_or fields i [] ≡ []
+unfolding field_at
+no_field [] i e = refl
+no_field (f ∷ fs) zero e = absurd (cc e)
+no_field (f ∷ fs) (suc i) e = no_field fs i e

@@ -1,4 +1,13 @@
-pub mod Columns
+pub mod Cells
+pub mod Files
+pub mod Groups
+pub mod Header
+pub mod Keys
 pub mod Numbers
+pub mod Pools
+pub mod Reads
 pub mod Records
-pub mod Tables
+pub mod Refused
+pub mod Rows
+pub mod Steps
+pub mod Values

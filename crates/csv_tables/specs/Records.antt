@@ -1,21 +1,17 @@
 -- The records of a file's bytes, and those that a reader has left.
-use Rattle.std.specs.Prelude.{ℕ, ◌≡◌, ◌+◌, ◌==◌, ◌&&◌, Bool, false, List, [], ◌∷◌, length, Option, None, Some}
+use Rattle.std.specs.Prelude.{ℕ, ◌≡◌, ◌≤◌, ◌+◌, false, List, [], length, Option, None, Some, IsUtf8}
 use Rattle.std.proofs.Common.{Bor}
 use Rattle.csv.specs.Machine.{ends_at_end}
 use Rattle.csv.specs.Reading.{default_config, records, records_from, reader_config, reader_state, reader_trim, source_of, Ready}
 use Rattle.csv.specs.declared.parser.State.{State}
 use Rattle.csv.specs.declared.reader.Reader.{Reader}
 use Rattle.csv.specs.declared.reader.Trim.TheVariants as trim
-use Rattle.csv_tables.specs.Columns.{Record}
 
--- the bytes begin with a byte order mark, U+FEFF in UTF-8
-abbrev pub has_mark : List ℕ → Bool
-has_mark [] = false
-has_mark (a ∷ []) = false
-has_mark (a ∷ b ∷ []) = false
-has_mark (a ∷ b ∷ c ∷ rest) = (a == 0xEF) && (b == 0xBB) && (c == 0xBF)
+-- a record: the bytes of each of its fields
+abbrev pub Record : Type 0
+Record = List (List ℕ)
 
--- the records of bytes without a mark: fields parted by commas, quoted by double quotes
+-- the records of bytes: fields parted by commas, quoted by double quotes
 abbrev pub records_of : List ℕ → List Record
 records_of bytes = records default_config bytes
 
@@ -35,11 +31,13 @@ records_in state (Some bytes) = records_from default_config (length bytes + 1) s
 abbrev pub left : Source → List Record
 left reader = records_in (reader_state reader) (unread reader)
 
--- it stands between two records, and reads every record as it is
+-- it stands between two records of a text of at most 64 MiB, and reads every record as it is
 pub record IsReading (reader : Source) : Type 0 where
   pub config : reader_config reader ≡ default_config
   pub trim : reader_trim reader ≡ trim.None
   pub ready : Ready reader
   pub bytes : List ℕ
   pub known : unread reader ≡ Some bytes
+  pub text : IsUtf8 bytes
+  pub few : length bytes ≤ 67108864
   pub between : ends_at_end (reader_state reader) ≡ false

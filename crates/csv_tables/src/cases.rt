@@ -1,8 +1,11 @@
 //! Small cases of this crate's words.
 ghost use Rattle.std.specs.Prelude.{◌≡◌, ◌∷◌, ◌^◌, ◌-◌, [], None, Some, codes, neg_ℤ, pos};
-ghost use Rattle.csv_tables.specs.Columns.{column_numbers};
+ghost use Rattle.schema_types.specs.declared.types.Kind.TheVariants as kind;
+ghost use Rattle.csv_tables.specs.Header.{column_place};
+ghost use Rattle.csv_tables.specs.Keys.{first_repeat};
 ghost use Rattle.csv_tables.specs.Numbers.{bits_of, number_of};
 ghost use Rattle.csv_tables.specs.Records.{records_of};
+ghost use Rattle.csv_tables.specs.Values.{Int, value_of_field};
 
 /// Theorems by computation. It does nothing.
 pub fn examples()
@@ -12,12 +15,15 @@ pub fn examples()
     ensures blank { number_of (codes " 1") ≡ None }
     ensures sign { number_of (codes "-") ≡ None }
     ensures cell { bits_of (neg_ℤ (pos 1)) ≡ 2 ^ 64 - 1 }
+    ensures value { value_of_field kind.Int (codes "5") ≡ Some (Int (pos 5)) }
 
     // X and 1, each with CR and LF behind it, and 2 without.
     ensures records { records_of (88 ∷ 13 ∷ 10 ∷ 49 ∷ 13 ∷ 10 ∷ 50 ∷ [])
         ≡ (codes "X" ∷ []) ∷ (codes "1" ∷ []) ∷ (codes "2" ∷ []) ∷ [] }
-    ensures column { column_numbers (codes "X") ((codes "Y" ∷ codes "x" ∷ []) ∷ (codes "a" ∷ codes "5" ∷ []) ∷ []) ≡ Some (pos 5 ∷ []) }
-    ensures twice { column_numbers (codes "X") ((codes "X" ∷ codes "x" ∷ []) ∷ []) ≡ None }
-    ensures width { column_numbers (codes "X") ((codes "X" ∷ []) ∷ (codes "1" ∷ codes "2" ∷ []) ∷ []) ≡ None }
-    ensures headless { column_numbers (codes "X") [] ≡ None }
+    ensures place { column_place (codes "X") (codes "Y" ∷ codes "x" ∷ []) ≡ Some 1 }
+    ensures twice { column_place (codes "X") (codes "X" ∷ codes "x" ∷ []) ≡ None }
+
+    // The key's values 4, 5, 4: the third record repeats the first.
+    ensures repeat { first_repeat (0 ∷ []) ((Int (pos 4) ∷ []) ∷ (Int (pos 5) ∷ []) ∷ (Int (pos 4) ∷ []) ∷ []) ≡ Some (record { later = 3; earlier = 1 }) }
+    ensures none { first_repeat (0 ∷ 1 ∷ []) ((Int (pos 4) ∷ Int (pos 1) ∷ []) ∷ (Int (pos 4) ∷ Int (pos 2) ∷ []) ∷ []) ≡ None }
 {}

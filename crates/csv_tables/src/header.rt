@@ -1,10 +1,14 @@
-//! The place of a column in a file's header.
-ghost use Rattle.std.specs.Prelude.{◌≡◌};
+//! The places of the declared columns in a file's header.
+ghost use Rattle.std.specs.Prelude.{◌≡◌, ◌<◌, ◌≤◌, All, Err, IfErr, IfOk, IsErrOf, Ok, length};
 ghost use Rattle.std.specs.Str.{str_eq_ignore_ascii_case};
 ghost use Rattle.csv.specs.Records.{fields_of};
-ghost use Rattle.csv_tables.specs.Columns.{place_of as named_place};
+ghost use Rattle.csv_tables.specs.Header.{column_place as named_place, column_places};
+ghost use Rattle.csv_tables.specs.Refused.{Refuses};
 
+use crate::TableError;
 use csv::ByteRecord;
+use schema_types::Column;
+use std::alloc::Global;
 
 // Whether a header field is this name in letters of either case.
 fn is_named(field: &[u8], name: &[u8]) -> bool
@@ -13,8 +17,8 @@ fn is_named(field: &[u8], name: &[u8]) -> bool
     field.eq_ignore_ascii_case(name)
 }
 
-/// The place of the one field that is this name in letters of either case.
-pub(crate) fn place_of(name: &[u8], header: &ByteRecord) -> Option<usize>
+// The place of the one field that is this name in letters of either case.
+fn place_of(name: &[u8], header: &ByteRecord) -> Option<usize>
     ensures { result ≡ named_place name.now (fields_of header.now) }
 {
     let mut found = None;
@@ -31,4 +35,28 @@ pub(crate) fn place_of(name: &[u8], header: &ByteRecord) -> Option<usize>
         found = Some(at);
     }
     found
+}
+
+/// The places of the columns in a header. The first column that no field names, or more than one
+/// does, is refused.
+pub(crate) fn places_of(
+    alloc: Global,
+    columns: &[Column],
+    header: &ByteRecord,
+) -> Result<Vec<usize>, TableError>
+    requires { length columns.now ≤ 64 }
+    ensures ok { IfOk result (λ places. column_places 0 columns.now (fields_of header.now) ≡ Ok places.items) }
+    ensures long { IfOk result (λ places. length places.items ≡ length columns.now) }
+    ensures refused { IfErr result (Refuses (column_places 0 columns.now (fields_of header.now))) }
+{
+    let mut places = Vec::new(alloc);
+    'columns: for (number, column) in columns.iter().enumerate() {
+        let Some(place) = place_of(column.name.as_str().as_bytes(), header) else {
+            return Err(TableError::Header {
+                column: number as u32,
+            });
+        };
+        places.push(place)?;
+    }
+    Ok(places)
 }

@@ -1,27 +1,30 @@
-//! Table files: from the bytes of a CSV file to a table's cells.
+//! Table files: from the bytes of CSV files to cells, and the pool of their texts.
 //!
 //! The stage after the schema is read. A table file is read record by record (RFC 4180, as the crate
-//! `csv` reads it), and each record's field of the declared column becomes one cell of 8 bytes.
-//! In its first form a table has one column of numbers, and neither keys nor references.
+//! `csv` reads it). Each field of a declared column becomes one cell of 8 bytes, a text through the
+//! pool; then the keys are looked at.
 //!
-//! Callers cite `table_cells` (in `specs/Tables.antt`), which says which bytes spell which cells of a
-//! table, and beside it `numbers_of_table` and `values_of`, the same as numbers; below them stand
-//! `column_numbers` (a column's numbers in the records of a file) and `number_of` (the number that a
-//! field spells).
+//! Callers cite `rows_of_file` (in `specs/Files.antt`), which says which rows a file has or why it is
+//! refused, and `rows_of_cells` and `AreCellsOf` (in `specs/Cells.antt`), which say what cells stand
+//! for. They see a `Pool` as the list of its texts.
 #![tactic(auto)]
 
 mod cases;
 mod cell;
 mod header;
+mod keys;
 mod number;
+mod pool;
 mod records;
+mod rows;
 mod table;
 mod types;
 
 pub use cases::examples;
-pub use cell::{cell_of, value_of};
+pub use cell::{cell_of, compare, value_of};
+pub use pool::Pool;
 pub use table::read_table;
-pub use types::{Cells, TableError};
+pub use types::{Cells, Database, TableError};
 
 #[cfg(test)]
 mod tests;

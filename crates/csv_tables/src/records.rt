@@ -1,24 +1,19 @@
 //! The records of a file, one after another.
-ghost use Rattle.std.specs.Prelude.{◌≡◌, ◌∷◌, [], true, false, IfOk};
-ghost use Rattle.csv.specs.Records.{fields_of};
-ghost use Rattle.csv_tables.specs.Records.{has_mark as begins_with_mark, left, records_of, IsReading};
+ghost use Rattle.std.specs.Prelude.{◌≡◌, ◌≤◌, ◌∷◌, [], length, true, false, IfOk, IsUtf8};
+ghost use Rattle.csv.specs.Reading.{strip_bom};
+ghost use Rattle.csv.specs.Records.{fields_of, AllText};
+ghost use Rattle.csv_tables.specs.Records.{left, records_of, IsReading};
 
 use base_io::NoMemory;
 use csv::{ByteRecord, Reader, ReaderBuilder};
 use std::alloc::Global;
 
-/// Whether the bytes begin with a byte order mark, which the reader would drop.
-pub(crate) fn has_mark(bytes: &[u8]) -> bool
-    ensures { result ≡ begins_with_mark bytes.now }
-{
-    matches!(bytes, [0xEF, 0xBB, 0xBF, ..])
-}
-
-/// A reader before the first record of a file, the header.
+/// A reader before the first record of a file, the header. It passes over one byte order mark.
 pub(crate) fn open_records<'a>(alloc: Global, bytes: &'a [u8]) -> Reader<&'a [u8]>
-    requires { begins_with_mark bytes.now ≡ false }
+    requires text { IsUtf8 bytes.now }
+    requires few { length bytes.now ≤ 67108864 }
     ensures reading { IsReading result }
-    ensures left { left result ≡ records_of bytes.now }
+    ensures left { left result ≡ records_of (strip_bom bytes.now) }
 {
     ReaderBuilder::new()
         .has_headers(false)
@@ -34,6 +29,8 @@ pub(crate) fn next_record(
     requires { IsReading reader.old }
     ensures reading { IfOk result (λ found. found ≡ true → IsReading reader.new) }
     ensures more { IfOk result (λ found. found ≡ true → left reader.old ≡ fields_of row.new ∷ left reader.new) }
+    ensures text { IfOk result (λ found. found ≡ true → AllText (fields_of row.new)) }
+    ensures fields { IfOk result (λ found. found ≡ true → length (fields_of row.new) ≤ 67108865) }
     ensures end { IfOk result (λ found. found ≡ false → left reader.old ≡ []) }
 {
     // Over bytes in memory and in flexible mode the reader has no other error.

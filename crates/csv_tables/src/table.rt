@@ -1,132 +1,113 @@
-//! A table file's cells.
-ghost use Rattle.std.specs.Prelude.{◌≡◌, ◌≤◌, false, length, map, vec_len, IfOk, IsErrOf, None, Some, option_map};
+//! A table's cells from its file.
+ghost use Rattle.std.specs.Prelude.{◌≡◌, ◌<◌, ◌≤◌, ◌+◌, false, Err, IfErr, IfOk, IsUtf8, Ok, OnErr, OnOk, length};
 ghost use Rattle.std.specs.Str.{is_utf8};
+ghost use Rattle.std.specs.Str.Lossy.{utf8_valid_len};
+ghost use Rattle.csv.specs.Reading.{strip_bom};
 ghost use Rattle.csv.specs.Records.{fields_of};
-ghost use Rattle.csv_tables.specs.Numbers.{bits_of};
-ghost use Rattle.csv_tables.specs.Columns.{column_numbers, numbers_of, row_number as numbered, NoColumn};
-ghost use Rattle.csv_tables.specs.Records.{has_mark as begins_with_mark, left, records_of, IsReading};
-ghost use Rattle.csv_tables.specs.Tables.{number_column as column_of_numbers, numbers_of_table, table_cells, values_of};
+ghost use Rattle.schema_types.specs.Validity.{IsValidTable};
+ghost use Rattle.csv_tables.specs.Cells.{rows_of_cells, AreCellsOf};
+ghost use Rattle.csv_tables.specs.Files.{rows_of_file, rows_under_header};
+ghost use Rattle.csv_tables.specs.Pools.{BeginsWith};
+ghost use Rattle.csv_tables.specs.Reads.{kinds_of, HoldsColumns};
+ghost use Rattle.csv_tables.specs.Records.{records_of};
+ghost use Rattle.csv_tables.specs.Refused.{Refuses};
 
-use crate::cell::cell_of;
-use crate::header::place_of;
-use crate::number::number_of;
-use crate::records::{has_mark, next_record, open_records};
+use crate::header::places_of;
+use crate::keys::check_keys;
+use crate::pool::Pool;
+use crate::records::{next_record, open_records};
+use crate::rows::read_rows;
 use crate::{Cells, TableError};
-use base_io::{Name, Seq};
-use csv::{ByteRecord, Reader};
-use schema_types::{Kind, Table};
+use base_io::{NoMemory, Seq};
+use csv::ByteRecord;
+use schema_types::{Column, Kind, Table};
 use std::alloc::Global;
-
-// How many records after the header are built today.
-const MOST_ROWS: usize = 1_000_000;
-
-// The name of the one column of numbers of a table that has neither keys nor references.
-fn number_column(table: &Table) -> Option<&Name>
-    ensures { option_map (λ name. name.now) result ≡ column_of_numbers table.now }
-{
-    if table.keys.len() != 0 || table.references.len() != 0 {
-        return None;
-    }
-    match table.columns.as_slice() {
-        [column] => match column.kind {
-            Kind::Int => Some(&column.name),
-            Kind::Text(_) => None,
-        },
-        _ => None,
-    }
-}
 
 // Whether the bytes are UTF-8.
 #[tactic(auto, using(crate::proofs::TextFacts::text_steps))]
-fn is_text(bytes: &[u8]) -> bool
-    ensures { result ≡ is_utf8 bytes.now }
+fn check_text(bytes: &[u8]) -> Result<(), TableError>
+    requires { length bytes.now ≤ 67108864 }
+    ensures ok { OnOk result (IsUtf8 bytes.now) }
+    ensures other { OnErr result (is_utf8 bytes.now ≡ false) }
+    ensures at { IfErr result (λ e. e ≡ TableError.Utf8 (utf8_valid_len bytes.now)) }
 {
     match str::from_utf8(bytes) {
-        Ok(_) => true,
-        Err(_) => false,
+        Ok(_) => Ok(()),
+        Err(error) => Err(TableError::Utf8 {
+            at: error.valid_up_to() as u32,
+        }),
     }
 }
 
-// The number of a record, where it is of this width and its field at this place spells one.
-fn row_number(row: &ByteRecord, width: usize, place: usize) -> Option<i64>
-    ensures { result ≡ numbered width place (fields_of row.now) }
+// The kinds of columns.
+fn kinds(alloc: Global, columns: &[Column]) -> Result<Seq<Kind>, NoMemory>
+    ensures { IfOk result (λ kinds. kinds ≡ kinds_of columns.now) }
 {
-    if row.len() != width {
-        return None;
+    let mut kinds = Vec::new(alloc);
+    'columns: for column in columns {
+        kinds.push(column.kind)?;
     }
-    match row.get(place) {
-        Some(field) => number_of(field),
-        None => None,
-    }
+    Ok(Seq::from_vec(kinds))
 }
 
-// The cells of the records that are left.
-fn read_rows(
+// The columns of a file's records under its header, and how many records they are.
+fn read_columns(
     alloc: Global,
-    reader: &mut Reader<&[u8]>,
-    row: &mut ByteRecord,
-    width: usize,
-    place: usize,
-) -> Result<Vec<u64>, TableError>
-    requires { IsReading reader.old }
-    ensures ok { IfOk result (λ cells. option_map (map bits_of) (numbers_of width place (left reader.old)) ≡ Some cells.items) }
-    ensures few { IfOk result (λ cells. (vec_len cells ≡ length (left reader.old)) × (vec_len cells ≤ 1000000)) }
-    ensures unbuilt { IsErrOf result TableError.Unbuilt → NoColumn width place (left reader.old) }
-{
-    let mut cells = Vec::new(alloc);
-    'rows: while next_record(reader, row)? {
-        if cells.len() >= MOST_ROWS {
-            return Err(TableError::Unbuilt);
-        }
-        let Some(value) = row_number(row, width, place) else {
-            return Err(TableError::Unbuilt);
-        };
-        cells.push(cell_of(value))?;
-    }
-    Ok(cells)
-}
-
-// The cells of the named column in a file without a byte order mark.
-fn read_column(alloc: Global, name: &[u8], bytes: &[u8]) -> Result<Vec<u64>, TableError>
-    requires { begins_with_mark bytes.now ≡ false }
-    ensures ok { IfOk result (λ cells. option_map (map bits_of) (column_numbers name.now (records_of bytes.now)) ≡ Some cells.items) }
-    ensures few { IfOk result (λ cells. vec_len cells ≤ 1000000) }
-    ensures unbuilt { IsErrOf result TableError.Unbuilt → column_numbers name.now (records_of bytes.now) ≡ None }
+    columns: &[Column],
+    bytes: &[u8],
+    pool: &mut Pool,
+) -> Result<(Vec<Seq<u64>>, u32), TableError>
+    requires some { 0 < length columns.now }
+    requires columns { length columns.now ≤ 64 }
+    requires few { length bytes.now ≤ 67108864 }
+    requires text { IsUtf8 bytes.now }
+    requires room { length pool.old ≤ 4000000000 }
+    ensures ok { IfOk result (λ found. HoldsColumns (rows_under_header columns.now (records_of (strip_bom bytes.now))) pool.new (kinds_of columns.now) found.0.items found.1) }
+    ensures limit { IfOk result (λ found. found.1 ≤ 4000000) }
+    ensures refused { IfErr result (Refuses (rows_under_header columns.now (records_of (strip_bom bytes.now)))) }
+    ensures begins { BeginsWith pool.old pool.new }
+    ensures more { length pool.new ≤ length pool.old + 256000000 }
 {
     let mut reader = open_records(alloc, bytes);
     let mut row = ByteRecord::new(alloc);
+    // A file without records has no header field.
     if !next_record(&mut reader, &mut row)? {
-        return Err(TableError::Unbuilt);
+        return Err(TableError::Header { column: 0 });
     }
     let width = row.len();
-    let Some(place) = place_of(name, &row) else {
-        return Err(TableError::Unbuilt);
-    };
-    read_rows(alloc, &mut reader, &mut row, width, place)
+    let places = places_of(alloc, columns, &row)?;
+    read_rows(alloc, &mut reader, &mut row, columns, &places, width, pool)
 }
 
-/// Reads the cells of a table from its file of at most 64 MiB. `Unbuilt` comes exactly where the
-/// table or the file isn't of the first form: one column of numbers, at most 1,000,000 records after
-/// the header, and nothing to refuse.
-#[tactic(auto, using(crate::proofs::RangeFacts::values_of_cells))]
-pub fn read_table(alloc: Global, table: &Table, bytes: &[u8]) -> Result<Cells, TableError>
-    requires { length bytes.now ≤ 67108864 }
-    ensures ok { IfOk result (λ cells. table_cells table.now bytes.now ≡ Some cells) }
-    ensures numbers { IfOk result (λ cells. numbers_of_table table.now bytes.now ≡ Some (values_of cells)) }
-    ensures unbuilt { IsErrOf result TableError.Unbuilt → table_cells table.now bytes.now ≡ None }
-    ensures no_numbers { IsErrOf result TableError.Unbuilt → numbers_of_table table.now bytes.now ≡ None }
+/// Reads the cells of a table from its file of at most 64 MiB, close to RFC 4180 as the crate `csv`
+/// reads it. The texts of the file are put into the pool.
+///
+/// After every answer the pool begins with its old texts in their places.
+pub fn read_table(
+    alloc: Global,
+    table: &Table,
+    bytes: &[u8],
+    pool: &mut Pool,
+) -> Result<Cells, TableError>
+    requires valid { IsValidTable table.now }
+    requires few { length bytes.now ≤ 67108864 }
+    requires room { length pool.old ≤ 4000000000 }
+
+    // The rows of the cells are the rows of the file, or the refusal is the file's.
+    ensures rows { IfOk result (λ cells. rows_of_file table.now bytes.now ≡ Ok (rows_of_cells pool.new cells)) }
+    ensures cells { IfOk result (AreCellsOf table.now pool.new) }
+    ensures refused { IfErr result (Refuses (rows_of_file table.now bytes.now)) }
+
+    ensures begins { BeginsWith pool.old pool.new }
+    ensures more { length pool.new ≤ length pool.old + 256000000 }
 {
-    let Some(name) = number_column(table) else {
-        return Err(TableError::Unbuilt);
-    };
-    if has_mark(bytes) || !is_text(bytes) {
-        return Err(TableError::Unbuilt);
-    }
-    let cells = read_column(alloc, name.as_str().as_bytes(), bytes)?;
-    let rows = cells.len() as u32;
+    check_text(bytes)?;
+    let columns = table.columns.as_slice();
+    let (found, rows) = read_columns(alloc, columns, bytes, pool)?;
+    check_keys(alloc, table, &found, rows, pool)?;
     Ok(Cells {
-        kinds: Seq::one(alloc, Kind::Int)?,
-        columns: Seq::one(alloc, Seq::from_vec(cells))?,
+        kinds: kinds(alloc, columns)?,
+        columns: Seq::from_vec(found),
         rows,
     })
 }

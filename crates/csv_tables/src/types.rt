@@ -1,13 +1,14 @@
-//! What is read of a table file.
+//! What is read of table files.
 ghost use Rattle.std.specs.Prelude.{◌≡◌};
 ghost use Rattle.csv_tables.specs.declared.types.TableError.TheVariants as error;
 
+use crate::pool::Pool;
 use base_io::{NoMemory, Seq};
 use schema_types::Kind;
 use std::alloc::AllocFailed;
 
 /// A table's cells, column by column, each column with one cell for each of `rows` records. A cell
-/// of a number is its 64 bits in two's complement.
+/// of a number is its 64 bits in two's complement, a cell of a text is its number in the pool.
 #[derive(Debug, Drop)]
 pub struct Cells {
     pub kinds: Seq<Kind>,
@@ -15,13 +16,40 @@ pub struct Cells {
     pub rows: u32,
 }
 
-/// Why no cells were read.
+/// The tables of a query: their texts, their cells, and for each FROM entry the place of its
+/// table in `cells`.
+#[derive(Drop)]
+pub struct Database {
+    pub pool: Pool,
+    pub cells: Seq<Cells>,
+    pub slots: Seq<u32>,
+}
+
+/// Why no cells were read. Records are numbered from 0, the header; columns are declared columns,
+/// numbered from 0.
 #[derive(Clone, Copy, Debug, PartialEq, Eq)]
 pub enum TableError {
-    /// The table or the file isn't of the form that is built today.
-    Unbuilt,
+    /// The file isn't UTF-8; its longest front that is UTF-8 has so many bytes.
+    Utf8 { at: u32 },
+    /// No header field names this column, or more than one does.
+    Header { column: u32 },
+    /// A record has so many fields, and the header has not.
+    Width { row: u32, found: u32 },
+    /// The field of this column is outside the column's type.
+    Field { row: u32, column: u32 },
+    /// A record has the values of an earlier record in the columns of a key.
+    Key { row: u32, earlier: u32 },
+    /// There are more records after the header than 4,000,000; at this one the reader stopped.
+    Limit { found: u32 },
     /// Memory was wanting.
     NoMemory,
+}
+
+/// A record that repeats an earlier one, by their numbers. The records after the header are numbered from 1.
+#[derive(Clone, Copy, Debug, PartialEq, Eq)]
+pub(crate) struct Repeat {
+    pub later: u32,
+    pub earlier: u32,
 }
 
 impl From<NoMemory> for TableError {

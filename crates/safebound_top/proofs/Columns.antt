@@ -4,7 +4,7 @@ use Rattle.std.specs.Fmt.{signed_decimal}
 use Rattle.std.specs.List.{flat_map}
 use Rattle.std.proofs.lemmas.List.Concat.{flat_map-cons}
 use Rattle.csv_tables.specs.Numbers.{number_in}
-use Rattle.csv_tables.specs.Tables.{values_of}
+use Rattle.first_form.specs.Tables.{values_of}
 use Rattle.safebound_top.specs.Accepted.{selected}
 use Rattle.safebound_top.specs.Prepared.{accepted_of}
 use Rattle.safebound_top.specs.Query.{AreFirst}

@@ -6,7 +6,7 @@ use Rattle.std.specs.Str.{IsAscii, is_utf8}
 use Rattle.std.proofs.lemmas.Bool.{ltb-true}
 use Rattle.std.proofs.lemmas.List.{get_or_past}
 use Rattle.std.proofs.lemmas.Str.{IsUtf8-from_ascii, is_utf8-from_IsUtf8}
-use Rattle.schema_types.proofs.Words.{both}
+use Rattle.first_form.proofs.Words.{both}
 
 each_is_ascii : (bytes : List ℕ) → list_all (λ c. nat_lt c 128) bytes ≡ true → IsAscii bytes
 each_is_ascii [] all i = omega (arith, get_or_past {X = ℕ} [] i 0 (omega arith))

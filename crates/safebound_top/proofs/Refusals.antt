@@ -2,8 +2,8 @@
 use Rattle.std.proofs.Common.{ℕ, List, Option, None, Some, Result, Ok, Err}
 use Rattle.std.specs.Prelude.{IfErr, nat_lt, length, if◌then◌else◌, Bool, true, false}
 use Rattle.base_io.specs.Files.{Files, file_of}
-use Rattle.schema_types.specs.Form.{schema_of}
-use Rattle.csv_tables.specs.Tables.{numbers_of_table}
+use Rattle.first_form.specs.Form.{schema_of}
+use Rattle.first_form.specs.Tables.{numbers_of_table}
 use Rattle.safebound_top.specs.Query.{query_of}
 use Rattle.safebound_top.specs.Stages.{IsOfTheVerdict}
 use Rattle.safebound_top.specs.Verdict.{◌>>=◌, built, bytes_of, command_stage, first_table, numbers_in, query_stage, query_word, read, schema_stage, schema_word, table_file, table_stage, usage_unless, verdict}

@@ -1,7 +1,7 @@
 -- The stages of the verdict, step by step.
 use Rattle.std.proofs.Common.{◌≡◌, ℕ, List, Result, Ok, Err, refl}
 use Rattle.base_io.specs.Files.{Files}
-use Rattle.schema_types.specs.Form.{schema_of}
+use Rattle.first_form.specs.Form.{schema_of}
 use Rattle.schema_types.specs.declared.types.Schema.{Schema}
 use Rattle.safebound_top.specs.Stages.{MissesNothing}
 use Rattle.safebound_top.specs.Verdict.{◌>>=◌, built, command_stage, query_stage, query_word, read, schema_stage, schema_word}

@@ -1,5 +1,5 @@
 -- What was read, as what a run is over.
-use Rattle.csv_tables.specs.Tables.{values_of}
+use Rattle.first_form.specs.Tables.{values_of}
 use Rattle.safebound_top.specs.Accepted.{Accepted}
 use Rattle.safebound_top.specs.Verdict.{rows_of}
 use Rattle.safebound_top.specs.declared.prepare.Prepared.{Prepared}

@@ -1,8 +1,8 @@
 -- Which query a text asks of a schema, in the first form.
 use Rattle.std.specs.Prelude.{ℕ, ◌≡◌, Bool, false, ◌&&◌, List, [], ◌∷◌, Option, None, Some, codes, option_and_then, slice_index_or, if◌then◌else◌}
 use Rattle.std.specs.Str.{bytes_eq}
-use Rattle.schema_types.specs.Shape.{Expected, Spelled, Named, folded, has_form}
-use Rattle.schema_types.specs.Tokens.{tokens_of}
+use Rattle.first_form.specs.Shape.{Expected, Spelled, Named, folded, has_form}
+use Rattle.first_form.specs.Tokens.{tokens_of}
 use Rattle.schema_types.specs.declared.types.Schema.{Schema}
 use Rattle.schema_types.specs.declared.types.Table.{Table}
 use Rattle.schema_types.specs.declared.types.Column.{Column}

@@ -2,10 +2,10 @@
 use Rattle.std.specs.Prelude.{ℕ, ℤ, ◌≡◌, List, [], ◌∷◌, ◌++◌, length, map, codes, nat_lt, slice_get, slice_index_or, Option, None, Some, Result, Ok, Err, IsOk, if◌then◌else◌}
 use Rattle.std.specs.Char.{to_ascii_lowercase}
 use Rattle.base_io.specs.Files.{Files, file_of}
-use Rattle.schema_types.specs.Form.{schema_of}
+use Rattle.first_form.specs.Form.{schema_of}
 use Rattle.schema_types.specs.declared.types.Schema.{Schema}
 use Rattle.schema_types.specs.declared.types.Table.{Table}
-use Rattle.csv_tables.specs.Tables.{numbers_of_table}
+use Rattle.first_form.specs.Tables.{numbers_of_table}
 use Rattle.safebound_top.specs.Accepted.{Accepted}
 use Rattle.safebound_top.specs.Query.{query_of}
 use Rattle.safebound_top.specs.Words.{command_of}

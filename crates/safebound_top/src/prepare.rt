@@ -2,7 +2,7 @@
 ghost use Rattle.std.specs.Prelude.{ℕ, ◌≡◌, ◌≢◌, ◌↔◌, ◌⊎◌, ◌≤◌, ◌++◌, codes, List, length, map, None, Some, Ok, Err, IfOk, IfErr, IsOk, IsErrOf, OnOk, slice_index_or, string_bytes, []};
 ghost use Rattle.base_io.specs.Causes.{Rose};
 ghost use Rattle.base_io.specs.Files.{Files};
-ghost use Rattle.csv_tables.specs.Tables.{values_of};
+ghost use Rattle.first_form.specs.Tables.{values_of};
 ghost use Rattle.safebound_top.specs.Faults.{IsText, NamesNoTable, fault_line, fault_text};
 ghost use Rattle.safebound_top.specs.Prepared.{accepted_of};
 ghost use Rattle.safebound_top.specs.Query.{SelectsFirst};
@@ -13,8 +13,9 @@ use crate::query::{Query, QueryError, read_query};
 use crate::words::{Command, WordsError, read_words};
 use crate::{FileId, Status};
 use base_io::{NoMemory, ReadError, Seq, Store, read_file};
-use csv_tables::{Cells, TableError, read_table};
-use schema_types::{Schema, SchemaError, Table, read_schema};
+use csv_tables::Cells;
+use first_form::{FormError, read_schema, read_table};
+use schema_types::{Schema, Table};
 use std::alloc::Global;
 
 /// The most bytes of a schema or query file.
@@ -109,8 +110,8 @@ fn load_schema<S: Store>(
     };
     match read_schema(alloc, text.as_slice()) {
         Ok(schema) => Ok((command, schema)),
-        Err(SchemaError::Unbuilt) => Err(Status::Unbuilt { file }),
-        Err(SchemaError::NoMemory) => Err(Status::NoMemory),
+        Err(FormError::Unbuilt) => Err(Status::Unbuilt { file }),
+        Err(FormError::NoMemory) => Err(Status::NoMemory),
     }
 }
 
@@ -187,8 +188,8 @@ fn load_table<S: Store>(
     };
     match read_table(alloc, table, bytes.as_slice()) {
         Ok(cells) => Ok(cells),
-        Err(TableError::Unbuilt) => Err(Status::Unbuilt { file }),
-        Err(TableError::NoMemory) => Err(Status::NoMemory),
+        Err(FormError::Unbuilt) => Err(Status::Unbuilt { file }),
+        Err(FormError::NoMemory) => Err(Status::NoMemory),
     }
 }
 

@@ -6,8 +6,9 @@ ghost use Rattle.safebound_top.specs.Errors.{query_error};
 ghost use Rattle.safebound_top.specs.declared.query.QueryError.TheVariants as error;
 
 use base_io::{Name, NoMemory, Seq};
-use schema_types::Shape::{Named, Spelled};
-use schema_types::{Schema, SchemaError, Table, has_form, name_of, tokens};
+use first_form::Shape::{Named, Spelled};
+use first_form::{FormError, has_form, name_of, tokens};
+use schema_types::{Schema, Table};
 use std::alloc::Global;
 
 /// A column of a FROM entry, both by their places.
@@ -54,13 +55,13 @@ impl From<NoMemory> for QueryError {
     }
 }
 
-impl From<SchemaError> for QueryError {
+impl From<FormError> for QueryError {
     ghost from_gives = { λ e made. made ≡ query_error e };
 
-    fn from(error: SchemaError) -> Self {
+    fn from(error: FormError) -> Self {
         match error {
-            SchemaError::Unbuilt => QueryError::Unbuilt,
-            SchemaError::NoMemory => QueryError::NoMemory,
+            FormError::Unbuilt => QueryError::Unbuilt,
+            FormError::NoMemory => QueryError::NoMemory,
         }
     }
 }

@@ -1,6 +1,6 @@
 use crate::{Command, FileId, SinkId, Status, WordsError, read_query, read_words, safebound};
 use base_io::{MemSink, MemStore, Name, NoMemory, Seq};
-use schema_types::read_schema;
+use first_form::read_schema;
 use std::alloc::Global;
 use std::test::Fail;
 

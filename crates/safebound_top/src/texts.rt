@@ -3,7 +3,7 @@ ghost use Rattle.std.specs.Prelude.{ℕ, ◌≡◌, ◌≢◌, ◌≤◌, ◌++�
 ghost use Rattle.base_io.specs.Causes.{Rose};
 ghost use Rattle.base_io.specs.Sinks.{appended, GrewByPrefix};
 ghost use Rattle.csv_tables.specs.Numbers.{number_in};
-ghost use Rattle.csv_tables.specs.Tables.{values_of};
+ghost use Rattle.first_form.specs.Tables.{values_of};
 ghost use Rattle.safebound_top.specs.Call.{Tells};
 ghost use Rattle.safebound_top.specs.Faults.{cut_line, fault_line, file_name};
 ghost use Rattle.safebound_top.specs.Prepared.{accepted_of};

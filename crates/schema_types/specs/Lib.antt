@@ -1,3 +1,11 @@
-pub mod Tokens
-pub mod Shape
-pub mod Form
+pub mod Answers
+pub mod Declarations
+pub mod Finds
+pub mod Index
+pub mod Meaning
+pub mod Names
+pub mod Numbers
+pub mod Offences
+pub mod Refusals
+pub mod Texts
+pub mod Validity

@@ -1,20 +1,33 @@
 //! Schema texts: from the bytes of a schema file to its tables.
 //!
-//! The first stage after the files are read. A schema in its first form declares one table with one
-//! column of numbers; `schema_of` (in `specs/Form.antt`) says which text spells which schema, and
-//! `tokens_of` (in `specs/Tokens.antt`) which tokens a text has. Callers cite these two words.
+//! The first stage after the files are read: the tokens of a text (`sql_tokens`), the tables that they
+//! spell (`schema_grammar`), and then names, nullability and limits. Callers cite `IsSchemaOf` (in
+//! `specs/Texts.antt`), which says what each text is answered, and `IsValid` (in `specs/Validity.antt`),
+//! which says what holds of every schema that was read.
 #![tactic(auto)]
 
-mod form;
-mod lexer;
-mod reserved;
-mod shape;
+mod answer;
+mod build;
+mod elements;
+mod errors;
+mod index;
+mod laws;
+mod limits;
+mod lists;
+mod name_list;
+mod names;
+mod nullability;
+mod read;
+mod references;
+mod schema;
+mod scope;
 mod types;
 
-pub use form::read_schema;
-pub use lexer::tokens;
-pub use shape::{Shape, has_form, is_name, name_of};
-pub use types::{Column, Kind, Reference, Schema, SchemaError, Table};
+pub use errors::{LimitKind, SchemaError};
+pub use laws::{one_answer, schemas_are_valid};
+pub use read::read_schema;
+pub use sql_tokens::{LexError, Token, TokenKind, tokens};
+pub use types::{Column, Kind, Reference, Schema, Table};
 
 #[cfg(test)]
 mod tests;

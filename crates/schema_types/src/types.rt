@@ -1,9 +1,5 @@
 //! What a schema declares.
-ghost use Rattle.std.specs.Prelude.{◌≡◌};
-ghost use Rattle.schema_types.specs.declared.types.SchemaError.TheVariants as error;
-
-use base_io::{Name, NoMemory, Seq};
-use std::alloc::{AllocError, AllocFailed};
+use base_io::{Name, Seq};
 
 /// The kind of a column's values: signed 64-bit numbers, or texts of at most so many characters.
 #[derive(Clone, Copy, Debug, PartialEq, Eq)]
@@ -40,36 +36,4 @@ pub struct Table {
 #[derive(Debug, Drop)]
 pub struct Schema {
     pub tables: Seq<Table>,
-}
-
-/// Why no schema was read.
-#[derive(Clone, Copy, Debug, PartialEq, Eq)]
-pub enum SchemaError {
-    /// The text isn't of the form that is built today.
-    Unbuilt,
-    NoMemory,
-}
-
-impl From<NoMemory> for SchemaError {
-    ghost from_gives = { λ _ e. e ≡ error.NoMemory };
-
-    fn from(_: NoMemory) -> Self {
-        SchemaError::NoMemory
-    }
-}
-
-impl From<AllocError> for SchemaError {
-    ghost from_gives = { λ _ e. e ≡ error.NoMemory };
-
-    fn from(_: AllocError) -> Self {
-        SchemaError::NoMemory
-    }
-}
-
-impl<T: Drop> From<AllocFailed<T>> for SchemaError {
-    ghost from_gives = { λ _ e. e ≡ error.NoMemory };
-
-    fn from(_: AllocFailed<T>) -> Self {
-        SchemaError::NoMemory
-    }
 }

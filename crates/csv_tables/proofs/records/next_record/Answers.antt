@@ -13,3 +13,11 @@ returns-clause-more c = λ found. (gave_first c.args.reader.now c.read_byte_reco
 pub returns-clause-end : goal.returns-clause-end
 returns-clause-end c = λ found. gave_none c.args.reader.now c.read_byte_record.new.self (fields_of c.read_byte_record.new.row) c.requires
     (rw found at (c.in-Ok.ensures.reads c.requires.trim c.requires.ready))
+
+pub returns-clause-text : goal.returns-clause-text
+returns-clause-text c = λ found. (gave_first c.args.reader.now c.read_byte_record.new.self (fields_of c.read_byte_record.new.row) c.requires
+    (c.in-Ok.ensures.ready c.requires.trim) (rw found at (c.in-Ok.ensures.reads c.requires.trim c.requires.ready))).text
+
+pub returns-clause-fields : goal.returns-clause-fields
+returns-clause-fields c = λ found. (gave_first c.args.reader.now c.read_byte_record.new.self (fields_of c.read_byte_record.new.row) c.requires
+    (c.in-Ok.ensures.ready c.requires.trim) (rw found at (c.in-Ok.ensures.reads c.requires.trim c.requires.ready))).few

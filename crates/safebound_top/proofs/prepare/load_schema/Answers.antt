@@ -1,6 +1,6 @@
 use Rattle.std.proofs.Common.{◌≡◌, ◌∙◌, List, ℕ, Ok, Some, map, ap, sym, refl}
 use denote.Bor.{Bor}
-use Rattle.schema_types.specs.Form.{schema_of}
+use Rattle.first_form.specs.Form.{schema_of}
 use Rattle.safebound_top.specs.Stages.{MissesNothing}
 use Rattle.safebound_top.specs.Verdict.{built, read, schema_word, usage_unless}
 use Rattle.safebound_top.specs.declared.status.FileId.TheVariants as file

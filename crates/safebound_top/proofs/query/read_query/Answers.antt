@@ -1,7 +1,7 @@
 use Rattle.std.proofs.Common.{◌∙◌, List, ℕ, map, refl, arith, sym}
 use Rattle.std.proofs.lemmas.List.{length-map}
 use denote.Bor.{Bor}
-use Rattle.schema_types.proofs.Forms.{enough, named_at}
+use Rattle.first_form.proofs.Forms.{enough, named_at}
 use Rattle.safebound_top.specs.Query.{select_from}
 use Rattle.safebound_top.proofs.query.read_query.Goals as goal
 

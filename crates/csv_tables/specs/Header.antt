@@ -1,0 +1,30 @@
+-- The places of the declared columns in a file's header.
+use Rattle.std.specs.Prelude.{ℕ, ◌+◌, if◌then◌else◌, List, [], ◌∷◌, Option, None, Some, Result, Ok}
+use Rattle.std.specs.Str.{str_eq_ignore_ascii_case}
+use Rattle.schema_types.specs.declared.types.Column.{Column}
+use Rattle.csv_tables.specs.declared.types.TableError.{TableError}
+use Rattle.csv_tables.specs.declared.types.TableError.TheVariants as error
+use Rattle.csv_tables.specs.Records.{Record}
+use Rattle.csv_tables.specs.Steps.{or_refuse, then_all}
+
+-- the places, counted from `at`, of the fields that are this name in letters of either case
+abbrev pub places_from : ℕ → List ℕ → Record → List ℕ
+places_from at name [] = []
+places_from at name (field ∷ fields) =
+    if str_eq_ignore_ascii_case field name then at ∷ places_from (at + 1) name fields else places_from (at + 1) name fields
+
+-- the one item of a list that has one
+abbrev pub only : {X : Type 0} → List X → Option X
+only [] = None
+only (x ∷ []) = Some x
+only (x ∷ y ∷ rest) = None
+
+-- the place of the one header field that names the column
+abbrev pub column_place : List ℕ → Record → Option ℕ
+column_place name header = only (places_from 0 name header)
+
+-- the places of the columns, of which the first has this number; the first column without one is refused
+abbrev pub column_places : ℕ → List Column → Record → Result (List ℕ) TableError
+column_places number [] header = Ok []
+column_places number (column ∷ columns) header =
+    then_all (or_refuse (error.Header number) (column_place column.name header)) (column_places (number + 1) columns header)

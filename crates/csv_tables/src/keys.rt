@@ -1,0 +1,106 @@
+//! Records that repeat the values of a key.
+ghost use Rattle.std.specs.Prelude.{◌≡◌, ◌<◌, ◌≤◌, ℕ, All, IfErr, IfOk, Ok, OnOk, Some, if◌then◌else◌, length, slice_index, unwrap_or};
+ghost use Rattle.std.specs.HashMap.{get};
+ghost use Rattle.schema_types.specs.Validity.{IsValidTable};
+ghost use Rattle.csv_tables.specs.Cells.{rows_of_columns, AreColumns};
+ghost use Rattle.csv_tables.specs.Groups.{are_alike, repeat_from, same_pair, AreFirsts, IsRepeat};
+ghost use Rattle.csv_tables.specs.Keys.{rows_with_keys};
+ghost use Rattle.csv_tables.specs.Reads.{kinds_of};
+ghost use Rattle.csv_tables.specs.Refused.{Refuses};
+
+use crate::TableError;
+use crate::pool::Pool;
+use crate::types::Repeat;
+use base_io::{NoMemory, Seq};
+use schema_types::Table;
+use std::alloc::Global;
+use std::collections::HashMap;
+
+// The place that is kept for a pair, which is this one where none is.
+fn first_of(seen: &mut HashMap<(u32, u64), u32>, pair: (u32, u64), at: u32) -> Result<u32, NoMemory>
+    ensures first { IfOk result (λ first. first ≡ unwrap_or (get same_pair seen.old pair) at) }
+    ensures kept { IfOk result (λ first. (q : ℕ × ℕ) → get same_pair seen.new q ≡ (if same_pair pair q then Some first else get same_pair seen.old q)) }
+{
+    if let Some(first) = seen.get(&pair) {
+        return Ok(*first);
+    }
+    seen.insert(pair, at)?;
+    Ok(at)
+}
+
+// Numbers each place by the first one with the same number and the same cell.
+fn number_pairs(alloc: Global, group: &mut [u32], cells: &[u64]) -> Result<(), NoMemory>
+    requires long { length group.old ≡ length cells.now }
+    requires few { length cells.now ≤ 4000000 }
+    ensures { OnOk result (AreFirsts (are_alike group.old cells.now) group.new) }
+{
+    let mut seen = HashMap::new(alloc);
+    'rows: for (at, cell) in cells.iter().enumerate() {
+        let pair = (group[at], *cell);
+        group[at] = first_of(&mut seen, pair, at as u32)?;
+    }
+    Ok(())
+}
+
+// The first place that is not numbered by itself.
+fn repeat_in(group: &[u32]) -> Option<Repeat>
+    requires few { length group.now ≤ 4000000 }
+    requires below { (i : ℕ) → i < length group.now → slice_index group.now i ≤ i }
+    ensures { result ≡ repeat_from 0 group.now }
+{
+    'rows: for (at, first) in group.iter().enumerate() {
+        if *first as usize != at {
+            return Some(Repeat {
+                later: at as u32 + 1,
+                earlier: *first + 1,
+            });
+        }
+    }
+    None
+}
+
+// The first record that repeats the cells of an earlier one in the columns of a key.
+fn repeat_of_key(
+    alloc: Global,
+    key: &[u32],
+    columns: &[Seq<u64>],
+    rows: u32,
+) -> Result<Option<Repeat>, NoMemory>
+    requires heights { All (λ column. length column ≡ rows) columns.now }
+    requires key { All (λ column. column < length columns.now) key.now }
+    requires few { rows ≤ 4000000 }
+    ensures { IfOk result (IsRepeat columns.now key.now rows) }
+{
+    let mut group = vec![in alloc; 0u32; rows as usize]?;
+    'columns: for column in key {
+        number_pairs(alloc, &mut group, columns[*column as usize].as_slice())?;
+    }
+    Ok(repeat_in(&group))
+}
+
+/// Whether no rows repeat the values of a key. The first key in declared order that has a repeat is refused.
+pub(crate) fn check_keys(
+    alloc: Global,
+    table: &Table,
+    columns: &[Seq<u64>],
+    rows: u32,
+    pool: &Pool,
+) -> Result<(), TableError>
+    requires valid { IsValidTable table.now }
+    requires columns { AreColumns pool.now rows (kinds_of table.now.columns) columns.now }
+    requires few { rows ≤ 4000000 }
+    ensures ok { let stated = rows_of_columns pool.now (kinds_of table.now.columns) columns.now rows in OnOk result (rows_with_keys table.now.keys stated ≡ Ok stated) }
+    ensures refused { let stated = rows_of_columns pool.now (kinds_of table.now.columns) columns.now rows in IfErr result (Refuses (rows_with_keys table.now.keys stated)) }
+{
+    // The pool says with its length that its texts are different, so equal values have equal cells.
+    let _count = pool.len();
+    'keys: for key in table.keys.as_slice() {
+        if let Some(repeat) = repeat_of_key(alloc, key.as_slice(), columns, rows)? {
+            return Err(TableError::Key {
+                row: repeat.later,
+                earlier: repeat.earlier,
+            });
+        }
+    }
+    Ok(())
+}

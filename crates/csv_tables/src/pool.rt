@@ -1,0 +1,90 @@
+//! The texts of tables, each once.
+ghost use Rattle.std.specs.Prelude.{◌≡◌, ◌<◌, ◌^◌, [], length, position, slice_get, Some, IfOk, OnOk, OnErr, option_map};
+ghost use Rattle.std.specs.List.{position_or_len};
+ghost use Rattle.std.specs.Str.{bytes_eq};
+ghost use Rattle.csv_tables.specs.Pools.{with_text, AreDifferent};
+
+use base_io::NoMemory;
+use indexmap::IndexSet;
+use std::alloc::Global;
+use std::marker::Model;
+
+/// Different texts, numbered from 0 in the order in which they were first seen. Contracts see the
+/// list of the texts, each as its bytes.
+#[derive(Drop)]
+pub struct Pool {
+    texts: IndexSet<String>,
+}
+
+impl Model for Pool {
+    ghost use Rattle.std.specs.Prelude.{List, ℕ, ◌<◌, ◌^◌, length, map, string_bytes};
+
+    ghost Value = { List (List ℕ) };
+
+    ghost view = { λ pool. map string_bytes pool.texts.keys };
+
+    ghost invariant = { λ pool. length pool.texts.keys < 2 ^ 32 };
+}
+
+impl Pool {
+    /// No texts. It takes no memory.
+    pub fn new(alloc: Global) -> Pool
+        ensures { result ≡ [] }
+    {
+        Pool {
+            texts: IndexSet::new(alloc),
+        }
+    }
+
+    /// How many texts there are. No two of them are equal.
+    pub fn len(&self) -> usize
+        ensures len { result ≡ length self.now }
+        ensures few { result < 2 ^ 32 }
+        ensures different { AreDifferent self.now }
+    {
+        self.texts.len()
+    }
+
+    /// The number of a text, where the pool has it.
+    pub fn find(&self, text: &str) -> Option<u32>
+        ensures { result ≡ position (bytes_eq text.now) self.now }
+    {
+        match self.texts.get_index_of(text) {
+            Some(code) => Some(code as u32),
+            None => None,
+        }
+    }
+
+    /// The text with this number.
+    pub fn text(&self, code: u32) -> &str
+        requires { code < length self.now }
+        ensures { slice_get self.now code ≡ Some result.now }
+    {
+        self.texts[code as usize].as_str()
+    }
+
+    /// The text of a cell.
+    pub(crate) fn text_of_cell(&self, cell: u64) -> &str
+        requires { cell < length self.now }
+        ensures { slice_get self.now cell ≡ Some result.now }
+    {
+        self.texts[cell as usize].as_str()
+    }
+
+    /// The number of a text, which the pool has then: a new text goes last. Where memory is wanting
+    /// the pool stays as it was.
+    pub fn intern(&mut self, text: &str) -> Result<u32, NoMemory>
+        requires { length self.old < 4294967295 }
+        ensures number { IfOk result (λ code. slice_get self.new code ≡ Some text.now) }
+        ensures place { IfOk result (λ code. code ≡ position_or_len (bytes_eq text.now) self.old) }
+        ensures texts { OnOk result (self.new ≡ with_text self.old text.now) }
+        ensures err { OnErr result (self.new ≡ self.old) }
+    {
+        if let Some(code) = self.find(text) {
+            return Ok(code);
+        }
+        let owned = String::from_str(*self.texts.allocator(), text)?;
+        let (code, _) = self.texts.insert_full(owned)?;
+        Ok(code as u32)
+    }
+}

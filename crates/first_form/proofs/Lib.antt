@@ -1,0 +1,4 @@
+pub mod Bridge
+pub mod Forms
+pub mod Pieces
+pub mod Words

@@ -1,0 +1,51 @@
+-- Checks that walk a list and are told what stood before.
+use Rattle.std.proofs.Common.{◌≡◌, ℕ, suc, ◌+◌, ◌<◌, List, [], ◌∷◌, ◌++◌, length, get_or, take, drop, Some, Err, refl, sym, ◌∙◌, ap, append_assoc}
+use Rattle.std.proofs.Math.Seq.{drop-cons}
+use Rattle.std.proofs.lemmas.List.{take-append-drop, append-nil, take_more}
+use Rattle.schema_types.specs.declared.errors.SchemaError.{SchemaError}
+use Rattle.schema_types.specs.declared.errors.SchemaError.TheVariants as error
+use Rattle.schema_types.specs.Finds.{Finds}
+use Rattle.schema_types.specs.Names.{first, told_from, each_told}
+
+told_from-append : {X : Type 0} (f : List X → X → List ℕ) (earlier xs ys : List X) → told_from f earlier (xs ++ ys) ≡ told_from f earlier xs ++ told_from f (earlier ++ xs) ys
+unfolding told_from
+told_from-append f earlier [] ys = rw append-nil refl
+told_from-append f earlier (x ∷ xs) ys =
+    ap (λ found. f earlier x ++ found) (rw (append_assoc earlier (x ∷ []) xs) at (told_from-append f (earlier ++ x ∷ []) xs ys))
+    ∙ sym (append_assoc (f earlier x) (told_from f (earlier ++ x ∷ []) xs) (told_from f (earlier ++ x ∷ xs) ys))
+
+first-append : (front rest : List ℕ) (at : ℕ) → first front ≡ Some at → first (front ++ rest) ≡ Some at
+first-append [] rest at e = cc
+first-append (x ∷ front) rest at e = e
+
+told_one : {X : Type 0} (f : List X → X → List ℕ) (earlier : List X) (x : X) (rest : List X) → told_from f earlier (x ∷ rest) ≡ f earlier x ++ told_from f (earlier ++ x ∷ []) rest
+unfolding told_from
+told_one f earlier x rest = refl
+
+pub told_none : {X : Type 0} (f : List X → X → List ℕ) → each_told f [] ≡ []
+unfolding told_from
+told_none f = refl
+
+told_at : {X : Type 0} (f : List X → X → List ℕ) (xs : List X) (i : ℕ) (x : X) → i < length xs → x ≡ get_or xs i x → each_told f (take i xs) ≡ [] → (rest : List ℕ) × (each_told f xs ≡ f (take i xs) x ++ rest)
+told_at f xs i x within here clean =
+    let cut : xs ≡ take i xs ++ (x ∷ drop (suc i) xs) = sym (take-append-drop i xs) ∙ ap (λ tail. take i xs ++ tail) (drop-cons xs i x within ∙ ap (λ y. y ∷ drop (suc i) xs) (sym here)) in
+    let parts : each_told f xs ≡ each_told f (take i xs) ++ (f (take i xs) x ++ told_from f (take i xs ++ x ∷ []) (drop (suc i) xs)) =
+    ap (each_told f) cut ∙ told_from-append f [] (take i xs) (x ∷ drop (suc i) xs) ∙ ap (λ found. each_told f (take i xs) ++ found) (told_one f (take i xs) x (drop (suc i) xs)) in
+    (told_from f (take i xs ++ x ∷ []) (drop (suc i) xs), rw clean at parts)
+
+-- no offence so far, and none here
+pub told_more : {X : Type 0} (f : List X → X → List ℕ) (xs : List X) (i : ℕ) (x : X) → i < length xs → x ≡ get_or xs i x → each_told f (take i xs) ≡ [] → f (take i xs) x ≡ [] → each_told f (take (i + 1) xs) ≡ []
+unfolding told_from
+told_more f xs i x within here clean none =
+    let longer : take (i + 1) xs ≡ take i xs ++ x ∷ [] = take_more xs i x within ∙ ap (λ y. take i xs ++ y ∷ []) (sym here) in
+    let parts : each_told f (take (i + 1) xs) ≡ each_told f (take i xs) ++ (f (take i xs) x ++ told_from f (take i xs ++ x ∷ []) []) =
+    ap (each_told f) longer ∙ told_from-append f [] (take i xs) (x ∷ []) ∙ ap (λ found. each_told f (take i xs) ++ found) (told_one f (take i xs) x []) in
+    rw (clean, none) at parts
+
+-- no offence so far, and one here
+pub told_first : {X : Type 0} (f : List X → X → List ℕ) (xs : List X) (i : ℕ) (x : X) (e : SchemaError) → i < length xs → x ≡ get_or xs i x → each_told f (take i xs) ≡ [] → Finds {A = Unit {0}} (Err e) (f (take i xs) x) → Finds {A = Unit {0}} (Err e) (each_told f xs)
+told_first f xs i x (error.Name at) within here clean found = let t = told_at f xs i x within here clean in rw t.1 (first-append (f (take i xs) x) t.0 at found)
+told_first f xs i x error.NoMemory within here clean found = tt
+told_first f xs i x (error.Syntax at) within here clean found = found
+told_first f xs i x (error.Nullable at) within here clean found = found
+told_first f xs i x (error.Limit which n) within here clean found = found

@@ -1,0 +1,5 @@
+use Rattle.schema_types.proofs.OneAnswer.{one_answer}
+use Rattle.schema_types.proofs.laws.one_answer.Goals as goal
+
+pub returns : goal.returns
+returns c = one_answer

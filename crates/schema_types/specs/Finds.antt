@@ -1,0 +1,34 @@
+-- What a check answers: `Ok` where it finds nothing, and else the first of what it finds. Memory may be wanting.
+use Rattle.std.specs.Prelude.{◌≡◌, ℕ, List, [], Some, Result, Ok, Err, ⊤, option_map}
+use Rattle.schema_types.specs.declared.errors.LimitKind.{LimitKind}
+use Rattle.schema_types.specs.declared.errors.SchemaError.{SchemaError}
+use Rattle.schema_types.specs.declared.errors.SchemaError.TheVariants as error
+use Rattle.schema_types.specs.Names.{first}
+use Rattle.schema_types.specs.Refusals.{in_64_bits}
+
+-- places at which a rule on names is broken
+abbrev pub Finds : {A : Type 0} → Result A SchemaError → List ℕ → Type 0
+Finds (Ok _) places = places ≡ []
+Finds (Err (error.Name at)) places = first places ≡ Some at
+Finds (Err error.NoMemory) places = ⊤
+Finds (Err (error.Syntax _)) places = ⊥
+Finds (Err (error.Nullable _)) places = ⊥
+Finds (Err (error.Limit _ _)) places = ⊥
+
+-- columns that may be null
+abbrev pub FindsNullable : {A : Type 0} → Result A SchemaError → List ℕ → Type 0
+FindsNullable (Ok _) places = places ≡ []
+FindsNullable (Err (error.Nullable at)) places = first places ≡ Some at
+FindsNullable (Err error.NoMemory) places = ⊤
+FindsNullable (Err (error.Syntax _)) places = ⊥
+FindsNullable (Err (error.Name _)) places = ⊥
+FindsNullable (Err (error.Limit _ _)) places = ⊥
+
+-- numbers that pass a limit
+abbrev pub FindsAbove : {A : Type 0} → LimitKind → Result A SchemaError → List ℕ → Type 0
+FindsAbove limit (Ok _) numbers = numbers ≡ []
+FindsAbove limit (Err (error.Limit which found)) numbers = (which ≡ limit) × (option_map in_64_bits (first numbers) ≡ Some found)
+FindsAbove limit (Err error.NoMemory) numbers = ⊤
+FindsAbove limit (Err (error.Syntax _)) numbers = ⊥
+FindsAbove limit (Err (error.Name _)) numbers = ⊥
+FindsAbove limit (Err (error.Nullable _)) numbers = ⊥

@@ -1,0 +1,134 @@
+-- The schema that a schema text declares, or its refusal.
+use Rattle.std.specs.Prelude.{ℕ, List, [], ◌∷◌, map, length, Option, Some, None, option_map, unwrap_or, Result, Ok, Err}
+use Rattle.std.specs.List.{flat_map}
+use Rattle.ll_grammars.specs.declared.lexeme.Lexeme.{Lexeme}
+use Rattle.schema_grammar.specs.declared.tree.TargetText.{TargetText}
+use Rattle.schema_grammar.specs.declared.tree.TypeText.{TypeText}
+use Rattle.schema_grammar.specs.declared.tree.TypeText.TheVariants as type_text
+use Rattle.schema_grammar.specs.declared.tree.ColumnRule.{ColumnRule}
+use Rattle.schema_grammar.specs.declared.tree.ColumnRule.TheVariants as column_rule
+use Rattle.schema_grammar.specs.declared.tree.ColumnText.{ColumnText}
+use Rattle.schema_grammar.specs.declared.tree.TableRule.{TableRule}
+use Rattle.schema_grammar.specs.declared.tree.TableRule.TheVariants as table_rule
+use Rattle.schema_grammar.specs.declared.tree.Element.{Element}
+use Rattle.schema_grammar.specs.declared.tree.Element.TheVariants as element
+use Rattle.schema_grammar.specs.declared.tree.TableText.{TableText}
+use Rattle.sql_tokens.specs.Words.{name_of, number_of, slice}
+use Rattle.schema_types.specs.declared.errors.LimitKind.TheVariants as limit
+use Rattle.schema_types.specs.declared.errors.SchemaError.{SchemaError}
+use Rattle.schema_types.specs.declared.errors.SchemaError.TheVariants as error
+use Rattle.schema_types.specs.declared.types.Kind.{Kind}
+use Rattle.schema_types.specs.declared.types.Kind.TheVariants as kind
+use Rattle.schema_types.specs.declared.types.Column.{Column}
+use Rattle.schema_types.specs.declared.types.Reference.{Reference}
+use Rattle.schema_types.specs.declared.types.Table.{Table}
+use Rattle.schema_types.specs.declared.types.Schema.{Schema}
+use Rattle.schema_types.specs.Names.{first}
+use Rattle.schema_types.specs.Numbers.{number_in, numbers_in}
+use Rattle.schema_types.specs.Declarations.{columns, column_names, target_place, target_table, chosen_columns}
+use Rattle.schema_types.specs.Offences.{offences}
+use Rattle.schema_types.specs.Refusals.{nullable_places, above, in_64_bits, column_counts, text_lengths}
+
+-- ---- keys
+
+-- the keys that a rule of the column with this number declares
+abbrev pub rule_keys : ℕ → ColumnRule → List (List ℕ)
+rule_keys number column_rule.NotNull = []
+rule_keys number (column_rule.PrimaryKey _) = (number ∷ []) ∷ []
+rule_keys number column_rule.Unique = (number ∷ []) ∷ []
+rule_keys number (column_rule.References _) = []
+
+abbrev pub column_keys : List ℕ → List (List ℕ) → ColumnText → List (List ℕ)
+column_keys text declared column = flat_map (rule_keys (number_in text declared column.name)) column.rules
+
+abbrev pub table_rule_keys : List ℕ → List (List ℕ) → TableRule → List (List ℕ)
+table_rule_keys text declared (table_rule.PrimaryKey _ columns) = numbers_in text declared columns ∷ []
+table_rule_keys text declared (table_rule.Unique columns) = numbers_in text declared columns ∷ []
+table_rule_keys text declared (table_rule.ForeignKey _ _) = []
+
+-- the keys that an element declares, PRIMARY KEY and UNIQUE alike
+abbrev pub element_keys : List ℕ → List (List ℕ) → Element → List (List ℕ)
+element_keys text declared (element.Column column) = column_keys text declared column
+element_keys text declared (element.Rule rule) = table_rule_keys text declared rule
+
+-- ---- references
+
+-- the numbers of the columns of a table to which a reference leads, a left-out list resolved
+abbrev pub led_numbers : List ℕ → Option (List Lexeme) → Option TableText → List ℕ
+led_numbers text written None = []
+led_numbers text written (Some table) =
+    unwrap_or (option_map (numbers_in text (column_names text table.elements)) (chosen_columns written table.elements)) []
+
+-- the reference from these columns to a target
+unfoldable pub reference_of : List ℕ → List TableText → List ℕ → TargetText → Reference
+reference_of text tables from target = record {
+  columns = from;
+  table = unwrap_or (target_place text tables target) 0;
+  targets = led_numbers text target.columns (target_table text tables target);
+}
+
+abbrev pub rule_references : List ℕ → List TableText → ℕ → ColumnRule → List Reference
+rule_references text tables number column_rule.NotNull = []
+rule_references text tables number (column_rule.PrimaryKey _) = []
+rule_references text tables number column_rule.Unique = []
+rule_references text tables number (column_rule.References target) = reference_of text tables (number ∷ []) target ∷ []
+
+abbrev pub column_references : List ℕ → List TableText → List (List ℕ) → ColumnText → List Reference
+column_references text tables declared column = flat_map (rule_references text tables (number_in text declared column.name)) column.rules
+
+abbrev pub table_rule_references : List ℕ → List TableText → List (List ℕ) → TableRule → List Reference
+table_rule_references text tables declared (table_rule.PrimaryKey _ _) = []
+table_rule_references text tables declared (table_rule.Unique _) = []
+table_rule_references text tables declared (table_rule.ForeignKey columns target) =
+    reference_of text tables (numbers_in text declared columns) target ∷ []
+
+-- the references that an element declares
+abbrev pub element_references : List ℕ → List TableText → List (List ℕ) → Element → List Reference
+element_references text tables declared (element.Column column) = column_references text tables declared column
+element_references text tables declared (element.Rule rule) = table_rule_references text tables declared rule
+
+-- ---- the schema
+
+-- number types are one kind; a text has at most so many characters
+abbrev pub kind_of : List ℕ → TypeText → Kind
+kind_of text type_text.Number = kind.Int
+kind_of text (type_text.Text length) = kind.Text (number_of (slice text length.start length.end))
+
+abbrev pub column_of : List ℕ → ColumnText → Column
+column_of text column = record { name = name_of text column.name; kind = kind_of text column.kind }
+
+abbrev pub element_column : List ℕ → Element → List Column
+element_column text (element.Column column) = column_of text column ∷ []
+element_column text (element.Rule _) = []
+
+unfoldable pub table_of : List ℕ → List TableText → TableText → Table
+table_of text tables table = record {
+  name = name_of text table.name;
+  columns = flat_map (element_column text) table.elements;
+  keys = flat_map (element_keys text (column_names text table.elements)) table.elements;
+  references = flat_map (element_references text tables (column_names text table.elements)) table.elements;
+}
+
+unfoldable pub schema_of : List ℕ → List TableText → Schema
+schema_of text tables = record { tables = map (table_of text tables) tables }
+
+-- ---- the answer
+
+-- refused with what was found, or else the rest
+abbrev pub unless_found : Option ℕ → (ℕ → SchemaError) → Result Schema SchemaError → Result Schema SchemaError
+unless_found None cause rest = rest
+unless_found (Some found) cause rest = Err (cause found)
+
+-- at most 64 tables, 64 columns in each table, and 1,000,000 characters in a text, in this order
+unfoldable pub within_limits : List ℕ → List TableText → Result Schema SchemaError → Result Schema SchemaError
+within_limits text tables rest =
+    unless_found (first (above 64 (length tables ∷ []))) (λ found. error.Limit limit.Tables (in_64_bits found))
+    (unless_found (first (above 64 (column_counts tables))) (λ found. error.Limit limit.Columns (in_64_bits found))
+    (unless_found (first (above 1000000 (text_lengths text tables))) (λ found. error.Limit limit.TextLength (in_64_bits found)) rest))
+
+-- the schema that these tables declare, or the first refusal: names, then nullability, then limits
+unfoldable pub bound : List ℕ → List TableText → Result Schema SchemaError
+bound text tables =
+    unless_found (first (offences text tables)) (λ at. error.Name at)
+    (unless_found (first (nullable_places text tables)) (λ at. error.Nullable at)
+    (within_limits text tables (Ok (schema_of text tables))))

@@ -1,0 +1,15 @@
+-- Columns by their numbers.
+use Rattle.std.specs.Prelude.{ℕ, List, map, unwrap_or}
+use Rattle.ll_grammars.specs.declared.lexeme.Lexeme.{Lexeme}
+use Rattle.sql_tokens.specs.Words.{name_of}
+use Rattle.schema_types.specs.Names.{place_of}
+
+-- the number of a column by its name, counted from 0 (0 where there is no such column, which is an offence)
+abbrev pub number_of_name : List (List ℕ) → List ℕ → ℕ
+number_of_name declared name = unwrap_or (place_of declared name) 0
+
+abbrev pub number_in : List ℕ → List (List ℕ) → Lexeme → ℕ
+number_in text declared column = number_of_name declared (name_of text column)
+
+unfoldable pub numbers_in : List ℕ → List (List ℕ) → List Lexeme → List ℕ
+numbers_in text declared columns = map (number_in text declared) columns

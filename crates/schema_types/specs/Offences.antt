@@ -1,0 +1,106 @@
+-- The offences against the rules on names, as places in text order (SQL-92 11.3, 11.4, 11.7 and 11.8, as
+-- this profile has them).
+use Rattle.std.specs.Prelude.{ℕ, Bool, true, false, not, ◌||◌, ◌==◌, List, [], ◌∷◌, ◌++◌, map, length, Option, Some, None, is_none}
+use Rattle.std.specs.List.{list_any}
+use Rattle.std.specs.Str.{bytes_eq}
+use Rattle.ll_grammars.specs.declared.lexeme.Lexeme.{Lexeme}
+use Rattle.schema_grammar.specs.declared.tree.TargetText.{TargetText}
+use Rattle.schema_grammar.specs.declared.tree.ColumnRule.{ColumnRule}
+use Rattle.schema_grammar.specs.declared.tree.ColumnRule.TheVariants as column_rule
+use Rattle.schema_grammar.specs.declared.tree.ColumnText.{ColumnText}
+use Rattle.schema_grammar.specs.declared.tree.TableRule.{TableRule}
+use Rattle.schema_grammar.specs.declared.tree.TableRule.TheVariants as table_rule
+use Rattle.schema_grammar.specs.declared.tree.Element.{Element}
+use Rattle.schema_grammar.specs.declared.tree.Element.TheVariants as element
+use Rattle.schema_grammar.specs.declared.tree.TableText.{TableText}
+use Rattle.sql_tokens.specs.Words.{name_of}
+use Rattle.schema_types.specs.Names.{when, place_of, names_of, each_told}
+use Rattle.schema_types.specs.Declarations.{column_names, table_names, is_primary_rule, primary_key, target_table}
+use Rattle.schema_types.specs.Validity.{upper_case, is_plain}
+
+-- a name is equal to one of these
+abbrev pub stands_in : List ℕ → List (List ℕ) → Bool
+stands_in name names = list_any (bytes_eq name) names
+
+-- a name is equal to one of these, both in ASCII upper case
+abbrev pub is_taken : List ℕ → List (List ℕ) → Bool
+is_taken name names = stands_in (upper_case name) (map upper_case names)
+
+-- ---- lists of columns
+
+-- a column that isn't in its table, or that stands in the list before
+unfoldable pub listed_offences : List ℕ → List (List ℕ) → List Lexeme → Lexeme → List ℕ
+listed_offences text declared earlier column =
+    when (is_none (place_of declared (name_of text column)) || stands_in (name_of text column) (names_of text earlier)) column.start
+
+unfoldable pub list_offences : List ℕ → List (List ℕ) → List Lexeme → List ℕ
+list_offences text declared columns = each_told (listed_offences text declared) columns
+
+-- ---- references
+
+-- the columns to which a reference of so many columns leads, in the table of these elements: as many, or an
+-- offence at the target's name
+abbrev pub led_offences : List ℕ → ℕ → Lexeme → Option (List Lexeme) → List Element → List ℕ
+led_offences text count name (Some columns) elements =
+    when (not (length columns == count)) name.start ++ list_offences text (column_names text elements) columns
+led_offences text count name None elements = key_offences (primary_key elements)
+  where
+    -- the list is left out: the primary key has as many columns
+    key_offences : Option (List Lexeme) → List ℕ
+    key_offences None = name.start ∷ []
+    key_offences (Some key) = when (not (length key == count)) name.start
+
+abbrev pub target_offences_in : List ℕ → ℕ → TargetText → Option TableText → List ℕ
+target_offences_in text count target None = target.table.start ∷ []
+target_offences_in text count target (Some table) = led_offences text count target.table target.columns table.elements
+
+-- a reference from so many columns
+unfoldable pub target_offences : List ℕ → List TableText → ℕ → TargetText → List ℕ
+target_offences text tables count target = target_offences_in text count target (target_table text tables target)
+
+-- ---- elements of a table
+
+-- an element that declares a primary key
+abbrev pub is_primary : Element → Bool
+is_primary (element.Column column) = list_any is_primary_rule column.rules
+is_primary (element.Rule (table_rule.PrimaryKey _ _)) = true
+is_primary (element.Rule (table_rule.Unique _)) = false
+is_primary (element.Rule (table_rule.ForeignKey _ _)) = false
+
+-- a column's rule, where a primary key stands before the column or not, told the rules before it
+unfoldable pub rule_offences : List ℕ → List TableText → Bool → List ColumnRule → ColumnRule → List ℕ
+rule_offences text tables keyed earlier column_rule.NotNull = []
+rule_offences text tables keyed earlier (column_rule.PrimaryKey word) = when (keyed || list_any is_primary_rule earlier) word.start
+rule_offences text tables keyed earlier column_rule.Unique = []
+rule_offences text tables keyed earlier (column_rule.References target) = target_offences text tables 1 target
+
+-- a column: its name is equal to an earlier one, or one of its rules offends
+unfoldable pub column_offences : List ℕ → List TableText → List Element → ColumnText → List ℕ
+column_offences text tables earlier column =
+    when (is_taken (name_of text column.name) (column_names text earlier)) column.name.start
+    ++ each_told (rule_offences text tables (list_any is_primary earlier)) column.rules
+
+-- a rule of a table of these columns
+unfoldable pub table_rule_offences : List ℕ → List TableText → List (List ℕ) → List Element → TableRule → List ℕ
+table_rule_offences text tables declared earlier (table_rule.PrimaryKey word columns) =
+    when (list_any is_primary earlier) word.start ++ list_offences text declared columns
+table_rule_offences text tables declared earlier (table_rule.Unique columns) = list_offences text declared columns
+table_rule_offences text tables declared earlier (table_rule.ForeignKey columns target) =
+    list_offences text declared columns ++ target_offences text tables (length columns) target
+
+-- an element of a table of these columns, told the elements before it
+unfoldable pub element_offences : List ℕ → List TableText → List (List ℕ) → List Element → Element → List ℕ
+element_offences text tables declared earlier (element.Column column) = column_offences text tables earlier column
+element_offences text tables declared earlier (element.Rule rule) = table_rule_offences text tables declared earlier rule
+
+-- ---- tables
+
+-- a table, told the tables before it
+unfoldable pub table_offences : List ℕ → List TableText → List TableText → TableText → List ℕ
+table_offences text tables earlier table =
+    when (not (is_plain (name_of text table.name)) || is_taken (name_of text table.name) (table_names text earlier)) table.name.start
+    ++ each_told (element_offences text tables (column_names text table.elements)) table.elements
+
+-- all places at which a rule on names is broken, in text order
+unfoldable pub offences : List ℕ → List TableText → List ℕ
+offences text tables = each_told (table_offences text tables) tables

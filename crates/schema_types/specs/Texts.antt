@@ -1,0 +1,40 @@
+-- Which answers a schema text has.
+use Rattle.std.specs.Prelude.{◌≡◌, ℕ, ◌⊎◌, List, map, length, Result, Ok, Err, ⊤}
+use Rattle.ll_grammars.specs.Places.{IsSyntaxPlace}
+use Rattle.schema_grammar.specs.declared.tree.TableText.{TableText}
+use Rattle.schema_grammar.specs.Grammar.{SchemaText}
+use Rattle.sql_tokens.specs.declared.token.Token.{Token}
+use Rattle.sql_tokens.specs.Lexing.{IsLexed, IsBad}
+use Rattle.sql_tokens.specs.Words.{lexeme_of}
+use Rattle.schema_types.specs.declared.errors.SchemaError.{SchemaError}
+use Rattle.schema_types.specs.declared.errors.SchemaError.TheVariants as error
+use Rattle.schema_types.specs.declared.types.Schema.{Schema}
+use Rattle.schema_types.specs.Meaning.{bound}
+
+-- the text's tokens spell these tables
+pub record Spells (text : List ℕ) (tables : List TableText) : Type 0 where
+  pub tokens : List Token
+  pub lexed : IsLexed text tokens
+  pub spelled : SchemaText (map (lexeme_of text) tokens) tables
+
+-- the text has tokens, and they go wrong at this place
+pub record IsUngrammatical (text : List ℕ) (at : ℕ) : Type 0 where
+  pub tokens : List Token
+  pub lexed : IsLexed text tokens
+  pub place : IsSyntaxPlace SchemaText (map (lexeme_of text) tokens) (length text) at
+
+-- the text spells tables, and this is their schema or refusal
+pub record Declares (text : List ℕ) (answer : Result Schema SchemaError) : Type 0 where
+  pub tables : List TableText
+  pub spells : Spells text tables
+  pub answers : bound text tables ≡ answer
+
+-- an answer to a schema text: its schema, or the first refusal, in the order Syntax, Name, Nullable, Limit; memory may be
+-- wanting
+abbrev pub IsSchemaOf : List ℕ → Result Schema SchemaError → Type 0
+IsSchemaOf text (Ok schema) = Declares text (Ok schema)
+IsSchemaOf text (Err (error.Syntax at)) = IsBad text at ⊎ IsUngrammatical text at
+IsSchemaOf text (Err (error.Name at)) = Declares text (Err (error.Name at))
+IsSchemaOf text (Err (error.Nullable at)) = Declares text (Err (error.Nullable at))
+IsSchemaOf text (Err (error.Limit which found)) = Declares text (Err (error.Limit which found))
+IsSchemaOf text (Err error.NoMemory) = ⊤

@@ -1,0 +1,47 @@
+//! The schema of a text's tables, or the first refusal.
+ghost use Rattle.std.specs.Prelude.{◌≡◌, All, Ok};
+ghost use Rattle.sql_tokens.specs.Words.{IsLexemeOf};
+ghost use Rattle.schema_grammar.specs.Lexemes.{IsTableOf};
+ghost use Rattle.schema_types.specs.Answers.{Answers};
+ghost use Rattle.schema_types.specs.Meaning.{within_limits, schema_of, bound};
+
+use crate::SchemaError;
+use crate::scope::Scope;
+use crate::types::Schema;
+use schema_grammar::TableText;
+use std::alloc::Global;
+
+impl Scope<'_> {
+    // The schema within the limits.
+    #[tactic(auto, unfolding(crate::specs::Meaning::within_limits))]
+    fn limited(&self) -> Result<Schema, SchemaError>
+        requires { All (IsTableOf (IsLexemeOf self.now.text.now)) self.now.tables.now }
+        ensures { Answers result (within_limits self.now.text.now self.now.tables.now (Ok (schema_of self.now.text.now self.now.tables.now))) }
+    {
+        self.check_table_count()?;
+        self.check_column_counts()?;
+        self.check_text_lengths()?;
+        let schema = self.schema()?;
+        Ok(schema)
+    }
+
+    // The schema, once names and nullability are in order.
+    #[tactic(auto, unfolding(crate::specs::Meaning::bound))]
+    fn answer(&self) -> Result<Schema, SchemaError>
+        requires { All (IsTableOf (IsLexemeOf self.now.text.now)) self.now.tables.now }
+        ensures { Answers result (bound self.now.text.now self.now.tables.now) }
+    {
+        self.check_names()?;
+        self.check_nullability()?;
+        self.limited()
+    }
+}
+
+/// The schema of these tables, or the first refusal in the order Name, Nullable, Limit.
+pub fn bind(alloc: Global, text: &[u8], tables: &[TableText]) -> Result<Schema, SchemaError>
+    requires { All (IsTableOf (IsLexemeOf text.now)) tables.now }
+    ensures { Answers result (bound text.now tables.now) }
+{
+    let scope = Scope::new(alloc, text, tables)?;
+    scope.answer()
+}

@@ -1,0 +1,191 @@
+//! The schema that tables declare, once nothing offends.
+ghost use Rattle.std.specs.Prelude.{◌≡◌, ℕ, ◌++◌, [], List, All, IfOk, OnOk, Some, map};
+ghost use Rattle.std.specs.List.{flat_map};
+ghost use Rattle.ll_grammars.specs.declared.lexeme.Lexeme.{Lexeme};
+ghost use Rattle.sql_tokens.specs.Words.{IsLexemeOf};
+ghost use Rattle.schema_grammar.specs.declared.tree.TableText.{TableText};
+ghost use Rattle.schema_grammar.specs.Lexemes.{IsNameOf, IsTargetOf, IsTypeOf, IsColumnRuleOf, IsColumnOf, IsTableRuleOf, IsElementOf, IsTableOf};
+ghost use Rattle.schema_types.specs.Index.{table_index};
+ghost use Rattle.schema_types.specs.Meaning.{rule_keys, column_keys, table_rule_keys, element_keys, led_numbers, reference_of, rule_references, column_references, table_rule_references, element_references};
+ghost use Rattle.schema_types.specs.Numbers.{number_in, numbers_in};
+
+use crate::index::TableIndex;
+use crate::name_list::NameList;
+use crate::scope::Scope;
+use crate::types::Reference;
+use base_io::{NoMemory, Seq};
+use ll_grammars::Lexeme;
+use schema_grammar::{ColumnRule, ColumnText, Element, TableRule, TargetText};
+use sql_tokens::name;
+
+/// The keys and references of a table.
+#[derive(Drop)]
+pub struct Links {
+    pub keys: Seq<Seq<u32>>,
+    pub references: Seq<Reference>,
+}
+
+impl Scope<'_> {
+    // The number of a column of a table of these columns.
+    fn number(&self, declared: &NameList, column: &Lexeme) -> Result<u32, NoMemory>
+        requires { IsNameOf (IsLexemeOf self.now.text.now) column.now }
+        ensures { IfOk result (λ found. found ≡ number_in self.now.text.now declared.now column.now) }
+    {
+        let name = name(self.alloc, self.text, column)?;
+        Ok(declared.get(name.as_str()).unwrap_or(0))
+    }
+
+    #[tactic(auto, unfolding(crate::specs::Numbers::numbers_in))]
+    fn numbers(&self, declared: &NameList, columns: &[Lexeme]) -> Result<Seq<u32>, NoMemory>
+        requires { All (IsNameOf (IsLexemeOf self.now.text.now)) columns.now }
+        ensures { IfOk result (λ found. found ≡ numbers_in self.now.text.now declared.now columns.now) }
+    {
+        let mut found = Seq::new(self.alloc);
+        'columns: for column in columns {
+            let number = self.number(declared, column)?;
+            found.push(number)?;
+        }
+        Ok(found)
+    }
+
+    // The numbers of the columns of this table to which a reference leads.
+    #[tactic(auto, unfolding(crate::specs::Index::table_index))]
+    fn led(&self, target: &TargetText, table: &TableIndex) -> Result<Seq<u32>, NoMemory>
+        requires { IsTargetOf (IsLexemeOf self.now.text.now) target.now }
+        ensures { (declared : TableText) → table.now ≡ table_index self.now.text.now declared
+            → IfOk result (λ found. found ≡ led_numbers self.now.text.now target.now.columns (Some declared)) }
+    {
+        match &target.columns {
+            Some(columns) => self.numbers(&table.columns, columns.as_slice()),
+            None => {
+                let numbers = Vec::from_slice(self.alloc, table.numbers.as_slice())?;
+                Ok(Seq::from_vec(numbers))
+            }
+        }
+    }
+
+    // The reference from these columns to a target.
+    #[tactic(auto, unfolding(crate::specs::Meaning::reference_of))]
+    fn reference(&self, columns: Seq<u32>, target: &TargetText) -> Result<Reference, NoMemory>
+        requires { IsTargetOf (IsLexemeOf self.now.text.now) target.now }
+        ensures { IfOk result (λ found. found ≡ reference_of self.now.text.now self.now.tables.now columns target.now) }
+    {
+        match self.table_place(&target.table)? {
+            None => Ok(Reference {
+                columns,
+                table: 0,
+                targets: Seq::new(self.alloc),
+            }),
+            Some(table) => {
+                let targets = self.led(target, self.indexes.get(table as usize))?;
+                Ok(Reference {
+                    columns,
+                    table,
+                    targets,
+                })
+            }
+        }
+    }
+
+    // What a rule of the column with this number declares.
+    fn add_rule(&self, number: u32, rule: &ColumnRule, links: &mut Links) -> Result<(), NoMemory>
+        requires { IsColumnRuleOf (IsLexemeOf self.now.text.now) rule.now }
+        ensures keys { OnOk result (links.new.keys ≡ links.old.keys ++ rule_keys number rule.now) }
+        ensures references { OnOk result (links.new.references ≡ links.old.references ++ rule_references self.now.text.now self.now.tables.now number rule.now) }
+    {
+        match rule {
+            ColumnRule::NotNull => Ok(()),
+            ColumnRule::PrimaryKey { .. } => {
+                let key = Seq::one(self.alloc, number)?;
+                links.keys.push(key)
+            }
+            ColumnRule::Unique => {
+                let key = Seq::one(self.alloc, number)?;
+                links.keys.push(key)
+            }
+            ColumnRule::References(target) => {
+                let columns = Seq::one(self.alloc, number)?;
+                let reference = self.reference(columns, target)?;
+                links.references.push(reference)
+            }
+        }
+    }
+
+    // What a column declares.
+    fn add_column(
+        &self,
+        declared: &NameList,
+        column: &ColumnText,
+        links: &mut Links,
+    ) -> Result<(), NoMemory>
+        requires { IsColumnOf (IsLexemeOf self.now.text.now) column.now }
+        ensures keys { OnOk result (links.new.keys ≡ links.old.keys ++ column_keys self.now.text.now declared.now column.now) }
+        ensures references { OnOk result (links.new.references ≡ links.old.references ++ column_references self.now.text.now self.now.tables.now declared.now column.now) }
+    {
+        let number = self.number(declared, &column.name)?;
+        'rules: for rule in column.rules.as_slice() {
+            self.add_rule(number, rule, links)?;
+        }
+        Ok(())
+    }
+
+    // What a rule of a table of these columns declares.
+    fn add_table_rule(
+        &self,
+        declared: &NameList,
+        rule: &TableRule,
+        links: &mut Links,
+    ) -> Result<(), NoMemory>
+        requires { IsTableRuleOf (IsLexemeOf self.now.text.now) rule.now }
+        ensures keys { OnOk result (links.new.keys ≡ links.old.keys ++ table_rule_keys self.now.text.now declared.now rule.now) }
+        ensures references { OnOk result (links.new.references ≡ links.old.references ++ table_rule_references self.now.text.now self.now.tables.now declared.now rule.now) }
+    {
+        match rule {
+            TableRule::PrimaryKey { columns, .. } => {
+                let key = self.numbers(declared, columns.as_slice())?;
+                links.keys.push(key)
+            }
+            TableRule::Unique { columns } => {
+                let key = self.numbers(declared, columns.as_slice())?;
+                links.keys.push(key)
+            }
+            TableRule::ForeignKey { columns, target } => {
+                let columns = self.numbers(declared, columns.as_slice())?;
+                let reference = self.reference(columns, target)?;
+                links.references.push(reference)
+            }
+        }
+    }
+
+    fn add_element(
+        &self,
+        declared: &NameList,
+        element: &Element,
+        links: &mut Links,
+    ) -> Result<(), NoMemory>
+        requires { IsElementOf (IsLexemeOf self.now.text.now) element.now }
+        ensures keys { OnOk result (links.new.keys ≡ links.old.keys ++ element_keys self.now.text.now declared.now element.now) }
+        ensures references { OnOk result (links.new.references ≡ links.old.references ++ element_references self.now.text.now self.now.tables.now declared.now element.now) }
+    {
+        match element {
+            Element::Column(column) => self.add_column(declared, column, links),
+            Element::Rule(rule) => self.add_table_rule(declared, rule, links),
+        }
+    }
+
+    /// The keys and references of a table of these columns.
+    pub fn links(&self, declared: &NameList, elements: &[Element]) -> Result<Links, NoMemory>
+        requires { All (IsElementOf (IsLexemeOf self.now.text.now)) elements.now }
+        ensures keys { IfOk result (λ found. found.keys ≡ flat_map (element_keys self.now.text.now declared.now) elements.now) }
+        ensures references { IfOk result (λ found. found.references ≡ flat_map (element_references self.now.text.now self.now.tables.now declared.now) elements.now) }
+    {
+        let mut links = Links {
+            keys: Seq::new(self.alloc),
+            references: Seq::new(self.alloc),
+        };
+        'elements: for element in elements {
+            self.add_element(declared, element, &mut links)?;
+        }
+        Ok(links)
+    }
+}

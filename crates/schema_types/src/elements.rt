@@ -1,0 +1,186 @@
+//! The elements of a table: columns and rules.
+ghost use Rattle.std.specs.Prelude.{◌≡◌, ℕ, ◌||◌, [], ◌∷◌, ◌++◌, Bool, List, All, map, OnOk};
+ghost use Rattle.std.specs.List.{list_any};
+ghost use Rattle.sql_tokens.specs.Words.{IsLexemeOf, name_of};
+ghost use Rattle.schema_grammar.specs.declared.tree.ColumnRule.{ColumnRule};
+ghost use Rattle.schema_grammar.specs.declared.tree.Element.{Element};
+ghost use Rattle.schema_grammar.specs.Lexemes.{IsNameOf, IsColumnRuleOf, IsColumnOf, IsTableRuleOf, IsElementOf};
+ghost use Rattle.schema_types.specs.Declarations.{column_names, is_primary_rule};
+ghost use Rattle.schema_types.specs.Names.{when, each_told};
+ghost use Rattle.schema_types.specs.Offences.{is_primary, is_taken, rule_offences, column_offences, table_rule_offences, element_offences};
+ghost use Rattle.schema_types.specs.Finds.{Finds};
+ghost use Rattle.schema_types.specs.Validity.{upper_case};
+
+use crate::SchemaError;
+use crate::index::is_primary;
+use crate::lists::check_list;
+use crate::name_list::NameList;
+use crate::scope::Scope;
+use ll_grammars::Lexeme;
+use schema_grammar::{ColumnRule, ColumnText, Element, TableRule};
+use sql_tokens::name;
+
+// Whether a primary key stands in a rule or before it.
+fn is_keyed_after_rule(keyed: bool, rule: &ColumnRule) -> bool
+    ensures { result ≡ (keyed || is_primary_rule rule.now) }
+{
+    keyed || matches!(rule, ColumnRule::PrimaryKey { .. })
+}
+
+// Whether an element declares a primary key.
+fn is_primary_element(element: &Element) -> bool
+    ensures { result ≡ is_primary element.now }
+{
+    match element {
+        Element::Column(column) => is_primary(column.rules.as_slice()),
+        Element::Rule(rule) => match rule {
+            TableRule::PrimaryKey { .. } => true,
+            TableRule::Unique { .. } => false,
+            TableRule::ForeignKey { .. } => false,
+        },
+    }
+}
+
+// Whether a primary key stands in an element or before it.
+fn is_keyed_after(keyed: bool, element: &Element) -> bool
+    ensures { result ≡ (keyed || is_primary element.now) }
+{
+    keyed || is_primary_element(element)
+}
+
+impl Scope<'_> {
+    // A column's rule, where a primary key stands before it or not.
+    #[tactic(auto, unfolding(crate::specs::Offences::rule_offences))]
+    fn check_rule(&self, keyed: bool, rule: &ColumnRule) -> Result<(), SchemaError>
+        requires { IsColumnRuleOf (IsLexemeOf self.now.text.now) rule.now }
+        ensures { (before : Bool) (earlier : List ColumnRule) → keyed ≡ (before || list_any is_primary_rule earlier)
+            → Finds result (rule_offences self.now.text.now self.now.tables.now before earlier rule.now) }
+    {
+        match rule {
+            ColumnRule::NotNull => Ok(()),
+            ColumnRule::PrimaryKey { word } => {
+                if keyed {
+                    return Err(SchemaError::Name { at: word.start });
+                }
+                Ok(())
+            }
+            ColumnRule::Unique => Ok(()),
+            ColumnRule::References(target) => self.check_target(1, target),
+        }
+    }
+
+    // A column's rules, where a primary key stands before the column or not.
+    #[tactic(auto, using(crate::proofs::Told::told_none))]
+    fn check_rules(&self, keyed: bool, rules: &[ColumnRule]) -> Result<(), SchemaError>
+        requires { All (IsColumnRuleOf (IsLexemeOf self.now.text.now)) rules.now }
+        ensures { Finds result (each_told (rule_offences self.now.text.now self.now.tables.now keyed) rules.now) }
+    {
+        let mut keyed_here = keyed;
+        'rules: for rule in rules {
+            self.check_rule(keyed_here, rule)?;
+            keyed_here = is_keyed_after_rule(keyed_here, rule);
+        }
+        Ok(())
+    }
+
+    /// A name that is to differ from those before it, in ASCII upper case.
+    #[tactic(auto, using(crate::proofs::Places::stands_in_is))]
+    pub fn take_name(&self, taken: &mut NameList, token: &Lexeme) -> Result<(), SchemaError>
+        requires { IsNameOf (IsLexemeOf self.now.text.now) token.now }
+        ensures offence { (before : List (List ℕ)) → taken.old ≡ map upper_case before → Finds result (when (is_taken (name_of self.now.text.now token.now) before) token.now.start) }
+        ensures added { OnOk result (taken.new ≡ taken.old ++ upper_case (name_of self.now.text.now token.now) ∷ []) }
+    {
+        let name = name(self.alloc, self.text, token)?;
+        let upper = name.as_str().to_ascii_uppercase(self.alloc)?;
+        if taken.get(upper.as_str()).is_some() {
+            return Err(SchemaError::Name { at: token.start });
+        }
+        taken.push(self.alloc, upper.as_str())?;
+        Ok(())
+    }
+
+    // A column, where a primary key stands before it or not.
+    #[tactic(auto, unfolding(crate::specs::Offences::column_offences))]
+    fn check_column(
+        &self,
+        keyed: bool,
+        taken: &mut NameList,
+        column: &ColumnText,
+    ) -> Result<(), SchemaError>
+        requires { IsColumnOf (IsLexemeOf self.now.text.now) column.now }
+        ensures offence { (before : List Element) → keyed ≡ list_any is_primary before → taken.old ≡ map upper_case (column_names self.now.text.now before)
+            → Finds result (column_offences self.now.text.now self.now.tables.now before column.now) }
+        ensures added { OnOk result (taken.new ≡ taken.old ++ upper_case (name_of self.now.text.now column.now.name) ∷ []) }
+    {
+        self.take_name(taken, &column.name)?;
+        self.check_rules(keyed, column.rules.as_slice())
+    }
+
+    // A rule of a table of these columns, where a primary key stands before it or not.
+    #[tactic(auto, unfolding(crate::specs::Offences::table_rule_offences))]
+    fn check_table_rule(
+        &self,
+        declared: &NameList,
+        keyed: bool,
+        rule: &TableRule,
+    ) -> Result<(), SchemaError>
+        requires { IsTableRuleOf (IsLexemeOf self.now.text.now) rule.now }
+        ensures { (before : List Element) → keyed ≡ list_any is_primary before
+            → Finds result (table_rule_offences self.now.text.now self.now.tables.now declared.now before rule.now) }
+    {
+        match rule {
+            TableRule::PrimaryKey { word, columns } => {
+                if keyed {
+                    return Err(SchemaError::Name { at: word.start });
+                }
+                check_list(self.alloc, self.text, declared, columns.as_slice())
+            }
+            TableRule::Unique { columns } => {
+                check_list(self.alloc, self.text, declared, columns.as_slice())
+            }
+            TableRule::ForeignKey { columns, target } => {
+                check_list(self.alloc, self.text, declared, columns.as_slice())?;
+                self.check_target(columns.len(), target)
+            }
+        }
+    }
+
+    // An element of a table of these columns.
+    #[tactic(auto, unfolding(crate::specs::Offences::element_offences))]
+    fn check_element(
+        &self,
+        declared: &NameList,
+        keyed: bool,
+        taken: &mut NameList,
+        element: &Element,
+    ) -> Result<(), SchemaError>
+        requires { IsElementOf (IsLexemeOf self.now.text.now) element.now }
+        ensures offence { (before : List Element) → keyed ≡ list_any is_primary before → taken.old ≡ map upper_case (column_names self.now.text.now before)
+            → Finds result (element_offences self.now.text.now self.now.tables.now declared.now before element.now) }
+        ensures added { OnOk result (taken.new ≡ taken.old ++ map upper_case (column_names self.now.text.now (element.now ∷ []))) }
+    {
+        match element {
+            Element::Column(column) => self.check_column(keyed, taken, column),
+            Element::Rule(rule) => self.check_table_rule(declared, keyed, rule),
+        }
+    }
+
+    /// The elements of a table of these columns.
+    #[tactic(auto, using(crate::proofs::Told::told_none))]
+    pub fn check_elements(
+        &self,
+        declared: &NameList,
+        elements: &[Element],
+    ) -> Result<(), SchemaError>
+        requires { All (IsElementOf (IsLexemeOf self.now.text.now)) elements.now }
+        ensures { Finds result (each_told (element_offences self.now.text.now self.now.tables.now declared.now) elements.now) }
+    {
+        let mut taken = NameList::new(self.alloc);
+        let mut keyed = false;
+        'elements: for element in elements {
+            self.check_element(declared, keyed, &mut taken, element)?;
+            keyed = is_keyed_after(keyed, element);
+        }
+        Ok(())
+    }
+}

@@ -1,0 +1,59 @@
+//! Why a schema text gave no schema.
+ghost use Rattle.std.specs.Prelude.{◌≡◌};
+ghost use Rattle.schema_types.specs.declared.errors.SchemaError.TheVariants as error;
+
+use base_io::NoMemory;
+use std::alloc::{AllocError, AllocFailed};
+
+/// Which limit an input passes.
+#[derive(Clone, Copy, Debug, PartialEq, Eq)]
+pub enum LimitKind {
+    FileBytes,
+    Tables,
+    Columns,
+    TextLength,
+    Nesting,
+    FromEntries,
+    InValues,
+    Conjuncts,
+    Outputs,
+    Rows,
+}
+
+/// Why no schema was read. Places are offsets in the text, in bytes from 0.
+#[derive(Clone, Copy, Debug, PartialEq, Eq)]
+pub enum SchemaError {
+    /// The text is no text of the grammar, from this place on.
+    Syntax { at: u32 },
+    /// A rule on names is broken here.
+    Name { at: u32 },
+    /// The column named here may be null.
+    Nullable { at: u32 },
+    /// There are this many of a thing, or 2^64 - 1 where there are more.
+    Limit { which: LimitKind, found: u64 },
+    NoMemory,
+}
+
+impl From<NoMemory> for SchemaError {
+    ghost from_gives = { λ _ e. e ≡ error.NoMemory };
+
+    fn from(_: NoMemory) -> Self {
+        SchemaError::NoMemory
+    }
+}
+
+impl From<AllocError> for SchemaError {
+    ghost from_gives = { λ _ e. e ≡ error.NoMemory };
+
+    fn from(_: AllocError) -> Self {
+        SchemaError::NoMemory
+    }
+}
+
+impl<T: Drop> From<AllocFailed<T>> for SchemaError {
+    ghost from_gives = { λ _ e. e ≡ error.NoMemory };
+
+    fn from(_: AllocFailed<T>) -> Self {
+        SchemaError::NoMemory
+    }
+}

@@ -1,0 +1,110 @@
+//! Limits on tables, columns and lengths of texts.
+ghost use Rattle.std.specs.Prelude.{◌≡◌, [], ◌∷◌, All, length};
+ghost use Rattle.std.specs.List.{flat_map};
+ghost use Rattle.sql_tokens.specs.Words.{IsLexemeOf};
+ghost use Rattle.schema_grammar.specs.Lexemes.{IsTypeOf, IsElementOf, IsTableOf};
+ghost use Rattle.schema_types.specs.declared.errors.LimitKind.TheVariants as limit;
+ghost use Rattle.schema_types.specs.Refusals.{above, column_counts, type_lengths, element_lengths, text_lengths};
+ghost use Rattle.schema_types.specs.Finds.{FindsAbove};
+
+use crate::scope::Scope;
+use crate::{LimitKind, SchemaError};
+use schema_grammar::{Element, TypeText};
+use sql_tokens::number;
+
+/// The most tables of a schema.
+const MOST_TABLES: usize = 64;
+
+/// The most columns of a table.
+const MOST_COLUMNS: usize = 64;
+
+/// The most characters of a text.
+const MOST_LENGTH: u64 = 1_000_000;
+
+impl Scope<'_> {
+    pub fn check_table_count(&self) -> Result<(), SchemaError>
+        ensures { FindsAbove limit.Tables result (above 64 (length self.now.tables.now ∷ [])) }
+    {
+        let found = self.tables.len();
+        if found > MOST_TABLES {
+            return Err(SchemaError::Limit {
+                which: LimitKind::Tables,
+                found: found as u64,
+            });
+        }
+        Ok(())
+    }
+
+    // A table's number of columns.
+    fn check_column_count(&self, found: usize) -> Result<(), SchemaError>
+        ensures { FindsAbove limit.Columns result (above 64 (found ∷ [])) }
+    {
+        if found > MOST_COLUMNS {
+            return Err(SchemaError::Limit {
+                which: LimitKind::Columns,
+                found: found as u64,
+            });
+        }
+        Ok(())
+    }
+
+    pub fn check_column_counts(&self) -> Result<(), SchemaError>
+        ensures { FindsAbove limit.Columns result (above 64 (column_counts self.now.tables.now)) }
+    {
+        let indexes = self.indexes.as_slice();
+        'indexes: for index in indexes {
+            self.check_column_count(index.columns.len())?;
+        }
+        Ok(())
+    }
+
+    // The length that a type gives to its texts.
+    fn check_length(&self, kind: &TypeText) -> Result<(), SchemaError>
+        requires { IsTypeOf (IsLexemeOf self.now.text.now) kind.now }
+        ensures { FindsAbove limit.TextLength result (above 1000000 (type_lengths self.now.text.now kind.now)) }
+    {
+        match kind {
+            TypeText::Number => Ok(()),
+            TypeText::Text { length } => {
+                let found = number(self.text, length);
+                if found > MOST_LENGTH {
+                    return Err(SchemaError::Limit {
+                        which: LimitKind::TextLength,
+                        found,
+                    });
+                }
+                Ok(())
+            }
+        }
+    }
+
+    fn check_element_length(&self, element: &Element) -> Result<(), SchemaError>
+        requires { IsElementOf (IsLexemeOf self.now.text.now) element.now }
+        ensures { FindsAbove limit.TextLength result (above 1000000 (element_lengths self.now.text.now element.now)) }
+    {
+        match element {
+            Element::Column(column) => self.check_length(&column.kind),
+            Element::Rule(_) => Ok(()),
+        }
+    }
+
+    fn check_lengths(&self, elements: &[Element]) -> Result<(), SchemaError>
+        requires { All (IsElementOf (IsLexemeOf self.now.text.now)) elements.now }
+        ensures { FindsAbove limit.TextLength result (flat_map (λ element. above 1000000 (element_lengths self.now.text.now element)) elements.now) }
+    {
+        'elements: for element in elements {
+            self.check_element_length(element)?;
+        }
+        Ok(())
+    }
+
+    pub fn check_text_lengths(&self) -> Result<(), SchemaError>
+        requires { All (IsTableOf (IsLexemeOf self.now.text.now)) self.now.tables.now }
+        ensures { FindsAbove limit.TextLength result (above 1000000 (text_lengths self.now.text.now self.now.tables.now)) }
+    {
+        'tables: for table in self.tables {
+            self.check_lengths(table.elements.as_slice())?;
+        }
+        Ok(())
+    }
+}

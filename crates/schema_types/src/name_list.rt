@@ -1,0 +1,100 @@
+//! A list of names that tells where each one stands.
+ghost use Rattle.std.specs.Prelude.{◌≡◌, ℕ, List, [], ◌∷◌, ◌++◌, IfOk, OnOk, OnErr, length, map};
+ghost use Rattle.std.specs.HashMap.{get_by_text, IsUnchanged};
+ghost use Rattle.std.specs.Str.{bytes_eq};
+ghost use Rattle.schema_types.specs.Names.{place_of, or_last};
+ghost use Rattle.schema_types.specs.Numbers.{number_of_name};
+
+use base_io::{NoMemory, Seq};
+use std::alloc::Global;
+use std::collections::HashMap;
+use std::marker::Model;
+
+/// A list of names, which contracts see as such. It finds a name's first place in the time of one look.
+#[derive(Drop)]
+pub struct NameList {
+    names: Vec<String>,
+    places: HashMap<String, u32>,
+}
+
+impl Model for NameList {
+    ghost use Rattle.std.specs.Prelude.{ℕ, ◌≡◌, List, map, string_bytes};
+    ghost use Rattle.std.specs.HashMap.{get_by_text};
+    ghost use Rattle.schema_types.specs.Names.{place_of};
+
+    ghost Value = { List (List ℕ) };
+
+    ghost view = { λ s. map string_bytes s.names.items };
+
+    ghost invariant = { λ s. (name : List ℕ) → get_by_text s.places name ≡ place_of (map string_bytes s.names.items) name };
+}
+
+// A name's place, where it has none yet.
+fn note_place(
+    places: &mut HashMap<String, u32>,
+    alloc: Global,
+    name: &str,
+    place: u32,
+) -> Result<(), NoMemory>
+    ensures ok { OnOk result ((other : List ℕ) → get_by_text places.new other ≡ or_last (get_by_text places.old other) place (bytes_eq other name.now)) }
+    ensures err { OnErr result (IsUnchanged places.old places.new) }
+{
+    if places.get(name).is_none() {
+        places.insert(String::from_str(alloc, name)?, place)?;
+    }
+    Ok(())
+}
+
+impl NameList {
+    /// The empty list.
+    #[tactic(auto, unfolding(crate::specs::Names::place_of))]
+    pub fn new(alloc: Global) -> NameList
+        ensures { result ≡ [] }
+    {
+        NameList {
+            names: Vec::new(alloc),
+            places: HashMap::new(alloc),
+        }
+    }
+
+    /// The first place of a name, counted from 0.
+    pub fn get(&self, name: &str) -> Option<u32>
+        ensures { result ≡ place_of self.now name.now }
+    {
+        self.places.get(name).copied()
+    }
+
+    /// The numbers of these names in another list, 0 where they are not there.
+    pub fn numbers_in(&self, alloc: Global, declared: &NameList) -> Result<Seq<u32>, NoMemory>
+        ensures { IfOk result (λ found. found ≡ map (number_of_name declared.now) self.now) }
+    {
+        let mut found = Seq::new(alloc);
+        'names: for name in self.names.as_slice() {
+            found.push(declared.get(name.as_str()).unwrap_or(0))?;
+        }
+        Ok(found)
+    }
+
+    /// How many names there are.
+    pub fn len(&self) -> usize
+        ensures { result ≡ length self.now }
+    {
+        self.names.len()
+    }
+
+    /// Adds a name at the end.
+    #[tactic(auto)]
+    pub fn push(&mut self, alloc: Global, name: &str) -> Result<(), NoMemory>
+        ensures { OnOk result (self.new ≡ self.old ++ name.now ∷ []) }
+    {
+        // a longer list has no room in memory
+        let Ok(place) = u32::try_from(self.names.len()) else {
+            return Err(NoMemory);
+        };
+        let last = String::from_str(alloc, name)?;
+        self.names.reserve(1)?;
+        note_place(&mut self.places, alloc, name, place)?;
+        self.names.push(last).unwrap();
+        Ok(())
+    }
+}

@@ -1,0 +1,112 @@
+//! Columns that may be null.
+ghost use Rattle.std.specs.Prelude.{◌≡◌, [], All, IfOk, unwrap_or};
+ghost use Rattle.std.specs.List.{list_any, flat_map};
+ghost use Rattle.sql_tokens.specs.Words.{IsLexemeOf, name_of};
+ghost use Rattle.schema_grammar.specs.Lexemes.{IsNameOf, IsColumnOf, IsElementOf, IsTableOf};
+ghost use Rattle.schema_types.specs.Index.{table_index};
+ghost use Rattle.schema_types.specs.Names.{when};
+ghost use Rattle.schema_types.specs.Offences.{stands_in};
+ghost use Rattle.schema_types.specs.Refusals.{is_not_null, is_nullable, nullable_element, nullable_in, nullable_places};
+ghost use Rattle.schema_types.specs.Finds.{FindsNullable};
+
+use crate::SchemaError;
+use crate::index::TableIndex;
+use crate::name_list::NameList;
+use crate::scope::Scope;
+use base_io::NoMemory;
+use ll_grammars::Lexeme;
+use schema_grammar::{ColumnRule, ColumnText, Element, TableText};
+use sql_tokens::name;
+
+fn is_not_null(rules: &[ColumnRule]) -> bool
+    ensures { result ≡ list_any is_not_null rules.now }
+{
+    rules.iter().any(|rule| matches!(rule, ColumnRule::NotNull))
+}
+
+impl Scope<'_> {
+    // Whether a name stands in a primary key, where there is one.
+    #[tactic(auto, using(crate::proofs::Places::stands_in_is))]
+    fn is_in_key(&self, key: &Option<NameList>, token: &Lexeme) -> Result<bool, NoMemory>
+        requires { IsNameOf (IsLexemeOf self.now.text.now) token.now }
+        ensures { IfOk result (λ found. found ≡ stands_in (name_of self.now.text.now token.now) (unwrap_or key.now [])) }
+    {
+        match key {
+            None => Ok(false),
+            Some(names) => {
+                let name = name(self.alloc, self.text, token)?;
+                Ok(names.get(name.as_str()).is_some())
+            }
+        }
+    }
+
+    fn check_column_null(
+        &self,
+        key: &Option<NameList>,
+        column: &ColumnText,
+    ) -> Result<(), SchemaError>
+        requires { IsColumnOf (IsLexemeOf self.now.text.now) column.now }
+        ensures { FindsNullable result (when (is_nullable self.now.text.now (unwrap_or key.now []) column.now) column.now.name.start) }
+    {
+        if is_not_null(column.rules.as_slice()) {
+            return Ok(());
+        }
+        if self.is_in_key(key, &column.name)? {
+            return Ok(());
+        }
+        Err(SchemaError::Nullable {
+            at: column.name.start,
+        })
+    }
+
+    fn check_element_null(
+        &self,
+        key: &Option<NameList>,
+        element: &Element,
+    ) -> Result<(), SchemaError>
+        requires { IsElementOf (IsLexemeOf self.now.text.now) element.now }
+        ensures { FindsNullable result (nullable_element self.now.text.now (unwrap_or key.now []) element.now) }
+    {
+        match element {
+            Element::Column(column) => self.check_column_null(key, column),
+            Element::Rule(_) => Ok(()),
+        }
+    }
+
+    // The elements of a table with this primary key.
+    fn check_elements_null(
+        &self,
+        key: &Option<NameList>,
+        elements: &[Element],
+    ) -> Result<(), SchemaError>
+        requires { All (IsElementOf (IsLexemeOf self.now.text.now)) elements.now }
+        ensures { FindsNullable result (flat_map (nullable_element self.now.text.now (unwrap_or key.now [])) elements.now) }
+    {
+        'elements: for element in elements {
+            self.check_element_null(key, element)?;
+        }
+        Ok(())
+    }
+
+    // A table, with its index.
+    #[tactic(auto, using(crate::proofs::Flat::key_is), unfolding(crate::specs::Refusals::nullable_in, crate::specs::Index::table_index))]
+    fn check_table_null(&self, table: &TableText, index: &TableIndex) -> Result<(), SchemaError>
+        requires tokens { IsTableOf (IsLexemeOf self.now.text.now) table.now }
+        requires indexed { index.now ≡ table_index self.now.text.now table.now }
+        ensures { FindsNullable result (nullable_in self.now.text.now table.now) }
+    {
+        self.check_elements_null(&index.key, table.elements.as_slice())
+    }
+
+    /// All columns: none may be null.
+    #[tactic(auto, unfolding(crate::specs::Refusals::nullable_places))]
+    pub fn check_nullability(&self) -> Result<(), SchemaError>
+        requires { All (IsTableOf (IsLexemeOf self.now.text.now)) self.now.tables.now }
+        ensures { FindsNullable result (nullable_places self.now.text.now self.now.tables.now) }
+    {
+        'tables: for (i, table) in self.tables.iter().enumerate() {
+            self.check_table_null(table, self.indexes.get(i))?;
+        }
+        Ok(())
+    }
+}

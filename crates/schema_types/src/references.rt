@@ -1,0 +1,75 @@
+//! The targets of references.
+ghost use Rattle.std.specs.Prelude.{◌≡◌, IfOk, Some, option_map};
+ghost use Rattle.std.specs.Option.{option_copied};
+ghost use Rattle.sql_tokens.specs.Words.{IsLexemeOf};
+ghost use Rattle.schema_grammar.specs.declared.tree.TableText.{TableText};
+ghost use Rattle.schema_grammar.specs.Lexemes.{IsTargetOf};
+ghost use Rattle.schema_types.specs.Declarations.{target_table};
+ghost use Rattle.schema_types.specs.Index.{table_index};
+ghost use Rattle.schema_types.specs.Offences.{target_offences, target_offences_in};
+ghost use Rattle.schema_types.specs.Finds.{Finds};
+
+use crate::SchemaError;
+use crate::index::TableIndex;
+use crate::lists::check_list;
+use crate::scope::Scope;
+use base_io::NoMemory;
+use schema_grammar::TargetText;
+
+impl Scope<'_> {
+    /// The table to which a reference leads: the first of its name.
+    #[tactic(auto, using(crate::proofs::Targets::no_target, crate::proofs::Targets::target_found, crate::proofs::Places::place_of_within))]
+    pub fn target(&self, target: &TargetText) -> Result<Option<&TableIndex>, NoMemory>
+        requires { IsTargetOf (IsLexemeOf self.now.text.now) target.now }
+        ensures { IfOk result (λ found. option_copied found ≡ option_map (table_index self.now.text.now) (target_table self.now.text.now self.now.tables.now target.now)) }
+    {
+        match self.table_place(&target.table)? {
+            None => Ok(None),
+            Some(place) => Ok(Some(self.indexes.get(place as usize))),
+        }
+    }
+
+    // The columns to which a reference leads, in this table: as many as it has on its own side.
+    #[tactic(auto, unfolding(crate::specs::Index::table_index))]
+    fn check_led(
+        &self,
+        count: usize,
+        target: &TargetText,
+        table: &TableIndex,
+    ) -> Result<(), SchemaError>
+        requires { IsTargetOf (IsLexemeOf self.now.text.now) target.now }
+        ensures { (declared : TableText) → table.now ≡ table_index self.now.text.now declared → Finds result (target_offences_in self.now.text.now count target.now (Some declared)) }
+    {
+        let at = target.table.start;
+        match &target.columns {
+            Some(columns) => {
+                if columns.len() != count {
+                    return Err(SchemaError::Name { at });
+                }
+                check_list(self.alloc, self.text, &table.columns, columns.as_slice())
+            }
+            None => match &table.key {
+                None => Err(SchemaError::Name { at }),
+                Some(key) => {
+                    if key.len() != count {
+                        return Err(SchemaError::Name { at });
+                    }
+                    Ok(())
+                }
+            },
+        }
+    }
+
+    /// A reference from so many columns.
+    pub fn check_target(&self, count: usize, target: &TargetText) -> Result<(), SchemaError>
+        requires { IsTargetOf (IsLexemeOf self.now.text.now) target.now }
+        ensures { Finds result (target_offences self.now.text.now self.now.tables.now count target.now) }
+    {
+        match self.target(target)? {
+            None => Err(SchemaError::Name {
+                at: target.table.start,
+            }),
+            Some(table) => self.check_led(count, target, table),
+        }
+    }
+}
