@@ -1,0 +1,96 @@
+//! Table files of a fixed rule: those of bench/tables.rs.
+use std::alloc::{AllocError, Global};
+
+/// What a file is of: eight columns of numbers, or four of texts of which every second was there before.
+#[derive(Clone, Copy, Debug)]
+pub enum Source {
+    Numbers,
+    Texts,
+}
+
+impl Source {
+    pub fn name(self) -> &'static str {
+        match self {
+            Source::Numbers => "numbers",
+            Source::Texts => "texts",
+        }
+    }
+
+    fn header(self) -> &'static str {
+        match self {
+            Source::Numbers => "A,B,C,D,E,F,G,H\r\n",
+            Source::Texts => "A,B,C,D\r\n",
+        }
+    }
+}
+
+// Bits in an order that repeats nothing soon, and how many texts there were.
+#[derive(Clone, Copy, Debug)]
+struct State {
+    bits: u64,
+    texts: u64,
+}
+
+impl State {
+    fn turn(&mut self) {
+        self.bits ^= self.bits << 13u32;
+        self.bits ^= self.bits >> 7u32;
+        self.bits ^= self.bits << 17u32;
+    }
+}
+
+// A number of 1 to 44 bits, with a minus sign before one of four.
+fn push_number(file: &mut String, state: &mut State) -> Result<(), AllocError> {
+    state.turn();
+    if state.bits % 4 == 0 {
+        file.push('-')?;
+    }
+    let size = state.bits >> (20 + state.bits % 44);
+    write!(file, "{size}")
+}
+
+// A text that is new, and then one of those before.
+fn push_texts(file: &mut String, state: &mut State) -> Result<(), AllocError> {
+    let new = state.texts;
+    state.texts = new.wrapping_add(1);
+    state.turn();
+    let old = state.bits % state.texts.max(1);
+    write!(file, "text {new},text {old}")
+}
+
+fn push_numbers(file: &mut String, state: &mut State) -> Result<(), AllocError> {
+    push_number(file, state)?;
+    for _ in 1..8 {
+        file.push(',')?;
+        push_number(file, state)?;
+    }
+    Ok(())
+}
+
+fn push_record(file: &mut String, source: Source, state: &mut State) -> Result<(), AllocError> {
+    match source {
+        Source::Numbers => push_numbers(file, state)?,
+        Source::Texts => {
+            push_texts(file, state)?;
+            file.push(',')?;
+            push_texts(file, state)?;
+        }
+    }
+    file.push_str("\r\n")
+}
+
+/// A header, and then records up to the first that ends at or after so many bytes.
+pub fn file_of(alloc: Global, source: Source, bytes: usize) -> Result<String, AllocError> {
+    let mut file = String::from_str(alloc, source.header())?;
+    let mut state = State {
+        bits: 88172645463325252,
+        texts: 0,
+    };
+    for _ in 0..4_000_000 {
+        if file.len() >= bytes {
+            break;
+        }
+        push_record(&mut file, source, &mut state)?;
+    }
+    Ok(file)
+}

@@ -1,0 +1,161 @@
+//! The proved side of the measures of csv_tables; bench/tables.rs is the plain side.
+//!
+//! Without a word it reads small files and writes nothing. With one, as `time`, it writes a line for each file: what
+//! the file is of, how many rows and different texts it has, a checksum of the cells, and the milliseconds that
+//! `read_table` took, the least of several.
+#![tactic(auto)]
+
+ghost use Rattle.std.specs.Prelude.{◌≤◌, length};
+ghost use Rattle.schema_types.specs.Validity.{IsValidTable};
+
+mod files;
+
+use base_io::Seq;
+use csv_tables::{Pool, TableError, read_table};
+use files::{Source, file_of};
+use schema_types::{SchemaError, Table, read_schema};
+use std::alloc::Global;
+use std::rt::Runtime;
+use std::time::Instant;
+use std::{env, io};
+
+// The greatest length of a table file.
+const MOST_BYTES: usize = 67_108_864;
+
+// What was read of a file, and the least time of a reading so far.
+#[derive(Clone, Copy, Debug)]
+struct Measure {
+    rows: u32,
+    texts: usize,
+    sum: u64,
+    nanos: u128,
+}
+
+fn invalid_data() -> io::Error {
+    io::Error::from(io::ErrorKind::InvalidData)
+}
+
+fn refused(_: TableError) -> io::Error {
+    invalid_data()
+}
+
+fn no_schema(_: SchemaError) -> io::Error {
+    invalid_data()
+}
+
+// A sum of cells in which their order counts, after the cells before.
+fn sum_with(before: u64, cells: &[u64]) -> u64 {
+    let mut sum = before;
+    for cell in cells {
+        sum = sum.wrapping_mul(31).wrapping_add(*cell);
+    }
+    sum
+}
+
+fn sum_of(columns: &[Seq<u64>]) -> u64 {
+    let mut sum: u64 = 0;
+    for column in columns {
+        sum = sum_with(sum, column.as_slice());
+    }
+    sum
+}
+
+// One reading into a new pool.
+fn read_once<R: Runtime>(rt: &R, alloc: Global, table: &Table, bytes: &[u8]) -> io::Result<Measure>
+    requires valid { IsValidTable table.now }
+    requires few { length bytes.now ≤ 67108864 }
+{
+    let mut pool = Pool::new(alloc);
+    let start = Instant::now(rt)?;
+    let cells = read_table(alloc, table, bytes, &mut pool).map_err(refused)?;
+    let nanos = start.elapsed(rt)?.as_nanos();
+    Ok(Measure {
+        rows: cells.rows,
+        texts: pool.len(),
+        sum: sum_of(cells.columns.as_slice()),
+        nanos,
+    })
+}
+
+// Several readings. A longer file than a table may have is refused.
+fn read_often<R: Runtime>(
+    rt: &R,
+    alloc: Global,
+    table: &Table,
+    bytes: &[u8],
+    rounds: u32,
+) -> io::Result<Measure>
+    requires valid { IsValidTable table.now }
+{
+    if bytes.len() > MOST_BYTES {
+        return Err(invalid_data());
+    }
+    let mut least = read_once(rt, alloc, table, bytes)?;
+    for _ in 1..rounds {
+        let measure = read_once(rt, alloc, table, bytes)?;
+        least.nanos = least.nanos.min(measure.nanos);
+    }
+    Ok(least)
+}
+
+// How long the files are and how often each is read.
+#[derive(Clone, Copy, Debug)]
+struct Plan {
+    is_timed: bool,
+    bytes: usize,
+    rounds: u32,
+}
+
+const UNTIMED: Plan = Plan {
+    is_timed: false,
+    bytes: 500,
+    rounds: 1,
+};
+
+// A record is shorter than 256 bytes.
+const TIMED: Plan = Plan {
+    is_timed: true,
+    bytes: MOST_BYTES - 256,
+    rounds: 5,
+};
+
+fn measure_file(rt: &HostRuntime, plan: Plan, source: Source, schema: &[u8]) -> io::Result<()>
+    requires { length schema.now ≤ 1048576 }
+{
+    let alloc = rt.alloc();
+    let schema = read_schema(alloc, schema).map_err(no_schema)?;
+    let [table] = schema.tables.as_slice() else {
+        return Err(invalid_data());
+    };
+    let file = file_of(alloc, source, plan.bytes)?;
+    let found = read_often(rt, alloc, table, file.as_bytes(), plan.rounds)?;
+    if plan.is_timed {
+        let name = source.name();
+        let millis = found.nanos / 1_000_000;
+        println!(rt;
+            "{name} {} {} {} {millis}",
+            found.rows, found.texts, found.sum
+        )?;
+    }
+    Ok(())
+}
+
+fn main(rt: HostRuntime) -> io::Result<()> {
+    let plan = if env::args(&rt)?.count() > 1 {
+        TIMED
+    } else {
+        UNTIMED
+    };
+    measure_file(
+        &rt,
+        plan,
+        Source::Numbers,
+        b"CREATE TABLE R (A INT NOT NULL, B INT NOT NULL, C INT NOT NULL, D INT NOT NULL, E INT NOT NULL, F INT NOT NULL, G INT NOT NULL, H INT NOT NULL);",
+    )?;
+    measure_file(
+        &rt,
+        plan,
+        Source::Texts,
+        b"CREATE TABLE R (A VARCHAR(40) NOT NULL, B VARCHAR(40) NOT NULL, C VARCHAR(40) NOT NULL, D VARCHAR(40) NOT NULL);",
+    )
+}
