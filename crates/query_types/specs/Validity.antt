@@ -1,0 +1,75 @@
+-- What holds of every query that was read over a schema.
+use Rattle.std.specs.Prelude.{◌≡◌, ◌<◌, ◌≤◌, ◌^◌, Bool, true, false, List, length, All, Some, slice_get, ⊤}
+use Rattle.schema_types.specs.declared.types.Kind.{Kind}
+use Rattle.schema_types.specs.declared.types.Kind.TheVariants as kind
+use Rattle.schema_types.specs.declared.types.Column.{Column}
+use Rattle.schema_types.specs.declared.types.Table.{Table}
+use Rattle.schema_types.specs.declared.types.Schema.{Schema}
+use Rattle.query_types.specs.declared.types.ColumnRef.{ColumnRef}
+use Rattle.query_types.specs.declared.types.Operand.{Operand}
+use Rattle.query_types.specs.declared.types.Operand.TheVariants as operand
+use Rattle.query_types.specs.declared.types.Cond.{Cond, every-Cond}
+use Rattle.query_types.specs.declared.types.Cond.TheOpen.{Cond-F}
+use Rattle.query_types.specs.declared.types.Source.{Source}
+use Rattle.query_types.specs.declared.types.Out.{Out}
+use Rattle.query_types.specs.declared.types.Query.{Query}
+
+-- numbers are one kind, texts of any length the other
+abbrev pub is_text : Kind → Bool
+is_text kind.Int = false
+is_text (kind.Text n) = true
+
+-- the FROM entry exists, its table, and the column in it
+pub record Finds (schema : Schema) (from : List Source) (ref : ColumnRef) (column : Column) : Type 0 where
+  pub source : Source
+  pub entry : slice_get from ref.from ≡ Some source
+  pub table : Table
+  pub exists : slice_get schema.tables source.table ≡ Some table
+  pub declared : slice_get table.columns ref.column ≡ Some column
+
+-- the column exists and is of this kind
+pub record IsColumnOf (schema : Schema) (from : List Source) (ref : ColumnRef) (text : Bool) : Type 0 where
+  pub column : Column
+  pub finds : Finds schema from ref column
+  pub kind : is_text column.kind ≡ text
+
+-- an operand is of this kind, and where it is a column that exists
+abbrev pub IsOfKind : Schema → List Source → Operand → Bool → Type 0
+IsOfKind schema from (operand.Column ref) text = IsColumnOf schema from ref text
+IsOfKind schema from (operand.Int value) text = text ≡ false
+IsOfKind schema from (operand.Text value) text = text ≡ true
+
+-- both operands of a comparison are of one kind
+pub record Compares (schema : Schema) (from : List Source) (left right : Operand) : Type 0 where
+  pub text : Bool
+  pub left_kind : IsOfKind schema from left text
+  pub right_kind : IsOfKind schema from right text
+
+abbrev pub IsLayerOf : Schema → List Source → Cond-F Cond → Type 0
+IsLayerOf schema from (Cond-F.And parts) = ⊤
+IsLayerOf schema from (Cond-F.Or parts) = ⊤
+IsLayerOf schema from (Cond-F.Not part) = ⊤
+IsLayerOf schema from (Cond-F.Compare op left right) = Compares schema from left right
+
+-- every comparison in a condition is over columns that exist, and of one kind
+abbrev pub IsCondOf : Schema → List Source → Cond → Type 0
+IsCondOf schema from cond = every-Cond (IsLayerOf schema from) cond
+
+-- an entry's table exists
+abbrev pub IsSourceOf : Schema → Source → Type 0
+IsSourceOf schema source = source.table < length schema.tables
+
+-- an output's column exists
+pub record IsOutOf (schema : Schema) (from : List Source) (out : Out) : Type 0 where
+  pub column : Column
+  pub finds : Finds schema from out.column column
+
+-- a query of a schema: from 1 to 12 FROM entries, fewer than 2^32 conjuncts, every table, entry and column in it
+-- exists, and every comparison has two operands of one kind
+pub record IsOf (schema : Schema) (query : Query) : Type 0 where
+  pub some : 0 < length query.from
+  pub few : length query.from ≤ 12
+  pub conjuncts_few : length query.conjuncts < 2 ^ 32
+  pub sources : All (IsSourceOf schema) query.from
+  pub conjuncts : All (IsCondOf schema query.from) query.conjuncts
+  pub outs : All (IsOutOf schema query.from) query.select
