@@ -1,0 +1,115 @@
+-- Kept equalities, by connection and by the names of parts.
+use Rattle.std.proofs.Common.{◌≡◌, ◌⊎◌, ℕ, Bool, true, false, cond, eqb, List, [], ◌∷◌, refl, ap, sym, ◌∙◌, inl, inr}
+use Rattle.std.specs.List.{AllByRecursion}
+use Rattle.std.proofs.lemmas.Bool.{cases_Bool, eqb-true, eqb-false, eq-eqb}
+use Rattle.berge_tree.specs.declared.edges.Edge.{Edge}
+use Rattle.berge_tree.specs.Equalities.{AreApart}
+use Rattle.berge_tree.specs.Testing.{joined_parts, joins_parts}
+use Rattle.berge_tree.proofs.NoCycle.{apart_by}
+use Rattle.join_graph.specs.Kept.{AreConnected, KeepsAfter, at_end, keeps, leaves_out, kept_by_names}
+
+-- two entries have one name exactly where equalities connect them
+pub record Tell (name : ℕ → ℕ) (earlier : List Edge) : Type 0 where
+  pub along : AllByRecursion (λ e. name e.left.entry ≡ name e.right.entry) earlier
+  pub parts : (side : ℕ → Bool) → AllByRecursion (λ e. side e.left.entry ≡ side e.right.entry) earlier → (x : ℕ) → side (name x) ≡ side x
+
+pub own_names : Tell (λ x. x) []
+own_names = record { along = tt; parts = λ side all x. refl }
+
+-- ---- one equality more
+
+joined_yes : (name : ℕ → ℕ) (a b x : ℕ) → eqb (name x) (name b) ≡ true → joined_parts name a b x ≡ name a
+joined_yes name a b x t = rw t refl
+
+joined_no : (name : ℕ → ℕ) (a b x : ℕ) → eqb (name x) (name b) ≡ false → joined_parts name a b x ≡ name x
+joined_no name a b x n = rw n refl
+
+joined_same : (name : ℕ → ℕ) (a b x y : ℕ) → name x ≡ name y → joined_parts name a b x ≡ joined_parts name a b y
+joined_same name a b x y is = ap (λ n. cond (eqb n (name b)) (name a) n) is
+
+joined_ends : (name : ℕ → ℕ) (a b : ℕ) → joined_parts name a b a ≡ joined_parts name a b b
+joined_ends name a b = elim (cases_Bool (eqb (name a) (name b))) [
+  | inl t ↦ joined_yes name a b a t ∙ sym (joined_yes name a b b (eq-eqb (name b) (name b) refl))
+  | inr n ↦ joined_no name a b a n ∙ sym (joined_yes name a b b (eq-eqb (name b) (name b) refl))
+]
+
+joined_along : (name : ℕ → ℕ) (a b : ℕ) (es : List Edge) → AllByRecursion (λ e. name e.left.entry ≡ name e.right.entry) es
+    → AllByRecursion (λ e. joined_parts name a b e.left.entry ≡ joined_parts name a b e.right.entry) es
+joined_along name a b [] h = tt
+joined_along name a b (e ∷ es) h = (joined_same name a b e.left.entry e.right.entry h.0, joined_along name a b es h.1)
+
+pub join_names : (name : ℕ → ℕ) (earlier : List Edge) (e : Edge) → Tell name earlier → Tell (joined_parts name e.left.entry e.right.entry) (e ∷ earlier)
+join_names name earlier e tell = record {
+  along = (joined_ends name e.left.entry e.right.entry, joined_along name e.left.entry e.right.entry earlier tell.along);
+  parts = λ side all x. elim (cases_Bool (eqb (name x) (name e.right.entry))) [
+    | inl t ↦ ap side (joined_yes name e.left.entry e.right.entry x t) ∙ tell.parts side all.1 e.left.entry ∙ all.0
+        ∙ sym (tell.parts side all.1 e.right.entry) ∙ ap side (sym (eqb-true (name x) (name e.right.entry) t)) ∙ tell.parts side all.1 x
+    | inr n ↦ ap side (joined_no name e.left.entry e.right.entry x n) ∙ tell.parts side all.1 x
+  ];
+}
+
+-- ---- what names tell
+
+connects : (name : ℕ → ℕ) (earlier : List Edge) (a b : ℕ) → Tell name earlier → name a ≡ name b → AreConnected earlier a b
+connects name earlier a b tell is side all = sym (tell.parts side all a) ∙ ap side is ∙ tell.parts side all b
+
+tests_along : (name : ℕ → ℕ) (a : ℕ) (es : List Edge) → AllByRecursion (λ e. name e.left.entry ≡ name e.right.entry) es
+    → AllByRecursion (λ e. eqb (name e.left.entry) (name a) ≡ eqb (name e.right.entry) (name a)) es
+tests_along name a [] h = tt
+tests_along name a (e ∷ es) h = (ap (λ n. eqb n (name a)) h.0, tests_along name a es h.1)
+
+connected_names : (name : ℕ → ℕ) (earlier : List Edge) (a b : ℕ) → Tell name earlier → AreConnected earlier a b → eqb (name a) (name b) ≡ true
+connected_names name earlier a b tell connected =
+    let same : eqb (name a) (name a) ≡ eqb (name b) (name a) = connected (λ x. eqb (name x) (name a)) (tests_along name a earlier tell.along) in
+    eq-eqb (name a) (name b) (sym (eqb-true (name b) (name a) (sym same ∙ eq-eqb (name a) (name a) refl)))
+
+apart_names : (name : ℕ → ℕ) (earlier : List Edge) (a b : ℕ) → Tell name earlier → AreApart earlier a b → eqb (name a) (name b) ≡ false
+apart_names name earlier a b tell apart = elim (cases_Bool (eqb (name a) (name b))) [
+  | inl t ↦ absurd (apart.across (connects name earlier a b tell (eqb-true (name a) (name b) t) apart.side apart.together))
+  | inr n ↦ n
+]
+
+-- ---- the two forms are one
+
+pub keeps_computed : (name : ℕ → ℕ) (earlier es : List Edge) → Tell name earlier → KeepsAfter earlier es (kept_by_names name es)
+keeps_computed name earlier [] tell = at_end earlier
+keeps_computed name earlier (e ∷ es) tell = elim (cases_Bool (eqb (name e.left.entry) (name e.right.entry))) [
+  | inl t ↦ rw t (leaves_out earlier e es (kept_by_names name es) (connects name earlier e.left.entry e.right.entry tell (eqb-true (name e.left.entry) (name e.right.entry) t))
+      (keeps_computed name earlier es tell))
+  | inr n ↦ rw n (keeps earlier e es (kept_by_names (joined_parts name e.left.entry e.right.entry) es)
+      (apart_by earlier e.left.entry e.right.entry name tell.along (eqb-false (name e.left.entry) (name e.right.entry) n))
+      (keeps_computed (joined_parts name e.left.entry e.right.entry) (e ∷ earlier) es (join_names name earlier e tell)))
+]
+
+pub one_kept : {earlier es kept : List Edge} → KeepsAfter earlier es kept → (name : ℕ → ℕ) → Tell name earlier → kept ≡ kept_by_names name es
+one_kept (at_end earlier) name tell = refl
+one_kept (keeps earlier e es kept apart more) name tell =
+    rw (apart_names name earlier e.left.entry e.right.entry tell apart)
+    (ap (λ s. e ∷ s) (one_kept more (joined_parts name e.left.entry e.right.entry) (join_names name earlier e tell)))
+one_kept (leaves_out earlier e es kept connected more) name tell = rw (connected_names name earlier e.left.entry e.right.entry tell connected) (one_kept more name tell)
+
+-- ---- each kept equality joins two parts
+
+pub kept_joins : (name : ℕ → ℕ) (es : List Edge) → joins_parts name (kept_by_names name es) ≡ true
+kept_joins name [] = refl
+kept_joins name (e ∷ es) = elim (cases_Bool (eqb (name e.left.entry) (name e.right.entry))) [
+  | inl t ↦ rw t (kept_joins name es)
+  | inr n ↦ rw (n, n) (kept_joins (joined_parts name e.left.entry e.right.entry) es)
+]
+
+-- ---- apart or connected
+
+-- the parts that equalities make
+abbrev parts_of : List Edge → ℕ → ℕ
+parts_of [] = λ x. x
+parts_of (e ∷ es) = joined_parts (parts_of es) e.left.entry e.right.entry
+
+parts_tell : (es : List Edge) → Tell (parts_of es) es
+parts_tell [] = own_names
+parts_tell (e ∷ es) = join_names (parts_of es) es e (parts_tell es)
+
+pub apart_or_connected : (es : List Edge) (a b : ℕ) → AreApart es a b ⊎ AreConnected es a b
+apart_or_connected es a b = elim (cases_Bool (eqb (parts_of es a) (parts_of es b))) [
+  | inl t ↦ inr (connects (parts_of es) es a b (parts_tell es) (eqb-true (parts_of es a) (parts_of es b) t))
+  | inr n ↦ inl (apart_by es a b (parts_of es) (parts_tell es).along (eqb-false (parts_of es a) (parts_of es b) n))
+]

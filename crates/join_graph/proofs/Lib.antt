@@ -1,0 +1,9 @@
+pub mod Turning
+pub mod Parting
+pub mod Connecting
+pub mod NamedEntries
+pub mod Numbering
+pub mod OnePart
+pub mod FromEntries
+pub mod Comparing
+pub mod Numbered

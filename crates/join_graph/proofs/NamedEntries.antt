@@ -1,0 +1,161 @@
+-- What lists of entries name.
+use Rattle.std.proofs.Common.{◌≡◌, ℕ, ◌+◌, ◌<◌, Bool, true, false, ◌&&◌, ◌||◌, eqb, List, [], ◌∷◌, ◌++◌, map, length, get_or, drop, Some, None, refl, ap, sym, ◌∙◌, subst, inl, inr}
+use Rattle.std.specs.List.{flat_map, list_all, list_any}
+use Rattle.std.proofs.lemmas.Bool.{cases_Bool, eqb-true, eqb-false, eq-eqb, ne_eqb}
+use Rattle.std.proofs.Math.Numerals.{add-one}
+use Rattle.std.proofs.Math.Seq.{drop-cons}
+use Rattle.berge_tree.specs.declared.edges.Edge.{Edge}
+use Rattle.query_grammar.specs.declared.tree.Op.{Op}
+use Rattle.query_grammar.specs.declared.tree.Op.TheVariants as op
+use Rattle.query_types.specs.declared.types.Operand.{Operand}
+use Rattle.query_types.specs.declared.types.Operand.TheVariants as operand
+use Rattle.query_types.specs.declared.types.Cond.{Cond}
+use Rattle.query_types.specs.declared.types.Cond.TheOpen.{Cond-F}
+use Rattle.query_types.specs.declared.types.Cond.TheViews.{out-Cond, roll-Cond, roll-out-Cond}
+use Rattle.query_types.specs.declared.types.Cond.TheFolds.{fold-roll-Cond}
+use Rattle.join_graph.specs.declared.naming.Named.{Named}
+use Rattle.join_graph.specs.declared.naming.Named.TheVariants as named
+use Rattle.join_graph.specs.Conjuncts.{column_of, entries_of_operand, entries_named, entries_step, equality_in, equality_of, joining, compared, is_just, are_one}
+use Rattle.join_graph.specs.Naming.{named_of, together}
+
+pub assoc : (a b c : Named) → together (together a b) c ≡ together a (together b c)
+assoc named.Nothing b c = refl
+assoc named.Several b c = refl
+assoc (named.Just a) named.Nothing c = refl
+assoc (named.Just a) named.Several c = refl
+assoc (named.Just a) (named.Just b) named.Nothing = elim (cases_Bool (eqb a b)) [ inl t ↦ rw t refl | inr n ↦ rw n refl ]
+assoc (named.Just a) (named.Just b) named.Several = elim (cases_Bool (eqb a b)) [ inl t ↦ rw t refl | inr n ↦ rw n refl ]
+assoc (named.Just a) (named.Just b) (named.Just c) = elim (cases_Bool (eqb a b)) [
+  | inl t ↦ (let e : a ≡ b = eqb-true a b t in subst (λ d. together (together (named.Just a) (named.Just d)) (named.Just c) ≡ together (named.Just a) (together (named.Just d) (named.Just c))) e (same a c))
+  | inr n ↦ elim (cases_Bool (eqb b c)) [ inl u ↦ rw (n, u, n) refl | inr u ↦ rw (n, u) refl ]
+]
+  where
+    same : (a c : ℕ) → together (together (named.Just a) (named.Just a)) (named.Just c) ≡ together (named.Just a) (together (named.Just a) (named.Just c))
+    same a c = elim (cases_Bool (eqb a c)) [
+      | inl t ↦ rw (eq-eqb a a refl, t, eq-eqb a a refl) refl
+      | inr n ↦ rw (eq-eqb a a refl, n) refl
+    ]
+
+pub named_of-append : (xs ys : List ℕ) → named_of (xs ++ ys) ≡ together (named_of xs) (named_of ys)
+named_of-append [] ys = refl
+named_of-append (x ∷ xs) ys = ap (together (named.Just x)) (named_of-append xs ys) ∙ sym (assoc (named.Just x) (named_of xs) (named_of ys))
+
+-- one member more
+pub member_more : (members : List Cond) (i : ℕ) (d : Cond) (names more one : Named) → i < length members → one ≡ named_of (entries_named (get_or members i d)) → more ≡ together names one
+    → together names (named_of (flat_map (λ inner. inner) (map entries_named (drop i members)))) ≡ named_of (flat_map (λ inner. inner) (map entries_named members))
+    → together more (named_of (flat_map (λ inner. inner) (map entries_named (drop (i + 1) members)))) ≡ named_of (flat_map (λ inner. inner) (map entries_named members))
+member_more members i d names more one h is is_more so_far =
+    let rest : List Cond = drop (i + 1) members in
+    let front : drop i members ≡ get_or members i d ∷ rest = rw add-one (drop-cons members i d h) in
+    rw (is_more, is) (assoc names (named_of (entries_named (get_or members i d))) (named_of (flat_map (λ inner. inner) (map entries_named rest)))
+    ∙ ap (together names) (sym (named_of-append (entries_named (get_or members i d)) (flat_map (λ inner. inner) (map entries_named rest))))
+    ∙ ap (λ cs. together names (named_of (flat_map (λ inner. inner) (map entries_named cs)))) (sym front) ∙ so_far)
+
+-- ---- just one entry
+
+-- what a name in short tells of an entry
+abbrev pub tells_just : ℕ → Named → Bool
+tells_just entry named.Nothing = false
+tells_just entry (named.Just own) = eqb own entry
+tells_just entry named.Several = false
+
+abbrev pub tells_one : Named → Bool
+tells_one named.Nothing = false
+tells_one (named.Just own) = true
+tells_one named.Several = false
+
+-- whether nothing but this entry is named
+abbrev tells_all : ℕ → Named → Bool
+tells_all entry named.Nothing = true
+tells_all entry (named.Just own) = eqb own entry
+tells_all entry named.Several = false
+
+apart : (a b c : ℕ) → eqb a b ≡ false → (eqb a c && eqb b c) ≡ false
+apart a b c n = elim (cases_Bool (eqb a c)) [
+  | inl t ↦ elim (cases_Bool (eqb b c)) [
+    | inl u ↦ absurd (eqb-false a b n (eqb-true a c t ∙ sym (eqb-true b c u)))
+    | inr u ↦ rw (t, u) refl
+  ]
+  | inr m ↦ rw m refl
+]
+
+alone : (b : Bool) → (b && true) ≡ b
+alone true = refl
+alone false = refl
+
+never : (b : Bool) → (b && false) ≡ false
+never true = refl
+never false = refl
+
+all_with : (entry x : ℕ) (n : Named) → (eqb x entry && tells_all entry n) ≡ tells_all entry (together (named.Just x) n)
+all_with entry x named.Nothing = alone (eqb x entry)
+all_with entry x named.Several = never (eqb x entry)
+all_with entry x (named.Just own) = elim (cases_Bool (eqb x own)) [
+  | inl t ↦ (let e : x ≡ own = eqb-true x own t in
+      rw t (subst (λ o. (eqb x entry && eqb o entry) ≡ eqb x entry) e (twice (eqb x entry))))
+  | inr n ↦ rw n (apart x own entry n)
+]
+  where
+    twice : (b : Bool) → (b && b) ≡ b
+    twice true = refl
+    twice false = refl
+
+all_named : (entry : ℕ) (xs : List ℕ) → list_all (λ e. eqb e entry) xs ≡ tells_all entry (named_of xs)
+all_named entry [] = refl
+all_named entry (x ∷ xs) = ap (λ b. eqb x entry && b) (all_named entry xs) ∙ all_with entry x (named_of xs)
+
+just_with : (entry x : ℕ) (n : Named) → tells_all entry (together (named.Just x) n) ≡ tells_just entry (together (named.Just x) n)
+just_with entry x named.Nothing = refl
+just_with entry x named.Several = refl
+just_with entry x (named.Just own) = elim (cases_Bool (eqb x own)) [ inl t ↦ rw t refl | inr n ↦ rw n refl ]
+
+one_with : (x : ℕ) (n : Named) → tells_all x n ≡ tells_one (together (named.Just x) n)
+one_with x named.Nothing = refl
+one_with x named.Several = refl
+one_with x (named.Just own) = elim (cases_Bool (eqb x own)) [
+  | inl t ↦ rw (t, eq-eqb own x (sym (eqb-true x own t))) refl
+  | inr n ↦ rw (n, ne_eqb own x (λ e. eqb-false x own n (sym e))) refl
+]
+
+both_of : (p q r : Bool) → ((p || q) && (p && r)) ≡ (p && r)
+both_of true q r = refl
+both_of false q r = never q
+
+pub just_named : (entry : ℕ) (xs : List ℕ) → is_just entry xs ≡ tells_just entry (named_of xs)
+just_named entry [] = refl
+just_named entry (x ∷ xs) =
+    both_of (eqb x entry) (list_any (λ e. eqb e entry) xs) (list_all (λ e. eqb e entry) xs) ∙ all_named entry (x ∷ xs) ∙ just_with entry x (named_of xs)
+
+pub one_named : (xs : List ℕ) → are_one xs ≡ tells_one (named_of xs)
+one_named [] = refl
+one_named (x ∷ xs) = all_named x xs ∙ one_with x (named_of xs)
+
+-- ---- an equality that joins two entries names several
+
+joins_several : (left right : Operand) (edge : Edge) → joining (column_of left) (column_of right) ≡ Some edge → named_of (entries_of_operand left ++ entries_of_operand right) ≡ named.Several
+joins_several (operand.Column left) (operand.Column right) edge e = elim (cases_Bool (eqb left.from right.from)) [
+  | inl t ↦ (let no : None ≡ Some edge = rw t at e in absurd (cc))
+  | inr n ↦ rw n refl
+]
+joins_several (operand.Column left) (operand.Int number) edge e = absurd (cc)
+joins_several (operand.Column left) (operand.Text text) edge e = absurd (cc)
+joins_several (operand.Int number) right edge e = absurd (cc)
+joins_several (operand.Text text) right edge e = absurd (cc)
+
+compares_several : (op : Op) (left right : Operand) (edge : Edge) → compared op (column_of left) (column_of right) ≡ Some edge → named_of (entries_of_operand left ++ entries_of_operand right) ≡ named.Several
+compares_several op.Eq left right edge e = joins_several left right edge e
+compares_several op.Ne left right edge e = absurd (cc)
+compares_several op.Lt left right edge e = absurd (cc)
+compares_several op.Le left right edge e = absurd (cc)
+compares_several op.Gt left right edge e = absurd (cc)
+compares_several op.Ge left right edge e = absurd (cc)
+
+-- what out-Cond gives, put together, is the condition
+rolled_several : (layer : Cond-F Cond) (edge : Edge) → equality_in layer ≡ Some edge → named_of (entries_named (roll-Cond layer)) ≡ named.Several
+rolled_several (Cond-F.Compare op left right) edge e = ap named_of (fold-roll-Cond (List ℕ) entries_step (Cond-F.Compare op left right)) ∙ compares_several op left right edge e
+rolled_several (Cond-F.And members) edge e = absurd (cc)
+rolled_several (Cond-F.Or members) edge e = absurd (cc)
+rolled_several (Cond-F.Not member) edge e = absurd (cc)
+
+pub equality_several : (c : Cond) (edge : Edge) → equality_of c ≡ Some edge → named_of (entries_named c) ≡ named.Several
+equality_several c edge e = subst (λ d. named_of (entries_named d) ≡ named.Several) (roll-out-Cond c) (rolled_several (out-Cond c) edge e)

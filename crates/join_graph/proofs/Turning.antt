@@ -1,0 +1,92 @@
+-- The equalities of a set, in the order of a turn.
+use Rattle.std.proofs.Common.{◌≡◌, ℕ, zero, suc, ◌<◌, Bool, true, false, ◌&&◌, eqb, List, [], ◌∷◌, ◌++◌, length, take, drop, refl, ap, sym, ◌∙◌, inl, inr}
+use Rattle.std.specs.List.{AllByRecursion}
+use Rattle.std.proofs.lemmas.Bool.{cases_Bool, ltb-true}
+use Rattle.std.proofs.lemmas.List.{take-append-drop}
+use Rattle.std.proofs.lemmas.List.Elements.{filter-append}
+use Rattle.std.proofs.Math.Seq.{take-append_seam, drop-append_seam}
+use Rattle.berge_tree.specs.declared.edges.Edge.{Edge}
+use Rattle.berge_tree.specs.Equalities.{AreWithin}
+use Rattle.berge_tree.specs.Rooted.{entries_of_set}
+use Rattle.berge_tree.specs.Testing.{has_entry, has_entries, joined_parts}
+use Rattle.berge_tree.proofs.Tested.{has_within}
+use Rattle.join_graph.specs.Kept.{joins_within, equalities_within, order_of_turn, kept_by_names, kept_of}
+use Rattle.join_graph.specs.Names.{IsNamed, AreNamed}
+
+-- ---- what holds of all
+
+abbrev AreJoining : ℕ → List Edge → Type 0
+AreJoining subset es = AllByRecursion (λ e. joins_within subset e ≡ true) es
+
+filter_all : (subset : ℕ) (es : List Edge) → AreJoining subset (equalities_within subset es)
+filter_all subset [] = tt
+filter_all subset (e ∷ es) = elim (cases_Bool (joins_within subset e)) [ inl t ↦ rw t (t, filter_all subset es) | inr n ↦ rw n (filter_all subset es) ]
+
+pub append_all : (P : Edge → Type 0) (xs ys : List Edge) → AllByRecursion P xs → AllByRecursion P ys → AllByRecursion P (xs ++ ys)
+append_all P [] ys h k = k
+append_all P (x ∷ xs) ys h k = (h.0, append_all P xs ys h.1 k)
+
+drop_all : (P : Edge → Type 0) (n : ℕ) (xs : List Edge) → AllByRecursion P xs → AllByRecursion P (drop n xs)
+drop_all P zero xs h = h
+drop_all P (suc n) [] h = tt
+drop_all P (suc n) (x ∷ xs) h = drop_all P n xs h.1
+
+take_all : (P : Edge → Type 0) (n : ℕ) (xs : List Edge) → AllByRecursion P xs → AllByRecursion P (take n xs)
+take_all P zero xs h = tt
+take_all P (suc n) [] h = tt
+take_all P (suc n) (x ∷ xs) h = (h.0, take_all P n xs h.1)
+
+kept_all : (P : Edge → Type 0) (name : ℕ → ℕ) (es : List Edge) → AllByRecursion P es → AllByRecursion P (kept_by_names name es)
+kept_all P name [] h = tt
+kept_all P name (e ∷ es) h = elim (cases_Bool (eqb (name e.left.entry) (name e.right.entry))) [
+  | inl t ↦ rw t (kept_all P name es h.1)
+  | inr n ↦ rw n (h.0, kept_all P (joined_parts name e.left.entry e.right.entry) es h.1)
+]
+
+both : (a b : Bool) → (a && b) ≡ true → (a ≡ true) × (b ≡ true)
+both true b e = (refl, e)
+both false b e = absurd (cc)
+
+have_entries : (subset : ℕ) (es : List Edge) → AreJoining subset es → has_entries subset es ≡ true
+have_entries subset [] h = refl
+have_entries subset (e ∷ es) h =
+    let k : (has_entry subset e.left.entry ≡ true) × (has_entry subset e.right.entry ≡ true) = both (has_entry subset e.left.entry) (has_entry subset e.right.entry) h.0 in
+    rw (k.0, k.1) (have_entries subset es h.1)
+
+-- the equalities that a set keeps join its entries
+pub kept_within : (subset turn : ℕ) (es : List Edge) → AreWithin (entries_of_set subset) (kept_of subset turn es)
+kept_within subset turn es =
+    let P : Edge → Type 0 = λ e. joins_within subset e ≡ true in
+    let of_set : List Edge = equalities_within subset es in
+    let all : AreJoining subset of_set = filter_all subset es in
+    has_within subset (kept_of subset turn es) (have_entries subset (kept_of subset turn es)
+    (kept_all P (λ x. x) (order_of_turn subset turn es) (append_all P (drop turn of_set) (take turn of_set) (drop_all P turn of_set all) (take_all P turn of_set all))))
+
+joining_named : (subset : ℕ) (e : Edge) → joins_within subset e ≡ true → IsNamed e
+joining_named subset e t =
+    let k : (has_entry subset e.left.entry ≡ true) × (has_entry subset e.right.entry ≡ true) = both (has_entry subset e.left.entry) (has_entry subset e.right.entry) t in
+    (entry_named e.left.entry k.0, entry_named e.right.entry k.1)
+  where
+    entry_named : (x : ℕ) → has_entry subset x ≡ true → x < 16
+    entry_named x t = ltb-true x 16 (both _ _ t).0
+
+pub is_named : (subset : ℕ) (e : Edge) → joins_within subset e ≡ true → IsNamed e
+is_named = joining_named
+
+pub are_named : (subset : ℕ) (es : List Edge) → AreNamed (equalities_within subset es)
+are_named subset es = names (equalities_within subset es) (filter_all subset es)
+  where
+    names : (es : List Edge) → AreJoining subset es → AreNamed es
+    names [] h = tt
+    names (e ∷ es) h = (joining_named subset e h.0, names es h.1)
+
+-- where the equalities of the set before a place are as many as the turn's number, the turn begins there
+pub turn_begins : (subset turn i : ℕ) (es : List Edge) → turn ≡ length (equalities_within subset (take i es))
+    → (equalities_within subset (take i es) ≡ take turn (equalities_within subset es)) × (equalities_within subset (drop i es) ≡ drop turn (equalities_within subset es))
+turn_begins subset turn i es is =
+    let before : List Edge = equalities_within subset (take i es) in
+    let after : List Edge = equalities_within subset (drop i es) in
+    let whole : equalities_within subset es ≡ before ++ after = ap (equalities_within subset) (sym (take-append-drop i es)) ∙ filter-append (joins_within subset) (take i es) (drop i es) in (
+      sym (rw (whole, is) (take-append_seam before after)),
+      sym (rw (whole, is) (drop-append_seam before after)),
+    )

@@ -1,0 +1,115 @@
+-- The conjuncts of a query in parts: those that name one entry, the equalities that join two, and all others.
+use Rattle.std.specs.Prelude.{ℕ, ◌+◌, ◌<◌, Bool, false, not, ◌&&◌, ◌==◌, if◌then◌else◌, List, [], ◌∷◌, ◌++◌, All, map, length, Option, Some, None, is_none, is_some, filter}
+use Rattle.std.specs.List.{filter_map, flat_map, list_all, list_any, range_with_len}
+use Rattle.berge_tree.specs.declared.edges.Edge.{Edge}
+use Rattle.berge_tree.specs.Equalities.{place}
+use Rattle.query_grammar.specs.declared.tree.Op.{Op}
+use Rattle.query_grammar.specs.declared.tree.Op.TheVariants as op
+use Rattle.query_types.specs.declared.types.ColumnRef.{ColumnRef}
+use Rattle.query_types.specs.declared.types.Operand.{Operand}
+use Rattle.query_types.specs.declared.types.Operand.TheVariants as operand
+use Rattle.query_types.specs.declared.types.Cond.{Cond}
+use Rattle.query_types.specs.declared.types.Cond.TheOpen.{Cond-F}
+use Rattle.query_types.specs.declared.types.Cond.TheViews.{out-Cond}
+use Rattle.query_types.specs.declared.types.Cond.TheFolds.{fold-Cond}
+use Rattle.query_types.specs.declared.types.Query.{Query}
+
+-- ---- the entries that a condition names
+
+abbrev pub entries_of_operand : Operand → List ℕ
+entries_of_operand (operand.Column column) = column.from ∷ []
+entries_of_operand (operand.Int number) = []
+entries_of_operand (operand.Text text) = []
+
+abbrev pub entries_step : Cond-F (List ℕ) → List ℕ
+entries_step (Cond-F.And all) = flat_map (λ inner. inner) all
+entries_step (Cond-F.Or any) = flat_map (λ inner. inner) any
+entries_step (Cond-F.Not inner) = inner
+entries_step (Cond-F.Compare op left right) = entries_of_operand left ++ entries_of_operand right
+
+-- the entries that a condition names, as often as it names them
+abbrev pub entries_named : Cond → List ℕ
+entries_named = fold-Cond (List ℕ) entries_step
+
+-- every entry that a conjunct names is a FROM entry
+abbrev pub NamesItsEntries : Query → Type 0
+NamesItsEntries query = All (λ cond. All (λ entry. entry < length query.from) (entries_named cond)) query.conjuncts
+
+-- ---- what stands in which part
+
+-- this entry and no other one
+abbrev pub is_just : ℕ → List ℕ → Bool
+is_just entry entries = list_any (λ e. e == entry) entries && list_all (λ e. e == entry) entries
+
+-- the condition names this entry and no other one
+abbrev pub names_just : ℕ → Cond → Bool
+names_just entry cond = is_just entry (entries_named cond)
+
+abbrev pub column_operand : ℕ → ℕ → Operand
+column_operand from column = operand.Column (record { from = from; column = column })
+
+abbrev pub column_of : Operand → Option ColumnRef
+column_of (operand.Column column) = Some column
+column_of (operand.Int number) = None
+column_of (operand.Text text) = None
+
+-- an equality of two columns, if their entries differ
+abbrev pub joining : Option ColumnRef → Option ColumnRef → Option Edge
+joining None right = None
+joining (Some left) None = None
+joining (Some left) (Some right) =
+    if left.from == right.from then None else Some (record { left = place left.from left.column; right = place right.from right.column })
+
+abbrev pub compared : Op → Option ColumnRef → Option ColumnRef → Option Edge
+compared op.Eq left right = joining left right
+compared op.Ne left right = None
+compared op.Lt left right = None
+compared op.Le left right = None
+compared op.Gt left right = None
+compared op.Ge left right = None
+
+abbrev pub equality_in : Cond-F Cond → Option Edge
+equality_in (Cond-F.And members) = None
+equality_in (Cond-F.Or members) = None
+equality_in (Cond-F.Not member) = None
+equality_in (Cond-F.Compare op left right) = compared op (column_of left) (column_of right)
+
+-- the equality that a condition is, if it is a comparison by = of columns of two different entries
+abbrev pub equality_of : Cond → Option Edge
+equality_of cond = equality_in (out-Cond cond)
+
+-- one entry, once or more often
+abbrev pub are_one : List ℕ → Bool
+are_one [] = false
+are_one (entry ∷ entries) = list_all (λ e. e == entry) entries
+
+-- a condition that is no such equality, and names no entry or more than one
+abbrev pub is_residual : Cond → Bool
+is_residual cond = is_none (equality_of cond) && not (are_one (entries_named cond))
+
+-- ---- the parts
+
+abbrev pub once_if : Bool → ℕ
+once_if holds = if holds then 1 else 0
+
+-- how often a condition stands in a part: as an equality, for each of so many FROM entries, and among the others
+abbrev pub places_in_parts : ℕ → Cond → ℕ
+places_in_parts entries cond =
+    once_if (is_some (equality_of cond)) + length (filter (λ entry. names_just entry cond) (range_with_len 0 entries)) + once_if (is_residual cond)
+
+-- the numbers, from a first one on, of the conditions that pass a test
+abbrev pub numbers_where : {A : Type 0} → (A → Bool) → ℕ → List A → List ℕ
+numbers_where test first [] = []
+numbers_where test first (x ∷ xs) = if test x then first ∷ numbers_where test (first + 1) xs else numbers_where test (first + 1) xs
+
+-- for each FROM entry, the numbers of the conjuncts that name it and no other one
+abbrev pub local_of : Query → List (List ℕ)
+local_of query = map (λ entry. numbers_where (names_just entry) 0 query.conjuncts) (range_with_len 0 (length query.from))
+
+-- the equalities that join two entries, in text order
+abbrev pub equalities_of : Query → List Edge
+equalities_of query = filter_map equality_of query.conjuncts
+
+-- the numbers of all others
+abbrev pub residual_of : Query → List ℕ
+residual_of query = numbers_where is_residual 0 query.conjuncts

@@ -1,0 +1,64 @@
+-- Which equalities a set of entries keeps for its bound, turn by turn.
+use Rattle.std.specs.Prelude.{◌≡◌, ℕ, Bool, ◌&&◌, ◌==◌, if◌then◌else◌, List, [], ◌∷◌, ◌++◌, filter, length, take, drop, min, max}
+use Rattle.std.specs.List.{AllByRecursion}
+use Rattle.berge_tree.specs.declared.edges.Edge.{Edge}
+use Rattle.berge_tree.specs.Equalities.{AreApart}
+use Rattle.berge_tree.specs.Testing.{has_entry, joined_parts}
+
+-- ---- the equalities of a set
+
+-- both entries of the equality are in the set
+abbrev pub joins_within : ℕ → Edge → Bool
+joins_within subset e = has_entry subset e.left.entry && has_entry subset e.right.entry
+
+-- in text order
+abbrev pub equalities_within : ℕ → List Edge → List Edge
+equalities_within subset es = filter (joins_within subset) es
+
+-- ---- turns
+
+-- one turn for each equality of the set, but sixteen at most and one at least
+abbrev pub turn_count : ℕ → List Edge → ℕ
+turn_count subset es = max (min (length (equalities_within subset es)) 16) 1
+
+-- begun at element `turn` and gone round
+abbrev pub gone_round : ℕ → List Edge → List Edge
+gone_round turn es = drop turn es ++ take turn es
+
+-- the set's equalities in the order in which a turn looks at them
+abbrev pub order_of_turn : ℕ → ℕ → List Edge → List Edge
+order_of_turn subset turn es = gone_round turn (equalities_within subset es)
+
+-- ---- kept equalities
+
+-- however the entries fall into two sides so that each equality lies on one of them, a and b lie on one side
+abbrev pub AreConnected : List Edge → ℕ → ℕ → Type 0
+AreConnected es a b = (side : ℕ → Bool) → AllByRecursion (λ e. side e.left.entry ≡ side e.right.entry) es → side a ≡ side b
+
+-- of equalities in an order, each is kept whose two entries aren't yet connected by kept ones: `kept` after those kept earlier
+pub data KeepsAfter : List Edge → List Edge → List Edge → Type 0 where
+  at_end : (earlier : List Edge) → KeepsAfter earlier [] []
+  keeps : (earlier : List Edge) (e : Edge) (es kept : List Edge) → AreApart earlier e.left.entry e.right.entry → KeepsAfter (e ∷ earlier) es kept
+      → KeepsAfter earlier (e ∷ es) (e ∷ kept)
+  leaves_out : (earlier : List Edge) (e : Edge) (es kept : List Edge) → AreConnected earlier e.left.entry e.right.entry → KeepsAfter earlier es kept
+      → KeepsAfter earlier (e ∷ es) kept
+
+abbrev pub Keeps : List Edge → List Edge → Type 0
+Keeps es kept = KeepsAfter [] es kept
+
+-- ---- the same, computed
+
+-- each entry has the name of its part, and an equality is kept where it joins two parts
+abbrev pub kept_by_names : (ℕ → ℕ) → List Edge → List Edge
+kept_by_names name [] = []
+kept_by_names name (e ∷ es) =
+    if name e.left.entry == name e.right.entry then kept_by_names name es
+    else (e ∷ kept_by_names (joined_parts name e.left.entry e.right.entry) es)
+
+-- at first each entry is a part of its own
+abbrev pub kept_in_order : List Edge → List Edge
+kept_in_order es = kept_by_names (λ entry. entry) es
+
+-- the equalities that a set keeps in a turn
+abbrev pub kept_of : ℕ → ℕ → List Edge → List Edge
+kept_of subset turn es = kept_in_order (order_of_turn subset turn es)

@@ -1,0 +1,5 @@
+pub mod Kept
+pub mod Names
+pub mod Conjuncts
+pub mod Naming
+pub mod Examples

@@ -1,0 +1,42 @@
+-- What a list of entries names, in short.
+use Rattle.std.specs.Prelude.{ℕ, Bool, true, false, ◌==◌, if◌then◌else◌, List, [], ◌∷◌, Option, Some, None}
+use Rattle.berge_tree.specs.declared.edges.Edge.{Edge}
+use Rattle.query_types.specs.declared.types.Cond.{Cond}
+use Rattle.join_graph.specs.declared.naming.Named.{Named}
+use Rattle.join_graph.specs.declared.naming.Named.TheVariants as named
+use Rattle.join_graph.specs.declared.splitting.Part.{Part}
+use Rattle.join_graph.specs.declared.splitting.Part.TheVariants as part
+use Rattle.join_graph.specs.Conjuncts.{entries_named, equality_of}
+
+-- what two lists name together
+abbrev pub together : Named → Named → Named
+together named.Nothing right = right
+together (named.Just a) named.Nothing = named.Just a
+together (named.Just a) (named.Just b) = if a == b then named.Just a else named.Several
+together (named.Just a) named.Several = named.Several
+together named.Several right = named.Several
+
+abbrev pub named_of : List ℕ → Named
+named_of [] = named.Nothing
+named_of (entry ∷ entries) = together (named.Just entry) (named_of entries)
+
+abbrev pub part_from : Option Edge → Named → Part
+part_from (Some edge) names = part.Equality edge
+part_from None named.Nothing = part.Residual
+part_from None (named.Just entry) = part.Local entry
+part_from None named.Several = part.Residual
+
+-- the part in which a conjunct stands
+abbrev pub part_of : Cond → Part
+part_of cond = part_from (equality_of cond) (named_of (entries_named cond))
+
+-- both stand in the part of one entry, or both in the residual part
+abbrev pub is_alike : Part → Part → Bool
+is_alike (part.Local a) (part.Local b) = b == a
+is_alike part.Residual part.Residual = true
+is_alike a b = false
+
+abbrev pub edge_in : Part → Option Edge
+edge_in (part.Local entry) = None
+edge_in (part.Equality edge) = Some edge
+edge_in part.Residual = None

@@ -1,0 +1,140 @@
+//! The equalities that a set of entries keeps.
+ghost use Rattle.std.specs.Prelude.{◌≡◌, ◌<◌, ◌≤◌, ◌++◌, ◌∷◌, List, take, drop, length, slice_index, IfOk, ℕ};
+ghost use Rattle.berge_tree.specs.declared.edges.Edge.{Edge};
+ghost use Rattle.berge_tree.specs.Equalities.{AreWithin, ClosesNoCycle, HasNoCycle, class_of};
+ghost use Rattle.berge_tree.specs.Rooted.{entries_of_set};
+ghost use Rattle.berge_tree.specs.Testing.{has_entry, joined_parts};
+ghost use Rattle.join_graph.specs.Kept.{Keeps, equalities_within, joins_within, kept_by_names, kept_of, order_of_turn, turn_count};
+ghost use Rattle.join_graph.specs.Names.{AreNamed, IsNamed};
+
+use crate::parts::Parts;
+use base_io::{NoMemory, Seq};
+use berge_tree::Edge;
+use std::alloc::Global;
+
+const ENTRIES: usize = 16;
+
+const MOST_TURNS: usize = 16;
+
+fn has(subset: u16, entry: u8) -> bool
+    ensures { result ≡ has_entry subset entry }
+{
+    entry < 16 && (subset >> entry) & 1 == 1
+}
+
+fn joins_within(subset: u16, edge: Edge) -> bool
+    ensures { result ≡ joins_within subset edge }
+{
+    has(subset, edge.left.entry) && has(subset, edge.right.entry)
+}
+
+fn count_within(edges: &[Edge], subset: u16) -> usize
+    ensures { result ≡ length (equalities_within subset edges.now) }
+{
+    edges
+        .iter()
+        .filter(|edge| joins_within(subset, **edge))
+        .count()
+}
+
+/// How many turns a set has: one for each equality of two of its entries, but 16 at most and 1 at least. It takes no memory.
+pub fn turns(parts: &Parts, subset: u16) -> u32
+    ensures { result ≡ turn_count subset parts.now.equalities }
+{
+    let count = count_within(parts.equalities.as_slice(), subset);
+    count.min(MOST_TURNS).max(1) as u32
+}
+
+// Where among all equalities the set's element `turn` stands.
+fn first_of_turn(edges: &[Edge], subset: u16, turn: u32) -> usize
+    ensures place { result ≤ length edges.now }
+    ensures before { equalities_within subset (take result edges.now) ≡ take turn (equalities_within subset edges.now) }
+    ensures from { equalities_within subset (drop result edges.now) ≡ drop turn (equalities_within subset edges.now) }
+{
+    let mut left = turn;
+    for (i, edge) in edges.iter().enumerate() {
+        if joins_within(subset, *edge) {
+            if left == 0 {
+                return i;
+            }
+            left -= 1;
+        }
+    }
+    edges.len()
+}
+
+// Each entry is a part of its own, and has its own number as the part's name.
+fn own_names() -> [u8; ENTRIES]
+    ensures { (x : ℕ) → x < 16 → slice_index result x ≡ x }
+{
+    [0, 1, 2, 3, 4, 5, 6, 7, 8, 9, 10, 11, 12, 13, 14, 15]
+}
+
+// The part of one entry takes the name of the part of another.
+fn join_parts(names: &mut [u8], left: u8, right: u8)
+    requires names { length names.old ≡ 16 }
+    requires left { left < 16 }
+    requires right { right < 16 }
+    ensures { (x : ℕ) → x < 16 → slice_index names.new x ≡ joined_parts (slice_index names.old) left right x }
+{
+    let new = names[left as usize];
+    let old = names[right as usize];
+    for name in names.iter_mut() {
+        if *name == old {
+            *name = new;
+        }
+    }
+}
+
+// Keeps an equality that joins two parts.
+fn consider(edge: Edge, names: &mut [u8], kept: &mut Seq<Edge>) -> Result<(), NoMemory>
+    requires names { length names.old ≡ 16 }
+    requires edge { IsNamed edge }
+    ensures { IfOk result (λ _. (rest : List Edge) → AreNamed rest
+        → kept.new ++ kept_by_names (slice_index names.new) rest ≡ kept.old ++ kept_by_names (slice_index names.old) (edge ∷ rest)) }
+{
+    if names[edge.left.entry as usize] != names[edge.right.entry as usize] {
+        kept.push(edge)?;
+        join_parts(names, edge.left.entry, edge.right.entry);
+    }
+    Ok(())
+}
+
+// Goes through equalities, and keeps those of the set that join two parts.
+fn consider_all(
+    edges: &[Edge],
+    subset: u16,
+    names: &mut [u8],
+    kept: &mut Seq<Edge>,
+) -> Result<(), NoMemory>
+    requires names { length names.old ≡ 16 }
+    ensures { IfOk result (λ _. (rest : List Edge) → AreNamed rest
+        → kept.new ++ kept_by_names (slice_index names.new) rest
+        ≡ kept.old ++ kept_by_names (slice_index names.old) (equalities_within subset edges.now ++ rest)) }
+{
+    for edge in edges {
+        if joins_within(subset, *edge) {
+            consider(*edge, names, kept)?;
+        }
+    }
+    Ok(())
+}
+
+/// The equalities that a set of entries keeps in a turn: of those of two of its entries, begun at element `turn` and gone round, each one whose two entries aren't yet connected by kept ones.
+///
+/// `rooted` may be called on the answer with this set.
+pub fn kept(alloc: Global, parts: &Parts, subset: u16, turn: u32) -> Result<Seq<Edge>, NoMemory>
+    ensures kept { IfOk result (λ kept. Keeps (order_of_turn subset turn parts.now.equalities) kept) }
+    ensures computed { IfOk result (λ kept. kept ≡ kept_of subset turn parts.now.equalities) }
+    ensures within { IfOk result (λ kept. AreWithin (entries_of_set subset) kept) }
+    ensures entries { IfOk result (λ kept. ClosesNoCycle kept) }
+    ensures classes { IfOk result (λ kept. HasNoCycle (class_of kept)) }
+{
+    let edges = parts.equalities.as_slice();
+    let (before, from) = edges.split_at(first_of_turn(edges, subset, turn));
+    let mut names = own_names();
+    let mut kept = Seq::new(alloc);
+    consider_all(from, subset, &mut names, &mut kept)?;
+    consider_all(before, subset, &mut names, &mut kept)?;
+    Ok(kept)
+}

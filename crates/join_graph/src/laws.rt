@@ -1,0 +1,73 @@
+//! What the definitions say, as laws. Each call does nothing.
+ghost use Rattle.std.specs.Prelude.{◌≡◌, ◌≢◌, ◌↔◌, ◌⊎◌, ℕ, ℤ, All, Bool, IsSomeAnd, IsTrue, List, [], ◌∷◌, length, slice_get, Some, None};
+ghost use Rattle.std.specs.List.{Contains};
+ghost use Rattle.berge_tree.specs.declared.edges.Edge.{Edge};
+ghost use Rattle.berge_tree.specs.Equalities.{AreApart, AreWithin, ClosesNoCycle, HasNoCycle, class_of};
+ghost use Rattle.berge_tree.specs.Rooted.{entries_of_set};
+ghost use Rattle.berge_tree.specs.Testing.{edge_of};
+ghost use Rattle.query_grammar.specs.declared.tree.Op.TheVariants as op;
+ghost use Rattle.schema_types.specs.declared.types.Schema.{Schema};
+ghost use Rattle.query_types.specs.Validity.{IsOf};
+ghost use Rattle.query_types.specs.declared.types.Cond.{Cond};
+ghost use Rattle.query_types.specs.declared.types.Cond.TheVariants as cond;
+ghost use Rattle.query_types.specs.declared.types.Operand.{Operand};
+ghost use Rattle.query_types.specs.declared.types.Operand.TheVariants as operand;
+ghost use Rattle.query_types.specs.declared.types.Query.{Query};
+ghost use Rattle.join_graph.specs.Conjuncts.{NamesItsEntries, column_operand, equality_of, numbers_where, places_in_parts};
+ghost use Rattle.join_graph.specs.Examples.{first_side, pair, second_side, seventeen, third_side, triangle};
+ghost use Rattle.join_graph.specs.Kept.{AreConnected, Keeps, kept_in_order, kept_of, turn_count};
+
+/// What is kept of equalities in an order is one list, and it can be computed.
+pub fn kept_equalities_are_one()
+    ensures { (es kept : List Edge) → Keeps es kept ↔ (kept ≡ kept_in_order es) }
+{}
+
+/// In each turn, no class has two columns of one entry, and entries and classes make no cycle.
+pub fn kept_equalities_make_no_cycle()
+    ensures within { (subset turn : ℕ) (es : List Edge) → AreWithin (entries_of_set subset) (kept_of subset turn es) }
+    ensures entries { (subset turn : ℕ) (es : List Edge) → ClosesNoCycle (kept_of subset turn es) }
+    ensures classes { (subset turn : ℕ) (es : List Edge) → HasNoCycle (class_of (kept_of subset turn es)) }
+{}
+
+/// Each conjunct stands in just one part, where all conjuncts name FROM entries alone. Those of a query over a schema do.
+pub fn conjuncts_stand_in_one_part()
+    ensures of_schema { (schema : Schema) (query : Query) → IsOf schema query → NamesItsEntries query }
+    ensures one { (query : Query) → NamesItsEntries query → All (λ cond. places_in_parts (length query.from) cond ≡ 1) query.conjuncts }
+{}
+
+/// A list of numbers has just those at which a conjunct passes the test.
+pub fn numbers_are_places()
+    ensures { (test : Cond → Bool) (conds : List Cond) (k : ℕ)
+        → Contains (numbers_where test 0 conds) k ↔ IsSomeAnd (slice_get conds k) (λ cond. IsTrue (test cond)) }
+{}
+
+/// Two entries are apart or connected, and never both.
+pub fn entries_are_apart_or_connected()
+    ensures one { (es : List Edge) (a b : ℕ) → AreApart es a b ⊎ AreConnected es a b }
+    ensures not_both { (es : List Edge) (a b : ℕ) → AreApart es a b → AreConnected es a b → ⊥ }
+{}
+
+/// What the definitions give for a triangle, for a pair of equalities, and for seventeen.
+pub fn examples()
+    ensures triangle_first { kept_of 7 0 triangle ≡ first_side ∷ second_side ∷ [] }
+    ensures triangle_second { kept_of 7 1 triangle ≡ second_side ∷ third_side ∷ [] }
+    ensures triangle_third { kept_of 7 2 triangle ≡ third_side ∷ first_side ∷ [] }
+    ensures triangle_turns { turn_count 7 triangle ≡ 3 }
+    ensures two_entries_turns { turn_count 3 triangle ≡ 1 }
+    ensures one_entry_turns { turn_count 1 triangle ≡ 1 }
+    ensures pair_first { kept_of 3 0 pair ≡ edge_of 0 0 1 0 ∷ [] }
+    ensures pair_second { kept_of 3 1 pair ≡ edge_of 0 1 1 1 ∷ [] }
+    ensures seventeen_turns { turn_count 3 seventeen ≡ 16 }
+{}
+
+/// Nothing under AND, OR or NOT joins two entries, nor an equality with a literal, nor one of two columns of one entry.
+pub fn what_joins_entries()
+    ensures under_and { (members : List Cond) → equality_of (cond.And members) ≡ None }
+    ensures under_or { (members : List Cond) → equality_of (cond.Or members) ≡ None }
+    ensures under_not { (member : Cond) → equality_of (cond.Not member) ≡ None }
+    ensures number { (left : Operand) (number : ℤ) → equality_of (cond.Compare op.Eq left (operand.Int number)) ≡ None }
+    ensures text { (left : Operand) (text : List ℕ) → equality_of (cond.Compare op.Eq left (operand.Text text)) ≡ None }
+    ensures one_entry { (entry a b : ℕ) → equality_of (cond.Compare op.Eq (column_operand entry a) (column_operand entry b)) ≡ None }
+    ensures two_entries { (left a right b : ℕ) → left ≢ right
+        → equality_of (cond.Compare op.Eq (column_operand left a) (column_operand right b)) ≡ Some (edge_of left a right b) }
+{}

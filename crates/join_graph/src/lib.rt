@@ -1,0 +1,23 @@
+//! The join graph. From the conjuncts of a query to the equalities that a set of its entries keeps for a bound.
+//!
+//! In: a query. Out: its conjuncts in parts, by `split`, and for a set of entries and a turn the equalities that close no cycle, by `kept`; `rooted` makes join trees of them. A turn is below `turns`; each begins at another equality.
+//!
+//! Callers cite `local_of`, `equalities_of` and `residual_of` for the parts, `turn_count` and `kept_of` for what a set keeps, and `Keeps` for what that means.
+#![tactic(auto)]
+
+mod keeping;
+mod laws;
+mod naming;
+mod parts;
+mod splitting;
+
+pub use keeping::{kept, turns};
+pub use laws::{
+    conjuncts_stand_in_one_part, entries_are_apart_or_connected, examples, kept_equalities_are_one,
+    kept_equalities_make_no_cycle, numbers_are_places, what_joins_entries,
+};
+pub use parts::Parts;
+pub use splitting::split;
+
+#[cfg(test)]
+mod tests;
