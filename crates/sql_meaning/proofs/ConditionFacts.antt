@@ -1,0 +1,181 @@
+-- Conditions by their parts.
+use Rattle.std.proofs.Common.{◌≡◌, ℕ, zero, suc, ◌+◌, ◌<◌, Bool, true, not, IsTrue, ◌↔◌, refl, inl, inr, List, [], ◌∷◌, ◌++◌, length, map, get_or, ap, sym, ◌∙◌, subst, arith}
+use Rattle.std.specs.List.{flat_map, All, Any, AllByRecursion}
+use Rattle.std.proofs.lemmas.Bool.{false≢true, false_from_ne_true, or_cases, and_parts, and_from, or_right}
+use Rattle.std.proofs.lemmas.List.{get_or_append_left, get_or-append-add, length-append}
+use Rattle.std.proofs.lemmas.List.Elements.{All-from_recursion, recursion_from_All}
+use Rattle.query_grammar.specs.declared.tree.Op.{Op}
+use Rattle.query_types.specs.declared.types.Operand.{Operand}
+use Rattle.query_types.specs.declared.types.Cond.{Cond, And, Or, Not, Compare, every-Cond, every_held-Cond, every_here-Cond, map-Cond, out-Cond, out-roll-Cond}
+use Rattle.query_types.specs.declared.types.Cond.TheFolds.{fold-roll-Cond}
+use Rattle.query_types.specs.declared.types.Cond.TheOpen.{Cond-F}
+use Rattle.query_types.specs.declared.types.Cond.TheOpen as layer
+use Rattle.query_types.specs.declared.types.Cond.TheVariants.{rolls-And, rolls-Or, rolls-Not, rolls-Compare}
+use Rattle.sql_meaning.specs.Conditions.{all_of, any_of, comparison_says, cond_holds, entries_named, entries_of_operand, entries_step, holds_step}
+use Rattle.sql_meaning.specs.Tables.{Tables}
+
+-- ---- the entries that are named
+
+pub entries_and : (all : List Cond) → entries_named (And all) ≡ flat_map (λ inner. inner) (map entries_named all)
+entries_and all = ap entries_named (sym (rolls-And all)) ∙ fold-roll-Cond (List ℕ) entries_step (layer.And all)
+
+pub entries_or : (any : List Cond) → entries_named (Or any) ≡ flat_map (λ inner. inner) (map entries_named any)
+entries_or any = ap entries_named (sym (rolls-Or any)) ∙ fold-roll-Cond (List ℕ) entries_step (layer.Or any)
+
+pub entries_not : (inner : Cond) → entries_named (Not inner) ≡ entries_named inner
+entries_not inner = ap entries_named (sym (rolls-Not inner)) ∙ fold-roll-Cond (List ℕ) entries_step (layer.Not inner)
+
+-- ---- what holds of every layer
+
+out_and : (all : List Cond) → out-Cond (And all) ≡ layer.And all
+out_and all = ap out-Cond (sym (rolls-And all)) ∙ out-roll-Cond (layer.And all)
+
+module _ (Q : Cond-F Cond → Type 0) where
+  firsts : (ys : List ((x : Cond) × every-Cond Q x)) → AllByRecursion (every-Cond Q) (map (λ e. e.0) ys)
+  firsts [] = tt
+  firsts (y ∷ ys) = (y.1, firsts ys)
+
+  members_and : (x : Cond-F ((x : Cond) × every-Cond Q x)) (all : List Cond) → map-Cond ((x : Cond) × every-Cond Q x) Cond (λ e. e.0) x ≡ layer.And all → AllByRecursion (every-Cond Q) all
+  members_and (layer.And ys) all e = let same : map (λ e. e.0) ys ≡ all = cc in subst (AllByRecursion (every-Cond Q)) same (firsts ys)
+  members_and (layer.Or ys) all e = cc
+  members_and (layer.Not y) all e = cc
+  members_and (layer.Compare op left right) all e = cc
+
+  pub every_and : (all : List Cond) → every-Cond Q (And all) → AllByRecursion (every-Cond Q) all
+  every_and all h = let held = every_held-Cond Q (And all) h in members_and held.0 all (held.1 ∙ out_and all)
+
+  out_or : (any : List Cond) → out-Cond (Or any) ≡ layer.Or any
+  out_or any = ap out-Cond (sym (rolls-Or any)) ∙ out-roll-Cond (layer.Or any)
+
+  out_not : (inner : Cond) → out-Cond (Not inner) ≡ layer.Not inner
+  out_not inner = ap out-Cond (sym (rolls-Not inner)) ∙ out-roll-Cond (layer.Not inner)
+
+  members_or : (x : Cond-F ((x : Cond) × every-Cond Q x)) (any : List Cond) → map-Cond ((x : Cond) × every-Cond Q x) Cond (λ e. e.0) x ≡ layer.Or any → AllByRecursion (every-Cond Q) any
+  members_or (layer.Or ys) any e = let same : map (λ e. e.0) ys ≡ any = cc in subst (AllByRecursion (every-Cond Q)) same (firsts ys)
+  members_or (layer.And ys) any e = cc
+  members_or (layer.Not y) any e = cc
+  members_or (layer.Compare op left right) any e = cc
+
+  pub every_or : (any : List Cond) → every-Cond Q (Or any) → AllByRecursion (every-Cond Q) any
+  every_or any h = let held = every_held-Cond Q (Or any) h in members_or held.0 any (held.1 ∙ out_or any)
+
+  inner_not : (x : Cond-F ((x : Cond) × every-Cond Q x)) (inner : Cond) → map-Cond ((x : Cond) × every-Cond Q x) Cond (λ e. e.0) x ≡ layer.Not inner → every-Cond Q inner
+  inner_not (layer.Not y) inner e = let same : y.0 ≡ inner = cc in subst (every-Cond Q) same y.1
+  inner_not (layer.And ys) inner e = cc
+  inner_not (layer.Or ys) inner e = cc
+  inner_not (layer.Compare op left right) inner e = cc
+
+  pub every_not : (inner : Cond) → every-Cond Q (Not inner) → every-Cond Q inner
+  every_not inner h = let held = every_held-Cond Q (Not inner) h in inner_not held.0 inner (held.1 ∙ out_not inner)
+
+-- ---- a comparison of a condition
+
+pub entries_compare : (op : Op) (left right : Operand) → entries_named (Compare op left right) ≡ entries_of_operand left ++ entries_of_operand right
+entries_compare op left right = ap entries_named (sym (rolls-Compare op left right)) ∙ fold-roll-Cond (List ℕ) entries_step (layer.Compare op left right)
+
+pub every_compare : (Q : Cond-F Cond → Type 0) (op : Op) (left right : Operand) → every-Cond Q (Compare op left right) → Q (layer.Compare op left right)
+every_compare Q op left right h =
+    subst Q (ap out-Cond (sym (rolls-Compare op left right)) ∙ out-roll-Cond (layer.Compare op left right)) (every_here-Cond Q (Compare op left right) h)
+
+-- ---- what a condition asks, its members ask
+
+all_in_part : (P : ℕ → Type 0) (parts : List (List ℕ)) → All P (flat_map (λ inner. inner) parts) → AllByRecursion (All P) parts
+all_in_part P [] h = tt
+all_in_part P (part ∷ parts) h = (
+  λ k d low. subst P (get_or_append_left part (flat_map (λ inner. inner) parts) d k low) (h k d (omega (arith, length-append part (flat_map (λ inner. inner) parts)))),
+  all_in_part P parts (λ k d low. subst P (get_or-append-add part (flat_map (λ inner. inner) parts) k d) (h (length part + k) d (omega (arith, length-append part (flat_map (λ inner. inner) parts))))),
+)
+
+-- the members of a condition that says this of all entries that it names
+module _ (P : ℕ → Type 0) where
+  all_in_members : (members : List Cond) → All P (flat_map (λ inner. inner) (map entries_named members)) → All (λ c. All P (entries_named c)) members
+  all_in_members members h = All-from_recursion (λ c. All P (entries_named c)) members (unmapped members (all_in_part P (map entries_named members) h))
+    where
+      unmapped : (members : List Cond) → AllByRecursion (All P) (map entries_named members) → AllByRecursion (λ c. All P (entries_named c)) members
+      unmapped [] h = tt
+      unmapped (c ∷ members) h = (h.0, unmapped members h.1)
+
+  pub entries_in_and : (cond : Cond) (all items : List Cond) (i : ℕ) (c : Cond) → cond ≡ And all → items ≡ all → c ≡ get_or items i c → i < length items → All P (entries_named cond) → All P (entries_named c)
+  entries_in_and cond all items i c is same here low h =
+      let whole : All (λ c. All P (entries_named c)) all = all_in_members all (subst (All P) (ap entries_named is ∙ entries_and all) h) in
+      subst (λ (c : Cond). All P (entries_named c)) (ap (λ (s : List Cond). get_or s i c) (sym same) ∙ sym here) (whole i c (omega (arith, ap (λ (s : List Cond). length s) same)))
+
+  pub entries_in_or : (cond : Cond) (any items : List Cond) (i : ℕ) (c : Cond) → cond ≡ Or any → items ≡ any → c ≡ get_or items i c → i < length items → All P (entries_named cond) → All P (entries_named c)
+  entries_in_or cond any items i c is same here low h =
+      let whole : All (λ c. All P (entries_named c)) any = all_in_members any (subst (All P) (ap entries_named is ∙ entries_or any) h) in
+      subst (λ (c : Cond). All P (entries_named c)) (ap (λ (s : List Cond). get_or s i c) (sym same) ∙ sym here) (whole i c (omega (arith, ap (λ (s : List Cond). length s) same)))
+
+  pub entries_in_not : (cond inner c : Cond) → cond ≡ Not inner → c ≡ inner → All P (entries_named cond) → All P (entries_named c)
+  entries_in_not cond inner c is same h = subst (All P) (ap entries_named is ∙ entries_not inner ∙ ap entries_named (sym same)) h
+
+-- the members of a condition each of whose layers has this
+module _ (Q : Cond-F Cond → Type 0) where
+  at_member : (members items : List Cond) (i : ℕ) (c : Cond) → items ≡ members → c ≡ get_or items i c → i < length items → AllByRecursion (every-Cond Q) members → every-Cond Q c
+  at_member members items i c same here low h =
+      subst (every-Cond Q) (ap (λ (s : List Cond). get_or s i c) (sym same) ∙ sym here)
+      (All-from_recursion (every-Cond Q) members h i c (omega (arith, ap (λ (s : List Cond). length s) same)))
+
+  pub every_in_and : (cond : Cond) (all items : List Cond) (i : ℕ) (c : Cond) → cond ≡ And all → items ≡ all → c ≡ get_or items i c → i < length items → every-Cond Q cond → every-Cond Q c
+  every_in_and cond all items i c is same here low h = at_member all items i c same here low (every_and Q all (subst (every-Cond Q) is h))
+
+  pub every_in_or : (cond : Cond) (any items : List Cond) (i : ℕ) (c : Cond) → cond ≡ Or any → items ≡ any → c ≡ get_or items i c → i < length items → every-Cond Q cond → every-Cond Q c
+  every_in_or cond any items i c is same here low h = at_member any items i c same here low (every_or Q any (subst (every-Cond Q) is h))
+
+  pub every_in_not : (cond inner c : Cond) → cond ≡ Not inner → c ≡ inner → every-Cond Q cond → every-Cond Q c
+  every_in_not cond inner c is same h = subst (every-Cond Q) (sym same) (every_not Q inner (subst (every-Cond Q) is h))
+
+-- ---- a condition holds by its parts
+
+module _ (tables : Tables) (row_of : ℕ → ℕ) where
+  abbrev says : Cond → Bool
+  says cond = cond_holds tables row_of cond
+
+  pub holds_and : (all : List Cond) → says (And all) ≡ all_of (map says all)
+  holds_and all = ap says (sym (rolls-And all)) ∙ fold-roll-Cond Bool (holds_step tables row_of) (layer.And all)
+
+  pub holds_or : (any : List Cond) → says (Or any) ≡ any_of (map says any)
+  holds_or any = ap says (sym (rolls-Or any)) ∙ fold-roll-Cond Bool (holds_step tables row_of) (layer.Or any)
+
+  pub holds_not : (inner : Cond) → says (Not inner) ≡ not (says inner)
+  holds_not inner = ap says (sym (rolls-Not inner)) ∙ fold-roll-Cond Bool (holds_step tables row_of) (layer.Not inner)
+
+  pub holds_compare : (op : Op) (left right : Operand) → says (Compare op left right) ≡ comparison_says tables row_of op left right
+  holds_compare op left right = ap says (sym (rolls-Compare op left right)) ∙ fold-roll-Cond Bool (holds_step tables row_of) (layer.Compare op left right)
+
+  each_says : (all : List Cond) → all_of (map says all) ≡ true → AllByRecursion (λ c. says c ≡ true) all
+  each_says [] h = tt
+  each_says (c ∷ all) h = let parts = and_parts (says c) (all_of (map says all)) h in (parts.0, each_says all parts.1)
+
+  all_say : (all : List Cond) → AllByRecursion (λ c. says c ≡ true) all → all_of (map says all) ≡ true
+  all_say [] h = refl
+  all_say (c ∷ all) h = and_from (says c) (all_of (map says all)) h.0 (all_say all h.1)
+
+  some_says : (any : List Cond) → any_of (map says any) ≡ true → Any (λ c. says c ≡ true) any
+  some_says [] h = absurd (false≢true h)
+  some_says (c ∷ any) h = elim (or_cases (says c) (any_of (map says any)) h) [
+    | inl here ↦ (0, c, omega arith, refl, here)
+    | inr later ↦ (let rest : Any (λ c. says c ≡ true) any = some_says any later in (suc rest.0, rest.1, omega (arith, rest.2), rest.3, rest.4))
+  ]
+
+  any_says : (any : List Cond) (k : ℕ) (x : Cond) → k < length any → get_or any k x ≡ x → says x ≡ true → any_of (map says any) ≡ true
+  any_says [] k x low is h = absurd (omega arith)
+  any_says (c ∷ any) zero x low is h = rw (ap says is ∙ h) refl
+  any_says (c ∷ any) (suc k) x low is h = or_right (says c) (any_of (map says any)) (any_says any k x (omega arith) is h)
+
+  pub and_says : (all : List Cond) → IsTrue (says (And all)) ↔ All (λ c. IsTrue (says c)) all
+  and_says all = (
+    λ h. All-from_recursion (λ c. IsTrue (says c)) all (each_says all (sym (holds_and all) ∙ h)),
+    λ h. holds_and all ∙ all_say all (recursion_from_All (λ c. IsTrue (says c)) all h),
+  )
+
+  pub or_says : (any : List Cond) → IsTrue (says (Or any)) ↔ Any (λ c. IsTrue (says c)) any
+  or_says any = (
+    λ h. some_says any (sym (holds_or any) ∙ h),
+    λ h. holds_or any ∙ any_says any h.0 h.1 h.2 h.3 h.4,
+  )
+
+  pub not_says : (inner : Cond) → IsTrue (says (Not inner)) ↔ (¬ IsTrue (says inner))
+  not_says inner = (
+    λ h k. false≢true (sym (ap not k) ∙ sym (holds_not inner) ∙ h),
+    λ h. holds_not inner ∙ ap not (false_from_ne_true (says inner) h),
+  )

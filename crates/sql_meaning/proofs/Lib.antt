@@ -1,0 +1,10 @@
+pub mod AnswerFacts
+pub mod AskFacts
+pub mod ConditionFacts
+pub mod ColumnFacts
+pub mod LevelFacts
+pub mod LoopFacts
+pub mod NamedFacts
+pub mod NestedLoops
+pub mod Order
+pub mod Worked

@@ -1,0 +1,6 @@
+use Rattle.sql_meaning.proofs.Worked.{not_in, crossed, thrice, one}
+use Rattle.query_grammar.specs.declared.tree.Op.TheVariants as op
+use Rattle.sql_meaning.proofs.examples.filters.Goals as goal
+
+pub returns : goal.returns
+returns c = record { not_in = not_in; crossed = crossed; thrice = thrice; up_to = one op.Le 2; other = one op.Ne 2 }

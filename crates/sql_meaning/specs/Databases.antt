@@ -1,0 +1,79 @@
+-- When a database is of a query.
+use Rattle.std.specs.Prelude.{◌≡◌, ℕ, ◌<◌, ◌≤◌, ◌^◌, Bool, true, false, List, length, map, All, Some, option_map, slice_get, slice_index, ⊤}
+use Rattle.csv_tables.specs.Cells.{AreColumns}
+use Rattle.csv_tables.specs.declared.types.Cells.{Cells}
+use Rattle.csv_tables.specs.declared.types.Database.{Database}
+use Rattle.query_types.specs.Validity.{is_text}
+use Rattle.query_types.specs.declared.types.ColumnRef.{ColumnRef}
+use Rattle.query_types.specs.declared.types.Operand.{Operand}
+use Rattle.query_types.specs.declared.types.Operand.TheVariants as operand
+use Rattle.query_types.specs.declared.types.Cond.{Cond, every-Cond}
+use Rattle.query_types.specs.declared.types.Cond.TheOpen.{Cond-F}
+use Rattle.query_types.specs.declared.types.Cond.TheOpen as layer
+use Rattle.query_types.specs.declared.types.Query.{Query}
+use Rattle.sql_meaning.specs.Tables.{cells_of}
+
+-- cells of which each column has one for each row, and each cell of a text is the number of one in the pool
+abbrev pub AreCells : List (List ℕ) → Cells → Type 0
+AreCells texts cells = AreColumns texts cells.rows cells.kinds cells.columns
+
+-- the column is one of an entry's table
+pub record IsColumnOf (db : Database) (column : ColumnRef) : Type 0 where
+  pub entry : column.from < length db.slots
+  pub exists : column.column < length (cells_of db column.from).kinds
+
+-- where the operand is a column, it is one of an entry's table
+abbrev pub HasColumn : Database → Operand → Type 0
+HasColumn db (operand.Column column) = IsColumnOf db column
+HasColumn db (operand.Int number) = ⊤
+HasColumn db (operand.Text text) = ⊤
+
+-- the column is one of this kind: numbers are one kind, texts of any length the other
+pub record IsColumnOfKind (db : Database) (column : ColumnRef) (text : Bool) : Type 0 where
+  pub exists : IsColumnOf db column
+  pub kind : option_map is_text (slice_get (cells_of db column.from).kinds column.column) ≡ Some text
+
+-- an operand is of this kind, and where it is a column that exists
+abbrev pub IsOfKind : Database → Operand → Bool → Type 0
+IsOfKind db (operand.Column column) text = IsColumnOfKind db column text
+IsOfKind db (operand.Int number) text = text ≡ false
+IsOfKind db (operand.Text value) text = text ≡ true
+
+-- both operands of a comparison are of one kind
+pub record CanCompare (db : Database) (left right : Operand) : Type 0 where
+  pub text : Bool
+  pub left_kind : IsOfKind db left text
+  pub right_kind : IsOfKind db right text
+
+abbrev pub CanAskLayer : Database → Cond-F Cond → Type 0
+CanAskLayer db (layer.And all) = ⊤
+CanAskLayer db (layer.Or any) = ⊤
+CanAskLayer db (layer.Not inner) = ⊤
+CanAskLayer db (layer.Compare op left right) = CanCompare db left right
+
+-- the condition can be asked of the database: every comparison in it is over columns that exist, and of one kind
+abbrev pub IsAskable : Database → Cond → Type 0
+IsAskable db cond = every-Cond (CanAskLayer db) cond
+
+-- cells that are in order, and a table for each entry
+pub record AreTables (db : Database) : Type 0 where
+  pub cells : All (AreCells db.pool) db.cells
+  pub slots : All (λ slot. slot < length db.cells) db.slots
+
+-- the database is of the query: it has a table for each FROM entry, one for entries of one table, and all columns
+-- that the query names, with the kinds that its comparisons need
+pub record IsDatabaseOf (query : Query) (db : Database) : Type 0 where
+  pub some : 0 < length query.from
+  pub few : length query.from ≤ 12
+  pub few_conjuncts : length query.conjuncts < 2 ^ 32
+  pub entries : length db.slots ≡ length query.from
+  pub tables : AreTables db
+  pub one_place : (i j : ℕ) → i < length query.from → j < length query.from
+      → slice_index (map (λ source. source.table) query.from) i ≡ slice_index (map (λ source. source.table) query.from) j
+      → slice_index db.slots i ≡ slice_index db.slots j
+  pub conjuncts : All (IsAskable db) query.conjuncts
+  pub outputs : All (λ out. IsColumnOf db out.column) query.select
+
+-- the table of each of these entries has a row of the entry's number
+abbrev pub HaveRows : Database → List ℕ → List ℕ → Type 0
+HaveRows db rows entries = All (λ entry. slice_index rows entry < (cells_of db entry).rows) entries

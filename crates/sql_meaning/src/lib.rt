@@ -1,0 +1,23 @@
+//! What a query means: when a condition holds, the choices of rows behind an answer, and the answer itself, over
+//! whole tables as lists of rows. Nothing here knows of plans, bounds or hashing: what runs a query is proved against
+//! these definitions.
+//!
+//! In come a query (`query_types`) and a database (`csv_tables`) that is of it (`IsDatabaseOf`). `holds` says whether a
+//! condition holds in given rows, without memory; `answer_slow` lists the choices of the answer, for tests. Callers
+//! cite `tables_of`, `cond_holds`, `entries_named`, `choices_of`, `chosen`, `answer`, `conjuncts_of`, `level`, `scan`
+//! and the laws of `laws`.
+#![tactic(auto)]
+
+mod answer;
+mod columns;
+mod conditions;
+pub mod examples;
+pub mod laws;
+#[cfg(test)]
+mod tests;
+mod values;
+
+pub use answer::{all_hold, answer_slow};
+pub use columns::value_of_column;
+pub use conditions::holds;
+pub use values::ValueRef;

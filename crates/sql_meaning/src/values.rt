@@ -1,0 +1,51 @@
+//! Values where they stand, and their order.
+ghost use Rattle.std.specs.Prelude.{◌≡◌};
+ghost use Rattle.std.specs.Cmp.Lexicographic.{slice_cmp};
+ghost use Rattle.std.specs.Ordering.{nat_cmp};
+ghost use Rattle.std.specs.Str.{chars};
+ghost use Rattle.csv_tables.specs.Values.{value_cmp};
+ghost use Rattle.sql_meaning.specs.Conditions.{compares};
+ghost use Rattle.sql_meaning.specs.Seen.{value_seen};
+
+use query_types::Op;
+use std::cmp::Ordering;
+
+/// A value where it stands.
+#[derive(Clone, Copy)]
+pub enum ValueRef<'a> {
+    Int(i64),
+    Text(&'a str),
+}
+
+// The order of two texts, by the code points of their characters.
+fn compare_texts(a: &str, b: &str) -> Ordering
+    ensures { result ≡ slice_cmp nat_cmp (chars a.now) (chars b.now) }
+{
+    a.chars().cmp(b.chars())
+}
+
+/// The order of two values.
+pub(crate) fn compare_values(a: ValueRef, b: ValueRef) -> Ordering
+    ensures { result ≡ value_cmp (value_seen a.entry) (value_seen b.entry) }
+{
+    match (a, b) {
+        (ValueRef::Int(a), ValueRef::Int(b)) => a.cmp(&b),
+        (ValueRef::Text(a), ValueRef::Text(b)) => compare_texts(a, b),
+        (ValueRef::Int(_), ValueRef::Text(_)) => Ordering::Less,
+        (ValueRef::Text(_), ValueRef::Int(_)) => Ordering::Greater,
+    }
+}
+
+/// Whether a comparison holds of two values that stand in this order.
+pub(crate) fn compares_as(op: Op, order: Ordering) -> bool
+    ensures { result ≡ compares op order }
+{
+    match op {
+        Op::Eq => order.is_eq(),
+        Op::Ne => order.is_ne(),
+        Op::Lt => order.is_lt(),
+        Op::Le => order.is_le(),
+        Op::Gt => order.is_gt(),
+        Op::Ge => order.is_ge(),
+    }
+}
