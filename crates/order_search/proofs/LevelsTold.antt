@@ -1,0 +1,69 @@
+-- The levels of an order, told entry by entry.
+use Rattle.std.proofs.Common.{◌≡◌, ℕ, ◌+◌, ◌-◌, ◌^◌, ◌<◌, ◌≤◌, List, [], ◌∷◌, ◌++◌, length, get_or, drop, ap, sym, ◌∙◌, subst, pow_mono, arith}
+use Rattle.std.proofs.lemmas.Nat.{pow_pos}
+use Rattle.std.proofs.lemmas.List.{append_assoc, append-nil, drop_more, drop_all}
+use Rattle.order_search.specs.Orders.{IsOrder, cost, greatest, levels}
+use Rattle.order_search.specs.Ways.{IsWay}
+use Rattle.order_search.proofs.Bits.{entry_below, power_within}
+use Rattle.order_search.proofs.Prefixes.{levels_after, levels_are}
+use Rattle.order_search.proofs.WholeWays.{way_from_order}
+
+-- the first i entries are placed and their levels told; the others are a way through what is left
+pub record Told (bounds : List ℕ) (n : ℕ) (order : List ℕ) (i placed : ℕ) (told : List ℕ) : Type 0 where
+  pub within : placed ≤ 2 ^ n - 1
+  pub is_way : IsWay (2 ^ n - 1 - placed) (drop i order)
+  pub together : told ++ levels_after bounds placed (drop i order) ≡ levels bounds order
+
+pub told_none : (bounds : List ℕ) (n : ℕ) (order : List ℕ) → IsOrder n order → Told bounds n order 0 0 []
+told_none bounds n order is_order = let none : 2 ^ n - 1 - 0 ≡ 2 ^ n - 1 = omega arith in record {
+  within = omega arith;
+  is_way = rw none (way_from_order n order is_order);
+  together = sym (levels_are bounds order);
+}
+
+next_way : (bounds : List ℕ) (n : ℕ) (order : List ℕ) (i placed : ℕ) (told : List ℕ) → Told bounds n order i placed told → i < length order
+    → IsWay (2 ^ n - 1 - placed) (get_or order i 0 ∷ drop (i + 1) order)
+next_way bounds n order i placed told so_far more = subst (IsWay (2 ^ n - 1 - placed)) (drop_more order i 0 more) so_far.is_way
+
+pub next_entry : (bounds : List ℕ) (n : ℕ) (order : List ℕ) (i placed : ℕ) (told : List ℕ) → Told bounds n order i placed told → i < length order → get_or order i 0 < n
+next_entry bounds n order i placed told so_far more =
+    entry_below n (2 ^ n - 1 - placed) (get_or order i 0) (omega (arith, pow_pos n)) (next_way bounds n order i placed told so_far more).0
+
+pub next_within : (bounds : List ℕ) (n : ℕ) (order : List ℕ) (i placed : ℕ) (told : List ℕ) → Told bounds n order i placed told → i < length order → placed + 2 ^ get_or order i 0 ≤ 2 ^ n - 1
+next_within bounds n order i placed told so_far more =
+    omega (arith, power_within (get_or order i 0) (2 ^ n - 1 - placed) (next_way bounds n order i placed told so_far more).0, so_far.within)
+
+next_together : (bounds : List ℕ) (n : ℕ) (order : List ℕ) (i placed : ℕ) (told : List ℕ) → Told bounds n order i placed told → i < length order
+    → told ++ (get_or bounds (placed + 2 ^ get_or order i 0) 0 ∷ levels_after bounds (placed + 2 ^ get_or order i 0) (drop (i + 1) order)) ≡ levels bounds order
+next_together bounds n order i placed told so_far more =
+    subst (λ (s : List ℕ). told ++ levels_after bounds placed s ≡ levels bounds order) (drop_more order i 0 more) so_far.together
+
+below_greatest : (front : List ℕ) (x : ℕ) (behind : List ℕ) → x ≤ greatest (front ++ (x ∷ behind))
+below_greatest [] x behind = omega arith
+below_greatest (y ∷ front) x behind = omega (arith, below_greatest front x behind)
+
+pub next_bound : (bounds : List ℕ) (n : ℕ) (order : List ℕ) (i placed : ℕ) (told : List ℕ) → Told bounds n order i placed told → i < length order
+    → get_or bounds (placed + 2 ^ get_or order i 0) 0 ≤ cost bounds order
+next_bound bounds n order i placed told so_far more =
+    omega (arith, below_greatest told (get_or bounds (placed + 2 ^ get_or order i 0) 0) (levels_after bounds (placed + 2 ^ get_or order i 0) (drop (i + 1) order)), ap greatest (next_together bounds n order i placed told so_far more))
+
+pub told_more : (bounds : List ℕ) (n : ℕ) (order : List ℕ) (i placed placed' : ℕ) (told told' : List ℕ) → Told bounds n order i placed told → i < length order
+    → placed' ≡ placed + 2 ^ get_or order i 0 → told' ≡ told ++ get_or bounds placed' 0 ∷ [] → Told bounds n order (i + 1) placed' told'
+told_more bounds n order i placed placed' told told' so_far more moved pushed =
+    let left : 2 ^ n - 1 - placed - 2 ^ get_or order i 0 ≡ 2 ^ n - 1 - placed' = omega arith in
+    record {
+      within = omega (arith, next_within bounds n order i placed told so_far more);
+      is_way = subst (λ k. IsWay k (drop (i + 1) order)) left (next_way bounds n order i placed told so_far more).1;
+      together = rw (pushed, moved) (append_assoc told (get_or bounds (placed + 2 ^ get_or order i 0) 0 ∷ []) (levels_after bounds (placed + 2 ^ get_or order i 0) (drop (i + 1) order))
+          ∙ next_together bounds n order i placed told so_far more);
+    }
+
+pub told_all : (bounds : List ℕ) (n : ℕ) (order : List ℕ) (i placed : ℕ) (told : List ℕ) → Told bounds n order i placed told → length order ≤ i → told ≡ levels bounds order
+told_all bounds n order i placed told so_far end =
+    sym (append-nil told) ∙ ap (λ (s : List ℕ). told ++ levels_after bounds placed s) (sym (drop_all i order end)) ∙ so_far.together
+
+pub placed_fits : (bounds : List ℕ) (n : ℕ) (order : List ℕ) (i placed : ℕ) (told : List ℕ) → n ≤ 12 → Told bounds n order i placed told → placed < 2 ^ 12
+placed_fits bounds n order i placed told few so_far = omega (arith, powers, pow_pos n, so_far.within)
+  where
+    powers : 2 ^ n ≤ 2 ^ 12
+    powers = pow_mono few

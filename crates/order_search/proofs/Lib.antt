@@ -1,0 +1,13 @@
+pub mod Bits
+pub mod WholeWays
+pub mod Lightest
+pub mod ReadingOff
+pub mod SetNumbers
+pub mod Prefixes
+pub mod Weights
+pub mod BestFound
+pub mod LevelsTold
+pub mod OneBest
+pub mod NoWorse
+pub mod SomeBest
+pub mod Tested

@@ -1,0 +1,111 @@
+-- The least weight of a way through a set, from those through smaller sets.
+use Rattle.std.proofs.Common.{◌≡◌, ℕ, ◌+◌, ◌-◌, ◌^◌, ◌<◌, ◌≤◌, min, List, [], ◌∷◌, get_or, refl, ap, sym, ◌∙◌, subst, arith, inl, inr}
+use Rattle.std.specs.Prelude.{◌⊎◌}
+use Rattle.std.specs.Int.{bit_at}
+use Rattle.std.proofs.lemmas.Bool.{cases_lt, cases_eq, le-leb, lt-leb}
+use Rattle.order_search.specs.declared.weight.Weight.{Weight}
+use Rattle.order_search.specs.declared.weight.Weight.TheVariants as weight
+use Rattle.order_search.specs.Ways.{IsWay, IsLeastWeight, IsTable, bound_with, joined, weight_of, weight_through}
+use Rattle.order_search.proofs.Bits.{entry_below, less_without, set_has_entry}
+
+pub joined-within : (most bound behind : ℕ) → bound ≤ most → joined (weight.SumWithin most) bound behind ≡ min (bound + behind) (2 ^ 128 - 1)
+joined-within most bound behind h = rw (le-leb bound most h) refl
+
+pub joined-beyond : (most bound behind : ℕ) → most < bound → joined (weight.SumWithin most) bound behind ≡ 2 ^ 128 - 1
+joined-beyond most bound behind h = rw (lt-leb bound most h) refl
+
+pub joined-mono : (w : Weight) (bound a b : ℕ) → a ≤ b → joined w bound a ≤ joined w bound b
+joined-mono weight.Greatest bound a b h = omega arith
+joined-mono (weight.SumWithin most) bound a b h = elim (cases_lt most bound) [
+  | inl beyond ↦ omega (arith, joined-beyond most bound a beyond, joined-beyond most bound b beyond)
+  | inr within ↦ omega (arith, joined-within most bound a within, joined-within most bound b within)
+]
+
+-- the entries below end were tried
+pub record Tried (w : Weight) (bounds table : List ℕ) (all left end least : ℕ) : Type 0 where
+  pub below : (entry : ℕ) → entry < end → bit_at left entry ≡ 1 → (least ≤ weight_through w bounds table all left entry) × (weight_through w bounds table all left entry < 2 ^ 128)
+  pub found : (least ≡ 2 ^ 128 - 1) ⊎ ((entry : ℕ) × (bit_at left entry ≡ 1) × (weight_through w bounds table all left entry ≡ least))
+
+pub tried_none : (w : Weight) (bounds table : List ℕ) (all left : ℕ) → Tried w bounds table all left 0 (2 ^ 128 - 1)
+tried_none w bounds table all left = record {
+  below = λ entry h. absurd (omega arith);
+  found = inl refl;
+}
+
+pub tried_other : (w : Weight) (bounds table : List ℕ) (all left end least : ℕ) → Tried w bounds table all left end least → (bit_at left end ≡ 1 → ⊥) → Tried w bounds table all left (end + 1) least
+tried_other w bounds table all left end least tried out = record {
+  below = λ entry h has. elim (cases_eq entry end) [
+    | inl same ↦ absurd (out (ap (bit_at left) (sym same) ∙ has))
+    | inr apart ↦ tried.below entry (omega arith) has
+  ];
+  found = tried.found;
+}
+
+pub tried_more : (w : Weight) (bounds table : List ℕ) (all left end least through : ℕ) → Tried w bounds table all left end least → bit_at left end ≡ 1
+    → through ≡ weight_through w bounds table all left end → through < 2 ^ 128 → Tried w bounds table all left (end + 1) (min least through)
+tried_more w bounds table all left end least through tried has is fits = record {
+  below = λ entry h there. elim (cases_eq entry end) [
+    | inl same ↦ (let this : weight_through w bounds table all left entry ≡ through = ap (weight_through w bounds table all left) same ∙ sym is in
+        (omega arith, omega arith))
+    | inr apart ↦ (let before : (least ≤ weight_through w bounds table all left entry) × (weight_through w bounds table all left entry < 2 ^ 128) = tried.below entry (omega arith) there in
+        (omega arith, before.1))
+  ];
+  found = elim (cases_lt through least) [
+    | inl lighter ↦ (let is_min : min least through ≡ through = omega arith in inr (end, has, sym is ∙ sym is_min))
+    | inr heavier ↦ (let is_min : min least through ≡ least = omega arith in
+        subst (λ (v : ℕ). (v ≡ 2 ^ 128 - 1) ⊎ ((entry : ℕ) × (bit_at left entry ≡ 1) × (weight_through w bounds table all left entry ≡ v))) (sym is_min) tried.found)
+  ];
+}
+
+pub least_of_none : (w : Weight) (bounds : List ℕ) (all left : ℕ) → left ≡ 0 → IsLeastWeight w bounds all left 0
+least_of_none w bounds all left none = record {
+  way = [];
+  is_way = none;
+  weighs = refl;
+  none_lighter = λ other way. omega arith;
+}
+
+-- the entry, and behind it a lightest way through the others
+pub record Through (w : Weight) (bounds table : List ℕ) (all left entry : ℕ) : Type 0 where
+  pub way : List ℕ
+  pub is_way : IsWay left way
+  pub weighs : weight_of w bounds all left way ≡ weight_through w bounds table all left entry
+
+pub way_through : (w : Weight) (bounds table : List ℕ) (all left entry : ℕ) → bit_at left entry ≡ 1 → IsLeastWeight w bounds all (left - 2 ^ entry) (get_or table (left - 2 ^ entry) 0)
+    → Through w bounds table all left entry
+way_through w bounds table all left entry has behind = record {
+  way = entry ∷ behind.way;
+  is_way = (has, behind.is_way);
+  weighs = ap (joined w (bound_with bounds all left entry)) behind.weighs;
+}
+
+-- no way that the entry begins is lighter than through the table
+pub through_is_least : (w : Weight) (bounds table : List ℕ) (all left end entry : ℕ) (entries : List ℕ) → left ≤ end → IsTable w bounds all table end → IsWay left (entry ∷ entries)
+    → weight_through w bounds table all left entry ≤ weight_of w bounds all left (entry ∷ entries)
+through_is_least w bounds table all left end entry entries h is_table way =
+    joined-mono w (bound_with bounds all left entry) (get_or table (left - 2 ^ entry) 0) (weight_of w bounds all (left - 2 ^ entry) entries)
+    ((is_table (left - 2 ^ entry) (omega (arith, less_without left entry way.0))).none_lighter entries way.1)
+
+pub least_of_tried : (w : Weight) (bounds table : List ℕ) (n all left least : ℕ) → 0 < left → left < 2 ^ n → IsTable w bounds all table left → Tried w bounds table all left n least
+    → IsLeastWeight w bounds all left least
+least_of_tried w bounds table n all left least some fits is_table tried = elim tried.found [
+  | inl heaviest ↦ (let any : (entry : ℕ) × (bit_at left entry ≡ 1) = set_has_entry n left some fits in
+      let its : (least ≤ weight_through w bounds table all left any.0) × (weight_through w bounds table all left any.0 < 2 ^ 128) = tried.below any.0 (entry_below n left any.0 fits any.1) any.1 in
+      made any.0 any.1 (omega arith))
+  | inr one ↦ made one.0 one.1 one.2
+]
+  where
+    none_lighter : (other : List ℕ) → IsWay left other → least ≤ weight_of w bounds all left other
+    none_lighter [] way = absurd (omega arith)
+    none_lighter (entry ∷ entries) way =
+        omega (arith, (tried.below entry (entry_below n left entry fits way.0) way.0).0, through_is_least w bounds table all left left entry entries (omega arith) is_table way)
+
+    made : (entry : ℕ) → bit_at left entry ≡ 1 → weight_through w bounds table all left entry ≡ least → IsLeastWeight w bounds all left least
+    made entry has is =
+        let through : Through w bounds table all left entry = way_through w bounds table all left entry has (is_table (left - 2 ^ entry) (less_without left entry has)) in
+        record {
+          way = through.way;
+          is_way = through.is_way;
+          weighs = through.weighs ∙ is;
+          none_lighter = none_lighter;
+        }

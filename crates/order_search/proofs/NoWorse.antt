@@ -1,0 +1,113 @@
+-- One order is no worse than another: by cost, then by sum, then by place.
+use Rattle.std.proofs.Common.{◌≡◌, ℕ, ◌<◌, ◌≤◌, List, [], ◌∷◌, refl, sym, ◌∙◌, arith, inl, inr}
+use Rattle.std.specs.Prelude.{◌⊎◌}
+use Rattle.std.proofs.lemmas.Bool.{cases_order}
+use Rattle.order_search.specs.Orders.{IsBest, IsLeastCost, IsNotAfter, IsOrder, cost, total}
+
+-- by a number, and by another relation where the numbers are equal
+abbrev pub First : (List ℕ → ℕ) → (List ℕ → List ℕ → Type 0) → List ℕ → List ℕ → Type 0
+First f Then a b = (f a < f b) ⊎ ((f a ≡ f b) × Then a b)
+
+first_either : (f : List ℕ → ℕ) (Then : List ℕ → List ℕ → Type 0) (a b : List ℕ) → Then a b ⊎ Then b a → First f Then a b ⊎ First f Then b a
+first_either f Then a b either = elim (cases_order (f a) (f b)) [
+  | inl same ↦ elim either [
+    | inl p ↦ inl (inr (same, p))
+    | inr q ↦ inr (inr (sym same, q))
+  ]
+  | inr apart ↦ elim apart [
+    | inl below ↦ inl (inl below)
+    | inr above ↦ inr (inl above)
+  ]
+]
+
+first_both : (f : List ℕ → ℕ) (Then : List ℕ → List ℕ → Type 0) (a b c : List ℕ) → (Then a b → Then b c → Then a c) → First f Then a b → First f Then b c → First f Then a c
+first_both f Then a b c both p q = elim p [
+  | inl below ↦ elim q [
+    | inl further ↦ inl (omega arith)
+    | inr same ↦ inl (omega (arith, same.0))
+  ]
+  | inr here ↦ elim q [
+    | inl further ↦ inl (omega (arith, here.0))
+    | inr same ↦ inr (here.0 ∙ same.0, both here.1 same.1)
+  ]
+]
+
+place_either : (a b : List ℕ) → IsNotAfter a b ⊎ IsNotAfter b a
+place_either [] b = inl tt
+place_either (x ∷ a) [] = inr tt
+place_either (x ∷ a) (y ∷ b) = elim (cases_order x y) [
+  | inl same ↦ elim (place_either a b) [
+    | inl p ↦ inl (inr (same, p))
+    | inr q ↦ inr (inr (sym same, q))
+  ]
+  | inr apart ↦ elim apart [
+    | inl below ↦ inl (inl below)
+    | inr above ↦ inr (inl above)
+  ]
+]
+
+place_both : (a b c : List ℕ) → IsNotAfter a b → IsNotAfter b c → IsNotAfter a c
+place_both [] b c p q = tt
+place_both (x ∷ a) [] c p q = absurd p
+place_both (x ∷ a) (y ∷ b) [] p q = absurd q
+place_both (x ∷ a) (y ∷ b) (z ∷ c) p q = elim p [
+  | inl below ↦ elim q [
+    | inl further ↦ inl (omega arith)
+    | inr same ↦ inl (omega (arith, same.0))
+  ]
+  | inr here ↦ elim q [
+    | inl further ↦ inl (omega (arith, here.0))
+    | inr same ↦ inr (here.0 ∙ same.0, place_both a b c here.1 same.1)
+  ]
+]
+
+abbrev pub NoWorse : List ℕ → List ℕ → List ℕ → Type 0
+NoWorse bounds = First (cost bounds) (First (total bounds) IsNotAfter)
+
+pub either : (bounds a b : List ℕ) → NoWorse bounds a b ⊎ NoWorse bounds b a
+either bounds a b = first_either (cost bounds) (First (total bounds) IsNotAfter) a b (first_either (total bounds) IsNotAfter a b (place_either a b))
+
+pub both : (bounds a b c : List ℕ) → NoWorse bounds a b → NoWorse bounds b c → NoWorse bounds a c
+both bounds a b c p q = first_both (cost bounds) (First (total bounds) IsNotAfter) a b c (first_both (total bounds) IsNotAfter a b c (place_both a b c)) p q
+
+pub itself : (bounds a : List ℕ) → NoWorse bounds a a
+itself bounds a = elim (either bounds a a) [
+  | inl p ↦ p
+  | inr q ↦ q
+]
+
+not_above : (bounds a b : List ℕ) → NoWorse bounds a b → cost bounds a ≤ cost bounds b
+not_above bounds a b p = elim p [
+  | inl below ↦ omega arith
+  | inr same ↦ omega (arith, same.0)
+]
+
+then_sum : (bounds a b : List ℕ) → NoWorse bounds a b → cost bounds b ≡ cost bounds a → First (total bounds) IsNotAfter a b
+then_sum bounds a b p equal = elim p [
+  | inl below ↦ absurd (omega arith)
+  | inr same ↦ same.1
+]
+
+-- an order that is no worse than any is the best
+pub best_of : (bounds : List ℕ) (n : ℕ) (best : List ℕ) → IsOrder n best → ((other : List ℕ) → IsOrder n other → NoWorse bounds best other) → IsBest bounds n best
+best_of bounds n best is_order no_worse = record {
+  is_order = is_order;
+  none_cheaper = λ other other_order. not_above bounds best other (no_worse other other_order);
+  none_smaller = λ other other_order same. elim (then_sum bounds best other (no_worse other other_order) same) [
+    | inl below ↦ omega arith
+    | inr equal ↦ omega (arith, equal.0)
+  ];
+  none_earlier = λ other other_order same equal. elim (then_sum bounds best other (no_worse other other_order) same) [
+    | inl below ↦ absurd (omega arith)
+    | inr also ↦ also.1
+  ];
+}
+
+-- its cost is the least
+pub least_of_best : (bounds : List ℕ) (n : ℕ) (best : List ℕ) → IsBest bounds n best → IsLeastCost bounds n (cost bounds best)
+least_of_best bounds n best is_best = record {
+  order = best;
+  is_order = is_best.is_order;
+  costs = refl;
+  none_cheaper = is_best.none_cheaper;
+}

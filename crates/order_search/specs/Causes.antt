@@ -1,0 +1,11 @@
+-- Why there is no plan.
+use Rattle.std.specs.Prelude.{◌-◌, ◌^◌, ◌<◌, ◌≤◌, ℕ, List, ⊤}
+use Rattle.order_search.specs.Orders.{IsLeastCost}
+use Rattle.order_search.specs.declared.plan.PlanError.{PlanError}
+use Rattle.order_search.specs.declared.plan.PlanError.TheVariants as error
+
+-- the least cost is above the budget, or above what 128 bits tell. Want of memory has no cause here
+abbrev pub IsCause : List ℕ → ℕ → ℕ → PlanError → Type 0
+IsCause bounds n budget (error.Budget least) = IsLeastCost bounds n least × (budget < least) × (least ≤ 2 ^ 128 - 2)
+IsCause bounds n budget error.PastBits = (least : ℕ) × IsLeastCost bounds n least × (2 ^ 128 - 2 < least)
+IsCause bounds n budget error.NoMemory = ⊤

@@ -1,0 +1,4 @@
+pub mod Causes
+pub mod Examples
+pub mod Orders
+pub mod Ways

@@ -1,0 +1,55 @@
+-- Orders in which entries are joined, and which order is best. Bounds are given for every set of entries, each at the number whose bits are the set.
+use Rattle.std.specs.Prelude.{◌≡◌, ℕ, ◌+◌, ◌^◌, ◌<◌, ◌≤◌, ◌==◌, ◌⊎◌, max, List, [], ◌∷◌, map, length, slice_index, ⊤}
+use Rattle.std.specs.List.{AllByRecursion, IsDistinct, sum}
+
+-- the order has each of the entries 0 to n - 1, and once
+pub record IsOrder (n : ℕ) (order : List ℕ) : Type 0 where
+  pub entries : AllByRecursion (λ entry. entry < n) order
+  pub once : IsDistinct ◌==◌ order
+  pub all : length order ≡ n
+
+-- the number of a set of entries, in which entry x is bit x
+abbrev pub set_of : List ℕ → ℕ
+set_of [] = 0
+set_of (entry ∷ entries) = 2 ^ entry + set_of entries
+
+-- the first entry, the first two, and so on up to all
+abbrev pub prefixes : List ℕ → List (List ℕ)
+prefixes [] = []
+prefixes (entry ∷ entries) = (entry ∷ []) ∷ map (λ prefix. entry ∷ prefix) (prefixes entries)
+
+-- the bounds of the sets of the first k entries, k from 1
+abbrev pub levels : List ℕ → List ℕ → List ℕ
+levels bounds order = map (λ prefix. slice_index bounds (set_of prefix)) (prefixes order)
+
+abbrev pub greatest : List ℕ → ℕ
+greatest [] = 0
+greatest (x ∷ xs) = max x (greatest xs)
+
+-- the largest of these bounds
+abbrev pub cost : List ℕ → List ℕ → ℕ
+cost bounds order = greatest (levels bounds order)
+
+-- their sum
+abbrev pub total : List ℕ → List ℕ → ℕ
+total bounds order = sum (levels bounds order)
+
+-- the one list is the other, or comes before it in lexicographic order
+abbrev pub IsNotAfter : List ℕ → List ℕ → Type 0
+IsNotAfter [] ys = ⊤
+IsNotAfter (x ∷ xs) [] = ⊥
+IsNotAfter (x ∷ xs) (y ∷ ys) = (x < y) ⊎ ((x ≡ y) × IsNotAfter xs ys)
+
+-- the order has the least cost, among those of least cost the least sum, and comes first among those of this sum
+pub record IsBest (bounds : List ℕ) (n : ℕ) (best : List ℕ) : Type 0 where
+  pub is_order : IsOrder n best
+  pub none_cheaper : (other : List ℕ) → IsOrder n other → cost bounds best ≤ cost bounds other
+  pub none_smaller : (other : List ℕ) → IsOrder n other → cost bounds other ≡ cost bounds best → total bounds best ≤ total bounds other
+  pub none_earlier : (other : List ℕ) → IsOrder n other → cost bounds other ≡ cost bounds best → total bounds other ≡ total bounds best → IsNotAfter best other
+
+-- an order has this cost, and none has a lower one
+pub record IsLeastCost (bounds : List ℕ) (n least : ℕ) : Type 0 where
+  pub order : List ℕ
+  pub is_order : IsOrder n order
+  pub costs : cost bounds order ≡ least
+  pub none_cheaper : (other : List ℕ) → IsOrder n other → least ≤ cost bounds other

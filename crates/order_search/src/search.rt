@@ -1,0 +1,99 @@
+//! The search.
+ghost use Rattle.std.specs.Prelude.{◌≡◌, ◌≤◌, ◌<◌, ◌^◌, length, IfErr, IfOk};
+ghost use Rattle.order_search.specs.Causes.{IsCause};
+ghost use Rattle.order_search.specs.Orders.{IsBest, IsLeastCost, IsOrder, cost, levels as levels_of};
+
+use crate::sets::with;
+use crate::table::least_weights;
+use crate::way::first_lightest;
+use crate::weight::Weight;
+use crate::{Plan, PlanError};
+use base_io::{NoMemory, Seq};
+use std::alloc::Global;
+
+/// The best order of n entries, n from 1 to 12, over a bound for each of the 2^n sets: the order of least cost, which is the greatest bound of its first k entries, k from 1; among those the one of least sum of these bounds; among those the first in lexicographic order.
+///
+/// All bounds and the budget are in rows. A bound of 2^128 - 1 stands for all from there on.
+/// It fills two tables of 2^n numbers in n 2^n steps each, of which one stands at a time: the least cost over sets, then the least sum by ways within that cost. To choose left-deep orders by tables over sets is from *Access Path Selection in a Relational Database Management System* (Selinger and others, SIGMOD 1979).
+///
+/// `Budget` and `PastBits` come exactly where `IsCause` says; `NoMemory` where memory is wanting.
+pub fn choose(
+    alloc: Global,
+    bounds: &Seq<u128>,
+    scans: &Seq<u64>,
+    budget: u64,
+) -> Result<Plan, PlanError>
+    requires some { 1 ≤ length scans.now }
+    requires few { length scans.now ≤ 12 }
+    requires bounds { length bounds.now ≡ 2 ^ length scans.now }
+    requires budget { budget ≤ 20000000 }
+
+    ensures best { IfOk result (λ plan. IsBest bounds.now (length scans.now) plan.order) }
+    ensures within { IfOk result (λ plan. cost bounds.now plan.order ≤ budget) }
+    ensures levels { IfOk result (λ plan. plan.levels ≡ levels_of bounds.now plan.order) }
+    ensures scans { IfOk result (λ plan. plan.scans ≡ scans.now) }
+    ensures refused { IfErr result (IsCause bounds.now (length scans.now) budget) }
+{
+    let count = scans.len() as u32;
+    let bounds = bounds.as_slice();
+    let least = least_cost(alloc, count, bounds)?;
+    if least > u128::MAX - 1 {
+        return Err(PlanError::PastBits);
+    }
+    if least > budget as u128 {
+        return Err(PlanError::Budget { least });
+    }
+    let order = best_order(alloc, count, bounds, least)?;
+    let levels = levels_along(alloc, count, bounds, order.as_slice())?;
+    let scans = Vec::from_slice(alloc, scans.as_slice())?;
+    Ok(Plan {
+        order: Seq::from_vec(order),
+        scans: Seq::from_vec(scans),
+        levels: Seq::from_vec(levels),
+    })
+}
+
+fn least_cost(alloc: Global, count: u32, bounds: &[u128]) -> Result<u128, NoMemory>
+    requires count { count ≤ 12 }
+    requires bounds { length bounds.now ≡ 2 ^ count }
+    ensures { IfOk result (λ least. IsLeastCost bounds.now count least) }
+{
+    let costs = least_weights(alloc, Weight::Greatest, count, bounds)?;
+    Ok(costs[bounds.len() - 1])
+}
+
+// The first order of least sum among those of the least cost.
+fn best_order(alloc: Global, count: u32, bounds: &[u128], least: u128) -> Result<Vec<u8>, NoMemory>
+    requires count { count ≤ 12 }
+    requires bounds { length bounds.now ≡ 2 ^ count }
+    requires least { IsLeastCost bounds.now count least }
+    requires small { least ≤ 20000000 }
+    ensures best { IfOk result (λ order. IsBest bounds.now count order.items) }
+    ensures cost { IfOk result (λ order. cost bounds.now order.items ≡ least) }
+{
+    let sums = least_weights(alloc, Weight::SumWithin(least), count, bounds)?;
+    first_lightest(alloc, least, count, bounds, sums.as_slice())
+}
+
+// The bounds of the order's first entry, its first two, and so on.
+#[tactic(auto, using(crate::proofs::LevelsTold::next_within, crate::proofs::LevelsTold::next_bound, crate::proofs::LevelsTold::next_entry))]
+fn levels_along(
+    alloc: Global,
+    count: u32,
+    bounds: &[u128],
+    order: &[u8],
+) -> Result<Vec<u64>, NoMemory>
+    requires count { count ≤ 12 }
+    requires bounds { length bounds.now ≡ 2 ^ count }
+    requires order { IsOrder count order.now }
+    requires small { cost bounds.now order.now < 2 ^ 64 }
+    ensures { IfOk result (λ levels. levels.items ≡ levels_of bounds.now order.now) }
+{
+    let mut levels = Vec::new(alloc);
+    let mut placed: usize = 0;
+    for entry in order {
+        placed = with(placed, *entry as u32);
+        levels.push(bounds[placed] as u64)?;
+    }
+    Ok(levels)
+}

@@ -1,0 +1,68 @@
+//! The least weight for each set of entries that are left. A set comes after all that it holds, since its number is greater.
+ghost use Rattle.std.specs.Prelude.{◌≡◌, ◌-◌, ◌^◌, ◌<◌, ◌≤◌, length, IfOk};
+ghost use Rattle.std.specs.Int.{bit_at};
+ghost use Rattle.order_search.specs.Ways.{IsLeastWeight, IsTable, weight_through as weight_through_of};
+
+use crate::sets::{has, without};
+use crate::weight::Weight;
+use base_io::NoMemory;
+use std::alloc::Global;
+
+// The weight of the lightest way on which the entry comes next.
+#[tactic(auto, using(crate::proofs::Bits::less_without))]
+pub(crate) fn weight_through(
+    weight: Weight,
+    bounds: &[u128],
+    table: &[u128],
+    left: usize,
+    entry: u32,
+) -> u128
+    requires entry { entry < 12 }
+    requires has { bit_at left entry ≡ 1 }
+    requires left { left < length bounds.now }
+    requires table { left ≤ length table.now }
+    ensures { result ≡ weight_through_of weight bounds.now table.now (length bounds.now - 1) left entry }
+{
+    let behind = without(left, entry);
+    weight.joined(bounds[bounds.len() - 1 - behind], table[behind])
+}
+
+// The least weight of a way through the set, by those through the sets before it.
+fn least_weight(weight: Weight, count: u32, bounds: &[u128], table: &[u128], left: usize) -> u128
+    requires count { count ≤ 12 }
+    requires bounds { length bounds.now ≡ 2 ^ count }
+    requires left { left < length bounds.now }
+    requires filled { length table.now ≡ left }
+    requires table { IsTable weight bounds.now (length bounds.now - 1) table.now left }
+    ensures { IsLeastWeight weight bounds.now (length bounds.now - 1) left result }
+{
+    if left == 0 {
+        return 0;
+    }
+    let mut least = u128::MAX;
+    for entry in 0..count {
+        if has(left, entry) {
+            least = least.min(weight_through(weight, bounds, table, left, entry));
+        }
+    }
+    least
+}
+
+// The table over all sets.
+pub(crate) fn least_weights(
+    alloc: Global,
+    weight: Weight,
+    count: u32,
+    bounds: &[u128],
+) -> Result<Vec<u128>, NoMemory>
+    requires count { count ≤ 12 }
+    requires bounds { length bounds.now ≡ 2 ^ count }
+    ensures filled { IfOk result (λ table. length table.items ≡ 2 ^ count) }
+    ensures table { IfOk result (λ table. IsTable weight bounds.now (length bounds.now - 1) table.items (2 ^ count)) }
+{
+    let mut table = Vec::with_capacity(alloc, bounds.len())?;
+    for left in 0..bounds.len() {
+        table.push(least_weight(weight, count, bounds, table.as_slice(), left))?;
+    }
+    Ok(table)
+}

@@ -1,0 +1,30 @@
+//! What the search keeps small.
+ghost use Rattle.std.specs.Prelude.{◌≡◌};
+ghost use Rattle.order_search.specs.Ways.{joined as joined_of};
+
+// How the bounds on a way make its weight.
+#[derive(Clone, Copy)]
+pub(crate) enum Weight {
+    /// The greatest of them.
+    Greatest,
+    /// Their sum, where none is above this; else the heaviest that there is.
+    SumWithin(u128),
+}
+
+impl Weight {
+    // A bound and the weight of what comes behind it.
+    pub(crate) fn joined(self, bound: u128, behind: u128) -> u128
+        ensures { result ≡ joined_of self bound behind }
+    {
+        match self {
+            Weight::Greatest => bound.max(behind),
+            Weight::SumWithin(most) => {
+                if bound <= most {
+                    bound.saturating_add(behind)
+                } else {
+                    u128::MAX
+                }
+            }
+        }
+    }
+}
