@@ -1,0 +1,187 @@
+-- Different choices that agree are different members of the list of all choices, so that they are no more than it has.
+use Rattle.std.proofs.Common.{◌≡◌, ◌≢◌, ℕ, zero, suc, ◌+◌, ◌<◌, ◌≤◌, Bool, true, false, cond, ◌||◌, eqb, List, [], ◌∷◌, ◌++◌, length, get_or, map, refl, ap, sym, ◌∙◌, subst, arith, ◌⊎◌, inl, inr, nat_eq}
+use Rattle.std.specs.List.{AllByRecursion, Contains, IsDistinct, flat_map, range_with_len, list_any}
+use Rattle.std.specs.Set.{is_member}
+use Rattle.std.specs.Cmp.Lexicographic.{pointwise, same_text}
+use Rattle.std.proofs.Math.Nat.{mul-le-mul}
+use Rattle.std.proofs.lemmas.Bool.{cases_Bool, cases_lt, eq-eqb, false≢true}
+use Rattle.std.proofs.lemmas.Cmp.{nat_list_eq_equiv}
+use Rattle.std.proofs.lemmas.List.{length-map, map-append, get_or-map}
+use Rattle.std.proofs.lemmas.Map.Keys.{IsDistinct-cons}
+use Rattle.std.proofs.lemmas.Map.Made.{length-le_from_is_member}
+use Rattle.berge_tree.specs.Trees.{Classes, no_class, and_class, Members, one_member, and_member, JoinTree, entries_below, entries_within, entries, entries_of_all}
+use Rattle.tree_bounds.specs.Columns.{EachColumnBelow, EachColumnWithin}
+use Rattle.tree_bounds.specs.TreeBounds.{EntryBounds, HasLists, bound_of_tree, bound_of_trees}
+use Rattle.tree_bounds.specs.Tables.{KeyedTables, key_of, AgreesBelow, AgreesWithin, Agrees, AreDifferent, Dominates, TreeDominates}
+use Rattle.tree_bounds.specs.Counting.{with_row, paired, rows_with_key, chosen_below, chosen_within, chosen_rows, chosen_rows_of_all}
+use Rattle.tree_bounds.proofs.Counted.{number_within}
+use Rattle.tree_bounds.proofs.Listed.{length-paired, length-chosen_rows}
+
+-- ---- members of lists of rows
+
+-- the rows q stand in the list
+abbrev Stands : List ℕ → List (List ℕ) → Type 0
+Stands q [] = ⊥
+Stands q (x ∷ xs) = (q ≡ x) ⊎ Stands q xs
+
+stands_left : (q : List ℕ) (xs ys : List (List ℕ)) → Stands q xs → Stands q (xs ++ ys)
+stands_left q [] ys h = absurd h
+stands_left q (x ∷ xs) ys h = elim h [ inl now ↦ inl now | inr later ↦ inr (stands_left q xs ys later) ]
+
+stands_right : (q : List ℕ) (xs ys : List (List ℕ)) → Stands q ys → Stands q (xs ++ ys)
+stands_right q [] ys h = h
+stands_right q (x ∷ xs) ys h = inr (stands_right q xs ys h)
+
+stands_mapped : (f : List ℕ → List ℕ) (q : List ℕ) (xs : List (List ℕ)) → Stands q xs → Stands (f q) (map f xs)
+stands_mapped f q [] h = absurd h
+stands_mapped f q (x ∷ xs) h = elim h [ inl now ↦ inl (ap f now) | inr later ↦ inr (stands_mapped f q xs later) ]
+
+stands_paired : (p q : List ℕ) (xs ys : List (List ℕ)) → Stands p xs → Stands q ys → Stands (p ++ q) (paired xs ys)
+stands_paired p q [] ys h k = absurd h
+stands_paired p q (x ∷ xs) ys h k = elim h [
+  | inl now ↦ stands_left (p ++ q) (map (λ y. x ++ y) ys) (paired xs ys) (rw now (stands_mapped (λ y. x ++ y) q ys k))
+  | inr later ↦ stands_right (p ++ q) (map (λ y. x ++ y) ys) (paired xs ys) (stands_paired p q xs ys later k)
+]
+
+stands_for_row : (f : ℕ → List (List ℕ)) (q : List ℕ) (n first row : ℕ) → first ≤ row → row < first + n → Stands q (f row) → Stands q (flat_map f (range_with_len first n))
+stands_for_row f q zero first row from below h = absurd (omega arith)
+stands_for_row f q (suc n) first row from below h = elim (cases_lt first row) [
+  | inl later ↦ stands_right q (f first) (flat_map f (range_with_len (first + 1) n)) (stands_for_row f q n (first + 1) row (omega arith) (omega arith) h)
+  | inr now ↦ (let same : row ≡ first = omega arith in stands_left q (f first) (flat_map f (range_with_len (first + 1) n)) (subst (λ j. Stands q (f j)) same h))
+]
+
+stands_with_key : (n : ℕ) (keys : List ℕ) (below : ℕ → List (List ℕ)) (key row : ℕ) (rows : List ℕ) → length keys ≡ n → row < n → get_or keys row 0 ≡ key → Stands rows (below row)
+    → Stands (row ∷ rows) (rows_with_key keys below key)
+stands_with_key n keys below key row rows per_row h is k =
+    stands_for_row (λ row. cond (eqb (get_or keys row 0) key) (with_row row (below row)) []) (row ∷ rows) (length keys) 0 row (omega arith) (omega arith)
+    (rw (eq-eqb (get_or keys row 0) key is) (stands_mapped (λ (rows : List ℕ). row ∷ rows) rows (below row) k))
+
+-- ---- a choice that agrees is listed
+
+module _ (b : EntryBounds) (tables : KeyedTables) (choice : ℕ → ℕ) where
+  mutual
+    listed_below : (entry : ℕ) (cs : Classes) → EachColumnBelow (Dominates b tables) entry cs → AgreesBelow tables choice entry cs
+        → Stands (map choice (entries_below cs)) (chosen_below tables entry cs (choice entry))
+    listed_below entry no_class d a = inl refl
+    listed_below entry (and_class column members rest) d a =
+        rw (map-append choice (entries_within members) (entries_below rest))
+        (stands_paired (map choice (entries_within members)) (map choice (entries_below rest))
+        (chosen_within tables members (key_of tables choice entry column)) (chosen_below tables entry rest (choice entry))
+        (listed_within (key_of tables choice entry column) members d.1 a.0) (listed_below entry rest d.2 a.1))
+
+    listed_within : (key : ℕ) (ms : Members) → EachColumnWithin (Dominates b tables) ms → AgreesWithin tables choice key ms
+        → Stands (map choice (entries_within ms)) (chosen_within tables ms key)
+    listed_within key (one_member entry column below) d a =
+        stands_with_key (tables.rows entry) (tables.keys entry column) (chosen_below tables entry below) key (choice entry) (map choice (entries_below below))
+        d.0.key_per_row a.0 a.1 (listed_below entry below d.1 a.2)
+    listed_within key (and_member entry column below rest) d a =
+        rw (map-append choice (entries_below below) (entries_within rest))
+        (stands_paired (choice entry ∷ map choice (entries_below below)) (map choice (entries_within rest))
+        (rows_with_key (tables.keys entry column) (chosen_below tables entry below) key) (chosen_within tables rest key)
+        (stands_with_key (tables.rows entry) (tables.keys entry column) (chosen_below tables entry below) key (choice entry) (map choice (entries_below below))
+        d.0.key_per_row a.0 a.1 (listed_below entry below d.1 a.2))
+        (listed_within key rest d.2 a.3))
+
+  listed : (t : JoinTree) → TreeDominates b tables t → Agrees tables t choice → Stands (map choice (entries t)) (chosen_rows tables t)
+  listed t d a =
+      stands_for_row (λ row. with_row row (chosen_below tables t.root t.below row)) (map choice (entries t)) (tables.rows t.root) 0 (choice t.root) (omega arith) (omega (arith, a.0))
+      (stands_mapped (λ (rows : List ℕ). choice t.root ∷ rows) (map choice (entries_below t.below)) (chosen_below tables t.root t.below (choice t.root)) (listed_below t.root t.below d.columns a.1))
+
+  listed_all : (ts : List JoinTree) → AllByRecursion (TreeDominates b tables) ts → AllByRecursion (λ t. Agrees tables t choice) ts
+      → Stands (map choice (entries_of_all ts)) (chosen_rows_of_all tables ts)
+  listed_all [] d a = inl refl
+  listed_all (t ∷ ts) d a =
+      rw (map-append choice (entries t) (entries_of_all ts))
+      (stands_paired (map choice (entries t)) (map choice (entries_of_all ts)) (chosen_rows tables t) (chosen_rows_of_all tables ts) (listed t d.0 a.0) (listed_all ts d.1 a.1))
+
+-- ---- different choices are different members
+
+is_member_where : (q : List ℕ) (xs : List (List ℕ)) → Stands q xs → is_member (pointwise nat_eq) xs q ≡ true
+is_member_where q [] h = absurd h
+is_member_where q (x ∷ xs) h = elim h [
+  | inl now ↦ rw (sym now, nat_list_eq_equiv.refl q) refl
+  | inr later ↦ or_true (pointwise nat_eq q x) (list_any (pointwise nat_eq q) xs) (is_member_where q xs later)
+]
+  where
+    or_true : (a b : Bool) → b ≡ true → (a || b) ≡ true
+    or_true true b e = refl
+    or_true false b e = e
+
+none_alike : IsDistinct (pointwise nat_eq) []
+unfolding IsDistinct
+none_alike = tt
+
+not_alike : (xs ys : List ℕ) → xs ≢ ys → pointwise nat_eq xs ys ≡ false
+not_alike xs ys differ = elim (cases_Bool (pointwise nat_eq xs ys)) [
+  | inl same ↦ absurd (differ (same_text xs ys (sym same)))
+  | inr other ↦ other
+]
+
+unlike_first : (set : List ℕ) (x : ℕ → ℕ) (cs : List (ℕ → ℕ)) → ((j : ℕ) → j < length cs → map x set ≢ map (get_or cs j x) set)
+    → AllByRecursion (λ q. pointwise nat_eq (map x set) q ≡ false) (map (λ c. map c set) cs)
+unlike_first set x [] h = tt
+unlike_first set x (c ∷ cs) h = (not_alike (map x set) (map c set) (h 0 (omega arith)), unlike_first set x cs (λ j k. h (suc j) (omega arith)))
+
+all_unlike : (set : List ℕ) (cs : List (ℕ → ℕ)) → AreDifferent set cs → IsDistinct (pointwise nat_eq) (map (λ c. map c set) cs)
+all_unlike set [] h = none_alike
+all_unlike set (c ∷ cs) h =
+    IsDistinct-cons (pointwise nat_eq) (map c set) (map (λ c. map c set) cs)
+    (unlike_first set c cs (λ j k. h 0 (suc j) c (omega arith) (omega arith)))
+    (all_unlike set cs (λ i j d k l. h (suc i) (suc j) d (omega arith) (omega arith)))
+
+all_members : (set : List ℕ) (cs : List (ℕ → ℕ)) (xs : List (List ℕ)) → AllByRecursion (λ c. Stands (map c set) xs) cs
+    → (q : List ℕ) → is_member (pointwise nat_eq) (map (λ c. map c set) cs) q ≡ true → is_member (pointwise nat_eq) xs q ≡ true
+all_members set [] xs h q e = absurd (false≢true e)
+all_members set (c ∷ cs) xs h q e = elim (cases_Bool (pointwise nat_eq q (map c set))) [
+  | inl same ↦ is_member_where q xs (subst (λ r. Stands r xs) (sym (same_text q (map c set) (sym same))) h.0)
+  | inr other ↦ all_members set cs xs h.1 q (rw other at e)
+]
+
+-- different choices whose rows stand in a list are no more than the list has
+no_more : (set : List ℕ) (cs : List (ℕ → ℕ)) (xs : List (List ℕ)) → AreDifferent set cs → AllByRecursion (λ c. Stands (map c set) xs) cs → length cs ≤ length xs
+no_more set cs xs differ all =
+    omega (arith, length-map cs (λ c. map c set), length-le_from_is_member nat_list_eq_equiv (map (λ c. map c set) cs) xs (all_unlike set cs differ) (all_members set cs xs all))
+
+-- ---- one tree, and several
+
+pub for_each : (Q R : (ℕ → ℕ) → Type 0) → ((c : ℕ → ℕ) → Q c → R c) → (cs : List (ℕ → ℕ)) → AllByRecursion Q cs → AllByRecursion R cs
+for_each Q R f [] h = tt
+for_each Q R f (c ∷ cs) h = (f c h.0, for_each Q R f cs h.1)
+
+module _ (b : EntryBounds) (tables : KeyedTables) where
+  pub choices_within : (t : JoinTree) → HasLists b t → TreeDominates b tables t → (cs : List (ℕ → ℕ)) → AllByRecursion (Agrees tables t) cs → AreDifferent (entries t) cs
+      → length cs ≤ bound_of_tree b t
+  choices_within t h d cs agree differ =
+      omega (
+        arith,
+        no_more (entries t) cs (chosen_rows tables t) differ
+            (for_each (Agrees tables t) (λ c. Stands (map c (entries t)) (chosen_rows tables t)) (λ c a. listed b tables c t d a) cs agree),
+        length-chosen_rows tables t,
+        number_within b tables t h d,
+      )
+
+  length-all : (ts : List JoinTree) → AllByRecursion (HasLists b) ts → AllByRecursion (TreeDominates b tables) ts → length (chosen_rows_of_all tables ts) ≤ bound_of_trees b ts
+  length-all [] h d = omega arith
+  length-all (t ∷ ts) h d =
+      let one : length (chosen_rows tables t) ≤ bound_of_tree b t = omega (arith, length-chosen_rows tables t, number_within b tables t h.0 d.0) in
+      omega (arith, length-paired (chosen_rows tables t) (chosen_rows_of_all tables ts), mul-le-mul one (length-all ts h.1 d.1))
+
+  same_there : (es : List ℕ) (e : ℕ) → Contains es e → (x y : ℕ → ℕ) → map x es ≡ map y es → x e ≡ y e
+  same_there es e k x y same =
+      ap x (sym k.2) ∙ sym (get_or-map x es k.0 e 0 k.1) ∙ ap (λ l. get_or l k.0 0) same ∙ get_or-map y es k.0 e 0 k.1 ∙ ap y k.2
+
+  same_on : (es set : List ℕ) → AllByRecursion (Contains es) set → (x y : ℕ → ℕ) → map x es ≡ map y es → map x set ≡ map y set
+  same_on es [] k x y same = refl
+  same_on es (e ∷ set) k x y same = rw (same_there es e k.0 x y same, same_on es set k.1 x y same) refl
+
+  -- choices that differ on a set of entries that stand in the trees
+  pub choices_within_all : (ts : List JoinTree) → AllByRecursion (HasLists b) ts → AllByRecursion (TreeDominates b tables) ts → (set : List ℕ) → AllByRecursion (Contains (entries_of_all ts)) set
+      → (cs : List (ℕ → ℕ)) → AllByRecursion (λ c. AllByRecursion (λ t. Agrees tables t c) ts) cs → AreDifferent set cs → length cs ≤ bound_of_trees b ts
+  choices_within_all ts h d set inside cs agree differ =
+      omega (
+        arith,
+        no_more (entries_of_all ts) cs (chosen_rows_of_all tables ts)
+            (λ i j e k l same. differ i j e k l (same_on (entries_of_all ts) set inside (get_or cs i e) (get_or cs j e) same))
+            (for_each (λ c. AllByRecursion (λ t. Agrees tables t c) ts) (λ c. Stands (map c (entries_of_all ts)) (chosen_rows_of_all tables ts)) (λ c a. listed_all b tables c ts d a) cs agree),
+        length-all ts h d,
+      )

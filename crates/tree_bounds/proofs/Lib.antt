@@ -1,0 +1,13 @@
+pub mod Counted
+pub mod Listed
+pub mod Injected
+pub mod Agreeing
+pub mod OneForest
+pub mod Turns
+pub mod Nearing
+pub mod NearSets
+pub mod NodeLists
+pub mod Saturated
+pub mod Scanned
+pub mod SmallSets
+pub mod Premises

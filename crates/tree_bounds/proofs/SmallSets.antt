@@ -1,0 +1,57 @@
+-- The bounds of a set without entries, and of one with a single entry.
+use Rattle.std.proofs.Common.{◌≡◌, ℕ, zero, suc, ◌+◌, ◌-◌, ◌≤◌, List, [], ◌∷◌, map, length, sum, refl, ap, sym, ◌∙◌, subst, arith, inl, inr}
+use Rattle.std.specs.List.{Contains, range_with_len}
+use Rattle.std.proofs.Math.Nat.{mul-one}
+use Rattle.std.proofs.lemmas.List.Sums.{sum_by-cons}
+use Rattle.degree_sequences.specs.Composition.{root_total, weight_by_rank}
+use Rattle.berge_tree.specs.declared.edges.Edge.{Edge}
+use Rattle.berge_tree.specs.Equalities.{AreWithin, ClosesNoCycle}
+use Rattle.berge_tree.specs.Rooted.{entries_of_set}
+use Rattle.berge_tree.specs.Walk.{columns_of, forest}
+use Rattle.berge_tree.proofs.Steps.{one_in, in_none}
+use Rattle.join_graph.specs.Kept.{kept_of, turn_count}
+use Rattle.join_graph.proofs.Turning.{kept_within}
+use Rattle.tree_bounds.specs.TreeBounds.{EntryBounds, bound_of_trees}
+use Rattle.tree_bounds.specs.SetBounds.{bound_of_turn, bound_of_set, least_to, trees_of}
+use Rattle.tree_bounds.proofs.Turns.{closes, least_to-some}
+
+all_turns : (f : ℕ → ℕ) (n bound : ℕ) → ((k : ℕ) → f k ≡ bound) → least_to f n ≡ bound
+all_turns f n bound h = let some : (k : ℕ) × (k ≤ n) × (least_to f n ≡ f k) = least_to-some f n in some.2 ∙ h some.0
+
+no_entries : entries_of_set 0 ≡ []
+unfolding entries_of_set
+no_entries = refl
+
+pub empty_is : (b : EntryBounds) (es : List Edge) → bound_of_set b es 0 ≡ 1
+empty_is b es = all_turns (bound_of_turn b es 0) (turn_count 0 es - 1) 1 (λ turn. ap (λ set. bound_of_trees b (forest 16 (columns_of (kept_of 0 turn es)) [] set)) no_entries)
+
+-- ---- one entry
+
+only : (entry x : ℕ) → Contains (entry ∷ []) x → x ≡ entry
+only entry x k = elim (one_in entry [] x k) [ inr is ↦ is | inl none ↦ absurd (in_none x none) ]
+
+-- equalities of one entry with itself close cycles
+none_kept : (entry : ℕ) (kept : List Edge) → AreWithin (entry ∷ []) kept → ClosesNoCycle kept → kept ≡ []
+none_kept entry [] inside closed = refl
+none_kept entry (e ∷ es) inside closed =
+    absurd (closed.0.across (ap closed.0.side (only entry e.left.entry inside.0.0 ∙ sym (only entry e.right.entry inside.0.1))))
+
+ones : (ts : List ℕ) → sum (map (weight_by_rank []) ts) ≡ length ts
+ones [] = refl
+ones (t ∷ ts) = omega (arith, ones ts, sum_by-cons (λ y. y) 1 (map (weight_by_rank []) ts))
+
+all_rows : (first n : ℕ) → length (range_with_len first n) ≡ n
+all_rows first zero = refl
+all_rows first (suc n) = omega (arith, all_rows (first + 1) n)
+
+pub single_is : (b : EntryBounds) (es : List Edge) (subset entry : ℕ) → entries_of_set subset ≡ entry ∷ [] → bound_of_set b es subset ≡ b.rows entry
+single_is b es subset entry one = all_turns (bound_of_turn b es subset) (turn_count subset es - 1) (b.rows entry) each_turn
+  where
+    each_turn : (turn : ℕ) → bound_of_turn b es subset turn ≡ b.rows entry
+    each_turn turn =
+        let none : kept_of subset turn es ≡ [] =
+        none_kept entry (kept_of subset turn es) (subst (λ set. AreWithin set (kept_of subset turn es)) one (kept_within subset turn es)) (closes es subset turn) in
+        ap (λ kept. bound_of_trees b (trees_of kept subset)) none
+        ∙ ap (λ set. bound_of_trees b (forest 16 (columns_of []) [] set)) one
+        ∙ mul-one (root_total [] (b.rows entry))
+        ∙ ones (range_with_len 1 (b.rows entry)) ∙ all_rows 1 (b.rows entry)

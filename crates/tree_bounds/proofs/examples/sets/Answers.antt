@@ -1,0 +1,51 @@
+use Rattle.std.proofs.Common.{refl}
+use Rattle.berge_tree.specs.Rooted.{entries_of_set}
+use Rattle.tree_bounds.proofs.examples.sets.Goals as goal
+
+pub returns-clause-single : goal.returns-clause-single
+unfolding entries_of_set
+returns-clause-single c = refl
+
+pub returns-clause-first_pair : goal.returns-clause-first_pair
+unfolding entries_of_set
+returns-clause-first_pair c = refl
+
+pub returns-clause-last_pair : goal.returns-clause-last_pair
+unfolding entries_of_set
+returns-clause-last_pair c = refl
+
+pub returns-clause-first_turn : goal.returns-clause-first_turn
+unfolding entries_of_set
+returns-clause-first_turn c = refl
+
+pub returns-clause-second_turn : goal.returns-clause-second_turn
+unfolding entries_of_set
+returns-clause-second_turn c = refl
+
+pub returns-clause-third_turn : goal.returns-clause-third_turn
+unfolding entries_of_set
+returns-clause-third_turn c = refl
+
+pub returns-clause-triangle : goal.returns-clause-triangle
+unfolding entries_of_set
+returns-clause-triangle c = refl
+
+pub returns-clause-alike : goal.returns-clause-alike
+unfolding entries_of_set
+returns-clause-alike c = refl
+
+pub returns-clause-different : goal.returns-clause-different
+unfolding entries_of_set
+returns-clause-different c = refl
+
+pub returns-clause-least : goal.returns-clause-least
+unfolding entries_of_set
+returns-clause-least c = refl
+
+pub returns-clause-unjoined : goal.returns-clause-unjoined
+unfolding entries_of_set
+returns-clause-unjoined c = refl
+
+pub returns-clause-empty : goal.returns-clause-empty
+unfolding entries_of_set
+returns-clause-empty c = refl

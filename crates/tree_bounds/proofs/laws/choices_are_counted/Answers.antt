@@ -1,0 +1,9 @@
+use Rattle.tree_bounds.proofs.Counted.{number_within}
+use Rattle.tree_bounds.proofs.Listed.{length-chosen_rows}
+use Rattle.tree_bounds.proofs.laws.choices_are_counted.Goals as goal
+
+pub returns-clause-listed : goal.returns-clause-listed
+returns-clause-listed c = length-chosen_rows
+
+pub returns-clause-within : goal.returns-clause-within
+returns-clause-within c = number_within

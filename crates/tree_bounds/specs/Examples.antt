@@ -1,0 +1,84 @@
+-- Small trees, bounds and tables, for worked examples. Entries are numbered in FROM order, columns in the order of their table.
+use Rattle.std.specs.Prelude.{ℕ, zero, suc, List, [], ◌∷◌}
+use Rattle.berge_tree.specs.Trees.{no_class, and_class, Members, one_member, and_member, JoinTree}
+use Rattle.tree_bounds.specs.TreeBounds.{EntryBounds}
+use Rattle.tree_bounds.specs.Tables.{KeyedTables}
+
+-- ---- R(X), S(X, Y) and T(Y), where R.X = S.X and S.Y = T.Y
+
+abbrev pub path : JoinTree
+path = record { root = 0; below = and_class 0 (one_member 1 0 (and_class 1 (one_member 2 0 no_class) no_class)) no_class }
+
+abbrev pub path_list : ℕ → ℕ → List ℕ
+path_list zero column = 2 ∷ 1 ∷ []
+path_list (suc zero) zero = 3 ∷ 3 ∷ []
+path_list (suc zero) (suc column) = 2 ∷ 2 ∷ 2 ∷ []
+path_list (suc (suc entry)) column = 4 ∷ 1 ∷ []
+
+abbrev pub path_rows : ℕ → ℕ
+path_rows zero = 3
+path_rows (suc zero) = 6
+path_rows (suc (suc entry)) = 5
+
+abbrev pub path_bounds : EntryBounds
+path_bounds = record { rows = path_rows; list = path_list }
+
+-- ---- R(X) and S(X), where R.X = S.X
+
+abbrev pub two : JoinTree
+two = record { root = 0; below = and_class 0 (one_member 1 0 no_class) no_class }
+
+abbrev pub two_rows : ℕ → ℕ
+two_rows zero = 6
+two_rows (suc entry) = 5
+
+abbrev pub two_keys : ℕ → ℕ → List ℕ
+two_keys zero column = 1 ∷ 1 ∷ 1 ∷ 2 ∷ 2 ∷ 3 ∷ []
+two_keys (suc entry) column = 1 ∷ 1 ∷ 4 ∷ 5 ∷ 6 ∷ []
+
+abbrev pub two_tables : KeyedTables
+two_tables = record { rows = two_rows; keys = two_keys }
+
+-- the degree lists of the keys
+abbrev pub exact_list : ℕ → ℕ → List ℕ
+exact_list zero column = 3 ∷ 2 ∷ 1 ∷ []
+exact_list (suc entry) column = 2 ∷ 1 ∷ 1 ∷ 1 ∷ []
+
+abbrev pub exact_bounds : EntryBounds
+exact_bounds = record { rows = two_rows; list = exact_list }
+
+-- the same, compressed
+abbrev pub compressed_list : ℕ → ℕ → List ℕ
+compressed_list zero column = 3 ∷ 3 ∷ []
+compressed_list (suc entry) column = 2 ∷ 2 ∷ 1 ∷ []
+
+abbrev pub compressed_bounds : EntryBounds
+compressed_bounds = record { rows = two_rows; list = compressed_list }
+
+-- ---- other bounds
+
+-- three rows for each entry, and for each column the list 2, 1
+abbrev pub triangle_bounds : EntryBounds
+triangle_bounds = record { rows = λ entry. 3; list = λ entry column. 2 ∷ 1 ∷ [] }
+
+-- three rows for each entry, which in column A are alike and in column B all different
+abbrev pub alike_or_different : ℕ → List ℕ
+alike_or_different zero = 3 ∷ []
+alike_or_different (suc column) = 1 ∷ 1 ∷ 1 ∷ []
+
+abbrev pub pair_bounds : EntryBounds
+pair_bounds = record { rows = λ entry. 3; list = λ entry column. alike_or_different column }
+
+-- ---- entries in one class, of 1700 rows each with one key
+
+-- n entries and one more, from a first one on
+abbrev pub members_from : ℕ → ℕ → Members
+members_from first zero = one_member first 0 no_class
+members_from first (suc n) = and_member first 0 no_class (members_from (suc first) n)
+
+-- n entries and two more in one class
+abbrev pub one_class : ℕ → JoinTree
+one_class n = record { root = 0; below = and_class 0 (members_from 1 n) no_class }
+
+abbrev pub many_bounds : EntryBounds
+many_bounds = record { rows = λ entry. 1700; list = λ entry column. 1700 ∷ [] }

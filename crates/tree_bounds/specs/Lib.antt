@@ -1,0 +1,10 @@
+pub mod Columns
+pub mod TreeBounds
+pub mod SetBounds
+pub mod NodeBounds
+pub mod Tables
+pub mod Nearness
+pub mod Scans
+pub mod Saturating
+pub mod Counting
+pub mod Examples

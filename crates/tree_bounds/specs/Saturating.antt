@@ -1,0 +1,8 @@
+-- Lists as 128 bits hold them.
+use Rattle.std.specs.Prelude.{map}
+use Rattle.degree_sequences.specs.Composition.{ChildLists}
+use Rattle.degree_sequences.specs.Saturation.{saturated}
+
+-- a child whose class list is saturated
+abbrev pub saturated_class : ChildLists → ChildLists
+saturated_class child = record { column = child.column; class = map saturated child.class }

@@ -1,0 +1,69 @@
+-- Tables whose rows have a key in each column, choices of one row for each entry, and when lists dominate the tables.
+use Rattle.std.specs.Prelude.{◌≡◌, ◌≢◌, ℕ, ◌<◌, ◌≤◌, ⊤, List, map, length, slice_index}
+use Rattle.std.specs.List.{AllByRecursion, AllPairs}
+use Rattle.degree_sequences.specs.Domination.{DominatesKeys}
+use Rattle.berge_tree.specs.declared.edges.Edge.{Edge}
+use Rattle.berge_tree.specs.Rooted.{entries_of_set}
+use Rattle.berge_tree.specs.Trees.{Classes, no_class, and_class, Members, one_member, and_member, JoinTree}
+use Rattle.join_graph.specs.Kept.{equalities_within}
+use Rattle.tree_bounds.specs.Columns.{EachColumn, EachNamedColumn}
+use Rattle.tree_bounds.specs.TreeBounds.{EntryBounds}
+
+-- how many rows the table of each entry has, and for each of its columns the keys of these rows
+pub record KeyedTables : Type 0 where
+  pub rows : ℕ → ℕ
+  pub keys : ℕ → ℕ → List ℕ
+
+-- ---- choices: for each entry the number of one of its rows, counted from 0
+
+-- the key of the chosen row in a column
+abbrev pub key_of : KeyedTables → (ℕ → ℕ) → ℕ → ℕ → ℕ
+key_of tables choice entry column = slice_index (tables.keys entry column) (choice entry)
+
+-- in each class below an entry the chosen rows have the key that the entry's row has
+abbrev mutual
+  pub AgreesBelow : KeyedTables → (ℕ → ℕ) → ℕ → Classes → Type 0
+  AgreesBelow tables choice entry no_class = ⊤
+  AgreesBelow tables choice entry (and_class column members rest) =
+      AgreesWithin tables choice (key_of tables choice entry column) members × AgreesBelow tables choice entry rest
+
+  -- the chosen rows of the entries below a class have this key there
+  pub AgreesWithin : KeyedTables → (ℕ → ℕ) → ℕ → Members → Type 0
+  AgreesWithin tables choice key (one_member entry column below) =
+      (choice entry < tables.rows entry) × (key_of tables choice entry column ≡ key) × AgreesBelow tables choice entry below
+  AgreesWithin tables choice key (and_member entry column below rest) =
+      (choice entry < tables.rows entry) × (key_of tables choice entry column ≡ key) × AgreesBelow tables choice entry below × AgreesWithin tables choice key rest
+
+-- the choice takes a row for each entry of a tree, and their keys agree in each class
+abbrev pub Agrees : KeyedTables → JoinTree → (ℕ → ℕ) → Type 0
+Agrees tables t choice = (choice t.root < tables.rows t.root) × AgreesBelow tables choice t.root t.below
+
+-- the choice takes a row for each entry of a list, and satisfies each equality
+pub record Satisfies (tables : KeyedTables) (entries : List ℕ) (es : List Edge) (choice : ℕ → ℕ) : Type 0 where
+  pub rows : AllByRecursion (λ entry. choice entry < tables.rows entry) entries
+  pub equal : AllByRecursion (λ e. key_of tables choice e.left.entry e.left.column ≡ key_of tables choice e.right.entry e.right.column) es
+
+-- no two of the choices take the same rows for these entries
+abbrev pub AreDifferent : List ℕ → List (ℕ → ℕ) → Type 0
+AreDifferent entries choices = AllPairs (λ x y. map x entries ≢ map y entries) choices
+
+-- ---- when lists dominate tables
+
+-- an entry has at most as many rows as its row bound
+abbrev pub RowsFit : EntryBounds → KeyedTables → ℕ → Type 0
+RowsFit b tables entry = tables.rows entry ≤ b.rows entry
+
+-- the list of a column dominates its keys, of which each row has one
+pub record Dominates (b : EntryBounds) (tables : KeyedTables) (entry column : ℕ) : Type 0 where
+  pub keys : DominatesKeys (b.list entry column) (tables.keys entry column)
+  pub key_per_row : length (tables.keys entry column) ≡ tables.rows entry
+
+-- the lists dominate the tables at every column of a tree, and the rows of the root fit
+pub record TreeDominates (b : EntryBounds) (tables : KeyedTables) (t : JoinTree) : Type 0 where
+  pub root : RowsFit b tables t.root
+  pub columns : EachColumn (Dominates b tables) t
+
+-- they dominate them at every column that an equality of the set names, and the rows of each entry of the set fit
+pub record SetDominates (b : EntryBounds) (tables : KeyedTables) (es : List Edge) (subset : ℕ) : Type 0 where
+  pub rows : AllByRecursion (RowsFit b tables) (entries_of_set subset)
+  pub columns : EachNamedColumn (Dominates b tables) (equalities_within subset es)

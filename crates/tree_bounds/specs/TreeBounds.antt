@@ -1,0 +1,45 @@
+-- The bound of a join tree: a number that is folded from the leaves up, out of falling lists of the columns.
+use Rattle.std.specs.Prelude.{◌≡◌, ℕ, ◌*◌, List, [], ◌∷◌}
+use Rattle.std.specs.List.{sum}
+use Rattle.degree_sequences.specs.ByRank.{rank_product}
+use Rattle.degree_sequences.specs.Composition.{ChildLists, composed, root_total}
+use Rattle.degree_sequences.specs.Falling.{IsFalling}
+use Rattle.berge_tree.specs.Trees.{Classes, no_class, and_class, Members, one_member, and_member, JoinTree}
+use Rattle.tree_bounds.specs.Columns.{EachColumn}
+
+-- what is known of entries: at most how many rows each has, and for each of its joined columns a list
+pub record EntryBounds : Type 0 where
+  pub rows : ℕ → ℕ
+  pub list : ℕ → ℕ → List ℕ
+
+-- a list of a column: it falls, and its sum is the row bound of the entry
+pub record IsListOf (rows : ℕ) (list : List ℕ) : Type 0 where
+  pub falls : IsFalling list
+  pub total : sum list ≡ rows
+
+abbrev pub HasList : EntryBounds → ℕ → ℕ → Type 0
+HasList b entry column = IsListOf (b.rows entry) (b.list entry column)
+
+-- every column of a tree has its list
+abbrev pub HasLists : EntryBounds → JoinTree → Type 0
+HasLists b t = EachColumn (HasList b) t
+
+-- the classes below an entry, each with the entry's list in it and the list of the class
+abbrev mutual
+  pub child_lists : EntryBounds → ℕ → Classes → List ChildLists
+  child_lists b entry no_class = []
+  child_lists b entry (and_class column members rest) = record { column = b.list entry column; class = class_list b members } ∷ child_lists b entry rest
+
+  -- the list of a class: the rank-wise product of the lists of the entries below it, each composed with what lies below that entry
+  pub class_list : EntryBounds → Members → List ℕ
+  class_list b (one_member entry column below) = composed (b.list entry column) (child_lists b entry below)
+  class_list b (and_member entry column below rest) = rank_product (composed (b.list entry column) (child_lists b entry below)) (class_list b rest)
+
+-- the bound of a tree: what the rows of the root weigh together
+abbrev pub bound_of_tree : EntryBounds → JoinTree → ℕ
+bound_of_tree b t = root_total (child_lists b t.root t.below) (b.rows t.root)
+
+-- of several trees: the product of their bounds
+abbrev pub bound_of_trees : EntryBounds → List JoinTree → ℕ
+bound_of_trees b [] = 1
+bound_of_trees b (t ∷ ts) = bound_of_tree b t * bound_of_trees b ts

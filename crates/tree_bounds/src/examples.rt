@@ -1,0 +1,60 @@
+//! Each definition at small numbers.
+ghost use Rattle.std.specs.Prelude.{◌≡◌, ◌-◌, ◌*◌, ◌^◌, [], ◌∷◌};
+ghost use Rattle.degree_sequences.specs.Degrees.{degree_list};
+ghost use Rattle.degree_sequences.specs.Saturation.{saturated};
+ghost use Rattle.berge_tree.specs.Nodes.{nodes_of};
+ghost use Rattle.berge_tree.specs.Testing.{edge_of};
+ghost use Rattle.join_graph.specs.Examples.{pair, triangle};
+ghost use Rattle.tree_bounds.specs.TreeBounds.{HasLists, bound_of_tree, bound_of_trees};
+ghost use Rattle.tree_bounds.specs.NodeBounds.{bound_of_nodes};
+ghost use Rattle.tree_bounds.specs.Nearness.{TreeIsNear};
+ghost use Rattle.tree_bounds.specs.Tables.{SetDominates, TreeDominates};
+ghost use Rattle.tree_bounds.specs.SetBounds.{SetHasLists, bound_of_set, bound_of_turn};
+ghost use Rattle.tree_bounds.specs.Counting.{chosen_rows};
+ghost use Rattle.tree_bounds.specs.Examples.{path, path_bounds, two, two_keys, two_tables, exact_list, exact_bounds, compressed_bounds, triangle_bounds, pair_bounds, one_class, many_bounds};
+
+/// Trees of two and three entries, and two trees together.
+pub fn trees()
+    ensures path { bound_of_tree path_bounds path ≡ 19 }
+    ensures path_nodes { bound_of_nodes path_bounds (nodes_of path) ≡ 19 }
+    ensures compressed { bound_of_tree compressed_bounds two ≡ 12 }
+    ensures exact { bound_of_tree exact_bounds two ≡ 9 }
+    ensures degrees { (degree_list (two_keys 0 0) ≡ exact_list 0 0) × (degree_list (two_keys 1 0) ≡ exact_list 1 0) }
+    ensures six_choices { chosen_rows two_tables two
+        ≡ (0 ∷ 0 ∷ []) ∷ (0 ∷ 1 ∷ []) ∷ (1 ∷ 0 ∷ []) ∷ (1 ∷ 1 ∷ []) ∷ (2 ∷ 0 ∷ []) ∷ (2 ∷ 1 ∷ []) ∷ [] }
+    ensures components { bound_of_trees path_bounds (path ∷ path ∷ []) ≡ 19 * 19 }
+{}
+
+/// Sets of entries: a triangle, two entries with two equalities, and two entries with none.
+pub fn sets()
+    ensures single { bound_of_set triangle_bounds triangle 2 ≡ 3 }
+    ensures first_pair { bound_of_set triangle_bounds triangle 3 ≡ 5 }
+    ensures last_pair { bound_of_set triangle_bounds triangle 5 ≡ 5 }
+    ensures first_turn { bound_of_turn triangle_bounds triangle 7 0 ≡ 9 }
+    ensures second_turn { bound_of_turn triangle_bounds triangle 7 1 ≡ 9 }
+    ensures third_turn { bound_of_turn triangle_bounds triangle 7 2 ≡ 9 }
+    ensures triangle { bound_of_set triangle_bounds triangle 7 ≡ 9 }
+    ensures alike { bound_of_turn pair_bounds pair 3 0 ≡ 9 }
+    ensures different { bound_of_turn pair_bounds pair 3 1 ≡ 3 }
+    ensures least { bound_of_set pair_bounds pair 3 ≡ 3 }
+    ensures unjoined { bound_of_set path_bounds [] 7 ≡ 3 * 6 * 5 }
+    ensures empty { bound_of_set path_bounds triangle 0 ≡ 1 }
+{}
+
+/// Eleven and twelve entries in one class.
+pub fn one_class()
+    ensures eleven { bound_of_tree many_bounds (one_class 9) ≡ 1700 ^ 11 }
+    ensures twelve { saturated (bound_of_tree many_bounds (one_class 10)) ≡ 2 ^ 128 - 1 }
+{}
+
+/// The premises of the laws, all met: the exact lists of two tables dominate them, for the tree and for the set of the
+/// two, and the compressed lists are near the exact ones at accuracy 1.
+pub fn instances()
+    ensures lists { HasLists exact_bounds two }
+    ensures dominates { TreeDominates exact_bounds two_tables two }
+    ensures set_lists { SetHasLists exact_bounds (edge_of 0 0 1 0 ∷ []) 3 }
+    ensures set_dominates { SetDominates exact_bounds two_tables (edge_of 0 0 1 0 ∷ []) 3 }
+    ensures set_bound { bound_of_set exact_bounds (edge_of 0 0 1 0 ∷ []) 3 ≡ 9 }
+    ensures near_lists { HasLists compressed_bounds two }
+    ensures near { TreeIsNear 1 compressed_bounds exact_bounds two }
+{}

@@ -1,0 +1,136 @@
+//! What the definitions say, as laws. Each call does nothing.
+ghost use Rattle.std.specs.Prelude.{◌≡◌, ◌↔◌, ◌⊎◌, ◌+◌, ◌-◌, ◌*◌, ◌^◌, ◌<◌, ◌≤◌, ℕ, List, [], ◌∷◌, ◌++◌, length, map, min, slice_get};
+ghost use Rattle.std.specs.List.{AllByRecursion, Contains};
+ghost use Rattle.degree_sequences.specs.ByRank.{rank_product, rank_product_of};
+ghost use Rattle.degree_sequences.specs.Composition.{ChildLists, composed, root_total};
+ghost use Rattle.degree_sequences.specs.Saturation.{saturated};
+ghost use Rattle.berge_tree.specs.declared.edges.Edge.{Edge};
+ghost use Rattle.berge_tree.specs.Equalities.{ClosesNoCycle};
+ghost use Rattle.berge_tree.specs.Rooted.{AreAllTreesOf, entries_of_set};
+ghost use Rattle.berge_tree.specs.Trees.{JoinTree, entries, entries_of_all};
+ghost use Rattle.berge_tree.specs.declared.tree.Node.{Node};
+ghost use Rattle.berge_tree.specs.Standing.{StandsIn};
+ghost use Rattle.berge_tree.specs.Valid.{IsValid, children_of};
+ghost use Rattle.join_graph.specs.Kept.{equalities_within, kept_of};
+ghost use Rattle.tree_bounds.specs.Counting.{chosen_rows, number_of_choices};
+ghost use Rattle.tree_bounds.specs.NodeBounds.{bound_of_nodes, list_at, node_list};
+ghost use Rattle.tree_bounds.specs.Nearness.{SetIsNear, TreeIsNear};
+ghost use Rattle.tree_bounds.specs.Saturating.{saturated_class};
+ghost use Rattle.tree_bounds.specs.Scans.{SatisfiesScanned, scanned};
+ghost use Rattle.tree_bounds.specs.SetBounds.{IsBoundOfSet, IsBoundOfTurn, SetHasLists, bound_of_set, bound_of_turn, trees_of};
+ghost use Rattle.tree_bounds.specs.Tables.{KeyedTables, Agrees, AreDifferent, Satisfies, SetDominates, TreeDominates};
+ghost use Rattle.tree_bounds.specs.TreeBounds.{EntryBounds, HasLists, bound_of_tree, bound_of_trees};
+
+/// Never under, for trees: different choices of one row for each entry, whose keys agree in each class, are no more
+/// than the bound says, where the lists dominate the tables (Degree Sequence Bound, ICDT 2023; SafeBound, SIGMOD 2023).
+pub fn trees_are_never_under()
+    ensures one { (b : EntryBounds) (tables : KeyedTables) (t : JoinTree) → HasLists b t → TreeDominates b tables t
+        → (choices : List (ℕ → ℕ)) → AllByRecursion (Agrees tables t) choices → AreDifferent (entries t) choices
+        → length choices ≤ bound_of_tree b t }
+    ensures several { (b : EntryBounds) (tables : KeyedTables) (trees : List JoinTree)
+        → AllByRecursion (HasLists b) trees → AllByRecursion (TreeDominates b tables) trees
+        → (set : List ℕ) → AllByRecursion (Contains (entries_of_all trees)) set
+        → (choices : List (ℕ → ℕ)) → AllByRecursion (λ choice. AllByRecursion (λ t. Agrees tables t choice) trees) choices
+        → AreDifferent set choices → length choices ≤ bound_of_trees b trees }
+{}
+
+/// The choices that agree can be counted and listed, and the bound is at least their number.
+pub fn choices_are_counted()
+    ensures listed { (tables : KeyedTables) (t : JoinTree) → length (chosen_rows tables t) ≡ number_of_choices tables t }
+    ensures within { (b : EntryBounds) (tables : KeyedTables) (t : JoinTree) → HasLists b t → TreeDominates b tables t
+        → number_of_choices tables t ≤ bound_of_tree b t }
+{}
+
+/// Equalities that close no cycle have one list of trees over a set of entries. In each turn of a set it can be computed.
+pub fn trees_are_one()
+    ensures one { (es : List Edge) → ClosesNoCycle es → (set : List ℕ) (trees others : List JoinTree)
+        → AreAllTreesOf es set trees → AreAllTreesOf es set others → trees ≡ others }
+    ensures computed { (es : List Edge) (subset turn : ℕ) (trees : List JoinTree)
+        → AreAllTreesOf (kept_of subset turn es) (entries_of_set subset) trees ↔ (trees ≡ trees_of (kept_of subset turn es) subset) }
+{}
+
+/// Where each column that equalities of a set name has its list, each column of the trees has it, in each turn.
+pub fn trees_have_the_lists_of_their_set()
+    ensures { (b : EntryBounds) (es : List Edge) (subset turn : ℕ) (trees : List JoinTree)
+        → AreAllTreesOf (kept_of subset turn es) (entries_of_set subset) trees → SetHasLists b es subset
+        → AllByRecursion (HasLists b) trees }
+{}
+
+/// A set of entries has one bound, in each turn and over its turns, and it can be computed.
+pub fn bounds_are_one()
+    ensures turn { (b : EntryBounds) (es : List Edge) (subset turn n : ℕ)
+        → IsBoundOfTurn b es subset turn n ↔ (n ≡ bound_of_turn b es subset turn) }
+    ensures set { (b : EntryBounds) (es : List Edge) (subset n : ℕ)
+        → IsBoundOfSet b es subset n ↔ (n ≡ bound_of_set b es subset) }
+{}
+
+/// Never under, for sets: different choices of one row for each entry of a set, which satisfy all equalities of the
+/// set, are no more than the bound says, in each turn and so in the least. What a turn leaves out only makes choices fewer.
+pub fn sets_are_never_under()
+    ensures each_turn { (b : EntryBounds) (tables : KeyedTables) (es : List Edge) (subset : ℕ)
+        → SetHasLists b es subset → SetDominates b tables es subset → (choices : List (ℕ → ℕ))
+        → AllByRecursion (Satisfies tables (entries_of_set subset) (equalities_within subset es)) choices
+        → AreDifferent (entries_of_set subset) choices → (turn : ℕ) → length choices ≤ bound_of_turn b es subset turn }
+    ensures least { (b : EntryBounds) (tables : KeyedTables) (es : List Edge) (subset : ℕ)
+        → SetHasLists b es subset → SetDominates b tables es subset → (choices : List (ℕ → ℕ))
+        → AllByRecursion (Satisfies tables (entries_of_set subset) (equalities_within subset es)) choices
+        → AreDifferent (entries_of_set subset) choices → length choices ≤ bound_of_set b es subset }
+{}
+
+/// The same where of each table only scanned rows are chosen, and the lists dominate these.
+pub fn scans_are_never_under()
+    ensures { (b : EntryBounds) (scans : ℕ → List ℕ) (key : ℕ → ℕ → ℕ → ℕ) (es : List Edge) (subset : ℕ)
+        → SetHasLists b es subset → SetDominates b (scanned scans key) es subset → (choices : List (ℕ → ℕ))
+        → AllByRecursion (SatisfiesScanned scans key (entries_of_set subset) (equalities_within subset es)) choices
+        → AreDifferent (entries_of_set subset) choices → length choices ≤ bound_of_set b es subset }
+{}
+
+/// The empty set has the bound 1, and a set of one entry its row bound.
+pub fn small_sets_have_plain_bounds()
+    ensures empty { (b : EntryBounds) (es : List Edge) → bound_of_set b es 0 ≡ 1 }
+    ensures single { (b : EntryBounds) (es : List Edge) (subset entry : ℕ) → entries_of_set subset ≡ entry ∷ []
+        → bound_of_set b es subset ≡ b.rows entry }
+{}
+
+/// Near the exact bounds: where K times each row bound and each running sum of a list is at most K + 1 times the exact
+/// one, K^n times the bound is at most (K + 1)^n times the exact one, n being the number of entries.
+pub fn bounds_are_near()
+    ensures tree { (accuracy : ℕ) (b exact : EntryBounds) (t : JoinTree) → HasLists b t → HasLists exact t → TreeIsNear accuracy b exact t
+        → accuracy ^ length (entries t) * bound_of_tree b t ≤ (accuracy + 1) ^ length (entries t) * bound_of_tree exact t }
+    ensures trees { (accuracy : ℕ) (b exact : EntryBounds) (trees : List JoinTree)
+        → AllByRecursion (HasLists b) trees → AllByRecursion (HasLists exact) trees → AllByRecursion (TreeIsNear accuracy b exact) trees
+        → accuracy ^ length (entries_of_all trees) * bound_of_trees b trees
+        ≤ (accuracy + 1) ^ length (entries_of_all trees) * bound_of_trees exact trees }
+    ensures turn { (accuracy : ℕ) (b exact : EntryBounds) (es : List Edge) (subset : ℕ)
+        → SetHasLists b es subset → SetHasLists exact es subset → SetIsNear accuracy b exact es subset → (turn : ℕ)
+        → accuracy ^ length (entries_of_set subset) * bound_of_turn b es subset turn
+        ≤ (accuracy + 1) ^ length (entries_of_set subset) * bound_of_turn exact es subset turn }
+    ensures set { (accuracy : ℕ) (b exact : EntryBounds) (es : List Edge) (subset : ℕ)
+        → SetHasLists b es subset → SetHasLists exact es subset → SetIsNear accuracy b exact es subset
+        → accuracy ^ length (entries_of_set subset) * bound_of_set b es subset
+        ≤ (accuracy + 1) ^ length (entries_of_set subset) * bound_of_set exact es subset }
+{}
+
+/// The bound of nodes is that of the tree that stands in them, and each node's list is made of its children's lists.
+pub fn nodes_have_the_bound_of_their_tree()
+    ensures bound { (b : EntryBounds) (nodes : List Node) → IsValid nodes → (t : JoinTree) → StandsIn nodes t
+        → bound_of_nodes b nodes ≡ bound_of_tree b t }
+    ensures lists { (b : EntryBounds) (nodes : List Node) → IsValid nodes → (i : ℕ) → i < length nodes
+        → node_list b nodes i ≡ list_at b nodes (node_list b nodes) (children_of nodes i) (slice_get nodes i) }
+    ensures later { (nodes : List Node) → IsValid nodes → (i : ℕ) → AllByRecursion (λ child. (i < child) × (child < length nodes)) (children_of nodes i) }
+{}
+
+/// A number that is saturated at each step is the saturated bound, and what is never under stays so, or is 2^128 - 1.
+pub fn bounds_saturate()
+    ensures entry { (parent : List ℕ) (children : List ChildLists)
+        → map saturated (composed parent (map saturated_class children)) ≡ map saturated (composed parent children) }
+    ensures class { (lists : List (List ℕ)) (list : List ℕ) → 0 < length lists
+        → map saturated (rank_product (map saturated (rank_product_of lists)) (map saturated list))
+        ≡ map saturated (rank_product_of (lists ++ list ∷ [])) }
+    ensures root { (children : List ChildLists) (rows : ℕ)
+        → saturated (root_total (map saturated_class children) rows) ≡ saturated (root_total children rows) }
+    ensures trees { (b : EntryBounds) (trees : List JoinTree) (t : JoinTree)
+        → saturated (saturated (bound_of_trees b trees) * saturated (bound_of_tree b t)) ≡ saturated (bound_of_trees b (trees ++ t ∷ [])) }
+    ensures turns { (m n : ℕ) → min (saturated m) (saturated n) ≡ saturated (min m n) }
+    ensures never_under { (n bound : ℕ) → n ≤ bound → (n ≤ saturated bound) ⊎ (saturated bound ≡ 2 ^ 128 - 1) }
+{}
