@@ -1,0 +1,84 @@
+-- A query that a text may be answered with is a query of the schema.
+use Rattle.std.proofs.Common.{◌≡◌, inl, inr, ℕ, ◌≤◌, Bool, true, false, cond, nat_lt, List, [], ◌∷◌, ◌++◌, length, Result, Ok, Err, subst, sym, refl, arith}
+use Rattle.std.specs.Prelude.{IfOk}
+use Rattle.std.proofs.lemmas.Bool.{ltb-false}
+use Rattle.ll_grammars.specs.declared.lexeme.Lexeme.{Lexeme}
+use Rattle.query_grammar.specs.declared.tree.QueryText.{QueryText}
+use Rattle.query_grammar.specs.Grammar.{QuerySpecification}
+use Rattle.schema_types.specs.declared.types.Schema.{Schema}
+use Rattle.schema_types.specs.declared.errors.LimitKind.{LimitKind}
+use Rattle.schema_types.specs.declared.errors.LimitKind.TheVariants as limit
+use Rattle.sql_parse.specs.declared.errors.QueryError.{QueryError}
+use Rattle.query_types.specs.declared.types.Query.{Query}
+use Rattle.query_types.specs.declared.types.Source.{Source}
+use Rattle.query_types.specs.Validity.{IsOf}
+use Rattle.sql_parse.specs.Names.{entries}
+use Rattle.sql_parse.specs.Offences.{name_offences, all_kind_offences}
+use Rattle.sql_parse.specs.Values.{conjuncts, query_of}
+use Rattle.sql_parse.specs.Bound.{over, first_list, first_place, name_error, kind_error, limit_refusals, long_lists, refusals, unless, bound, refusal, most_entries, most_conjuncts, most_outputs}
+use Rattle.sql_parse.specs.Numbers.{number_offences}
+use Rattle.sql_parse.specs.Reading.{lexemes_of, unless_number, IsAnswer}
+use Rattle.sql_parse.proofs.OfSchema.{of_schema}
+use Rattle.sql_parse.proofs.SomeEntry.{some_entries}
+
+none_before : (xs ys : List QueryError) → xs ++ ys ≡ [] → xs ≡ []
+none_before [] ys none = refl
+none_before (x ∷ xs) ys none = absurd cc
+
+none_behind : (xs ys : List QueryError) → xs ++ ys ≡ [] → ys ≡ []
+none_behind [] ys none = none
+none_behind (x ∷ xs) ys none = absurd cc
+
+no_place : (wrong : ℕ → QueryError) (places : List ℕ) → first_place wrong places ≡ [] → places ≡ []
+no_place wrong [] none = refl
+no_place wrong (place ∷ rest) none = absurd cc
+
+not_over : (which : LimitKind) (most n : ℕ) → over which most n ≡ [] → n ≤ most
+not_over which most n none = at (nat_lt most n) refl none where
+  at : (more : Bool) → more ≡ nat_lt most n → cond more (refusal which n ∷ []) [] ≡ [] → n ≤ most
+  at true is none = absurd cc
+  at false is none = ltb-false most n (sym is)
+
+unless_ok : (wrong : List QueryError) (value query : Query) → unless wrong value ≡ Ok query → (wrong ≡ []) × (value ≡ query)
+unless_ok [] value query is = (refl, cc)
+unless_ok (e ∷ rest) value query is = absurd cc
+
+pub bound_of_schema : (schema : Schema) (text : List ℕ) (tokens : List Lexeme) (tree : QueryText) (query : Query) → QuerySpecification tokens tree → bound schema text tree ≡ Ok query → IsOf schema query
+unfolding bound refusals query_of
+bound_of_schema schema text tokens tree query spelled is =
+    let from : List Source = entries schema text tree in
+    let names : List QueryError = first_place name_error (name_offences schema text from tree) in
+    let kinds : List QueryError = first_place kind_error (all_kind_offences schema text from tree) in
+    let many_entries : List QueryError = over limit.FromEntries most_entries (length from) in
+    let lists : List QueryError = first_list (long_lists from tree) in
+    let many_conjuncts : List QueryError = over limit.Conjuncts most_conjuncts (length (conjuncts schema text from tree)) in
+    let many_outputs : List QueryError = over limit.Outputs most_outputs (length (query_of schema text tree).select) in
+    let parts : (refusals schema text tree ≡ []) × (query_of schema text tree ≡ query) = unless_ok (refusals schema text tree) (query_of schema text tree) query is in
+    let limits : limit_refusals (query_of schema text tree) (long_lists from tree) ≡ [] = none_behind (names ++ kinds) (limit_refusals (query_of schema text tree) (long_lists from tree)) parts.0 in
+    let bad : names ++ kinds ≡ [] = none_before (names ++ kinds) (limit_refusals (query_of schema text tree) (long_lists from tree)) parts.0 in
+    let first_three : (many_entries ++ lists) ++ many_conjuncts ≡ [] = none_before ((many_entries ++ lists) ++ many_conjuncts) many_outputs limits in
+    let first_two : many_entries ++ lists ≡ [] = none_before (many_entries ++ lists) many_conjuncts first_three in
+    let few : length from ≤ 12 = not_over limit.FromEntries most_entries (length from) (none_before many_entries lists first_two) in
+    let few_conjuncts : length (conjuncts schema text from tree) ≤ 256 = not_over limit.Conjuncts most_conjuncts (length (conjuncts schema text from tree)) (none_behind (many_entries ++ lists) many_conjuncts first_three) in
+    subst (IsOf schema) parts.1
+    (of_schema schema text tree (some_entries schema text tokens tree spelled) few (omega arith)
+    (no_place name_error (name_offences schema text from tree) (none_before names kinds bad))
+    (no_place kind_error (all_kind_offences schema text from tree) (none_behind names kinds bad)))
+
+unless_number_ok : (places : List ℕ) (answer : Result Query QueryError) (query : Query) → Ok query ≡ unless_number places answer → answer ≡ Ok query
+unless_number_ok [] answer query is = sym is
+unless_number_ok (place ∷ rest) answer query is = absurd cc
+
+-- every query that the relation allows
+pub answer_of_schema : (schema : Schema) (text : List ℕ) (query : Query) → IsAnswer schema text (Ok query) → IsOf schema query
+answer_of_schema schema text query (inl memory) = absurd cc
+answer_of_schema schema text query (inr (inl unlexed)) = absurd (let is = unlexed.refused in cc)
+answer_of_schema schema text query (inr (inr (inl deep))) = absurd (let is = deep.refused in cc)
+answer_of_schema schema text query (inr (inr (inr (inl unspelled)))) = absurd (let is = unspelled.refused in cc)
+answer_of_schema schema text query (inr (inr (inr (inr spelled)))) =
+    bound_of_schema schema text (lexemes_of text spelled.tokens) spelled.tree query spelled.spelled
+    (unless_number_ok (number_offences text (lexemes_of text spelled.tokens)) (bound schema text spelled.tree) query spelled.answered)
+
+pub answers_of_schema : (schema : Schema) (text : List ℕ) (answer : Result Query QueryError) → IsAnswer schema text answer → IfOk answer (IsOf schema)
+answers_of_schema schema text (Ok query) is = answer_of_schema schema text query is
+answers_of_schema schema text (Err e) is = tt

@@ -1,0 +1,70 @@
+-- What is behind FROM, one after the other: the SELECT list, the parts' conditions, and that of WHERE.
+use Rattle.std.proofs.Common.{◌≡◌, ℕ, List, [], ◌++◌, Option, ap, subst, sym, ◌∙◌, append_assoc}
+use Rattle.std.specs.List.{flat_map}
+use Rattle.query_grammar.specs.declared.tree.PartText.{PartText}
+use Rattle.query_grammar.specs.declared.tree.QueryText.{QueryText}
+use Rattle.sql_parse.specs.declared.binder.Binder.{Binder}
+use Rattle.sql_parse.specs.declared.errors.QueryError.{QueryError}
+use Rattle.query_types.specs.declared.types.Cond.{Cond}
+use Rattle.query_types.specs.declared.types.Source.{Source}
+use Rattle.sql_parse.specs.Answers.{IsNameError, or_first}
+use Rattle.sql_parse.specs.Scopes.{Scoped, everything, conditions, on_conditions, filtered}
+use Rattle.sql_parse.specs.Binding.{from_of, outs_offences_of, names_in, kinds_in, lists_in, members_in}
+use Rattle.sql_parse.specs.Behind.{names_behind, kinds_behind, lists_behind, conjuncts_by}
+use Rattle.sql_parse.proofs.KindFacts.{flat_map-append}
+use Rattle.sql_parse.proofs.Walk.{error_behind, name_error_append, or_first_append}
+
+split : {B : Type 0} (f : Scoped → List B) (from : List Source) (query : QueryText) → flat_map f (conditions from query) ≡ flat_map f (on_conditions 0 query.parts) ++ flat_map f (filtered from query.filter)
+unfolding conditions
+split f from query = flat_map-append f (on_conditions 0 query.parts) (filtered from query.filter)
+
+module _ (binder : Binder) (query : QueryText) where
+  abbrev in_outs : List ℕ
+  in_outs = outs_offences_of binder (everything (from_of binder)) query.outs
+
+  abbrev in_parts : List ℕ
+  in_parts = flat_map (names_in binder) (on_conditions 0 query.parts)
+
+  abbrev in_filter : List ℕ
+  in_filter = flat_map (names_in binder) (filtered (from_of binder) query.filter)
+
+  names_are : names_behind binder query ≡ in_outs ++ (in_parts ++ in_filter)
+  unfolding names_behind
+  names_are = ap (λ l. in_outs ++ l) (split (names_in binder) (from_of binder) query)
+
+  pub no_name : in_outs ≡ [] → in_parts ≡ [] → in_filter ≡ [] → names_behind binder query ≡ []
+  no_name outs parts filter = names_are ∙ ap (λ l. l ++ (in_parts ++ in_filter)) outs ∙ ap (λ l. l ++ in_filter) parts ∙ filter
+
+  pub name_in_outs : (e : QueryError) → IsNameError in_outs e → IsNameError (names_behind binder query) e
+  name_in_outs e wrong = subst (λ l. IsNameError l e) (sym names_are) (name_error_append in_outs (in_parts ++ in_filter) e wrong)
+
+  pub name_in_parts : (e : QueryError) → in_outs ≡ [] → IsNameError in_parts e → IsNameError (names_behind binder query) e
+  name_in_parts e outs wrong = subst (λ l. IsNameError l e) (sym names_are) (error_behind in_outs (in_parts ++ in_filter) e outs (name_error_append in_parts in_filter e wrong))
+
+  pub name_in_filter : (e : QueryError) → in_outs ≡ [] → in_parts ≡ [] → IsNameError in_filter e → IsNameError (names_behind binder query) e
+  name_in_filter e outs parts wrong = subst (λ l. IsNameError l e) (sym names_are) (error_behind in_outs (in_parts ++ in_filter) e outs (error_behind in_parts in_filter e parts wrong))
+
+  pub kinds_behind_are : (old : Option ℕ) → or_first (or_first old (flat_map (kinds_in binder) (on_conditions 0 query.parts))) (flat_map (kinds_in binder) (filtered (from_of binder) query.filter)) ≡ or_first old (kinds_behind binder query)
+  unfolding kinds_behind
+  kinds_behind_are old =
+      sym (or_first_append old (flat_map (kinds_in binder) (on_conditions 0 query.parts)) (flat_map (kinds_in binder) (filtered (from_of binder) query.filter)))
+      ∙ ap (or_first old) (sym (split (kinds_in binder) (from_of binder) query))
+
+  pub lists_behind_are : (old : Option ℕ) → or_first (or_first old (flat_map lists_in (on_conditions 0 query.parts))) (flat_map lists_in (filtered (from_of binder) query.filter)) ≡ or_first old (lists_behind binder query)
+  unfolding lists_behind
+  lists_behind_are old =
+      sym (or_first_append old (flat_map lists_in (on_conditions 0 query.parts)) (flat_map lists_in (filtered (from_of binder) query.filter)))
+      ∙ ap (or_first old) (sym (split lists_in (from_of binder) query))
+
+  pub conjuncts_are_both : conjuncts_by binder query ≡ flat_map (members_in binder) (on_conditions 0 query.parts) ++ flat_map (members_in binder) (filtered (from_of binder) query.filter)
+  unfolding conjuncts_by
+  conjuncts_are_both = split (members_in binder) (from_of binder) query
+
+  pub members_added : (old : List Cond) {mid new : List Cond} {parts : List PartText} → parts ≡ query.parts → mid ≡ old ++ flat_map (members_in binder) (on_conditions 0 parts)
+      → new ≡ mid ++ flat_map (members_in binder) (filtered (from_of binder) query.filter) → new ≡ old ++ conjuncts_by binder query
+  members_added old {mid} {new} {parts} same first second =
+      let last : List Cond = flat_map (members_in binder) (filtered (from_of binder) query.filter) in
+      second
+      ∙ ap (λ l. l ++ last) (first ∙ ap (λ p. old ++ flat_map (members_in binder) (on_conditions 0 p)) same)
+      ∙ append_assoc old (flat_map (members_in binder) (on_conditions 0 query.parts)) last
+      ∙ ap (λ l. old ++ l) (sym conjuncts_are_both)

@@ -1,0 +1,247 @@
+-- From the refusals as the binder finds them to those of the text, and the query.
+use Rattle.std.proofs.Common.{◌≡◌, inl, inr, ℕ, ◌-◌, ◌^◌, ◌≤◌, min, Bool, true, false, nat_lt, cond, List, [], ◌∷◌, ◌++◌, length, Option, Some, None, Ok, Err, ap, sym, ◌∙◌, refl, append_assoc, arith}
+use Rattle.std.proofs.lemmas.Grind.{common_steps}
+use Rattle.std.proofs.lemmas.Bool.{ltb-false}
+use Rattle.std.specs.List.{flat_map}
+use Rattle.query_grammar.specs.declared.tree.QueryText.{QueryText}
+use Rattle.schema_types.specs.declared.types.Schema.{Schema}
+use Rattle.schema_types.specs.declared.errors.LimitKind.{LimitKind}
+use Rattle.schema_types.specs.declared.errors.LimitKind.TheVariants as limit
+use Rattle.sql_parse.specs.declared.binder.Binder.{Binder}
+use Rattle.sql_parse.specs.declared.errors.QueryError.{QueryError}
+use Rattle.sql_parse.specs.declared.errors.QueryError.TheVariants as error
+use Rattle.query_types.specs.declared.types.Cond.{Cond}
+use Rattle.query_types.specs.declared.types.Out.{Out}
+use Rattle.query_types.specs.declared.types.Query.{Query}
+use Rattle.query_types.specs.declared.types.Source.{Source}
+use Rattle.sql_parse.specs.Answers.{IsNameError}
+use Rattle.sql_parse.specs.Names.{entries, from_offences}
+use Rattle.sql_parse.specs.Scopes.{everything, conditions}
+use Rattle.sql_parse.specs.Offences.{outs_offences, name_offences_in, name_offences, all_kind_offences}
+use Rattle.sql_parse.specs.Values.{conjuncts, selected, query_of}
+use Rattle.sql_parse.specs.Bound.{first, refusal, most_entries, most_conjuncts, most_outputs, over, first_list, first_place, name_error, kind_error, limit_refusals, long_lists, refusals, unless, bound}
+use Rattle.sql_parse.specs.Binding.{schema_of, from_of, names_in, kinds_in, lists_in, members_in, outs_offences_of, test_offences_of, kind_offences_of, members_by}
+use Rattle.sql_parse.specs.Behind.{names_behind, kinds_behind, lists_behind, conjuncts_by}
+use Rattle.sql_parse.specs.Outputs.{selected_by, capped}
+use Rattle.sql_parse.specs.Refusing.{too_long_list, limits_passed, limits_by, late_refusals, refusals_behind, IsFirstOf, Answers}
+
+-- ---- the first of a list
+
+first_append : (xs ys : List QueryError) (e : QueryError) → first xs ≡ Some e → first (xs ++ ys) ≡ Some e
+first_append [] ys e is = absurd cc
+first_append (x ∷ xs) ys e is = is
+
+first_place_append : (place : ℕ) (xs ys : List ℕ) → first xs ≡ Some place → first (xs ++ ys) ≡ Some place
+first_place_append place [] ys is = absurd cc
+first_place_append place (x ∷ xs) ys is = is
+
+first_behind : (xs ys : List QueryError) → xs ≡ [] → first (xs ++ ys) ≡ first ys
+first_behind xs ys none = ap (λ l. first (l ++ ys)) none
+
+none_first : (xs ys : List QueryError) → first (xs ++ ys) ≡ None → xs ≡ []
+none_first [] ys none = refl
+none_first (x ∷ xs) ys none = absurd cc
+
+none_last : (xs ys : List QueryError) → first (xs ++ ys) ≡ None → first ys ≡ None
+none_last [] ys none = none
+none_last (x ∷ xs) ys none = absurd cc
+
+at_place : (wrong : ℕ → QueryError) (places : List ℕ) (at : ℕ) → first places ≡ Some at → first (first_place wrong places) ≡ Some (wrong at)
+at_place wrong [] at is = absurd cc
+at_place wrong (place ∷ rest) at is = let same : place ≡ at = cc in ap (λ p. Some (wrong p)) same
+
+no_place : (wrong : ℕ → QueryError) (places : List ℕ) → first places ≡ None → first_place wrong places ≡ []
+no_place wrong [] none = refl
+no_place wrong (place ∷ rest) none = absurd cc
+
+-- ---- limits
+
+not_over : (which : LimitKind) (most n : ℕ) → over which most n ≡ [] → n ≤ most
+not_over which most n none = at (nat_lt most n) refl none where
+  at : (more : Bool) → more ≡ nat_lt most n → cond more (refusal which n ∷ []) [] ≡ [] → n ≤ most
+  at true is none = absurd cc
+  at false is none = ltb-false most n (sym is)
+
+same_test : (n : ℕ) → nat_lt 1024 (min n (2 ^ 64 - 1)) ≡ nat_lt 1024 n
+same_test n = grind (arith, common_steps)
+
+cut_twice : (n : ℕ) → min (min n (2 ^ 64 - 1)) (2 ^ 64 - 1) ≡ min n (2 ^ 64 - 1)
+cut_twice n = grind (arith, common_steps)
+
+over_capped : (n : ℕ) → over limit.Outputs most_outputs (capped n) ≡ over limit.Outputs most_outputs n
+over_capped n = ap (λ b. cond b (refusal limit.Outputs (capped n) ∷ []) []) (same_test n) ∙ ap (λ m. cond (nat_lt 1024 n) (error.Limit limit.Outputs m ∷ []) []) (cut_twice n)
+
+listed : (lists : List ℕ) → too_long_list (first lists) ≡ first_list lists
+listed [] = refl
+listed (n ∷ rest) = refl
+
+module _ (from : ℕ) (lists : List ℕ) (counted conjuncts outputs : ℕ) where
+  abbrev due : List QueryError
+  due = over limit.FromEntries most_entries from ++ first_list lists ++ over limit.Conjuncts most_conjuncts conjuncts ++ over limit.Outputs most_outputs outputs
+
+  passed_by : (many : Bool) → many ≡ nat_lt most_entries from → (from ≤ 12 → counted ≡ conjuncts)
+      → first (cond many (refusal limit.FromEntries from ∷ []) [] ++ too_long_list (first lists) ++ over limit.Conjuncts most_conjuncts counted ++ over limit.Outputs most_outputs (capped outputs))
+      ≡ first (cond many (refusal limit.FromEntries from ∷ []) [] ++ first_list lists ++ over limit.Conjuncts most_conjuncts conjuncts ++ over limit.Outputs most_outputs outputs)
+  passed_by true is same = refl
+  passed_by false is same =
+      ap (λ l. first (l ++ over limit.Conjuncts most_conjuncts counted ++ over limit.Outputs most_outputs (capped outputs))) (listed lists)
+      ∙ ap (λ n. first (first_list lists ++ over limit.Conjuncts most_conjuncts n ++ over limit.Outputs most_outputs (capped outputs))) (same (ltb-false most_entries from (sym is)))
+      ∙ ap (λ l. first (first_list lists ++ over limit.Conjuncts most_conjuncts conjuncts ++ l)) (over_capped outputs)
+
+  passed : (from ≤ 12 → counted ≡ conjuncts) → first (limits_passed from (first lists) counted (capped outputs)) ≡ first due
+  passed same = passed_by (nat_lt most_entries from) refl same
+
+module _ (binder : Binder) (query : QueryText) where
+  pub kind_first : (at : ℕ) → Some at ≡ first (kinds_behind binder query) → Some (error.Kind at) ≡ first (late_refusals binder query)
+  unfolding late_refusals
+  kind_first at is = sym (first_append (first_place kind_error (kinds_behind binder query)) (limits_by binder query) (error.Kind at) (at_place kind_error (kinds_behind binder query) at (sym is)))
+
+  pub limit_first : (list : Option ℕ) (found : List Cond) (outputs : ℕ) → list ≡ first (lists_behind binder query)
+      → (length (from_of binder) ≤ 12 → found ≡ conjuncts_by binder query) → outputs ≡ capped (length (selected_by binder query.outs))
+      → first (limits_passed (length (from_of binder)) list (length found) outputs) ≡ first (limits_by binder query)
+  unfolding limits_by
+  limit_first list found outputs is_list is_found is_outputs =
+      ap (λ l. first (limits_passed (length (from_of binder)) l (length found) outputs)) is_list
+      ∙ ap (λ n. first (limits_passed (length (from_of binder)) (first (lists_behind binder query)) (length found) n)) is_outputs
+      ∙ passed (length (from_of binder)) (lists_behind binder query) (length found) (length (conjuncts_by binder query)) (length (selected_by binder query.outs)) (λ few. ap length (is_found few))
+
+  pub no_kind : None ≡ first (kinds_behind binder query) → first (limits_by binder query) ≡ first (late_refusals binder query)
+  unfolding late_refusals
+  no_kind none = sym (first_behind (first_place kind_error (kinds_behind binder query)) (limits_by binder query) (no_place kind_error (kinds_behind binder query) (sym none)))
+
+  -- ---- the refusals behind FROM
+
+  no_name : names_behind binder query ≡ [] → refusals_behind binder query ≡ late_refusals binder query
+  unfolding refusals_behind
+  no_name none = ap (λ l. first_place name_error l ++ late_refusals binder query) none
+
+  pub name_refused : (e : QueryError) → IsNameError (names_behind binder query) e → IsFirstOf (refusals_behind binder query) e
+  unfolding refusals_behind
+  name_refused (error.Name place) wrong = inr (first_append (first_place name_error (names_behind binder query)) (late_refusals binder query) (error.Name place) (at_place name_error (names_behind binder query) place wrong))
+  name_refused error.NoMemory wrong = inl refl
+  name_refused (error.Syntax place) wrong = absurd wrong
+  name_refused (error.Kind place) wrong = absurd wrong
+  name_refused (error.Limit which n) wrong = absurd wrong
+
+  pub late_refused : (e : QueryError) → names_behind binder query ≡ [] → Some e ≡ first (late_refusals binder query) → IsFirstOf (refusals_behind binder query) e
+  late_refused e none is = inr (ap first (no_name none) ∙ sym is)
+
+  pub none_refused : names_behind binder query ≡ [] → None ≡ first (late_refusals binder query) → first (refusals_behind binder query) ≡ None
+  none_refused none is = ap first (no_name none) ∙ sym is
+
+  pub few_entries : None ≡ first (late_refusals binder query) → length (from_of binder) ≤ 12
+  unfolding late_refusals limits_by
+  few_entries is =
+      let many : List QueryError = over limit.FromEntries most_entries (length (from_of binder)) in
+      let lists : List QueryError = first_list (lists_behind binder query) in
+      let conjs : List QueryError = over limit.Conjuncts most_conjuncts (length (conjuncts_by binder query)) in
+      let outs : List QueryError = over limit.Outputs most_outputs (length (selected_by binder query.outs)) in
+      let none : first (((many ++ lists) ++ conjs) ++ outs) ≡ None = none_last (first_place kind_error (kinds_behind binder query)) (limits_by binder query) (sym is) in
+      let three : (many ++ lists) ++ conjs ≡ [] = none_first ((many ++ lists) ++ conjs) outs none in
+      let two : many ++ lists ≡ [] = none_first (many ++ lists) conjs (ap first three) in
+      not_over limit.FromEntries most_entries (length (from_of binder)) (none_first many lists (ap first two))
+
+-- ---- from the binder's words to the schema's, the text's and the tree's
+
+abbrev names_after : Schema → List ℕ → List Source → QueryText → List ℕ
+names_after schema text from query = outs_offences schema text from (everything from) query.outs ++ flat_map (name_offences_in schema text from) (conditions from query)
+
+abbrev limits_after : Schema → List ℕ → List Source → QueryText → List QueryError
+limits_after schema text from query =
+    over limit.FromEntries most_entries (length from)
+    ++ first_list (long_lists from query)
+    ++ over limit.Conjuncts most_conjuncts (length (conjuncts schema text from query))
+    ++ over limit.Outputs most_outputs (length (selected schema text from query.outs))
+
+unfoldable refusals_after : Schema → List ℕ → List Source → QueryText → List QueryError
+refusals_after schema text from query = first_place name_error (names_after schema text from query) ++ (first_place kind_error (all_kind_offences schema text from query) ++ limits_after schema text from query)
+
+refusals_by : (binder : Binder) (query : QueryText) → refusals_behind binder query ≡ refusals_after (schema_of binder) binder.text.now (from_of binder) query
+unfolding refusals_after refusals_behind late_refusals limits_by names_behind kinds_behind lists_behind conjuncts_by selected_by names_in kinds_in lists_in members_in outs_offences_of test_offences_of kind_offences_of members_by all_kind_offences long_lists conjuncts
+refusals_by binder query = refl
+
+conjuncts_are : (binder : Binder) (query : QueryText) → conjuncts_by binder query ≡ conjuncts (schema_of binder) binder.text.now (from_of binder) query
+unfolding conjuncts_by members_in members_by conjuncts
+conjuncts_are binder query = refl
+
+selected_are : (binder : Binder) (query : QueryText) → selected_by binder query.outs ≡ selected (schema_of binder) binder.text.now (from_of binder) query.outs
+unfolding selected_by
+selected_are binder query = refl
+
+module _ (schema : Schema) (text : List ℕ) (query : QueryText) where
+  refusals_are : from_offences schema text query ≡ [] → refusals schema text query ≡ refusals_after schema text (entries schema text query) query
+  unfolding refusals name_offences query_of refusals_after
+  refusals_are none =
+      let from : List Source = entries schema text query in
+      ap (λ l. first_place name_error (l ++ outs_offences schema text from (everything from) query.outs ++ flat_map (name_offences_in schema text from) (conditions from query))
+      ++ first_place kind_error (all_kind_offences schema text from query) ++ limits_after schema text from query) none
+      ∙ append_assoc (first_place name_error (names_after schema text from query)) (first_place kind_error (all_kind_offences schema text from query)) (limits_after schema text from query)
+
+  unless_first : (wrong : List QueryError) (value : Query) (e : QueryError) → first wrong ≡ Some e → unless wrong value ≡ Err e
+  unless_first [] value e is = absurd cc
+  unless_first (x ∷ xs) value e is = let same : x ≡ e = cc in ap (λ y. Err y) same
+
+  unless_none : (wrong : List QueryError) (value : Query) → first wrong ≡ None → unless wrong value ≡ Ok value
+  unless_none [] value none = refl
+  unless_none (x ∷ xs) value none = absurd cc
+
+  refused_first : (e : QueryError) → first (refusals schema text query) ≡ Some e → bound schema text query ≡ Err e
+  unfolding bound
+  refused_first e is = unless_first (refusals schema text query) (query_of schema text query) e is
+
+  name_in_from : (place : ℕ) → first (from_offences schema text query) ≡ Some place → first (refusals schema text query) ≡ Some (error.Name place)
+  unfolding refusals name_offences
+  name_in_from place wrong =
+      let from : List Source = entries schema text query in
+      let outs : List ℕ = outs_offences schema text from (everything from) query.outs in
+      let conds : List ℕ = flat_map (name_offences_in schema text from) (conditions from query) in
+      let names : first ((from_offences schema text query ++ outs) ++ conds) ≡ Some place = first_place_append place (from_offences schema text query ++ outs) conds (first_place_append place (from_offences schema text query) outs wrong) in
+      first_append (first_place name_error (name_offences schema text from query) ++ first_place kind_error (all_kind_offences schema text from query)) (limit_refusals (query_of schema text query) (long_lists from query)) (error.Name place)
+      (first_append (first_place name_error (name_offences schema text from query)) (first_place kind_error (all_kind_offences schema text from query)) (error.Name place)
+      (at_place name_error ((from_offences schema text query ++ outs) ++ conds) place names))
+
+  -- an offence in FROM
+  pub from_refused : (e : QueryError) → IsNameError (from_offences schema text query) e → Answers (bound schema text query) (Err e)
+  from_refused (error.Name place) wrong = inr (sym (refused_first (error.Name place) (name_in_from place wrong)))
+  from_refused error.NoMemory wrong = inl refl
+  from_refused (error.Syntax place) wrong = absurd wrong
+  from_refused (error.Kind place) wrong = absurd wrong
+  from_refused (error.Limit which n) wrong = absurd wrong
+
+  module _ (binder : Binder) where
+    pub record Knows : Type 0 where
+      pub schema_is : schema_of binder ≡ schema
+      pub text_is : binder.text.now ≡ text
+      pub from_is : from_of binder ≡ entries schema text query
+      pub no_offence : from_offences schema text query ≡ []
+
+    same_refusals : Knows → refusals_behind binder query ≡ refusals schema text query
+    same_refusals k =
+        refusals_by binder query
+        ∙ ap (λ s. refusals_after s binder.text.now (from_of binder) query) k.schema_is
+        ∙ ap (λ t. refusals_after schema t (from_of binder) query) k.text_is
+        ∙ ap (λ f. refusals_after schema text f query) k.from_is
+        ∙ sym (refusals_are k.no_offence)
+
+    -- a refusal behind FROM
+    pub behind_by : Knows → (e : QueryError) → IsFirstOf (refusals_behind binder query) e → Answers (bound schema text query) (Err e)
+    behind_by k e (inl memory) = inl (ap (λ y. Err y) memory)
+    behind_by k e (inr is) = inr (sym (refused_first e (ap first (sym (same_refusals k)) ∙ is)))
+
+    made : Knows → (from : List Source) (conjs : List Cond) (outs : List Out) → from ≡ entries schema text query → conjs ≡ conjuncts_by binder query → outs ≡ selected_by binder query.outs
+        → query_of schema text query ≡ record { from = from; conjuncts = conjs; select = outs }
+    unfolding query_of
+    made k from conjs outs is_from is_conjs is_outs =
+        let same_conjs : conjs ≡ conjuncts schema text (entries schema text query) query =
+        is_conjs ∙ conjuncts_are binder query ∙ ap (λ s. conjuncts s binder.text.now (from_of binder) query) k.schema_is
+        ∙ ap (λ t. conjuncts schema t (from_of binder) query) k.text_is ∙ ap (λ f. conjuncts schema text f query) k.from_is in
+        let same_outs : outs ≡ selected schema text (entries schema text query) query.outs =
+        is_outs ∙ selected_are binder query ∙ ap (λ s. selected s binder.text.now (from_of binder) query.outs) k.schema_is
+        ∙ ap (λ t. selected schema t (from_of binder) query.outs) k.text_is ∙ ap (λ f. selected schema text f query.outs) k.from_is in
+        rw (is_from, same_conjs, same_outs) refl
+
+    pub value_by : Knows → (from : List Source) (conjs : List Cond) (outs : List Out) → from ≡ entries schema text query → conjs ≡ conjuncts_by binder query → outs ≡ selected_by binder query.outs
+        → first (refusals_behind binder query) ≡ None → Answers (bound schema text query) (Ok (record { from = from; conjuncts = conjs; select = outs }))
+    unfolding bound
+    value_by k from conjs outs is_from is_conjs is_outs none =
+        inr (sym (unless_none (refusals schema text query) (query_of schema text query) (ap first (sym (same_refusals k)) ∙ none) ∙ ap (λ q. Ok q) (made k from conjs outs is_from is_conjs is_outs)))

@@ -1,0 +1,246 @@
+-- Where no name and no kind is wrong, what a condition means is over columns that exist, and each comparison has
+-- two operands of one kind.
+use Rattle.std.proofs.Common.{◌≡◌, ℕ, Bool, true, false, List, [], ◌∷◌, ◌++◌, All, map, Option, Some, None, ap, subst, sym, ◌∙◌, refl, append_assoc}
+use Rattle.std.specs.Prelude.{is_none}
+use Rattle.std.specs.List.{flat_map}
+use Rattle.std.proofs.lemmas.List.Elements.{All-nil, All-cons, All-head, All-tail, All-append}
+use Rattle.ll_grammars.specs.declared.lexeme.Lexeme.{Lexeme}
+use Rattle.query_grammar.specs.declared.tree.Op.{Op}
+use Rattle.query_grammar.specs.declared.tree.Op.TheVariants as op
+use Rattle.query_grammar.specs.declared.tree.ColumnText.{ColumnText}
+use Rattle.query_grammar.specs.declared.tree.LiteralText.{LiteralText}
+use Rattle.query_grammar.specs.declared.tree.LiteralText.TheVariants as literal
+use Rattle.query_grammar.specs.declared.tree.OperandText.{OperandText}
+use Rattle.query_grammar.specs.declared.tree.OperandText.TheVariants as operand
+use Rattle.query_grammar.specs.declared.tree.TestText.{TestText}
+use Rattle.query_grammar.specs.declared.tree.TestText.TheVariants as test
+use Rattle.query_grammar.specs.declared.tree.CondText.{CondText, map-CondText}
+use Rattle.query_grammar.specs.declared.tree.CondText.TheVariants as text
+use Rattle.query_grammar.specs.declared.tree.CondText.TheVariants.{rolls-And, rolls-Or, rolls-Not, rolls-Test}
+use Rattle.query_grammar.specs.declared.tree.CondText.TheOpen.{CondText-F}
+use Rattle.query_grammar.specs.declared.tree.CondText.TheViews.{roll-CondText}
+use Rattle.query_grammar.specs.declared.tree.CondText.TheFolds.{fold-roll-CondText, ind-CondText}
+use Rattle.schema_types.specs.declared.types.Schema.{Schema}
+use Rattle.sql_parse.specs.declared.scope.Found.{Found}
+use Rattle.sql_parse.specs.declared.scope.Scope.{Scope}
+use Rattle.query_types.specs.declared.types.Source.{Source}
+use Rattle.query_types.specs.declared.types.Cond.{Cond}
+use Rattle.query_types.specs.declared.types.Operand.{Operand}
+use Rattle.query_types.specs.declared.types.Cond.TheVariants as cond
+use Rattle.query_types.specs.Validity.{is_text, Finds, IsOfKind, IsColumnOf, Compares, IsCondOf}
+use Rattle.sql_parse.specs.Names.{at}
+use Rattle.sql_parse.specs.Scopes.{resolve, head_of, tests}
+use Rattle.sql_parse.specs.Offences.{of_literal, first_of, differ, operand_offences, test_offences, is_text_column, is_text_operand, kind_offence, kind_offences}
+use Rattle.sql_parse.specs.Values.{Meaning, alone, wholes, all_of, any_of, negated_where, reference_to, operand_value, comparison, equality, test_meaning, meaning_step, meaning}
+use Rattle.sql_parse.proofs.TestFacts.{tests_and, tests_or, tests_not, tests_test}
+use Rattle.sql_parse.proofs.Resolved.{Stands, resolve_stands}
+use Rattle.sql_parse.proofs.CondShapes.{compare_of, not_of, and_of, or_of}
+
+-- ---- lists without offences
+
+pub none_left : (xs ys : List ℕ) → xs ++ ys ≡ [] → xs ≡ []
+none_left [] ys none = refl
+none_left (x ∷ xs) ys none = absurd cc
+
+pub none_right : (xs ys : List ℕ) → xs ++ ys ≡ [] → ys ≡ []
+none_right [] ys none = none
+none_right (x ∷ xs) ys none = absurd cc
+
+pub flat_map-append : {A B : Type 0} (f : A → List B) (xs ys : List A) → flat_map f (xs ++ ys) ≡ flat_map f xs ++ flat_map f ys
+flat_map-append f [] ys = refl
+flat_map-append f (x ∷ xs) ys = ap (λ l. f x ++ l) (flat_map-append f xs ys) ∙ sym (append_assoc (f x) (flat_map f xs) (flat_map f ys))
+
+-- what two lists of offences, each of them empty, tell of each item
+pub without_offences : {A B : Type 0} (f g : A → List ℕ) (h : A → List B) (P : B → Type 0) → ((a : A) → f a ≡ [] → g a ≡ [] → All P (h a))
+    → (xs : List A) → flat_map f xs ≡ [] → flat_map g xs ≡ [] → All P (flat_map h xs)
+without_offences f g h P each [] no_f no_g = All-nil P
+without_offences f g h P each (x ∷ xs) no_f no_g =
+    All-append P (h x) (flat_map h xs)
+    (each x (none_left (f x) (flat_map f xs) no_f) (none_left (g x) (flat_map g xs) no_g))
+    (without_offences f g h P each xs (none_right (f x) (flat_map f xs) no_f) (none_right (g x) (flat_map g xs) no_g))
+
+pub not_at : (wrong : Bool) (token : Lexeme) → at wrong token ≡ [] → wrong ≡ false
+not_at true token none = absurd cc
+not_at false token none = refl
+
+same_kind : (a b : Bool) → differ a b ≡ false → b ≡ a
+same_kind true true is = refl
+same_kind true false is = sym is
+same_kind false b is = is
+
+-- ---- what a condition means
+
+pub record IsMeaningOf (schema : Schema) (from : List Source) (m : Meaning) : Type 0 where
+  pub whole : IsCondOf schema from m.whole
+  pub members : All (IsCondOf schema from) m.members
+
+module _ (schema : Schema) (from : List Source) where
+  abbrev IsGood : Cond → Type 0
+  IsGood c = IsCondOf schema from c
+
+  alone_of : (c : Cond) → IsGood c → IsMeaningOf schema from (alone c)
+  alone_of c good = record { whole = good; members = All-cons IsGood c [] good (All-nil IsGood) }
+
+  wholes_of : (ms : List Meaning) → All (IsMeaningOf schema from) ms → All IsGood (wholes ms)
+  wholes_of [] good = All-nil IsGood
+  wholes_of (m ∷ ms) good =
+      All-cons IsGood m.whole (wholes ms) (All-head (IsMeaningOf schema from) m ms good).whole (wholes_of ms (All-tail (IsMeaningOf schema from) m ms good))
+
+  members_of : (ms : List Meaning) → All (IsMeaningOf schema from) ms → All IsGood (flat_map (λ part. part.members) ms)
+  members_of [] good = All-nil IsGood
+  members_of (m ∷ ms) good =
+      All-append IsGood m.members (flat_map (λ part. part.members) ms) (All-head (IsMeaningOf schema from) m ms good).members
+      (members_of ms (All-tail (IsMeaningOf schema from) m ms good))
+
+  all_of_of : (ms : List Meaning) → All (IsMeaningOf schema from) ms → IsMeaningOf schema from (all_of ms)
+  all_of_of ms good = record { whole = and_of schema from (wholes ms) (wholes_of ms good); members = members_of ms good }
+
+  or_alone : (cs : List Cond) → All IsGood cs → IsMeaningOf schema from (alone (cond.Or cs))
+  or_alone cs good = alone_of (cond.Or cs) (or_of schema from cs good)
+
+  any_of_of : (cs : List Cond) → All IsGood cs → IsMeaningOf schema from (any_of cs)
+  any_of_of [] good = or_alone [] good
+  any_of_of (c ∷ []) good = alone_of c (All-head IsGood c [] good)
+  any_of_of (c ∷ d ∷ rest) good = or_alone (c ∷ d ∷ rest) good
+
+  negated_of : (negated : Bool) (m : Meaning) → IsMeaningOf schema from m → IsMeaningOf schema from (negated_where negated m)
+  negated_of true m good = alone_of (cond.Not m.whole) (not_of schema from m.whole good.whole)
+  negated_of false m good = good
+
+-- ---- operands and tests
+
+pub found_finds : (schema : Schema) (from : List Source) (found : Found) (there : Stands schema from found) → Finds schema from (reference_to (Some found)) there.column
+found_finds schema from found there = record { source = there.source; entry = there.entry; table = there.table; exists = there.exists; declared = there.declared }
+
+module _ (schema : Schema) (words : List ℕ) (from : List Source) (scope : Scope) where
+  abbrev value : OperandText → Operand
+  value o = operand_value schema words from scope o
+
+  column_kind : (reference : ColumnText) (found : Option Found) → found ≡ resolve schema words from scope reference → at (is_none found) (head_of reference) ≡ []
+      → IsColumnOf schema from (reference_to found) (is_text_column schema words from scope found)
+  column_kind reference None is none = absurd cc
+  column_kind reference (Some found) is none =
+      let there : Stands schema from found = resolve_stands schema words from scope reference found (sym is) in
+      record { column = there.column; finds = found_finds schema from found there; kind = ap is_text there.kind }
+
+  operand_kind : (o : OperandText) → operand_offences schema words from scope o ≡ [] → IsOfKind schema from (value o) (is_text_operand schema words from scope o)
+  operand_kind (operand.Column reference) none = column_kind reference (resolve schema words from scope reference) refl none
+  operand_kind (operand.Literal (literal.Number sign digits)) none = refl
+  operand_kind (operand.Literal (literal.Text token)) none = refl
+
+  compared : (left other : OperandText) → operand_offences schema words from scope left ≡ [] → operand_offences schema words from scope other ≡ []
+      → kind_offence schema words from scope (is_text_operand schema words from scope left) other ≡ [] → Compares schema from (value left) (value other)
+  compared left other left_named other_named alike = record {
+    text = is_text_operand schema words from scope left;
+    left_kind = operand_kind left left_named;
+    right_kind = subst (IsOfKind schema from (value other))
+        (same_kind (is_text_operand schema words from scope left) (is_text_operand schema words from scope other)
+        (not_at (differ (is_text_operand schema words from scope left) (is_text_operand schema words from scope other)) (first_of other) alike))
+        (operand_kind other other_named);
+  }
+
+  comparison_of : (how : Op) (left other : OperandText) → operand_offences schema words from scope left ≡ [] → operand_offences schema words from scope other ≡ []
+      → kind_offence schema words from scope (is_text_operand schema words from scope left) other ≡ [] → IsCondOf schema from (comparison schema words from scope how left other)
+  comparison_of how left other left_named other_named alike =
+      compare_of schema from how (value left) (value other) (compared left other left_named other_named alike)
+
+  equalities_of : (left : OperandText) (values : List LiteralText) → operand_offences schema words from scope left ≡ []
+      → flat_map (kind_offence schema words from scope (is_text_operand schema words from scope left)) (map of_literal values) ≡ []
+      → All (IsCondOf schema from) (map (equality schema words from scope left) values)
+  equalities_of left [] named alike = All-nil (IsCondOf schema from)
+  equalities_of left (l ∷ values) named alike =
+      let wrong : OperandText → List ℕ = kind_offence schema words from scope (is_text_operand schema words from scope left) in
+      All-cons (IsCondOf schema from) (equality schema words from scope left l) (map (equality schema words from scope left) values)
+      (comparison_of op.Eq left (of_literal l) named refl (none_left (wrong (of_literal l)) (flat_map wrong (map of_literal values)) alike))
+      (equalities_of left values named (none_right (wrong (of_literal l)) (flat_map wrong (map of_literal values)) alike))
+
+  test_of : (t : TestText) → test_offences schema words from scope t ≡ [] → kind_offences schema words from scope t ≡ [] → IsMeaningOf schema from (test_meaning schema words from scope t)
+  test_of (test.Compare left how right) names kinds =
+      let rest : List ℕ = operand_offences schema words from scope right ++ [] in
+      alone_of schema from (comparison schema words from scope how left right)
+      (comparison_of how left right (none_left (operand_offences schema words from scope left) rest names)
+      (none_left (operand_offences schema words from scope right) [] (none_right (operand_offences schema words from scope left) rest names))
+      (none_left (kind_offence schema words from scope (is_text_operand schema words from scope left) right) [] kinds))
+  test_of (test.Between left negated low high) names kinds =
+      let name : OperandText → List ℕ = operand_offences schema words from scope in
+      let wrong : OperandText → List ℕ = kind_offence schema words from scope (is_text_operand schema words from scope left) in
+      let both : name low ++ (name high ++ []) ≡ [] = none_right (name left) (name low ++ (name high ++ [])) names in
+      let named : name left ≡ [] = none_left (name left) (name low ++ (name high ++ [])) names in
+      let at_least : Cond = comparison schema words from scope op.Ge left low in
+      let at_most : Cond = comparison schema words from scope op.Le left high in
+      negated_of schema from negated (all_of (alone at_least ∷ alone at_most ∷ []))
+      (all_of_of schema from (alone at_least ∷ alone at_most ∷ [])
+      (All-cons (IsMeaningOf schema from) (alone at_least) (alone at_most ∷ [])
+      (alone_of schema from at_least (comparison_of op.Ge left low named (none_left (name low) (name high ++ []) both) (none_left (wrong low) (wrong high ++ []) kinds)))
+      (All-cons (IsMeaningOf schema from) (alone at_most) []
+      (alone_of schema from at_most (comparison_of op.Le left high named (none_left (name high) [] (none_right (name low) (name high ++ []) both))
+      (none_left (wrong high) [] (none_right (wrong low) (wrong high ++ []) kinds))))
+      (All-nil (IsMeaningOf schema from)))))
+  test_of (test.In left negated values) names kinds =
+      let named : operand_offences schema words from scope left ≡ [] =
+      none_left (operand_offences schema words from scope left) (flat_map (operand_offences schema words from scope) (map of_literal values)) names in
+      negated_of schema from negated (any_of (map (equality schema words from scope left) values))
+      (any_of_of schema from (map (equality schema words from scope left) values) (equalities_of left values named kinds))
+
+  -- ---- conditions
+
+  abbrev means : CondText → Meaning
+  means c = meaning schema words from scope c
+
+  pub means_and : (members : List CondText) → means (text.And members) ≡ all_of (map means members)
+  means_and members = ap means (sym (rolls-And members)) ∙ fold-roll-CondText Meaning (meaning_step schema words from scope) (CondText-F.And members)
+
+  pub means_or : (members : List CondText) → means (text.Or members) ≡ alone (cond.Or (wholes (map means members)))
+  means_or members = ap means (sym (rolls-Or members)) ∙ fold-roll-CondText Meaning (meaning_step schema words from scope) (CondText-F.Or members)
+
+  pub means_not : (member : CondText) → means (text.Not member) ≡ alone (cond.Not (means member).whole)
+  means_not member = ap means (sym (rolls-Not member)) ∙ fold-roll-CondText Meaning (meaning_step schema words from scope) (CondText-F.Not member)
+
+  pub means_test : (t : TestText) → means (text.Test t) ≡ test_meaning schema words from scope t
+  means_test t = ap means (sym (rolls-Test t)) ∙ fold-roll-CondText Meaning (meaning_step schema words from scope) (CondText-F.Test t)
+
+  abbrev names_in : CondText → List ℕ
+  names_in c = flat_map (test_offences schema words from scope) (tests c)
+
+  abbrev kinds_in : CondText → List ℕ
+  kinds_in c = flat_map (kind_offences schema words from scope) (tests c)
+
+  abbrev Good : CondText → Type 0
+  Good c = names_in c ≡ [] → kinds_in c ≡ [] → IsMeaningOf schema from (means c)
+
+  chain_of : (held : List ((c : CondText) × Good c)) → flat_map (test_offences schema words from scope) (flat_map tests (map (λ e. e.0) held)) ≡ []
+      → flat_map (kind_offences schema words from scope) (flat_map tests (map (λ e. e.0) held)) ≡ [] → All (IsMeaningOf schema from) (map means (map (λ e. e.0) held))
+  chain_of [] names kinds = All-nil (IsMeaningOf schema from)
+  chain_of (e ∷ held) names kinds =
+      let cs : List CondText = map (λ (e : (c : CondText) × Good c). e.0) held in
+      let named : names_in e.0 ++ flat_map (test_offences schema words from scope) (flat_map tests cs) ≡ [] =
+      sym (flat_map-append (test_offences schema words from scope) (tests e.0) (flat_map tests cs)) ∙ names in
+      let alike : kinds_in e.0 ++ flat_map (kind_offences schema words from scope) (flat_map tests cs) ≡ [] =
+      sym (flat_map-append (kind_offences schema words from scope) (tests e.0) (flat_map tests cs)) ∙ kinds in
+      All-cons (IsMeaningOf schema from) (means e.0) (map means cs)
+      (e.1 (none_left (names_in e.0) _ named) (none_left (kinds_in e.0) _ alike))
+      (chain_of held (none_right (names_in e.0) _ named) (none_right (kinds_in e.0) _ alike))
+
+  good_layer : (y : CondText-F ((c : CondText) × Good c)) → Good (roll-CondText (map-CondText ((c : CondText) × Good c) CondText (λ e. e.0) y))
+  good_layer (CondText-F.And held) =
+      let cs : List CondText = map (λ (e : (c : CondText) × Good c). e.0) held in
+      subst Good (sym (rolls-And cs)) (λ names kinds. subst (IsMeaningOf schema from) (sym (means_and cs))
+      (all_of_of schema from (map means cs)
+      (chain_of held (sym (ap (flat_map (test_offences schema words from scope)) (tests_and cs)) ∙ names) (sym (ap (flat_map (kind_offences schema words from scope)) (tests_and cs)) ∙ kinds))))
+  good_layer (CondText-F.Or held) =
+      let cs : List CondText = map (λ (e : (c : CondText) × Good c). e.0) held in
+      subst Good (sym (rolls-Or cs)) (λ names kinds. subst (IsMeaningOf schema from) (sym (means_or cs))
+      (or_alone schema from (wholes (map means cs)) (wholes_of schema from (map means cs)
+      (chain_of held (sym (ap (flat_map (test_offences schema words from scope)) (tests_or cs)) ∙ names) (sym (ap (flat_map (kind_offences schema words from scope)) (tests_or cs)) ∙ kinds)))))
+  good_layer (CondText-F.Not e) =
+      subst Good (sym (rolls-Not e.0)) (λ names kinds. subst (IsMeaningOf schema from) (sym (means_not e.0))
+      (alone_of schema from (cond.Not (means e.0).whole) (not_of schema from (means e.0).whole
+      (e.1 (sym (ap (flat_map (test_offences schema words from scope)) (tests_not e.0)) ∙ names) (sym (ap (flat_map (kind_offences schema words from scope)) (tests_not e.0)) ∙ kinds)).whole)))
+  good_layer (CondText-F.Test t) =
+      subst Good (sym (rolls-Test t)) (λ names kinds. subst (IsMeaningOf schema from) (sym (means_test t))
+      (test_of t (none_left (test_offences schema words from scope t) [] (sym (ap (flat_map (test_offences schema words from scope)) (tests_test t)) ∙ names))
+      (none_left (kind_offences schema words from scope t) [] (sym (ap (flat_map (kind_offences schema words from scope)) (tests_test t)) ∙ kinds))))
+
+  -- a condition without offences
+  pub condition_of : (c : CondText) → names_in c ≡ [] → kinds_in c ≡ [] → IsMeaningOf schema from (means c)
+  condition_of = ind-CondText Good (λ x y is. subst (λ z. Good (roll-CondText z)) is (good_layer y))

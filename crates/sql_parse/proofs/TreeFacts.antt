@@ -1,0 +1,68 @@
+-- What the FROM entries of a syntax tree are to the binder.
+use Rattle.std.proofs.Common.{◌≡◌, ℕ, ◌≤◌, All, List, [], ◌∷◌, length, map, None, Result, Ok, Err, ap, subst, sym, ◌∙◌, arith}
+use Rattle.std.specs.Prelude.{IfErr}
+use Rattle.std.specs.List.{flat_map}
+use Rattle.std.proofs.lemmas.List.{length-map}
+use Rattle.std.proofs.lemmas.List.Elements.{All-nil, All-cons, All-head, All-tail, All-append}
+use Rattle.ll_grammars.specs.declared.lexeme.Lexeme.{Lexeme}
+use Rattle.query_grammar.specs.declared.tree.JoinText.{JoinText}
+use Rattle.query_grammar.specs.declared.tree.PartText.{PartText}
+use Rattle.query_grammar.specs.declared.tree.QueryText.{QueryText}
+use Rattle.query_grammar.specs.declared.tree.SourceText.{SourceText}
+use Rattle.query_grammar.specs.Lexemes.{IsSourceOf, IsJoinOf, IsPartOf, IsQueryOf}
+use Rattle.schema_types.specs.declared.types.Schema.{Schema}
+use Rattle.sql_parse.specs.declared.binder.Binder.{Binder}
+use Rattle.sql_parse.specs.declared.errors.QueryError.{QueryError}
+use Rattle.query_types.specs.declared.types.Cond.{Cond}
+use Rattle.query_types.specs.declared.types.Out.{Out}
+use Rattle.query_types.specs.declared.types.Source.{Source}
+use Rattle.sql_parse.specs.Names.{sources_of, entry_of, entries, from_offences}
+use Rattle.sql_parse.specs.Bound.{first, bound}
+use Rattle.sql_parse.specs.Binding.{schema_of, from_of}
+use Rattle.sql_parse.specs.Behind.{conjuncts_by}
+use Rattle.sql_parse.specs.Outputs.{selected_by}
+use Rattle.sql_parse.specs.Refusing.{refusals_behind, IsFirstOf, Answers}
+use Rattle.sql_parse.proofs.BindFacts.{behind_by, value_by}
+
+module _ (P : Lexeme → Type 0) where
+  joined_lie_in : (joins : List JoinText) → All (IsJoinOf P) joins → All (IsSourceOf P) (map (λ join. join.source) joins)
+  joined_lie_in [] lie = All-nil (IsSourceOf P)
+  joined_lie_in (join ∷ rest) lie = All-cons (IsSourceOf P) join.source (map (λ join. join.source) rest) (All-head (IsJoinOf P) join rest lie).0 (joined_lie_in rest (All-tail (IsJoinOf P) join rest lie))
+
+  part_lies_in : (part : PartText) → IsPartOf P part → All (IsSourceOf P) (sources_of part)
+  part_lies_in part lies = All-cons (IsSourceOf P) part.first (map (λ join. join.source) part.joins) lies.0 (joined_lie_in part.joins lies.1)
+
+  parts_lie_in : (parts : List PartText) → All (IsPartOf P) parts → All (IsSourceOf P) (flat_map sources_of parts)
+  parts_lie_in [] lie = All-nil (IsSourceOf P)
+  parts_lie_in (part ∷ rest) lie =
+      All-append (IsSourceOf P) (sources_of part) (flat_map sources_of rest) (part_lies_in part (All-head (IsPartOf P) part rest lie)) (parts_lie_in rest (All-tail (IsPartOf P) part rest lie))
+
+  pub sources_lie_in : (query : QueryText) → IsQueryOf P query → All (IsSourceOf P) (flat_map sources_of query.parts)
+  unfolding IsQueryOf
+  sources_lie_in query lies = parts_lie_in query.parts lies.1
+
+  pub all_lie_in : (query : QueryText) (sources : List SourceText) → sources ≡ flat_map sources_of query.parts → IsQueryOf P query → All (IsSourceOf P) sources
+  all_lie_in query sources is lies = subst (All (IsSourceOf P)) (sym is) (sources_lie_in query lies)
+
+module _ (schema : Schema) (text : List ℕ) (query : QueryText) (from : List Source) where
+  pub ends_within : from ≡ entries schema text query → length (flat_map sources_of query.parts) ≤ length from
+  unfolding entries
+  ends_within is =
+      let same : length from ≡ length (flat_map sources_of query.parts) = ap length is ∙ length-map (flat_map sources_of query.parts) (entry_of schema text) in
+      omega arith
+
+module _ (schema : Schema) (text : List ℕ) (query : QueryText) (binder : Binder) where
+  pub behind_refused : schema_of binder ≡ schema → binder.text.now ≡ text → from_of binder ≡ entries schema text query → from_offences schema text query ≡ []
+      → (e : QueryError) → IsFirstOf (refusals_behind binder query) e → Answers (bound schema text query) (Err e)
+  behind_refused is_schema is_text is_from none e wrong = behind_by schema text query binder (record { schema_is = is_schema; text_is = is_text; from_is = is_from; no_offence = none }) e wrong
+
+  pub behind_errs : schema_of binder ≡ schema → binder.text.now ≡ text → from_of binder ≡ entries schema text query → from_offences schema text query ≡ []
+      → {A : Type 0} (answer : Result A QueryError) → IfErr answer (IsFirstOf (refusals_behind binder query)) → IfErr answer (λ e. Answers (bound schema text query) (Err e))
+  behind_errs is_schema is_text is_from none (Ok value) wrong = tt
+  behind_errs is_schema is_text is_from none (Err e) wrong = behind_refused is_schema is_text is_from none e wrong
+
+  pub answered : schema_of binder ≡ schema → binder.text.now ≡ text → from_of binder ≡ entries schema text query → from_offences schema text query ≡ []
+      → (conjs : List Cond) (outs : List Out) → conjs ≡ conjuncts_by binder query → outs ≡ selected_by binder query.outs → first (refusals_behind binder query) ≡ None
+      → Answers (bound schema text query) (Ok (record { from = from_of binder; conjuncts = conjs; select = outs }))
+  answered is_schema is_text is_from none conjs outs is_conjs is_outs no_refusal =
+      value_by schema text query binder (record { schema_is = is_schema; text_is = is_text; from_is = is_from; no_offence = none }) (from_of binder) conjs outs is_from is_conjs is_outs no_refusal

@@ -1,0 +1,71 @@
+-- What reading a query text may answer.
+use Rattle.std.specs.Prelude.{◌≡◌, ◌⊎◌, ℕ, ◌<◌, ◌≤◌, min, List, [], ◌∷◌, length, map, Result, Err}
+use Rattle.ll_grammars.specs.declared.lexeme.Lexeme.{Lexeme}
+use Rattle.ll_grammars.specs.Places.{IsSyntaxPlace}
+use Rattle.sql_tokens.specs.declared.token.Token.{Token}
+use Rattle.sql_tokens.specs.Words.{lexeme_of}
+use Rattle.sql_tokens.specs.Lexing.{IsLexed, IsBad}
+use Rattle.query_grammar.specs.declared.tree.QueryText.{QueryText}
+use Rattle.query_grammar.specs.Grammar.{QuerySpecification}
+use Rattle.query_grammar.specs.Nesting.{nesting}
+use Rattle.schema_types.specs.declared.types.Schema.{Schema}
+use Rattle.schema_types.specs.declared.errors.LimitKind.TheVariants as limit
+use Rattle.sql_parse.specs.declared.errors.QueryError.{QueryError}
+use Rattle.sql_parse.specs.declared.errors.QueryError.TheVariants as error
+use Rattle.query_types.specs.declared.types.Query.{Query}
+use Rattle.sql_parse.specs.Numbers.{number_offences}
+use Rattle.sql_parse.specs.Bound.{bound, refusal}
+
+-- the tokens of a text, as grammars read them
+abbrev pub lexemes_of : List ℕ → List Token → List Lexeme
+lexemes_of text tokens = map (lexeme_of text) tokens
+
+-- at most so many parentheses may be open at one place
+abbrev pub most_nesting : ℕ
+most_nesting = 64
+
+-- a place, or the first of others where that is less
+abbrev pub least : ℕ → List ℕ → ℕ
+least place [] = place
+least place (other ∷ rest) = min place other
+
+-- the first of these places is refused, else the answer stands
+abbrev pub unless_number : List ℕ → Result Query QueryError → Result Query QueryError
+unless_number [] answer = answer
+unless_number (place ∷ rest) answer = Err (error.Syntax place)
+
+module _ (schema : Schema) (text : List ℕ) (answer : Result Query QueryError) where
+  -- the text has no tokens
+  pub record IsUnlexed : Type 0 where
+    pub place : ℕ
+    pub bad : IsBad text place
+    pub refused : answer ≡ Err (error.Syntax place)
+
+  -- more parentheses are open at one place than may be
+  pub record IsTooDeep : Type 0 where
+    pub tokens : List Token
+    pub lexed : IsLexed text tokens
+    pub deep : most_nesting < nesting (lexemes_of text tokens)
+    pub refused : answer ≡ Err (refusal limit.Nesting (nesting (lexemes_of text tokens)))
+
+  -- the tokens spell no query: the place where they go wrong, or that of a number outside the range before it
+  pub record IsUnspelled : Type 0 where
+    pub tokens : List Token
+    pub lexed : IsLexed text tokens
+    pub shallow : nesting (lexemes_of text tokens) ≤ most_nesting
+    pub place : ℕ
+    pub wrong : IsSyntaxPlace QuerySpecification (lexemes_of text tokens) (length text) place
+    pub refused : answer ≡ Err (error.Syntax (least place (number_offences text (lexemes_of text tokens))))
+
+  -- the tokens spell a query: its names, kinds and limits decide, where no number is outside the range
+  pub record IsSpelled : Type 0 where
+    pub tokens : List Token
+    pub lexed : IsLexed text tokens
+    pub shallow : nesting (lexemes_of text tokens) ≤ most_nesting
+    pub tree : QueryText
+    pub spelled : QuerySpecification (lexemes_of text tokens) tree
+    pub answered : answer ≡ unless_number (number_offences text (lexemes_of text tokens)) (bound schema text tree)
+
+  -- want of memory may be answered at any time
+  abbrev pub IsAnswer : Type 0
+  IsAnswer = (answer ≡ Err error.NoMemory) ⊎ IsUnlexed ⊎ IsTooDeep ⊎ IsUnspelled ⊎ IsSpelled

@@ -1,0 +1,47 @@
+-- The refusals behind FROM, as the binder knows the schema, the text and FROM.
+use Rattle.std.specs.Prelude.{◌≡◌, ◌⊎◌, ℕ, List, [], ◌∷◌, ◌++◌, length, Option, Some, None, Result, Err}
+use Rattle.query_grammar.specs.declared.tree.QueryText.{QueryText}
+use Rattle.schema_types.specs.declared.errors.LimitKind.TheVariants as limit
+use Rattle.sql_parse.specs.declared.binder.Binder.{Binder}
+use Rattle.sql_parse.specs.declared.errors.QueryError.{QueryError}
+use Rattle.sql_parse.specs.declared.errors.QueryError.TheVariants as error
+use Rattle.query_types.specs.declared.types.Query.{Query}
+use Rattle.sql_parse.specs.Bound.{first, most_entries, most_conjuncts, most_outputs, refusal, over, first_list, first_place, name_error, kind_error}
+use Rattle.sql_parse.specs.Binding.{from_of}
+use Rattle.sql_parse.specs.Behind.{names_behind, kinds_behind, lists_behind, conjuncts_by}
+use Rattle.sql_parse.specs.Outputs.{selected_by}
+
+-- the limits that so many entries, the first list that is too long, and so many conjuncts and outputs pass
+abbrev pub too_long_list : Option ℕ → List QueryError
+too_long_list None = []
+too_long_list (Some n) = refusal limit.InValues n ∷ []
+
+abbrev pub limits_passed : ℕ → Option ℕ → ℕ → ℕ → List QueryError
+limits_passed entries list conjuncts outputs =
+    over limit.FromEntries most_entries entries
+    ++ too_long_list list
+    ++ over limit.Conjuncts most_conjuncts conjuncts
+    ++ over limit.Outputs most_outputs outputs
+
+unfoldable pub limits_by : Binder → QueryText → List QueryError
+limits_by binder query =
+    over limit.FromEntries most_entries (length (from_of binder))
+    ++ first_list (lists_behind binder query)
+    ++ over limit.Conjuncts most_conjuncts (length (conjuncts_by binder query))
+    ++ over limit.Outputs most_outputs (length (selected_by binder query.outs))
+
+-- kinds, then limits
+unfoldable pub late_refusals : Binder → QueryText → List QueryError
+late_refusals binder query = first_place kind_error (kinds_behind binder query) ++ limits_by binder query
+
+-- names, then those
+unfoldable pub refusals_behind : Binder → QueryText → List QueryError
+refusals_behind binder query = first_place name_error (names_behind binder query) ++ late_refusals binder query
+
+-- the first of these refusals; want of memory may come at any time
+abbrev pub IsFirstOf : List QueryError → QueryError → Type 0
+IsFirstOf refusals e = (e ≡ error.NoMemory) ⊎ (first refusals ≡ Some e)
+
+-- the answer that is due; want of memory may come at any time
+abbrev pub Answers : Result Query QueryError → Result Query QueryError → Type 0
+Answers due answer = (answer ≡ Err error.NoMemory) ⊎ (answer ≡ due)

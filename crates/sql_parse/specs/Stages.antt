@@ -1,0 +1,27 @@
+-- What the stages of reading a query text answer.
+use Rattle.std.specs.Prelude.{◌≡◌, ℕ, min, List, map, Option, Some, None, ⊤}
+use Rattle.ll_grammars.specs.declared.lexeme.Lexeme.{Lexeme}
+use Rattle.sql_tokens.specs.declared.token.Token.{Token}
+use Rattle.sql_tokens.specs.Lexing.{IsLexed, IsBad}
+use Rattle.sql_tokens.specs.Words.{lexeme_of}
+use Rattle.sql_parse.specs.declared.errors.QueryError.{QueryError}
+use Rattle.sql_parse.specs.declared.errors.QueryError.TheVariants as error
+
+-- these are the text's tokens, as grammars read them
+pub record AreLexemes (text : List ℕ) (lexemes : List Lexeme) : Type 0 where
+  pub tokens : List Token
+  pub lexed : IsLexed text tokens
+  pub are : lexemes ≡ map (lexeme_of text) tokens
+
+-- why a text has no tokens
+abbrev pub IsLexRefusal : List ℕ → QueryError → Type 0
+IsLexRefusal text (error.Syntax at) = IsBad text at
+IsLexRefusal text error.NoMemory = ⊤
+IsLexRefusal text (error.Name at) = ⊥
+IsLexRefusal text (error.Kind at) = ⊥
+IsLexRefusal text (error.Limit which found) = ⊥
+
+-- a place, or another where that is less
+abbrev pub least_of : ℕ → Option ℕ → ℕ
+least_of place None = place
+least_of place (Some other) = min place other

@@ -1,0 +1,83 @@
+//! What a syntax tree gives: a query, or the first thing that is wrong with its names, its kinds or its numbers.
+ghost use Rattle.std.specs.Prelude.{◌≡◌, [], Ok, Err, IfOk, IfErr};
+ghost use Rattle.schema_types.specs.Validity.{IsValid};
+ghost use Rattle.sql_tokens.specs.Words.{IsLexemeOf};
+ghost use Rattle.query_grammar.specs.Lexemes.{IsQueryOf};
+ghost use Rattle.sql_parse.specs.Names.{entries, from_offences};
+ghost use Rattle.sql_parse.specs.Answers.{IsNameError};
+ghost use Rattle.sql_parse.specs.Bound.{bound};
+ghost use Rattle.sql_parse.specs.Refusing.{Answers};
+
+use crate::QueryError;
+use crate::binder::Binder;
+use crate::catalog::Catalog;
+use crate::sources::{Entries, all_sources, read_entries};
+use base_io::Seq;
+use query_grammar::QueryText;
+use query_types::{Cond, Out, Query};
+use schema_types::Schema;
+use std::alloc::Global;
+
+/// The FROM entries of a query text, or the first offence against names among them.
+#[tactic(auto, using(crate::proofs::TreeFacts::sources_lie_in), unfolding(crate::specs::Names::entries, crate::specs::Names::from_offences))]
+fn entries_of(
+    alloc: Global,
+    catalog: &Catalog<'_>,
+    text: &[u8],
+    query: &QueryText,
+) -> Result<Entries, QueryError>
+    requires { IsQueryOf (IsLexemeOf text.now) query.now }
+    ensures entries { IfOk result (λ found. found.sources ≡ entries catalog.now.schema.now text.now query.now) }
+    ensures names { IfOk result (λ _. from_offences catalog.now.schema.now text.now query.now ≡ []) }
+    ensures err { IfErr result (IsNameError (from_offences catalog.now.schema.now text.now query.now)) }
+{
+    let sources = all_sources(alloc, query.parts.as_slice())?;
+    read_entries(alloc, catalog, text, sources.as_slice())
+}
+
+/// The conjuncts and the outputs of a query whose FROM entries are in order, or the first refusal.
+#[tactic(auto, using(crate::proofs::TreeFacts::behind_refused, crate::proofs::TreeFacts::answered, crate::proofs::TreeFacts::ends_within))]
+fn bind_behind(
+    alloc: Global,
+    catalog: &Catalog<'_>,
+    text: &[u8],
+    from: &Entries,
+    query: &QueryText,
+) -> Result<(Seq<Cond>, Seq<Out>), QueryError>
+    requires valid { IsValid catalog.now.schema.now }
+    requires tokens { IsQueryOf (IsLexemeOf text.now) query.now }
+    requires from { from.now.sources ≡ entries catalog.now.schema.now text.now query.now }
+    requires names { from_offences catalog.now.schema.now text.now query.now ≡ [] }
+    ensures ok { IfOk result (λ found. Answers (bound catalog.now.schema.now text.now query.now) (Ok (record { from = from.now.sources; conjuncts = found.0; select = found.1 }))) }
+    ensures err { IfErr result (λ e. Answers (bound catalog.now.schema.now text.now query.now) (Err e)) }
+{
+    let binder = Binder {
+        alloc,
+        catalog,
+        text,
+        entries: from,
+    };
+    binder.behind_from(query)
+}
+
+/// The query of a syntax tree, or the first refusal in the order names, kinds, limits.
+#[tactic(auto, using(crate::proofs::BindFacts::from_refused))]
+pub fn bind(
+    alloc: Global,
+    schema: &Schema,
+    text: &[u8],
+    query: &QueryText,
+) -> Result<Query, QueryError>
+    requires valid { IsValid schema.now }
+    requires tokens { IsQueryOf (IsLexemeOf text.now) query.now }
+    ensures { Answers (bound schema.now text.now query.now) result }
+{
+    let catalog = Catalog::new(alloc, schema)?;
+    let entries = entries_of(alloc, &catalog, text, query)?;
+    let (conjuncts, select) = bind_behind(alloc, &catalog, text, &entries, query)?;
+    Ok(Query {
+        from: entries.sources,
+        conjuncts,
+        select,
+    })
+}

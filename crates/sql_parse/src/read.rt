@@ -1,0 +1,94 @@
+//! Query texts as a whole.
+ghost use Rattle.std.specs.Prelude.{◌≡◌, ◌≤◌, All, IfOk, IfErr, length};
+ghost use Rattle.schema_types.specs.Validity.{IsValid};
+ghost use Rattle.sql_tokens.specs.Words.{IsLexemeOf};
+ghost use Rattle.query_types.specs.Validity.{IsOf};
+ghost use Rattle.sql_parse.specs.Stages.{AreLexemes, IsLexRefusal, least_of};
+ghost use Rattle.sql_parse.specs.Reading.{IsAnswer};
+
+use crate::QueryError;
+use crate::binding::bind;
+use crate::number_range::check_numbers;
+use base_io::Seq;
+use ll_grammars::{Lexeme, SyntaxError};
+use query_grammar::{MAX_NESTING, nesting, read_query_text};
+use query_types::Query;
+use schema_types::{LimitKind, Schema};
+use sql_tokens::{LexError, lexemes, tokens};
+use std::alloc::Global;
+
+/// The tokens of a text as grammars read them.
+fn read_lexemes(alloc: Global, text: &[u8]) -> Result<Seq<Lexeme>, QueryError>
+    requires { length text.now ≤ 1048576 }
+    ensures are { IfOk result (λ found. AreLexemes text.now found) }
+    ensures within { IfOk result (λ found. All (IsLexemeOf text.now) found) }
+    ensures bad { IfErr result (λ cause. IsLexRefusal text.now cause) }
+{
+    match tokens(alloc, text) {
+        Ok(tokens) => {
+            let found = lexemes(alloc, text, tokens.as_slice())?;
+            Ok(found)
+        }
+        Err(LexError::Bad { at }) => Err(QueryError::Syntax { at }),
+        Err(LexError::NoMemory) => Err(QueryError::NoMemory),
+    }
+}
+
+/// The lesser of a place and that of a number outside the range.
+fn least_of(at: u32, number: Option<u32>) -> u32
+    ensures { result ≡ least_of at number }
+{
+    match number {
+        Some(other) => at.min(other),
+        None => at,
+    }
+}
+
+/// The answer to the tokens of a text.
+#[tactic(auto, using(crate::proofs::Answered::too_deep, crate::proofs::Answered::unspelled, crate::proofs::Answered::wrong_number, crate::proofs::Answered::spelled, crate::proofs::Answered::lie_in))]
+fn answer(
+    alloc: Global,
+    schema: &Schema,
+    text: &[u8],
+    lexemes: &[Lexeme],
+) -> Result<Query, QueryError>
+    requires valid { IsValid schema.now }
+    requires small { length text.now ≤ 1048576 }
+    requires are { AreLexemes text.now lexemes.now }
+    requires within { All (IsLexemeOf text.now) lexemes.now }
+    ensures { IsAnswer schema.now text.now result }
+{
+    let depth = nesting(lexemes);
+    if depth > u64::from(MAX_NESTING) {
+        return Err(QueryError::Limit {
+            which: LimitKind::Nesting,
+            found: depth,
+        });
+    }
+    let number = check_numbers(text, lexemes);
+    match read_query_text(alloc, lexemes, text.len() as u32) {
+        Ok(query) => match number {
+            Some(at) => Err(QueryError::Syntax { at }),
+            None => bind(alloc, schema, text, &query),
+        },
+        Err(SyntaxError::At(at)) => Err(QueryError::Syntax {
+            at: least_of(at, number),
+        }),
+        Err(SyntaxError::NoMemory) => Err(QueryError::NoMemory),
+    }
+}
+
+/// Reads a query text over a schema (SQL-92 6.3, 6.4, 7.4 to 7.9 and 8 in this profile): its query, or the first
+/// refusal. Tokens come first, then the limit on nesting, the grammar and the range of numbers, names, kinds, and
+/// the other limits; each at the first place that offends. Places are bytes of the text, a byte order mark
+/// included. The text has at most 1,048,576 bytes.
+#[tactic(auto, using(crate::proofs::AnswerOfSchema::answer_of_schema, crate::proofs::Answered::unlexed))]
+pub fn read_query(alloc: Global, schema: &Schema, text: &[u8]) -> Result<Query, QueryError>
+    requires valid { IsValid schema.now }
+    requires small { length text.now ≤ 1048576 }
+    ensures meaning { IsAnswer schema.now text.now result }
+    ensures of_schema { IfOk result (IsOf schema.now) }
+{
+    let lexemes = read_lexemes(alloc, text)?;
+    answer(alloc, schema, text, lexemes.as_slice())
+}
