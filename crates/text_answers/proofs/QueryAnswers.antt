@@ -1,0 +1,149 @@
+-- The answer that is computed of a query text is the one that the relation allows.
+use Rattle.std.proofs.Common.{◌≡◌, ◌≢◌, ◌⊎◌, inl, inr, ℕ, ◌≤◌, Bool, true, false, cond, nat_lt, List, [], ◌∷◌, ◌++◌, length, Result, Ok, Err, refl, subst}
+use Rattle.std.proofs.lemmas.Bool.{ltb-true, ltb-false}
+use Rattle.std.specs.Bool.{⊤}
+use Rattle.ll_grammars.specs.declared.lexeme.Lexeme.{Lexeme}
+use Rattle.query_grammar.specs.declared.tree.QueryText.{QueryText}
+use Rattle.query_grammar.specs.Grammar.{QuerySpecification}
+use Rattle.query_grammar.specs.Nesting.{nesting}
+use Rattle.query_grammar.proofs.Whole.{reads_queries}
+use Rattle.sql_tokens.specs.declared.token.Token.{Token}
+use Rattle.sql_tokens.specs.Lexing.{IsLexed}
+use Rattle.schema_types.specs.declared.errors.LimitKind.{LimitKind}
+use Rattle.schema_types.specs.declared.errors.LimitKind.TheVariants as limit
+use Rattle.schema_types.specs.declared.types.Schema.{Schema}
+use Rattle.query_types.specs.declared.types.Query.{Query}
+use Rattle.query_types.specs.Validity.{IsOf}
+use Rattle.sql_parse.specs.declared.errors.QueryError.{QueryError}
+use Rattle.sql_parse.specs.declared.errors.QueryError.TheVariants as error
+use Rattle.sql_parse.specs.Names.{entries}
+use Rattle.sql_parse.specs.Offences.{name_offences, all_kind_offences}
+use Rattle.sql_parse.specs.Values.{query_of}
+use Rattle.sql_parse.specs.Bound.{refusal, most_entries, most_conjuncts, most_outputs, over, first_list, limit_refusals, first_place, name_error, kind_error, long_lists, refusals, unless, bound}
+use Rattle.sql_parse.specs.Numbers.{number_offences}
+use Rattle.sql_parse.specs.Reading.{lexemes_of, most_nesting, unless_number, IsAnswer}
+use Rattle.sql_parse.proofs.OneAnswer.{one_answer}
+use Rattle.sql_parse.proofs.AnswerOfSchema.{answer_of_schema}
+use Rattle.text_answers.specs.Stages.{after, tokens_of}
+use Rattle.text_answers.specs.QueryTexts.{syntax, tree_of, spelled_answer, nested_answer, query_answer}
+use Rattle.text_answers.proofs.Tokens.{AreTold, are_told}
+use Rattle.text_answers.proofs.Spellings.{IsSpelling, is_spelling}
+
+trees_told : (text_len : ℕ) (tokens : List Lexeme) → IsSpelling QuerySpecification tokens text_len (tree_of text_len tokens)
+unfolding tree_of
+trees_told text_len tokens = is_spelling reads_queries tokens text_len
+
+-- ---- the answer is allowed
+
+module _ (schema : Schema) (text : List ℕ) where
+  spelled_allowed : (tokens : List Token) (tree : Result QueryText ℕ) → IsLexed text tokens → nesting (lexemes_of text tokens) ≤ most_nesting → IsSpelling QuerySpecification (lexemes_of text tokens) (length text) tree
+      → IsAnswer schema text (spelled_answer schema text (lexemes_of text tokens) tree)
+  spelled_allowed tokens (Ok tree) lexed shallow spelled = inr (inr (inr (inr (record { tokens = tokens; lexed = lexed; shallow = shallow; tree = tree; spelled = spelled; answered = refl }))))
+  spelled_allowed tokens (Err at) lexed shallow wrong = inr (inr (inr (inl (record { tokens = tokens; lexed = lexed; shallow = shallow; place = at; wrong = wrong; refused = refl }))))
+
+  nested_allowed : (tokens : List Token) → IsLexed text tokens → IsAnswer schema text (nested_answer schema text (lexemes_of text tokens))
+  unfolding nested_answer
+  nested_allowed tokens lexed = by (nat_lt most_nesting (nesting (lexemes_of text tokens))) refl where
+    by : (deep : Bool) → nat_lt most_nesting (nesting (lexemes_of text tokens)) ≡ deep
+        → IsAnswer schema text (cond deep (Err (refusal limit.Nesting (nesting (lexemes_of text tokens)))) (spelled_answer schema text (lexemes_of text tokens) (tree_of (length text) (lexemes_of text tokens))))
+    by true e = inr (inr (inl (record { tokens = tokens; lexed = lexed; deep = ltb-true most_nesting (nesting (lexemes_of text tokens)) e; refused = refl })))
+    by false e =
+        spelled_allowed tokens (tree_of (length text) (lexemes_of text tokens)) lexed (ltb-false most_nesting (nesting (lexemes_of text tokens)) e) (trees_told (length text) (lexemes_of text tokens))
+
+  lexed_allowed : (tokens : Result (List Token) ℕ) → AreTold text tokens → IsAnswer schema text (after syntax tokens (λ tokens. nested_answer schema text (lexemes_of text tokens)))
+  lexed_allowed (Ok tokens) lexed = nested_allowed tokens lexed
+  lexed_allowed (Err at) bad = inr (inl (record { place = at; bad = bad; refused = refl }))
+
+  pub allowed : IsAnswer schema text (query_answer schema text)
+  unfolding query_answer
+  allowed = lexed_allowed (tokens_of text) (are_told text)
+
+-- ---- it is no want of memory
+
+-- the first refusal of a list, where there is one, is none
+abbrev BeginsWell : List QueryError → Type 0
+BeginsWell [] = ⊤
+BeginsWell (wrong ∷ rest) = wrong ≢ error.NoMemory
+
+both_begin : (front rest : List QueryError) → BeginsWell front → BeginsWell rest → BeginsWell (front ++ rest)
+both_begin [] rest h k = k
+both_begin (wrong ∷ front) rest h k = h
+
+places_begin : (wrong : ℕ → QueryError) (places : List ℕ) → ((n : ℕ) → wrong n ≢ error.NoMemory) → BeginsWell (first_place wrong places)
+places_begin wrong [] none = tt
+places_begin wrong (place ∷ rest) none = none place
+
+over_begins : (which : LimitKind) (most n : ℕ) → BeginsWell (over which most n)
+over_begins which most n = by (nat_lt most n) where
+  by : (more : Bool) → BeginsWell (cond more (refusal which n ∷ []) [])
+  by true = λ e. cc
+  by false = tt
+
+lists_begin : (lists : List ℕ) → BeginsWell (first_list lists)
+lists_begin [] = tt
+lists_begin (n ∷ rest) = λ e. cc
+
+limits_begin : (query : Query) (lists : List ℕ) → BeginsWell (limit_refusals query lists)
+limits_begin query lists =
+    let many_entries = over limit.FromEntries most_entries (length query.from) in
+    let many_conjuncts = over limit.Conjuncts most_conjuncts (length query.conjuncts) in
+    let many_outputs = over limit.Outputs most_outputs (length query.select) in
+    both_begin ((many_entries ++ first_list lists) ++ many_conjuncts) many_outputs
+    (both_begin (many_entries ++ first_list lists) many_conjuncts
+    (both_begin many_entries (first_list lists) (over_begins limit.FromEntries most_entries (length query.from)) (lists_begin lists))
+    (over_begins limit.Conjuncts most_conjuncts (length query.conjuncts)))
+    (over_begins limit.Outputs most_outputs (length query.select))
+
+refusals_begin : (schema : Schema) (text : List ℕ) (tree : QueryText) → BeginsWell (refusals schema text tree)
+unfolding refusals
+refusals_begin schema text tree =
+    let from = entries schema text tree in
+    let names = first_place name_error (name_offences schema text from tree) in
+    let kinds = first_place kind_error (all_kind_offences schema text from tree) in
+    both_begin (names ++ kinds) (limit_refusals (query_of schema text tree) (long_lists from tree))
+    (both_begin names kinds (places_begin name_error (name_offences schema text from tree) (λ n e. cc)) (places_begin kind_error (all_kind_offences schema text from tree) (λ n e. cc)))
+    (limits_begin (query_of schema text tree) (long_lists from tree))
+
+unless_not_memory : (wrong : List QueryError) (query : Query) → BeginsWell wrong → unless wrong query ≢ Err error.NoMemory
+unless_not_memory [] query h e = cc
+unless_not_memory (w ∷ rest) query h e = h (let same : w ≡ error.NoMemory = cc in same)
+
+bound_not_memory : (schema : Schema) (text : List ℕ) (tree : QueryText) → bound schema text tree ≢ Err error.NoMemory
+unfolding bound
+bound_not_memory schema text tree = unless_not_memory (refusals schema text tree) (query_of schema text tree) (refusals_begin schema text tree)
+
+number_not_memory : (places : List ℕ) (answer : Result Query QueryError) → answer ≢ Err error.NoMemory → unless_number places answer ≢ Err error.NoMemory
+number_not_memory [] answer h = h
+number_not_memory (place ∷ rest) answer h = λ e. cc
+
+module _ (schema : Schema) (text : List ℕ) where
+  spelled_not_memory : (tokens : List Lexeme) (tree : Result QueryText ℕ) → spelled_answer schema text tokens tree ≢ Err error.NoMemory
+  spelled_not_memory tokens (Ok tree) = number_not_memory (number_offences text tokens) (bound schema text tree) (bound_not_memory schema text tree)
+  spelled_not_memory tokens (Err at) = λ e. cc
+
+  nested_not_memory : (tokens : List Lexeme) → nested_answer schema text tokens ≢ Err error.NoMemory
+  unfolding nested_answer
+  nested_not_memory tokens = by (nat_lt most_nesting (nesting tokens)) where
+    by : (deep : Bool) → cond deep (Err (refusal limit.Nesting (nesting tokens))) (spelled_answer schema text tokens (tree_of (length text) tokens)) ≢ Err error.NoMemory
+    by true = λ e. cc
+    by false = spelled_not_memory tokens (tree_of (length text) tokens)
+
+  lexed_not_memory : (tokens : Result (List Token) ℕ) → after syntax tokens (λ tokens. nested_answer schema text (lexemes_of text tokens)) ≢ Err error.NoMemory
+  lexed_not_memory (Ok tokens) = nested_not_memory (lexemes_of text tokens)
+  lexed_not_memory (Err at) = λ e. cc
+
+  pub never_memory : query_answer schema text ≢ Err error.NoMemory
+  unfolding query_answer
+  never_memory = lexed_not_memory (tokens_of text)
+
+-- ---- and the only one
+
+pub only : (schema : Schema) (text : List ℕ) (answer : Result Query QueryError) → IsAnswer schema text answer → (answer ≡ Err error.NoMemory) ⊎ (answer ≡ query_answer schema text)
+only schema text answer is = by (one_answer schema text answer (query_answer schema text) is (allowed schema text)) where
+  by : (answer ≡ Err error.NoMemory) ⊎ (query_answer schema text ≡ Err error.NoMemory) ⊎ (answer ≡ query_answer schema text) → (answer ≡ Err error.NoMemory) ⊎ (answer ≡ query_answer schema text)
+  by (inl memory) = inl memory
+  by (inr (inl memory)) = absurd (never_memory schema text memory)
+  by (inr (inr same)) = inr same
+
+pub of_schema : (schema : Schema) (text : List ℕ) (query : Query) → query_answer schema text ≡ Ok query → IsOf schema query
+of_schema schema text query e = answer_of_schema schema text query (subst (IsAnswer schema text) e (allowed schema text))

@@ -1,0 +1,115 @@
+-- The answer that is computed of a schema text is the one that the relation allows.
+use Rattle.std.proofs.Common.{◌≡◌, ◌≢◌, ◌⊎◌, inl, inr, ℕ, List, [], ◌∷◌, map, length, Option, Some, None, Result, Ok, Err, refl, subst}
+use Rattle.std.specs.Bool.{⊤}
+use Rattle.schema_grammar.specs.declared.tree.TableText.{TableText}
+use Rattle.schema_grammar.specs.Grammar.{SchemaText}
+use Rattle.schema_grammar.proofs.Rules.{reads_all_tables}
+use Rattle.sql_tokens.specs.declared.token.Token.{Token}
+use Rattle.sql_tokens.specs.Lexing.{IsLexed}
+use Rattle.sql_tokens.specs.Words.{lexeme_of}
+use Rattle.schema_types.specs.declared.errors.LimitKind.TheVariants as limit
+use Rattle.schema_types.specs.declared.errors.SchemaError.{SchemaError}
+use Rattle.schema_types.specs.declared.errors.SchemaError.TheVariants as error
+use Rattle.schema_types.specs.declared.types.Schema.{Schema}
+use Rattle.schema_types.specs.Meaning.{unless_found, within_limits, bound}
+use Rattle.schema_types.specs.Names.{first}
+use Rattle.schema_types.specs.Offences.{offences}
+use Rattle.schema_types.specs.Refusals.{nullable_places, above, in_64_bits, column_counts, text_lengths}
+use Rattle.schema_types.specs.Texts.{Spells, IsSchemaOf}
+use Rattle.schema_types.specs.Validity.{IsValid}
+use Rattle.schema_types.proofs.OneAnswer.{one_answer}
+use Rattle.schema_types.proofs.Valid.{declares_valid}
+use Rattle.text_answers.specs.Stages.{after, tokens_of}
+use Rattle.text_answers.specs.SchemaTexts.{syntax, tables_of, schema_answer}
+use Rattle.text_answers.proofs.Tokens.{AreTold, are_told}
+use Rattle.text_answers.proofs.Spellings.{IsSpelling, is_spelling}
+
+-- ---- what tables declare is a schema, or a refusal of their names, their nullability or their limits
+
+abbrev IsDeclared : Result Schema SchemaError → Type 0
+IsDeclared (Ok schema) = ⊤
+IsDeclared (Err (error.Name at)) = ⊤
+IsDeclared (Err (error.Nullable at)) = ⊤
+IsDeclared (Err (error.Limit which found)) = ⊤
+IsDeclared (Err (error.Syntax at)) = ⊥
+IsDeclared (Err error.NoMemory) = ⊥
+
+unless_declared : (found : Option ℕ) (cause : ℕ → SchemaError) (rest : Result Schema SchemaError) → ((n : ℕ) → IsDeclared (Err (cause n))) → IsDeclared rest → IsDeclared (unless_found found cause rest)
+unless_declared None cause rest causes is = is
+unless_declared (Some n) cause rest causes is = causes n
+
+within_declared : (text : List ℕ) (tables : List TableText) (rest : Result Schema SchemaError) → IsDeclared rest → IsDeclared (within_limits text tables rest)
+unfolding within_limits
+within_declared text tables rest is =
+    unless_declared (first (above 64 (length tables ∷ []))) (λ found. error.Limit limit.Tables (in_64_bits found)) _ (λ n. tt)
+    (unless_declared (first (above 64 (column_counts tables))) (λ found. error.Limit limit.Columns (in_64_bits found)) _ (λ n. tt)
+    (unless_declared (first (above 1000000 (text_lengths text tables))) (λ found. error.Limit limit.TextLength (in_64_bits found)) rest (λ n. tt) is))
+
+bound_declared : (text : List ℕ) (tables : List TableText) → IsDeclared (bound text tables)
+unfolding bound
+bound_declared text tables =
+    unless_declared (first (offences text tables)) (λ at. error.Name at) _ (λ n. tt)
+    (unless_declared (first (nullable_places text tables)) (λ at. error.Nullable at) _ (λ n. tt) (within_declared text tables _ tt))
+
+-- ---- the answer is allowed
+
+declared_allowed : (text : List ℕ) (tables : List TableText) (answer : Result Schema SchemaError) → Spells text tables → bound text tables ≡ answer → IsDeclared answer → IsSchemaOf text answer
+declared_allowed text tables (Ok schema) spells e is = record { tables = tables; spells = spells; answers = e }
+declared_allowed text tables (Err (error.Name at)) spells e is = record { tables = tables; spells = spells; answers = e }
+declared_allowed text tables (Err (error.Nullable at)) spells e is = record { tables = tables; spells = spells; answers = e }
+declared_allowed text tables (Err (error.Limit which found)) spells e is = record { tables = tables; spells = spells; answers = e }
+declared_allowed text tables (Err (error.Syntax at)) spells e is = absurd is
+declared_allowed text tables (Err error.NoMemory) spells e is = absurd is
+
+tables_told : (text : List ℕ) (tokens : List Token) → IsSpelling SchemaText (map (lexeme_of text) tokens) (length text) (tables_of text tokens)
+unfolding tables_of
+tables_told text tokens = is_spelling reads_all_tables (map (lexeme_of text) tokens) (length text)
+
+spelled_allowed : (text : List ℕ) (tokens : List Token) (tables : Result (List TableText) ℕ) → IsLexed text tokens → IsSpelling SchemaText (map (lexeme_of text) tokens) (length text) tables
+    → IsSchemaOf text (after syntax tables (bound text))
+spelled_allowed text tokens (Ok tables) lexed spelled = declared_allowed text tables (bound text tables) (record { tokens = tokens; lexed = lexed; spelled = spelled }) refl (bound_declared text tables)
+spelled_allowed text tokens (Err at) lexed place = inr (record { tokens = tokens; lexed = lexed; place = place })
+
+lexed_allowed : (text : List ℕ) (tokens : Result (List Token) ℕ) → AreTold text tokens → IsSchemaOf text (after syntax tokens (λ tokens. after syntax (tables_of text tokens) (bound text)))
+lexed_allowed text (Ok tokens) lexed = spelled_allowed text tokens (tables_of text tokens) lexed (tables_told text tokens)
+lexed_allowed text (Err at) bad = inl bad
+
+pub allowed : (text : List ℕ) → IsSchemaOf text (schema_answer text)
+unfolding schema_answer
+allowed text = lexed_allowed text (tokens_of text) (are_told text)
+
+-- ---- it is no want of memory
+
+not_memory : (answer : Result Schema SchemaError) → IsDeclared answer → answer ≢ Err error.NoMemory
+not_memory answer is e = subst IsDeclared e is
+
+spelled_not_memory : (text : List ℕ) (tables : Result (List TableText) ℕ) → after syntax tables (bound text) ≢ Err error.NoMemory
+spelled_not_memory text (Ok tables) e = not_memory (bound text tables) (bound_declared text tables) e
+spelled_not_memory text (Err at) e = cc
+
+lexed_not_memory : (text : List ℕ) (tokens : Result (List Token) ℕ) → after syntax tokens (λ tokens. after syntax (tables_of text tokens) (bound text)) ≢ Err error.NoMemory
+lexed_not_memory text (Ok tokens) e = spelled_not_memory text (tables_of text tokens) e
+lexed_not_memory text (Err at) e = cc
+
+pub never_memory : (text : List ℕ) → schema_answer text ≢ Err error.NoMemory
+unfolding schema_answer
+never_memory text = lexed_not_memory text (tokens_of text)
+
+-- ---- and the only one
+
+wants_memory : (answer : Result Schema SchemaError) → (answer ≡ Err error.NoMemory) ⊎ (answer ≢ Err error.NoMemory)
+wants_memory (Ok schema) = inr (λ e. cc)
+wants_memory (Err (error.Syntax at)) = inr (λ e. cc)
+wants_memory (Err (error.Name at)) = inr (λ e. cc)
+wants_memory (Err (error.Nullable at)) = inr (λ e. cc)
+wants_memory (Err (error.Limit which found)) = inr (λ e. cc)
+wants_memory (Err error.NoMemory) = inl refl
+
+pub only : (text : List ℕ) (answer : Result Schema SchemaError) → IsSchemaOf text answer → (answer ≡ Err error.NoMemory) ⊎ (answer ≡ schema_answer text)
+only text answer is = by (wants_memory answer) where
+  by : (answer ≡ Err error.NoMemory) ⊎ (answer ≢ Err error.NoMemory) → (answer ≡ Err error.NoMemory) ⊎ (answer ≡ schema_answer text)
+  by (inl memory) = inl memory
+  by (inr some) = inr (one_answer text answer (schema_answer text) is (allowed text) some (never_memory text))
+
+pub valid : (text : List ℕ) (schema : Schema) → schema_answer text ≡ Ok schema → IsValid schema
+valid text schema e = declares_valid text schema (subst (IsSchemaOf text) e (allowed text))

@@ -1,0 +1,4 @@
+pub mod Stages
+pub mod SchemaTexts
+pub mod QueryTexts
+pub mod SmallTexts

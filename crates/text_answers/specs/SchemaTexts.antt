@@ -1,0 +1,22 @@
+-- The one answer of a schema text, by computation: its tokens, the tables that they spell, and what these declare.
+use Rattle.std.specs.Prelude.{ℕ, List, map, length, Result}
+use Rattle.schema_grammar.specs.declared.tree.TableText.{TableText}
+use Rattle.schema_grammar.specs.Readers.{read_all_tables}
+use Rattle.sql_tokens.specs.declared.token.Token.{Token}
+use Rattle.sql_tokens.specs.Words.{lexeme_of}
+use Rattle.schema_types.specs.declared.errors.SchemaError.{SchemaError}
+use Rattle.schema_types.specs.declared.errors.SchemaError.TheVariants as error
+use Rattle.schema_types.specs.declared.types.Schema.{Schema}
+use Rattle.schema_types.specs.Meaning.{bound}
+use Rattle.text_answers.specs.Stages.{after, tokens_of, parsed}
+
+abbrev pub syntax : ℕ → SchemaError
+syntax at = error.Syntax at
+
+-- the tables that these tokens of a text spell
+unfoldable pub tables_of : List ℕ → List Token → Result (List TableText) ℕ
+tables_of text tokens = parsed read_all_tables (length text) (map (lexeme_of text) tokens)
+
+-- the schema of a text, or its first refusal: Syntax, then Name, Nullable and Limit
+unfoldable pub schema_answer : List ℕ → Result Schema SchemaError
+schema_answer text = after syntax (tokens_of text) (λ tokens. after syntax (tables_of text tokens) (bound text))

@@ -1,0 +1,33 @@
+-- The stages that schema and query texts share: the tokens of a text, and what a list of tokens spells. Each gives a value,
+-- or the place at which the text goes wrong.
+use Rattle.std.specs.Prelude.{ℕ, if◌then◌else◌, List, [], ◌∷◌, drop, Option, Some, None, Result, Ok, Err}
+use Rattle.std.specs.Str.{is_utf8}
+use Rattle.std.specs.Str.Lossy.{utf8_valid_len}
+use Rattle.ll_grammars.specs.declared.lexeme.Lexeme.{Lexeme}
+use Rattle.ll_grammars.specs.Reading.{Answer, Parser}
+use Rattle.ll_grammars.specs.Rules.{place}
+use Rattle.sql_tokens.specs.declared.token.Token.{Token}
+use Rattle.sql_tokens.specs.Lexing.{mark_len}
+use Rattle.sql_tokens.specs.Pieces.{tokens_at}
+
+-- a stage's value goes on to the rest; its place is refused
+abbrev pub after : {A B E : Type 0} → (ℕ → E) → Result A ℕ → (A → Result B E) → Result B E
+after wrong (Ok value) rest = rest value
+after wrong (Err at) rest = Err (wrong at)
+
+-- the tokens behind the byte order mark; a text that is no UTF-8 goes wrong at its first bad sequence, whatever else it holds
+unfoldable pub tokens_of : List ℕ → Result (List Token) ℕ
+tokens_of text = if is_utf8 text then tokens_at (mark_len text) (drop (mark_len text) text) else Err (utf8_valid_len text)
+
+-- a value counts where no token is left behind it; else the tokens go wrong where reading stopped
+abbrev pub to_the_end : {A : Type 0} → ℕ → Option A → List Lexeme → Result A ℕ
+to_the_end text_len None rest = Err (place rest text_len)
+to_the_end text_len (Some value) [] = Ok value
+to_the_end text_len (Some value) (token ∷ rest) = Err token.start
+
+abbrev pub whole : {A : Type 0} → ℕ → Answer A → Result A ℕ
+whole text_len answer = to_the_end text_len answer.0 answer.1
+
+-- what a parser reads of all the tokens of a text of so many bytes
+abbrev pub parsed : {A : Type 0} → Parser A → ℕ → List Lexeme → Result A ℕ
+parsed parser text_len tokens = whole text_len (parser tokens)

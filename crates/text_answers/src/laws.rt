@@ -1,0 +1,32 @@
+//! Laws of the answers of texts. None of them does anything when it runs.
+ghost use Rattle.std.specs.Prelude.{◌≡◌, ◌≢◌, ◌⊎◌, ℕ, List, Result, Ok, Err};
+ghost use Rattle.schema_types.specs.declared.errors.SchemaError.{SchemaError};
+ghost use Rattle.schema_types.specs.declared.errors.SchemaError.TheVariants as schema_error;
+ghost use Rattle.schema_types.specs.declared.types.Schema.{Schema};
+ghost use Rattle.schema_types.specs.Texts.{IsSchemaOf};
+ghost use Rattle.schema_types.specs.Validity.{IsValid};
+ghost use Rattle.query_types.specs.declared.types.Query.{Query};
+ghost use Rattle.query_types.specs.Validity.{IsOf};
+ghost use Rattle.sql_parse.specs.declared.errors.QueryError.{QueryError};
+ghost use Rattle.sql_parse.specs.declared.errors.QueryError.TheVariants as query_error;
+ghost use Rattle.sql_parse.specs.Reading.{IsAnswer};
+ghost use Rattle.text_answers.specs.SchemaTexts.{schema_answer};
+ghost use Rattle.text_answers.specs.QueryTexts.{query_answer};
+
+/// A schema text has one answer, `schema_answer`, besides that memory is wanting; and a schema that is
+/// answered is valid.
+pub fn schema_texts()
+    ensures allowed { (text : List ℕ) → IsSchemaOf text (schema_answer text) }
+    ensures only { (text : List ℕ) (answer : Result Schema SchemaError) → IsSchemaOf text answer → (answer ≡ Err schema_error.NoMemory) ⊎ (answer ≡ schema_answer text) }
+    ensures never_memory { (text : List ℕ) → schema_answer text ≢ Err schema_error.NoMemory }
+    ensures valid { (text : List ℕ) (schema : Schema) → schema_answer text ≡ Ok schema → IsValid schema }
+{}
+
+/// A query text has one answer over a schema, `query_answer`, besides that memory is wanting; and a query
+/// that is answered is one of the schema.
+pub fn query_texts()
+    ensures allowed { (schema : Schema) (text : List ℕ) → IsAnswer schema text (query_answer schema text) }
+    ensures only { (schema : Schema) (text : List ℕ) (answer : Result Query QueryError) → IsAnswer schema text answer → (answer ≡ Err query_error.NoMemory) ⊎ (answer ≡ query_answer schema text) }
+    ensures never_memory { (schema : Schema) (text : List ℕ) → query_answer schema text ≢ Err query_error.NoMemory }
+    ensures of_schema { (schema : Schema) (text : List ℕ) (query : Query) → query_answer schema text ≡ Ok query → IsOf schema query }
+{}
