@@ -30,6 +30,9 @@ no_column (Some left) = refl
 pub equality_literal : (left right : Operand) → column_of right ≡ None → equality_of (Compare op.Eq left right) ≡ None
 equality_literal left right e = equality_compare op.Eq left right ∙ ap (joining (column_of left)) e ∙ no_column (column_of left)
 
+pub equality_literal_left : (left right : Operand) → column_of left ≡ None → equality_of (Compare op.Eq left right) ≡ None
+equality_literal_left left right e = equality_compare op.Eq left right ∙ ap (λ c. joining c (column_of right)) e
+
 pub equality_one : (entry a b : ℕ) → equality_of (Compare op.Eq (column_operand entry a) (column_operand entry b)) ≡ None
 equality_one entry a b = equality_compare op.Eq (column_operand entry a) (column_operand entry b) ∙ rw (eq-eqb entry entry refl) refl
 

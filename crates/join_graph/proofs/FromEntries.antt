@@ -12,7 +12,7 @@ use Rattle.query_types.specs.declared.types.Cond.TheOpen.{Cond-F}
 use Rattle.query_types.specs.declared.types.Query.{Query}
 use Rattle.query_types.specs.declared.types.Source.{Source}
 use Rattle.query_types.specs.Validity.{IsOf, IsCondOf, IsLayerOf, IsOfKind}
-use Rattle.join_graph.specs.Conjuncts.{NamesItsEntries, entries_named, entries_of_operand, entries_step}
+use Rattle.query_types.specs.Named.{NamesItsEntries, entries_named, entries_of_operand, entries_step}
 
 below_both : (n : ℕ) (xs ys : List ℕ) → AllByRecursion (λ e. e < n) xs → AllByRecursion (λ e. e < n) ys → AllByRecursion (λ e. e < n) (xs ++ ys)
 below_both n [] ys h k = k

@@ -15,7 +15,8 @@ use Rattle.query_types.specs.declared.types.Cond.TheViews.{out-Cond, roll-Cond, 
 use Rattle.query_types.specs.declared.types.Cond.TheFolds.{fold-roll-Cond}
 use Rattle.join_graph.specs.declared.naming.Named.{Named}
 use Rattle.join_graph.specs.declared.naming.Named.TheVariants as named
-use Rattle.join_graph.specs.Conjuncts.{column_of, entries_of_operand, entries_named, entries_step, equality_in, equality_of, joining, compared, is_just, are_one}
+use Rattle.join_graph.specs.Conjuncts.{column_of, equality_in, equality_of, joining, compared, is_just, are_one}
+use Rattle.query_types.specs.Named.{entries_of_operand, entries_named, entries_step}
 use Rattle.join_graph.specs.Naming.{named_of, together}
 
 pub assoc : (a b c : Named) → together (together a b) c ≡ together a (together b c)

@@ -9,7 +9,8 @@ use Rattle.join_graph.specs.declared.naming.Named.{Named}
 use Rattle.join_graph.specs.declared.naming.Named.TheVariants as named
 use Rattle.join_graph.specs.declared.splitting.Part.{Part}
 use Rattle.join_graph.specs.declared.splitting.Part.TheVariants as part
-use Rattle.join_graph.specs.Conjuncts.{entries_named, equality_of, names_just, is_residual, numbers_where, local_of, equalities_of, residual_of}
+use Rattle.join_graph.specs.Conjuncts.{equality_of, names_just, is_residual, numbers_where, local_of, equalities_of, residual_of}
+use Rattle.query_types.specs.Named.{entries_named}
 use Rattle.join_graph.specs.Naming.{named_of, part_from, part_of, is_alike, edge_in}
 use Rattle.join_graph.proofs.NamedEntries.{tells_just, tells_one, just_named, one_named, equality_several}
 

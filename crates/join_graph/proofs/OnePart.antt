@@ -7,7 +7,8 @@ use Rattle.query_types.specs.declared.types.Cond.{Cond}
 use Rattle.query_types.specs.declared.types.Query.{Query}
 use Rattle.join_graph.specs.declared.naming.Named.{Named}
 use Rattle.join_graph.specs.declared.naming.Named.TheVariants as named
-use Rattle.join_graph.specs.Conjuncts.{NamesItsEntries, entries_named, equality_of, names_just, once_if, places_in_parts}
+use Rattle.join_graph.specs.Conjuncts.{equality_of, names_just, once_if, places_in_parts}
+use Rattle.query_types.specs.Named.{NamesItsEntries, entries_named}
 use Rattle.join_graph.specs.Naming.{named_of, together}
 use Rattle.join_graph.proofs.NamedEntries.{tells_just, tells_one, just_named, one_named, equality_several}
 

@@ -1,6 +1,6 @@
 -- The conjuncts of a query in parts: those that name one entry, the equalities that join two, and all others.
-use Rattle.std.specs.Prelude.{ℕ, ◌+◌, ◌<◌, Bool, false, not, ◌&&◌, ◌==◌, if◌then◌else◌, List, [], ◌∷◌, ◌++◌, All, map, length, Option, Some, None, is_none, is_some, filter}
-use Rattle.std.specs.List.{filter_map, flat_map, list_all, list_any, range_with_len}
+use Rattle.std.specs.Prelude.{ℕ, ◌+◌, Bool, false, not, ◌&&◌, ◌==◌, if◌then◌else◌, List, [], ◌∷◌, map, length, Option, Some, None, is_none, is_some, filter}
+use Rattle.std.specs.List.{filter_map, list_all, list_any, range_with_len}
 use Rattle.berge_tree.specs.declared.edges.Edge.{Edge}
 use Rattle.berge_tree.specs.Equalities.{place}
 use Rattle.query_grammar.specs.declared.tree.Op.{Op}
@@ -11,29 +11,8 @@ use Rattle.query_types.specs.declared.types.Operand.TheVariants as operand
 use Rattle.query_types.specs.declared.types.Cond.{Cond}
 use Rattle.query_types.specs.declared.types.Cond.TheOpen.{Cond-F}
 use Rattle.query_types.specs.declared.types.Cond.TheViews.{out-Cond}
-use Rattle.query_types.specs.declared.types.Cond.TheFolds.{fold-Cond}
+use Rattle.query_types.specs.Named.{entries_named}
 use Rattle.query_types.specs.declared.types.Query.{Query}
-
--- ---- the entries that a condition names
-
-abbrev pub entries_of_operand : Operand → List ℕ
-entries_of_operand (operand.Column column) = column.from ∷ []
-entries_of_operand (operand.Int number) = []
-entries_of_operand (operand.Text text) = []
-
-abbrev pub entries_step : Cond-F (List ℕ) → List ℕ
-entries_step (Cond-F.And all) = flat_map (λ inner. inner) all
-entries_step (Cond-F.Or any) = flat_map (λ inner. inner) any
-entries_step (Cond-F.Not inner) = inner
-entries_step (Cond-F.Compare op left right) = entries_of_operand left ++ entries_of_operand right
-
--- the entries that a condition names, as often as it names them
-abbrev pub entries_named : Cond → List ℕ
-entries_named = fold-Cond (List ℕ) entries_step
-
--- every entry that a conjunct names is a FROM entry
-abbrev pub NamesItsEntries : Query → Type 0
-NamesItsEntries query = All (λ cond. All (λ entry. entry < length query.from) (entries_named cond)) query.conjuncts
 
 -- ---- what stands in which part
 

@@ -6,7 +6,8 @@ use Rattle.join_graph.specs.declared.naming.Named.{Named}
 use Rattle.join_graph.specs.declared.naming.Named.TheVariants as named
 use Rattle.join_graph.specs.declared.splitting.Part.{Part}
 use Rattle.join_graph.specs.declared.splitting.Part.TheVariants as part
-use Rattle.join_graph.specs.Conjuncts.{entries_named, equality_of}
+use Rattle.join_graph.specs.Conjuncts.{equality_of}
+use Rattle.query_types.specs.Named.{entries_named}
 
 -- what two lists name together
 abbrev pub together : Named → Named → Named

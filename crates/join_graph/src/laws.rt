@@ -13,7 +13,8 @@ ghost use Rattle.query_types.specs.declared.types.Cond.TheVariants as cond;
 ghost use Rattle.query_types.specs.declared.types.Operand.{Operand};
 ghost use Rattle.query_types.specs.declared.types.Operand.TheVariants as operand;
 ghost use Rattle.query_types.specs.declared.types.Query.{Query};
-ghost use Rattle.join_graph.specs.Conjuncts.{NamesItsEntries, column_operand, equality_of, numbers_where, places_in_parts};
+ghost use Rattle.join_graph.specs.Conjuncts.{column_operand, equality_of, numbers_where, places_in_parts};
+ghost use Rattle.query_types.specs.Named.{NamesItsEntries};
 ghost use Rattle.join_graph.specs.Examples.{first_side, pair, second_side, seventeen, third_side, triangle};
 ghost use Rattle.join_graph.specs.Kept.{AreConnected, Keeps, kept_in_order, kept_of, turn_count};
 
@@ -55,6 +56,8 @@ pub fn examples()
     ensures triangle_turns { turn_count 7 triangle ≡ 3 }
     ensures two_entries_turns { turn_count 3 triangle ≡ 1 }
     ensures one_entry_turns { turn_count 1 triangle ≡ 1 }
+    ensures pair_turns { turn_count 3 pair ≡ 2 }
+    ensures written_twice { turn_count 3 (edge_of 0 0 1 0 ∷ edge_of 0 0 1 0 ∷ []) ≡ 2 }
     ensures pair_first { kept_of 3 0 pair ≡ edge_of 0 0 1 0 ∷ [] }
     ensures pair_second { kept_of 3 1 pair ≡ edge_of 0 1 1 1 ∷ [] }
     ensures seventeen_turns { turn_count 3 seventeen ≡ 16 }
@@ -67,6 +70,8 @@ pub fn what_joins_entries()
     ensures under_not { (member : Cond) → equality_of (cond.Not member) ≡ None }
     ensures number { (left : Operand) (number : ℤ) → equality_of (cond.Compare op.Eq left (operand.Int number)) ≡ None }
     ensures text { (left : Operand) (text : List ℕ) → equality_of (cond.Compare op.Eq left (operand.Text text)) ≡ None }
+    ensures number_left { (number : ℤ) (right : Operand) → equality_of (cond.Compare op.Eq (operand.Int number) right) ≡ None }
+    ensures text_left { (text : List ℕ) (right : Operand) → equality_of (cond.Compare op.Eq (operand.Text text) right) ≡ None }
     ensures one_entry { (entry a b : ℕ) → equality_of (cond.Compare op.Eq (column_operand entry a) (column_operand entry b)) ≡ None }
     ensures two_entries { (left a right b : ℕ) → left ≢ right
         → equality_of (cond.Compare op.Eq (column_operand left a) (column_operand right b)) ≡ Some (edge_of left a right b) }

@@ -1,7 +1,8 @@
 //! Which entries a condition names.
 ghost use Rattle.std.specs.Prelude.{◌≡◌, map};
 ghost use Rattle.std.specs.List.{flat_map};
-ghost use Rattle.join_graph.specs.Conjuncts.{column_of, entries_named, entries_of_operand};
+ghost use Rattle.join_graph.specs.Conjuncts.{column_of};
+ghost use Rattle.query_types.specs.Named.{entries_named, entries_of_operand};
 ghost use Rattle.join_graph.specs.Naming.{named_of, together};
 ghost use Rattle.join_graph.specs.declared.naming.Named.TheVariants as named;
 

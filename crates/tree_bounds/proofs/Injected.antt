@@ -94,6 +94,18 @@ module _ (b : EntryBounds) (tables : KeyedTables) (choice : ℕ → ℕ) where
       rw (map-append choice (entries t) (entries_of_all ts))
       (stands_paired (map choice (entries t)) (map choice (entries_of_all ts)) (chosen_rows tables t) (chosen_rows_of_all tables ts) (listed t d.0 a.0) (listed_all ts d.1 a.1))
 
+contains_from : (q : List ℕ) (xs : List (List ℕ)) → Stands q xs → Contains xs q
+contains_from q [] h = absurd h
+contains_from q (x ∷ xs) h = elim h [
+  | inl now ↦ (0, omega arith, sym now)
+  | inr later ↦ (let k : Contains xs q = contains_from q xs later in (suc k.0, omega (arith, k.1), k.2))
+]
+
+-- the rows of a choice that agrees stand in the list of all
+pub choice_listed : (b : EntryBounds) (tables : KeyedTables) (t : JoinTree) → TreeDominates b tables t → (choice : ℕ → ℕ) → Agrees tables t choice
+    → Contains (chosen_rows tables t) (map choice (entries t))
+choice_listed b tables t d choice a = contains_from (map choice (entries t)) (chosen_rows tables t) (listed b tables choice t d a)
+
 -- ---- different choices are different members
 
 is_member_where : (q : List ℕ) (xs : List (List ℕ)) → Stands q xs → is_member (pointwise nat_eq) xs q ≡ true

@@ -39,6 +39,10 @@ two_keys (suc entry) column = 1 ∷ 1 ∷ 4 ∷ 5 ∷ 6 ∷ []
 abbrev pub two_tables : KeyedTables
 two_tables = record { rows = two_rows; keys = two_keys }
 
+-- the first rows of both, and the first row of the one with the second row of the other
+abbrev pub two_choices : List (ℕ → ℕ)
+two_choices = (λ entry. 0) ∷ (λ entry. entry) ∷ []
+
 -- the degree lists of the keys
 abbrev pub exact_list : ℕ → ℕ → List ℕ
 exact_list zero column = 3 ∷ 2 ∷ 1 ∷ []

@@ -1,17 +1,21 @@
 //! Each definition at small numbers.
 ghost use Rattle.std.specs.Prelude.{◌≡◌, ◌-◌, ◌*◌, ◌^◌, [], ◌∷◌};
+ghost use Rattle.std.specs.List.{AllByRecursion};
 ghost use Rattle.degree_sequences.specs.Degrees.{degree_list};
 ghost use Rattle.degree_sequences.specs.Saturation.{saturated};
 ghost use Rattle.berge_tree.specs.Nodes.{nodes_of};
+ghost use Rattle.berge_tree.specs.Rooted.{entries_of_set};
 ghost use Rattle.berge_tree.specs.Testing.{edge_of};
+ghost use Rattle.berge_tree.specs.Trees.{entries};
 ghost use Rattle.join_graph.specs.Examples.{pair, triangle};
+ghost use Rattle.join_graph.specs.Kept.{equalities_within};
 ghost use Rattle.tree_bounds.specs.TreeBounds.{HasLists, bound_of_tree, bound_of_trees};
 ghost use Rattle.tree_bounds.specs.NodeBounds.{bound_of_nodes};
-ghost use Rattle.tree_bounds.specs.Nearness.{TreeIsNear};
-ghost use Rattle.tree_bounds.specs.Tables.{SetDominates, TreeDominates};
+ghost use Rattle.tree_bounds.specs.Nearness.{SetIsNear, TreeIsNear};
+ghost use Rattle.tree_bounds.specs.Tables.{Agrees, AreDifferent, Satisfies, SetDominates, TreeDominates};
 ghost use Rattle.tree_bounds.specs.SetBounds.{SetHasLists, bound_of_set, bound_of_turn};
 ghost use Rattle.tree_bounds.specs.Counting.{chosen_rows};
-ghost use Rattle.tree_bounds.specs.Examples.{path, path_bounds, two, two_keys, two_tables, exact_list, exact_bounds, compressed_bounds, triangle_bounds, pair_bounds, one_class, many_bounds};
+ghost use Rattle.tree_bounds.specs.Examples.{path, path_bounds, two, two_choices, two_keys, two_tables, exact_list, exact_bounds, compressed_bounds, triangle_bounds, pair_bounds, one_class, many_bounds};
 
 /// Trees of two and three entries, and two trees together.
 pub fn trees()
@@ -27,8 +31,11 @@ pub fn trees()
 
 /// Sets of entries: a triangle, two entries with two equalities, and two entries with none.
 pub fn sets()
+    ensures first { bound_of_set triangle_bounds triangle 1 ≡ 3 }
     ensures single { bound_of_set triangle_bounds triangle 2 ≡ 3 }
+    ensures last { bound_of_set triangle_bounds triangle 4 ≡ 3 }
     ensures first_pair { bound_of_set triangle_bounds triangle 3 ≡ 5 }
+    ensures middle_pair { bound_of_set triangle_bounds triangle 6 ≡ 5 }
     ensures last_pair { bound_of_set triangle_bounds triangle 5 ≡ 5 }
     ensures first_turn { bound_of_turn triangle_bounds triangle 7 0 ≡ 9 }
     ensures second_turn { bound_of_turn triangle_bounds triangle 7 1 ≡ 9 }
@@ -37,6 +44,7 @@ pub fn sets()
     ensures alike { bound_of_turn pair_bounds pair 3 0 ≡ 9 }
     ensures different { bound_of_turn pair_bounds pair 3 1 ≡ 3 }
     ensures least { bound_of_set pair_bounds pair 3 ≡ 3 }
+    ensures components { bound_of_set triangle_bounds (edge_of 0 0 1 0 ∷ edge_of 2 0 3 0 ∷ []) 15 ≡ 5 * 5 }
     ensures unjoined { bound_of_set path_bounds [] 7 ≡ 3 * 6 * 5 }
     ensures empty { bound_of_set path_bounds triangle 0 ≡ 1 }
 {}
@@ -47,8 +55,9 @@ pub fn one_class()
     ensures twelve { saturated (bound_of_tree many_bounds (one_class 10)) ≡ 2 ^ 128 - 1 }
 {}
 
-/// The premises of the laws, all met: the exact lists of two tables dominate them, for the tree and for the set of the
-/// two, and the compressed lists are near the exact ones at accuracy 1.
+/// The premises of the laws of trees and sets, all met: the exact lists of two tables dominate them, for the tree and
+/// for the set of the two, two different choices agree in the tree and satisfy the equality, and the compressed lists
+/// are near the exact ones at accuracy 1.
 pub fn instances()
     ensures lists { HasLists exact_bounds two }
     ensures dominates { TreeDominates exact_bounds two_tables two }
@@ -57,4 +66,8 @@ pub fn instances()
     ensures set_bound { bound_of_set exact_bounds (edge_of 0 0 1 0 ∷ []) 3 ≡ 9 }
     ensures near_lists { HasLists compressed_bounds two }
     ensures near { TreeIsNear 1 compressed_bounds exact_bounds two }
+    ensures set_near { SetIsNear 1 compressed_bounds exact_bounds (edge_of 0 0 1 0 ∷ []) 3 }
+    ensures agree { AllByRecursion (Agrees two_tables two) two_choices }
+    ensures satisfy { AllByRecursion (Satisfies two_tables (entries_of_set 3) (equalities_within 3 (edge_of 0 0 1 0 ∷ []))) two_choices }
+    ensures different { AreDifferent (entries two) two_choices }
 {}

@@ -34,8 +34,10 @@ pub fn trees_are_never_under()
         → AreDifferent set choices → length choices ≤ bound_of_trees b trees }
 {}
 
-/// The choices that agree can be counted and listed, and the bound is at least their number.
+/// The choices that agree can be counted and listed, each by its rows, and the bound is at least their number.
 pub fn choices_are_counted()
+    ensures stand { (b : EntryBounds) (tables : KeyedTables) (t : JoinTree) → TreeDominates b tables t
+        → (choice : ℕ → ℕ) → Agrees tables t choice → Contains (chosen_rows tables t) (map choice (entries t)) }
     ensures listed { (tables : KeyedTables) (t : JoinTree) → length (chosen_rows tables t) ≡ number_of_choices tables t }
     ensures within { (b : EntryBounds) (tables : KeyedTables) (t : JoinTree) → HasLists b t → TreeDominates b tables t
         → number_of_choices tables t ≤ bound_of_tree b t }

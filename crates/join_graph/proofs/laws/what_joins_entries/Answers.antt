@@ -1,6 +1,6 @@
 use Rattle.std.proofs.Common.{refl}
 use Rattle.query_types.specs.declared.types.Operand.TheVariants as operand
-use Rattle.join_graph.proofs.Comparing.{equality_and, equality_or, equality_not, equality_literal, equality_one, equality_two}
+use Rattle.join_graph.proofs.Comparing.{equality_and, equality_or, equality_not, equality_literal, equality_literal_left, equality_one, equality_two}
 use Rattle.join_graph.proofs.laws.what_joins_entries.Goals as goal
 
 pub returns-clause-under_and : goal.returns-clause-under_and
@@ -17,6 +17,12 @@ returns-clause-number c = λ left number. equality_literal left (operand.Int num
 
 pub returns-clause-text : goal.returns-clause-text
 returns-clause-text c = λ left text. equality_literal left (operand.Text text) refl
+
+pub returns-clause-number_left : goal.returns-clause-number_left
+returns-clause-number_left c = λ number right. equality_literal_left (operand.Int number) right refl
+
+pub returns-clause-text_left : goal.returns-clause-text_left
+returns-clause-text_left c = λ text right. equality_literal_left (operand.Text text) right refl
 
 pub returns-clause-one_entry : goal.returns-clause-one_entry
 returns-clause-one_entry c = equality_one

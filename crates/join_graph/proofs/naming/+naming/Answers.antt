@@ -1,5 +1,5 @@
 use Rattle.std.proofs.Common.{◌∙◌, ap, arith}
-use Rattle.join_graph.specs.Conjuncts.{entries_named}
+use Rattle.query_types.specs.Named.{entries_named}
 use Rattle.join_graph.specs.Naming.{named_of}
 use Rattle.join_graph.proofs.NamedEntries.{member_more}
 use Rattle.join_graph.proofs.naming.+naming.Goals as goal

@@ -1,6 +1,6 @@
 use Rattle.std.proofs.Common.{◌≡◌, map, drop}
 use Rattle.std.specs.List.{flat_map}
-use Rattle.join_graph.specs.Conjuncts.{entries_named}
+use Rattle.query_types.specs.Named.{entries_named}
 use Rattle.join_graph.specs.Naming.{named_of, together}
 use Rattle.join_graph.proofs.naming.+naming.Given as goal
 

@@ -49,3 +49,19 @@ returns-clause-unjoined c = refl
 pub returns-clause-empty : goal.returns-clause-empty
 unfolding entries_of_set
 returns-clause-empty c = refl
+
+pub returns-clause-first : goal.returns-clause-first
+unfolding entries_of_set
+returns-clause-first c = refl
+
+pub returns-clause-last : goal.returns-clause-last
+unfolding entries_of_set
+returns-clause-last c = refl
+
+pub returns-clause-middle_pair : goal.returns-clause-middle_pair
+unfolding entries_of_set
+returns-clause-middle_pair c = refl
+
+pub returns-clause-components : goal.returns-clause-components
+unfolding entries_of_set
+returns-clause-components c = refl
