@@ -9,7 +9,8 @@ use Rattle.query_types.specs.declared.types.Cond.TheFolds.{fold-roll-Cond, ind-C
 use Rattle.query_types.specs.declared.types.Cond.TheOpen.{Cond-F}
 use Rattle.query_types.specs.declared.types.Cond.TheOpen as layer
 use Rattle.sql_meaning.specs.Answers.{conjunct_of}
-use Rattle.sql_meaning.specs.Conditions.{all_of, any_of, cond_holds, entries_named, entries_of_operand, entries_step, holds_step, operand_value}
+use Rattle.sql_meaning.specs.Conditions.{all_of, any_of, cond_holds, holds_step, operand_value}
+use Rattle.query_types.specs.Named.{entries_named, entries_of_operand, entries_step}
 use Rattle.sql_meaning.specs.Levels.{AsksOnly}
 use Rattle.sql_meaning.specs.Tables.{Tables}
 

@@ -11,7 +11,8 @@ use Rattle.query_types.specs.declared.types.Cond.TheFolds.{fold-roll-Cond}
 use Rattle.query_types.specs.declared.types.Cond.TheOpen.{Cond-F}
 use Rattle.query_types.specs.declared.types.Cond.TheOpen as layer
 use Rattle.query_types.specs.declared.types.Cond.TheVariants.{rolls-And, rolls-Or, rolls-Not, rolls-Compare}
-use Rattle.sql_meaning.specs.Conditions.{all_of, any_of, comparison_says, cond_holds, entries_named, entries_of_operand, entries_step, holds_step}
+use Rattle.sql_meaning.specs.Conditions.{all_of, any_of, comparison_says, cond_holds, holds_step}
+use Rattle.query_types.specs.Named.{entries_named, entries_of_operand, entries_step}
 use Rattle.sql_meaning.specs.Tables.{Tables}
 
 -- ---- the entries that are named

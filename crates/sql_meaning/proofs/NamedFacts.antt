@@ -11,7 +11,7 @@ use Rattle.query_types.specs.declared.types.Cond.TheFolds.{fold-roll-Cond, ind-C
 use Rattle.query_types.specs.declared.types.Cond.TheOpen.{Cond-F}
 use Rattle.query_types.specs.declared.types.Cond.TheOpen as layer
 use Rattle.query_types.specs.declared.types.Cond.TheVariants.{rolls-And, rolls-Or, rolls-Not, rolls-Compare}
-use Rattle.sql_meaning.specs.Conditions.{entries_named, entries_of_operand, entries_step}
+use Rattle.query_types.specs.Named.{entries_named, entries_of_operand, entries_step}
 use Rattle.sql_meaning.specs.Databases.{CanAskLayer, CanCompare, IsAskable, IsOfKind}
 use Rattle.sql_meaning.proofs.ConditionFacts.{every_and, every_or, every_not, every_compare}
 

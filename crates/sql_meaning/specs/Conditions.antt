@@ -1,6 +1,5 @@
 -- When a condition holds where each FROM entry has a row (SQL-92 8.2 and 8.12, without nulls).
-use Rattle.std.specs.Prelude.{ℕ, Bool, true, false, not, ◌&&◌, ◌||◌, List, [], ◌∷◌, ◌++◌, pos, slice_index_or}
-use Rattle.std.specs.List.{flat_map}
+use Rattle.std.specs.Prelude.{ℕ, Bool, true, false, not, ◌&&◌, ◌||◌, List, [], ◌∷◌, pos, slice_index_or}
 use Rattle.std.specs.Ordering.{is_eq, is_ne, is_lt, is_le, is_gt, is_ge}
 use Rattle.std.specs.declared.cmp.Ordering.{Ordering}
 use Rattle.csv_tables.specs.Values.{Value, Int, Text, value_cmp}
@@ -58,18 +57,3 @@ holds_step tables row_of (layer.Compare op left right) = comparison_says tables 
 -- the condition holds where each entry has this row
 abbrev pub cond_holds : Tables → (ℕ → ℕ) → Cond → Bool
 cond_holds tables row_of = fold-Cond Bool (holds_step tables row_of)
-
-abbrev pub entries_of_operand : Operand → List ℕ
-entries_of_operand (operand.Column column) = column.from ∷ []
-entries_of_operand (operand.Int number) = []
-entries_of_operand (operand.Text text) = []
-
-abbrev pub entries_step : Cond-F (List ℕ) → List ℕ
-entries_step (layer.And all) = flat_map (λ inner. inner) all
-entries_step (layer.Or any) = flat_map (λ inner. inner) any
-entries_step (layer.Not inner) = inner
-entries_step (layer.Compare op left right) = entries_of_operand left ++ entries_of_operand right
-
--- the entries that a condition names, as often as it names them
-abbrev pub entries_named : Cond → List ℕ
-entries_named = fold-Cond (List ℕ) entries_step

@@ -2,15 +2,16 @@
 ghost use Rattle.std.specs.Prelude.{◌≡◌, ◌<◌, [], length, pos, slice_index, slice_index_or};
 ghost use Rattle.csv_tables.specs.Cells.{rows_of_cells, value_of_cell, IsCell};
 ghost use Rattle.csv_tables.specs.Values.{Int};
-ghost use Rattle.sql_meaning.specs.Conditions.{column_value, entries_of_operand, operand_value};
+ghost use Rattle.sql_meaning.specs.Conditions.{column_value, operand_value};
+ghost use Rattle.query_types.specs.Named.{entries_of_operand};
 ghost use Rattle.sql_meaning.specs.Databases.{AreCells, AreTables, HasColumn, HaveRows, IsColumnOf};
 ghost use Rattle.sql_meaning.specs.Seen.{value_seen};
 ghost use Rattle.sql_meaning.specs.Tables.{cells_of, tables_of};
 
 use crate::values::ValueRef;
 use csv_tables::{Cells, Database, Pool, value_of};
-use schema_types::Kind;
 use query_types::{ColumnRef, Operand};
+use schema_types::Kind;
 
 // The value of a cell: a number, or a text of the pool.
 fn read_cell<'a>(kind: Kind, pool: &'a Pool, cell: u64) -> ValueRef<'a>

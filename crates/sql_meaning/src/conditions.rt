@@ -1,6 +1,7 @@
 //! When a condition holds.
 ghost use Rattle.std.specs.Prelude.{◌≡◌, length, slice_index};
-ghost use Rattle.sql_meaning.specs.Conditions.{comparison_says, cond_holds, entries_named, entries_of_operand};
+ghost use Rattle.sql_meaning.specs.Conditions.{comparison_says, cond_holds};
+ghost use Rattle.query_types.specs.Named.{entries_named, entries_of_operand};
 ghost use Rattle.sql_meaning.specs.Databases.{AreTables, CanCompare, HaveRows, IsAskable};
 ghost use Rattle.sql_meaning.specs.Tables.{tables_of};
 

@@ -15,6 +15,9 @@ pub fn filters()
     ensures crossed { rows_where one_two_three from_three_to_one ≡ [] }
     ensures thrice { rows_where one_two_three (Or (x_is op.Eq 2 ∷ x_is op.Eq 2 ∷ x_is op.Eq 2 ∷ [])) ≡ 1 ∷ [] }
     ensures up_to { rows_where one_two_three (x_is op.Le 2) ≡ 0 ∷ 1 ∷ [] }
+    ensures below { rows_where one_two_three (x_is op.Lt 2) ≡ 0 ∷ [] }
+    ensures above { rows_where one_two_three (x_is op.Gt 2) ≡ 2 ∷ [] }
+    ensures absent { rows_where one_two_three (x_is op.Eq 4) ≡ [] }
     ensures other { rows_where one_two_three (x_is op.Ne 2) ≡ 0 ∷ 2 ∷ [] }
 {}
 

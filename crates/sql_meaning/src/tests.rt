@@ -7,8 +7,8 @@ ghost use Rattle.sql_meaning.specs.Examples.{column_at, three_rows, triangle, tr
 use crate::{answer_slow, holds};
 use base_io::{Name, NoMemory, Seq};
 use csv_tables::{Cells, Database, Pool};
-use schema_types::Kind;
 use query_types::{ColumnRef, Cond, Op, Operand, Out, Query, Source};
+use schema_types::Kind;
 use std::alloc::Global;
 
 #[derive(Debug, Drop)]

@@ -10,8 +10,11 @@ bounds-as_slice-column-2 c =
 
 pub bounds-cells-row : goal.bounds-cells-row
 bounds-cells-row c =
-    omega (arith, height c.args.pool.now c.args.cells.now c.requires.cells c.as_slice-2.result.now c.args.column c.index-as_slice-column.result c.as_slice-2.ensures c.index-as_slice-column.is c.requires.column,
-      ap (λ (s : List ℕ). length s) c.as_slice-cells.ensures)
+    omega (
+      arith,
+      height c.args.pool.now c.args.cells.now c.requires.cells c.as_slice-2.result.now c.args.column c.index-as_slice-column.result c.as_slice-2.ensures c.index-as_slice-column.is c.requires.column,
+      ap (λ (s : List ℕ). length s) c.as_slice-cells.ensures,
+    )
 
 pub read_cell-requires : goal.read_cell-requires
 read_cell-requires c =
@@ -22,4 +25,4 @@ pub returns : goal.returns
 returns c =
     c.read_cell.ensures
     ∙ sym (read_value c.args.pool.now c.args.cells.now c.requires.cells c.as_slice.result.now c.as_slice-2.result.now c.args.row c.args.column c.index-as_slice-column.result c.as_slice-cells.result.now (Int (pos 0))
-      c.as_slice.ensures c.as_slice-2.ensures c.index-as_slice-column.is c.as_slice-cells.ensures c.requires.row c.requires.column)
+    c.as_slice.ensures c.as_slice-2.ensures c.index-as_slice-column.is c.as_slice-cells.ensures c.requires.row c.requires.column)
