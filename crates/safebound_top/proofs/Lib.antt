@@ -1,7 +1,11 @@
-pub mod Columns
+pub mod Answered
+pub mod Askable
+pub mod Cuts
 pub mod FaultLines
-pub mod Lines
+pub mod Kept
 pub mod Meanings
-pub mod PlainText
-pub mod Refusals
+pub mod Printing
+pub mod Ready
+pub mod Causes
+pub mod Runs
 pub mod Staged

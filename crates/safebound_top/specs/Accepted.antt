@@ -1,27 +1,29 @@
--- A query with its table's rows, and what they mean together.
-use Rattle.std.specs.Prelude.{ℕ, ℤ, pos, ◌≤◌, List, map, length, slice_index_or, IsPermutation}
-use Rattle.safebound_top.specs.declared.query.Query.{Query}
-use Rattle.safebound_top.specs.declared.query.Out.{Out}
+-- What a run is over, and what it means.
+use Rattle.std.specs.Prelude.{ℕ, ◌≤◌, List, [], ◌∷◌, map, length, IsPermutation}
+use Rattle.csv_tables.specs.Rows.{Row}
+use Rattle.query_types.specs.declared.types.Query.{Query}
+use Rattle.sql_meaning.specs.Answers.{answer, conjuncts_of, selected}
+use Rattle.sql_meaning.specs.Levels.{level, row_in, scan}
+use Rattle.sql_meaning.specs.Tables.{Tables, row_counts}
 
--- what a run is over: a row is the list of its values in the declared order of the columns
+-- a query of one FROM entry, and the rows of its table
 pub record Accepted : Type 0 where
   pub query : Query
-  pub rows : List (List ℤ)
+  pub rows : List Row
 
--- the values of the output columns in a row
-abbrev pub selected : List Out → List ℤ → List ℤ
-selected outs row = map (λ (out : Out). slice_index_or row out.column.column (pos 0)) outs
+abbrev pub tables : Accepted → Tables
+tables run entry = run.rows
 
--- the answer as SQL-92 has it: FROM gives each row of the table once, SELECT its output values
-abbrev pub answer : Accepted → List (List ℤ)
-answer run = map (selected run.query.select) run.rows
+-- the order of the plan: the one entry
+abbrev pub order : List ℕ
+order = 0 ∷ []
 
--- the rows of the scan, and of the one level of the plan
-abbrev pub scan : Accepted → List (List ℤ)
-scan run = run.rows
+-- the rows of the scan, and those of the one level
+abbrev pub scan_rows : Accepted → List ℕ
+scan_rows run = scan (conjuncts_of run.query (tables run)) (row_counts (tables run)) 0
 
-abbrev pub level : Accepted → List (List ℤ)
-level run = scan run
+abbrev pub level_rows : Accepted → List (List ℕ)
+level_rows run = level (conjuncts_of run.query (tables run)) (row_counts (tables run)) order 1
 
 -- the bounds that the plan prints
 abbrev pub scan_bound : Accepted → ℕ
@@ -30,15 +32,15 @@ scan_bound run = length run.rows
 abbrev pub level_bound : Accepted → ℕ
 level_bound run = length run.rows
 
--- the rows that are printed, in their order
-abbrev pub printed : Accepted → List (List ℤ)
-printed run = map (selected run.query.select) (level run)
+-- the rows that are printed: the outputs of each choice of the last level, in its order
+abbrev pub printed : Accepted → List Row
+printed run = map (λ choice. selected run.query (tables run) (row_in order choice)) (level_rows run)
 
 -- no scan and no level has more rows than its bound
 pub record BoundsHold (run : Accepted) : Type 0 where
-  pub scan_holds : length (scan run) ≤ scan_bound run
-  pub level_holds : length (level run) ≤ level_bound run
+  pub scan_holds : length (scan_rows run) ≤ scan_bound run
+  pub level_holds : length (level_rows run) ≤ level_bound run
 
--- the rows printed are the answer, each as often as there
+-- the rows printed are the answer of the query, each as often as there
 abbrev pub RowsAreTheAnswer : Accepted → Type 0
-RowsAreTheAnswer run = IsPermutation (printed run) (answer run)
+RowsAreTheAnswer run = IsPermutation (printed run) (answer run.query (tables run))

@@ -3,7 +3,7 @@ use Rattle.std.specs.Prelude.{ℕ, ◌≡◌, List, Option}
 use Rattle.base_io.specs.Causes.{Rose}
 use Rattle.base_io.specs.Files.{Files}
 use Rattle.base_io.specs.Sinks.{appended, GrewByPrefix}
-use Rattle.safebound_top.specs.declared.status.Status.{Status}
+use Rattle.printed_texts.specs.declared.status.Status.{Status}
 
 -- a sink took a prefix of a text, and all of it where its count of faults didn't rise
 pub record Tells (old new : Option (List ℕ)) (before now : ℕ) (text : List ℕ) : Type 0 where

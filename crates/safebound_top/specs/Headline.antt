@@ -9,10 +9,10 @@ use Rattle.safebound_top.specs.Faults.{fault_text}
 use Rattle.safebound_top.specs.Stages.{IsRefusal, IsWriteFault, MissesNothing}
 use Rattle.safebound_top.specs.Texts.{plan_text, rows_text}
 use Rattle.safebound_top.specs.Verdict.{IsReached, command_stage, verdict}
-use Rattle.safebound_top.specs.declared.status.FileId.{FileId}
-use Rattle.safebound_top.specs.declared.status.SinkId.TheVariants as sink
-use Rattle.safebound_top.specs.declared.status.Status.{Status}
-use Rattle.safebound_top.specs.declared.status.Status.TheVariants as status
+use Rattle.printed_texts.specs.declared.status.FileId.{FileId}
+use Rattle.printed_texts.specs.declared.status.SinkId.TheVariants as sink
+use Rattle.printed_texts.specs.declared.status.Status.{Status}
+use Rattle.printed_texts.specs.declared.status.Status.TheVariants as status
 
 -- for the files that the store tells, and the verdict of the words over them
 abbrev pub OverFiles : Call → (Files → Result Accepted Status → Type 0) → Type 0
@@ -61,8 +61,8 @@ pub record WriteFaultsHaveTheirCause (call : Call) : Type 0 where
       × Tells (appended call.notes.taken_before (plan_text run)) call.notes.taken_after call.notes.faults_before call.notes.faults_after
       (fault_text call.status call.words files)))
 
--- 6. Usage and Unbuilt come only where the verdict is that status. The notes grew by its line, and out didn't grow. Usage is a matter of
---    the words alone.
+-- 6. Usage, Schema, Query, Table, Limit, Budget and Unbuilt come only where the verdict is that status with these fields. The notes grew
+--    by its line, and out didn't grow. Usage is a matter of the words alone.
 pub record RefusalsAreTheVerdict (call : Call) : Type 0 where
   pub usage : (call.status ≡ status.Usage) ↔ (command_stage call.words ≡ Err status.Usage)
   pub refused : IsRefusal call.status → DidNotGrow call.out

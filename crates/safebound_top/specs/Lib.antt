@@ -1,13 +1,11 @@
 pub mod Accepted
 pub mod Call
-pub mod Code
 pub mod Errors
-pub mod Example
 pub mod Faults
 pub mod Headline
 pub mod Prepared
-pub mod Query
 pub mod Stages
 pub mod Texts
+pub mod Told
 pub mod Verdict
 pub mod Words

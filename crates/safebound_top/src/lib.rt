@@ -8,19 +8,19 @@
 //! stands on `verdict` (in `specs/Verdict.antt`): what the words and the files determine.
 #![tactic(auto)]
 
-mod examples;
+mod files;
+mod keep;
+mod laws;
 mod prepare;
-mod query;
-mod status;
-#[cfg(test)]
-mod tests;
+mod refusals;
 mod texts;
 mod top_call;
 mod words;
-mod write;
 
-pub use examples::{verdict_refuses, worked_example};
-pub use query::{ColumnRef, Out, Query, QueryError, Source, read_query};
-pub use status::{FileId, SinkId, Status};
+pub use laws::{run_law, verdict_refuses};
+pub use printed_texts::{FileId, QueryCause, SchemaCause, SinkId, Status, TableCause};
 pub use top_call::safebound;
 pub use words::{Command, WordsError, read_words};
+
+#[cfg(test)]
+mod tests;

@@ -1,22 +1,19 @@
-use crate::{Command, FileId, SinkId, Status, WordsError, read_query, read_words, safebound};
+use crate::{Command, WordsError, read_words, safebound};
 use base_io::{MemSink, MemStore, Name, NoMemory, Seq};
-use first_form::read_schema;
 use std::alloc::Global;
 use std::test::Fail;
 
-const SCHEMA: &str = "CREATE TABLE R (X INTEGER NOT NULL);\n";
+const NUMBERS: &str = "CREATE TABLE R (X INTEGER NOT NULL);";
 
-const QUERY: &str = "SELECT X FROM R\n";
+const SIX_ROWS: &str = "X\r\n1\r\n1\r\n1\r\n2\r\n2\r\n3\r\n";
 
-const TABLE: &str = "X\r\n1\r\n1\r\n1\r\n2\r\n2\r\n3\r\n";
-
-const PLAN: &[u8] = b"scan R 6\nlevel 1 R 6\n";
-
-const WORDS: [&str; 3] = ["run", "schema.sql", "query.sql"];
-
-fn file(alloc: Global, name: &str, text: &str) -> Result<(Name, Seq<u8>), NoMemory> {
-    let bytes = Vec::from_slice(alloc, text.as_bytes())?;
-    Ok((Name::from_str(alloc, name)?, Seq::from_vec(bytes)))
+// The texts that a run reads.
+#[derive(Clone, Copy)]
+struct Texts<'a> {
+    schema: &'a str,
+    query: &'a str,
+    table_file: &'a str,
+    table: &'a str,
 }
 
 // Where the devices of a run fail: the call that fails, or 0, and the room of `out`.
@@ -38,78 +35,160 @@ const SOUND: Devices = Devices {
 // What a run answered and wrote.
 #[derive(Debug, Drop)]
 struct Ran {
-    status: Status,
+    code: u8,
     out: Vec<u8>,
     notes: Vec<u8>,
 }
 
-fn files(alloc: Global, table: Option<&str>) -> Result<Seq<(Name, Seq<u8>)>, NoMemory> {
-    let mut files = Seq::new(alloc);
-    files.push(file(alloc, "schema.sql", SCHEMA)?)?;
-    files.push(file(alloc, "query.sql", QUERY)?)?;
-    if let Some(text) = table {
-        files.push(file(alloc, "r.csv", text)?)?;
+fn over<'a>(query: &'a str) -> Texts<'a> {
+    Texts {
+        schema: NUMBERS,
+        query,
+        table_file: "r.csv",
+        table: SIX_ROWS,
     }
+}
+
+fn file(alloc: Global, name: &str, text: &str) -> Result<(Name, Seq<u8>), NoMemory> {
+    let bytes = Vec::from_slice(alloc, text.as_bytes())?;
+    Ok((Name::from_str(alloc, name)?, Seq::from_vec(bytes)))
+}
+
+fn files(alloc: Global, texts: Texts) -> Result<Seq<(Name, Seq<u8>)>, NoMemory> {
+    let mut files = Seq::new(alloc);
+    files.push(file(alloc, "schema.sql", texts.schema)?)?;
+    files.push(file(alloc, "query.sql", texts.query)?)?;
+    files.push(file(alloc, texts.table_file, texts.table)?)?;
     Ok(files)
 }
 
-// Runs the words over the example's files, with this text as its table, or no table file.
-fn run(
-    alloc: Global,
-    words: &[&str],
-    table: Option<&str>,
-    devices: Devices,
-) -> Result<Ran, NoMemory> {
-    let mut store = MemStore::new(files(alloc, table)?, Seq::one(alloc, devices.store)?);
+fn run(alloc: Global, texts: Texts, devices: Devices) -> Result<Ran, NoMemory> {
+    let mut store = MemStore::new(files(alloc, texts)?, Seq::one(alloc, devices.store)?);
     let mut out = MemSink::new(alloc, devices.room, Seq::one(alloc, devices.out)?)?;
     let mut notes = MemSink::new(alloc, 1000, Seq::one(alloc, devices.notes)?)?;
-    let status = safebound(alloc, words, &mut store, &mut out, &mut notes);
+    let words = ["run", "schema.sql", "query.sql"];
+    let status = safebound(alloc, &words, &mut store, &mut out, &mut notes);
     Ok(Ran {
-        status,
+        code: status.code(),
         out: Vec::from_slice(alloc, out.written())?,
         notes: Vec::from_slice(alloc, notes.written())?,
     })
 }
 
+// The run is done, with this plan text and this rows text.
+fn is_done(alloc: Global, texts: Texts, notes: &str, out: &str) -> Result<bool, NoMemory> {
+    let ran = run(alloc, texts, SOUND)?;
+    Ok(
+        ran.code == 0
+            && ran.notes.as_slice() == notes.as_bytes()
+            && ran.out.as_slice() == out.as_bytes(),
+    )
+}
+
+// The run is refused with this code and this line, and writes no row.
+fn is_refused(alloc: Global, texts: Texts, code: u8, line: &str) -> Result<bool, NoMemory> {
+    let ran = run(alloc, texts, SOUND)?;
+    Ok(ran.code == code && ran.notes.as_slice() == line.as_bytes() && ran.out.len() == 0)
+}
+
+// Rows of six pass filters, in the table's order, each as often as there.
 #[test]
-fn the_example_is_done(rt: HostRuntime) -> Result<(), Fail> {
-    let ran = run(rt.alloc(), &WORDS, Some(TABLE), SOUND)?;
-    assert!(rt; ran.status == Status::Done);
-    assert_eq!(rt; ran.status.code(), 0);
-    assert_eq!(rt; ran.notes.as_slice(), PLAN);
-    assert_eq!(rt; ran.out.as_slice(), TABLE.as_bytes());
+fn filters(rt: HostRuntime) -> Result<(), Fail> {
+    let cases = [
+        ("SELECT X FROM R WHERE NOT (X IN (1, 3))", "X\r\n2\r\n2\r\n"),
+        (
+            "SELECT X FROM R WHERE X = 1 OR X = 1 OR X = 1",
+            "X\r\n1\r\n1\r\n1\r\n",
+        ),
+        ("SELECT X FROM R WHERE X > 5 AND X < 2", "X\r\n"),
+        ("SELECT X FROM R WHERE X = 99", "X\r\n"),
+        (
+            "SELECT X AS \"a\"\"b\", X FROM R WHERE X >= 3",
+            "\"a\"\"b\",X\r\n3,3\r\n",
+        ),
+    ];
+    for (query, rows) in cases {
+        assert!(rt; is_done(rt.alloc(), over(query), "scan R 6\nlevel 1 R 6\n", rows)?);
+    }
     Ok(())
 }
 
+// Texts with quotes, commas and line ends come out as they went in, and so does an empty one.
 #[test]
-fn a_table_file_without_bytes_is_not_built(rt: HostRuntime) -> Result<(), Fail> {
-    let ran = run(rt.alloc(), &WORDS, Some(""), SOUND)?;
-    let file = FileId::Table(0);
-    assert!(rt; ran.status == Status::Unbuilt { file });
-    assert_eq!(rt; ran.status.code(), 13);
-    assert_eq!(rt; ran.notes.as_slice(), b"error unbuilt r.csv\n".as_slice());
-    assert_eq!(rt; ran.out.len(), 0);
+fn texts_are_printed_as_they_are_read(rt: HostRuntime) -> Result<(), Fail> {
+    let table = "V\r\n\"a,\"\"b\"\"\r\nc\"\r\n\"\"\r\n";
+    let texts = Texts {
+        schema: "CREATE TABLE N (V VARCHAR(20) NOT NULL)",
+        query: "SELECT V FROM N",
+        table_file: "n.csv",
+        table,
+    };
+    assert!(rt; is_done(rt.alloc(), texts, "scan N 2\nlevel 1 N 2\n", table)?);
     Ok(())
 }
 
+// Refusals of the schema and of the query, each with its place.
 #[test]
-fn a_missing_table_file_is_told(rt: HostRuntime) -> Result<(), Fail> {
-    let ran = run(rt.alloc(), &WORDS, None, SOUND)?;
-    let file = FileId::Table(0);
-    assert!(rt; ran.status == Status::ReadFault { file });
-    assert_eq!(rt; ran.status.code(), 3);
-    assert_eq!(rt; ran.notes.as_slice(), b"error read r.csv\n".as_slice());
-    assert_eq!(rt; ran.out.len(), 0);
+fn wrong_texts_are_refused(rt: HostRuntime) -> Result<(), Fail> {
+    let nullable = Texts {
+        schema: "CREATE TABLE R (X INTEGER);",
+        ..over("SELECT X FROM R")
+    };
+    assert!(rt; is_refused(rt.alloc(), nullable, 4, "error schema nullable 16\n")?);
+    let cases = [
+        ("SELECT X FROM Q", 5, "error query name 14\n"),
+        ("SELECT X FROM R WHERE X = 'a'", 5, "error query kind 26\n"),
+        ("SELECT", 5, "error query syntax 6\n"),
+        (
+            "SELECT A.X FROM R AS A, R AS B",
+            13,
+            "error unbuilt query.sql\n",
+        ),
+    ];
+    for (query, code, line) in cases {
+        assert!(rt; is_refused(rt.alloc(), over(query), code, line)?);
+    }
+    Ok(())
+}
+
+// Refusals of the table's file, each with its record or column.
+#[test]
+fn wrong_tables_are_refused(rt: HostRuntime) -> Result<(), Fail> {
+    let keyed = Texts {
+        schema: "CREATE TABLE R (X INTEGER PRIMARY KEY)",
+        table: "X\r\n4\r\n5\r\n4\r\n",
+        ..over("SELECT X FROM R")
+    };
+    assert!(rt; is_refused(rt.alloc(), keyed, 6, "error table r.csv key 3 1\n")?);
+    let cases = [
+        ("", 6, "error table r.csv header X\n"),
+        ("X,Y\r\n1,2\r\n3", 6, "error table r.csv width 2 1\n"),
+        (
+            "X\r\n9223372036854775808\r\n",
+            6,
+            "error table r.csv field 1 X\n",
+        ),
+    ];
+    for (table, code, line) in cases {
+        let texts = Texts {
+            table,
+            ..over("SELECT X FROM R")
+        };
+        assert!(rt; is_refused(rt.alloc(), texts, code, line)?);
+    }
+    let elsewhere = Texts {
+        table_file: "s.csv",
+        ..over("SELECT X FROM R")
+    };
+    assert!(rt; is_refused(rt.alloc(), elsewhere, 3, "error read r.csv\n")?);
     Ok(())
 }
 
 #[test]
 fn a_full_stream_cuts_the_rows(rt: HostRuntime) -> Result<(), Fail> {
     let devices = Devices { room: 5, ..SOUND };
-    let ran = run(rt.alloc(), &WORDS, Some(TABLE), devices)?;
-    let sink = SinkId::Out;
-    assert!(rt; ran.status == Status::WriteFault { sink });
-    assert_eq!(rt; ran.status.code(), 10);
+    let ran = run(rt.alloc(), over("SELECT X FROM R"), devices)?;
+    assert_eq!(rt; ran.code, 10);
     assert_eq!(rt; ran.out.as_slice(), b"X\r\n1\r".as_slice());
     let told = b"scan R 6\nlevel 1 R 6\nerror write out\n";
     assert_eq!(rt; ran.notes.as_slice(), told.as_slice());
@@ -118,96 +197,45 @@ fn a_full_stream_cuts_the_rows(rt: HostRuntime) -> Result<(), Fail> {
 
 #[test]
 fn other_words_are_usage(rt: HostRuntime) -> Result<(), Fail> {
-    let ran = run(rt.alloc(), &["run", "schema.sql"], Some(TABLE), SOUND)?;
-    assert!(rt; ran.status == Status::Usage);
-    assert_eq!(rt; ran.notes.as_slice(), b"error usage\n".as_slice());
+    assert!(rt; read_words(&["run", "schema.sql"]) == Err(WordsError::Usage));
     assert!(rt; read_words(&["run", "-s", "q"]) == Err(WordsError::Usage));
     assert!(rt; read_words(&["plan", "s", "q"]) == Err(WordsError::Usage));
     let (schema, query) = (1, 2);
-    assert!(rt; read_words(&WORDS) == Ok(Command::Run { schema, query }));
+    assert!(rt; read_words(&["run", "s", "q"]) == Ok(Command::Run { schema, query }));
     Ok(())
-}
-
-#[test]
-fn a_query_is_read_against_its_schema(rt: HostRuntime) -> Result<(), Fail> {
-    let alloc = rt.alloc();
-    let schema = read_schema(alloc, SCHEMA.as_bytes())?;
-    let query = read_query(alloc, &schema, b"select x from r;")?;
-    assert_eq!(rt; query.from.len(), 1);
-    assert_eq!(rt; query.from.get(0).alias.as_str(), "R");
-    assert!(rt; read_query(alloc, &schema, b"SELECT Y FROM R").is_err());
-    assert!(rt; read_query(alloc, &schema, b"SELECT X FROM S").is_err());
-    Ok(())
-}
-
-fn is_read_line(notes: &[u8]) -> bool {
-    let lines = [
-        "error read schema.sql\n",
-        "error read query.sql\n",
-        "error read r.csv\n",
-    ];
-    lines.iter().any(|line| line.as_bytes() == notes)
 }
 
 // The store fails at its k-th call, for k from 1, until a run is done: two calls for each of three files.
 #[test]
 fn each_failing_read_is_told(rt: HostRuntime) -> Result<(), Fail> {
-    for k in 1u64..7 {
+    for k in 1u64..8 {
         let ran = run(
             rt.alloc(),
-            &WORDS,
-            Some(TABLE),
+            over("SELECT X FROM R"),
             Devices { store: k, ..SOUND },
         )?;
-        assert_eq!(rt; ran.status.code(), 3, "at call {k}");
-        assert!(rt; is_read_line(ran.notes.as_slice()));
-        assert_eq!(rt; ran.out.len(), 0);
+        assert_eq!(rt; ran.code, if k < 7 { 3 } else { 0 }, "at call {k}");
     }
-    let ran = run(
-        rt.alloc(),
-        &WORDS,
-        Some(TABLE),
-        Devices { store: 7, ..SOUND },
-    )?;
-    assert!(rt; ran.status == Status::Done);
     Ok(())
 }
 
-// `out` fails at its k-th call, for k from 1, until a run is done.
+// `out` fails at its k-th call, and then `notes`, for k from 1, until a run is done.
 #[test]
-fn each_failing_write_of_rows_is_told(rt: HostRuntime) -> Result<(), Fail> {
-    let mut failed = 0u64;
-    for k in 1u64..9 {
-        let ran = run(rt.alloc(), &WORDS, Some(TABLE), Devices { out: k, ..SOUND })?;
-        if ran.status == Status::Done {
-            break;
-        }
-        failed = k;
-        assert_eq!(rt; ran.status.code(), 10);
-        assert!(rt; TABLE.as_bytes().starts_with(ran.out.as_slice()));
-    }
-    assert!(rt; failed > 0 && failed < 8);
-    Ok(())
-}
-
-// The same of `notes`.
-#[test]
-fn each_failing_write_of_notes_is_told(rt: HostRuntime) -> Result<(), Fail> {
-    let mut failed = 0u64;
-    for k in 1u64..9 {
-        let ran = run(
+fn each_failing_write_is_told(rt: HostRuntime) -> Result<(), Fail> {
+    for k in 1u64..3 {
+        let cut = run(
             rt.alloc(),
-            &WORDS,
-            Some(TABLE),
+            over("SELECT X FROM R"),
+            Devices { out: k, ..SOUND },
+        )?;
+        assert_eq!(rt; cut.code, if k < 2 { 10 } else { 0 });
+        assert!(rt; SIX_ROWS.as_bytes().starts_with(cut.out.as_slice()));
+        let unsaid = run(
+            rt.alloc(),
+            over("SELECT X FROM R"),
             Devices { notes: k, ..SOUND },
         )?;
-        if ran.status == Status::Done {
-            break;
-        }
-        failed = k;
-        assert_eq!(rt; ran.status.code(), 10);
-        assert_eq!(rt; ran.out.len(), 0);
+        assert_eq!(rt; unsaid.code, if k < 2 { 10 } else { 0 });
     }
-    assert!(rt; failed > 0 && failed < 8);
     Ok(())
 }

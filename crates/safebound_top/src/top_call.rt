@@ -1,20 +1,62 @@
 //! The top call.
-ghost use Rattle.std.specs.Prelude.{◌≡◌, ◌≢◌, ◌↔◌, ◌⊎◌, ◌≤◌, List, ℕ, codes, map, Some, None, Ok, Err, IfOk, IsOk, IsOkAnd};
+ghost use Rattle.std.specs.Prelude.{◌≡◌, ◌≢◌, ◌↔◌, ◌⊎◌, ◌≤◌, List, ℕ, codes, map, Some, None, Ok, Err, IfOk, IsErrOf, IsOk, IsOkAnd, OnOk, string_bytes};
 ghost use Rattle.base_io.specs.Causes.{Rose};
 ghost use Rattle.base_io.specs.Files.{Files};
 ghost use Rattle.base_io.specs.Sinks.{appended, GrewByPrefix};
 ghost use Rattle.safebound_top.specs.Call.{CutThenTold, Tells, growth, reading};
 ghost use Rattle.safebound_top.specs.Faults.{fault_text};
 ghost use Rattle.safebound_top.specs.Headline.{Headline, status_of};
+ghost use Rattle.printed_texts.specs.Faults.{TableNames, fault_line};
+ghost use Rattle.safebound_top.specs.Prepared.{IsReady, accepted_of};
+ghost use Rattle.safebound_top.specs.Told.{column_told};
 ghost use Rattle.safebound_top.specs.Stages.{IsFromReading, IsRefusal, IsWriteFault, MissesNothing};
 ghost use Rattle.safebound_top.specs.Texts.{plan_text, rows_text};
 ghost use Rattle.safebound_top.specs.Verdict.{IsReached, command_stage, verdict};
 
-use crate::prepare::{prepare, refusal_of};
+use crate::prepare::{Prepared, Refusal, prepare};
 use crate::texts::{report, write_texts};
-use crate::{FileId, SinkId, Status};
 use base_io::{Sink, Store};
+use printed_texts::{FileId, SinkId, Status};
 use std::alloc::Global;
+
+// Writes the texts of what was read, or tells the stream that couldn't be written.
+#[tactic(auto, using(base_io::proofs::SinkFacts::prefix_steps))]
+fn written<O: Sink, N: Sink>(
+    prepared: &Prepared,
+    words: &[&str],
+    out: &mut O,
+    notes: &mut N,
+) -> Result<(), SinkId>
+    requires { IsReady prepared.now }
+    ensures ok_notes { OnOk result (N.taken notes.new ≡ appended (N.taken notes.old) (plan_text (accepted_of prepared.now))) }
+    ensures ok_out { OnOk result (O.taken out.new ≡ appended (O.taken out.old) (rows_text (accepted_of prepared.now))) }
+    ensures notes { IsErrOf result SinkId.Notes → Rose (N.faults notes.old) (N.faults notes.new) }
+    ensures notes_out { IsErrOf result SinkId.Notes → (O.taken out.new ≡ O.taken out.old) × (O.faults out.new ≡ O.faults out.old) }
+    ensures notes_text { IsErrOf result SinkId.Notes → (names : TableNames) → CutThenTold (N.taken notes.old) (N.taken notes.new)
+        (plan_text (accepted_of prepared.now)) (fault_line (Status.WriteFault SinkId.Notes) (map (λ w. w.now) words.now) names) }
+    ensures out { IsErrOf result SinkId.Out → Rose (O.faults out.old) (O.faults out.new) }
+    ensures out_text { IsErrOf result SinkId.Out → GrewByPrefix (O.taken out.old) (O.taken out.new) (rows_text (accepted_of prepared.now)) }
+    ensures out_line { IsErrOf result SinkId.Out → (names : TableNames) → Tells (appended (N.taken notes.old) (plan_text (accepted_of prepared.now)))
+        (N.taken notes.new) (N.faults notes.old) (N.faults notes.new) (fault_line (Status.WriteFault SinkId.Out) (map (λ w. w.now) words.now) names) }
+{
+    match write_texts(prepared, out, notes) {
+        Ok(()) => Ok(()),
+        Err(sink) => {
+            report(Status::WriteFault { sink }, words, "", "", notes);
+            Err(sink)
+        }
+    }
+}
+
+// Tells a refusal as the last act of a run.
+fn refused<N: Sink>(refusal: &Refusal, words: &[&str], notes: &mut N)
+    requires { refusal.now.status ≢ Status.Done }
+    ensures tells { Tells (N.taken notes.old) (N.taken notes.new) (N.faults notes.old) (N.faults notes.new)
+        (fault_line refusal.now.status (map (λ w. w.now) words.now) (record { file = string_bytes refusal.now.table_file; column = column_told refusal.now.schema refusal.now.table refusal.now.status })) }
+{
+    let file = refusal.table_file.as_str();
+    report(refusal.status, words, file, refusal.column(), notes);
+}
 
 // The three acts of a run.
 #[tactic(auto, using(base_io::proofs::SinkFacts::prefix_steps))]
@@ -57,15 +99,16 @@ fn answered<S: Store, O: Sink, N: Sink>(
         → (Rose (N.faults notes.old) (N.faults notes.new) → ⊥) → (files : Files) → S.files store.old ≡ Some files
         → (result ≡ status_of (verdict (map (λ w. w.now) words.now) files)) ⊎ (result ≡ Status.NoMemory) }
 {
-    let refusal = match prepare(alloc, words, store) {
-        Ok(prepared) => match write_texts(&prepared, out, notes) {
-            Ok(()) => return Status::Done,
-            Err(sink) => refusal_of(alloc, Status::WriteFault { sink }),
+    match prepare(alloc, words, store) {
+        Ok(prepared) => match written(&prepared, words, out, notes) {
+            Ok(()) => Status::Done,
+            Err(sink) => Status::WriteFault { sink },
         },
-        Err(refusal) => refusal,
-    };
-    report(refusal.status, words, refusal.table_file.as_str(), notes);
-    refusal.status
+        Err(refusal) => {
+            refused(&refusal, words, notes);
+            refusal.status
+        }
+    }
 }
 
 /// Runs a command: reads the words' files, plans, writes the plan text to `notes` and the rows text to

@@ -1,27 +1,28 @@
-use Rattle.std.proofs.Common.{◌≡◌, ◌∙◌, length, ap, sym, arith}
+use Rattle.std.proofs.Common.{◌≡◌, ◌∙◌, List, ap, sym, subst}
+use Rattle.base_io.specs.Sinks.{GrewByPrefix, appended}
+use Rattle.query_types.specs.declared.types.Out.{Out}
+use Rattle.sql_meaning.specs.Tables.{tables_of}
+use Rattle.printed_texts.specs.Lines.{lines_at}
 use Rattle.safebound_top.specs.Prepared.{accepted_of}
-use Rattle.safebound_top.specs.Texts.{column_text, rows_text}
-use Rattle.safebound_top.proofs.Columns.{rows_text_is}
+use Rattle.safebound_top.specs.Texts.{rows_text}
+use Rattle.safebound_top.proofs.Printing.{kept_are_lines, rows_text_is}
 use Rattle.safebound_top.proofs.texts.write_texts.Goals as goal
+
+pub write_rows-requires-clause-rows : goal.write_rows-requires-clause-rows
+write_rows-requires-clause-rows g c = rw c.as_slice-2.ensures.value (kept_are_lines c.args.prepared.now c.requires)
 
 pub returns-in-Ok-write_rows-clause-ok_out : goal.returns-in-Ok-write_rows-clause-ok_out
 returns-in-Ok-write_rows-clause-ok_out g c =
-    let prepared = c.args.prepared.now in
-    let column = c.first_column-column.result.now in
-    let outs = c.as_slice.ensures in
-    let one : length prepared.query.select ≡ 1 = rw (← outs) (omega arith) in
-    let text : rows_text (accepted_of prepared) ≡ column_text c.as_str.result.now column =
-    rows_text_is prepared column c.output-item.result c.requires one (rw (← outs) c.output-item.is) c.first_column-column.ensures
-    ∙ ap (λ n. column_text n column) (sym c.as_str.ensures) in
-    rw text c.in-Ok-write_rows.ensures.ok
+    let p = c.args.prepared.now in
+    let text : rows_text (accepted_of p) ≡ lines_at c.as_slice-outs.result.now (tables_of p.db) c.as_slice-2.result.now =
+    rows_text_is p c.requires ∙ ap (λ (outs : List Out). lines_at outs (tables_of p.db) p.kept.items) (sym c.as_slice-outs.ensures)
+    ∙ ap (lines_at c.as_slice-outs.result.now (tables_of p.db)) (sym c.as_slice-2.ensures.value) in
+    c.in-Ok-write_rows.ensures.ok ∙ ap (appended _) (sym text)
 
 pub returns-in-Err-write_rows-clause-out : goal.returns-in-Err-write_rows-clause-out
 returns-in-Err-write_rows-clause-out g c =
-    let prepared = c.args.prepared.now in
-    let column = c.first_column-column.result.now in
-    let outs = c.as_slice.ensures in
-    let one : length prepared.query.select ≡ 1 = rw (← outs) (omega arith) in
-    let text : rows_text (accepted_of prepared) ≡ column_text c.as_str.result.now column =
-    rows_text_is prepared column c.output-item.result c.requires one (rw (← outs) c.output-item.is) c.first_column-column.ensures
-    ∙ ap (λ n. column_text n column) (sym c.as_str.ensures) in
-    λ _. rw text c.in-Err-write_rows.ensures.prefix
+    let p = c.args.prepared.now in
+    let text : rows_text (accepted_of p) ≡ lines_at c.as_slice-outs.result.now (tables_of p.db) c.as_slice-2.result.now =
+    rows_text_is p c.requires ∙ ap (λ (outs : List Out). lines_at outs (tables_of p.db) p.kept.items) (sym c.as_slice-outs.ensures)
+    ∙ ap (lines_at c.as_slice-outs.result.now (tables_of p.db)) (sym c.as_slice-2.ensures.value) in
+    λ _. subst (GrewByPrefix _ _) (sym text) c.in-Err-write_rows.ensures.prefix

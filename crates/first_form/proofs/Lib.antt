@@ -1,4 +1,0 @@
-pub mod Bridge
-pub mod Forms
-pub mod Pieces
-pub mod Words

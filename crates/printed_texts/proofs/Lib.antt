@@ -1,0 +1,4 @@
+pub mod ErrorLines
+pub mod Lines
+pub mod Parts
+pub mod Records

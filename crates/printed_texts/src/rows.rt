@@ -1,0 +1,222 @@
+//! The rows text. Nothing here takes memory.
+ghost use Rattle.std.specs.Prelude.{◌≡◌, ◌≤◌, ◌<◌, ◌++◌, All, OnOk, OnErr, length};
+ghost use Rattle.std.specs.List.{flat_map};
+ghost use Rattle.base_io.specs.Causes.{Rose};
+ghost use Rattle.base_io.specs.Sinks.{appended, GrewByPrefix, TookBut};
+ghost use Rattle.row_printer.specs.Fields.{field_text, fields_text, lone_field_text, record_text};
+ghost use Rattle.sql_meaning.specs.Databases.{IsColumnOf};
+ghost use Rattle.sql_meaning.specs.Seen.{value_seen};
+ghost use Rattle.sql_meaning.specs.Tables.{tables_of};
+ghost use Rattle.printed_texts.specs.Lines.{IsLineOf, IsOneTable, field_at, fields_at, line_at, lines_at, next_field};
+ghost use Rattle.printed_texts.specs.Texts.{value_text};
+
+use base_io::{Buffer, Failed, Sink};
+use csv_tables::Database;
+use query_types::Out;
+use row_printer::{put_comma, put_field, put_lone_field, put_record_end};
+use sql_meaning::{ValueRef, value_of_column};
+
+/// A record of the rows text: the header, or that of a row of the one entry.
+#[derive(Clone, Copy, Debug)]
+pub enum Line {
+    Header,
+    Row(u32),
+}
+
+// What stands in a line for an output: its name, or its value in the row.
+fn field<'a>(out: &'a Out, line: Line, db: &'a Database) -> ValueRef<'a>
+    requires table { IsOneTable db.now }
+    requires column { IsColumnOf db.now out.now.column }
+    requires line { IsLineOf db.now line }
+    ensures { value_text (value_seen result) ≡ field_at (tables_of db.now) line out.now }
+{
+    match line {
+        Line::Header => ValueRef::Text(out.name.as_str()),
+        Line::Row(row) => value_of_column(&out.column, db, &[row]),
+    }
+}
+
+fn put_value<N: Sink>(value: ValueRef, buffer: &mut Buffer, sink: &mut N) -> Result<(), Failed>
+    ensures ok { OnOk result (TookBut (N.taken sink.old) (N.taken sink.new) buffer.new (buffer.old ++ field_text (value_text (value_seen value.entry)))) }
+    ensures prefix { GrewByPrefix (N.taken sink.old) (N.taken sink.new) (buffer.old ++ field_text (value_text (value_seen value.entry))) }
+    ensures later { N.faults sink.old ≤ N.faults sink.new }
+    ensures failed { OnErr result (Rose (N.faults sink.old) (N.faults sink.new)) }
+{
+    match value {
+        ValueRef::Int(number) => {
+            let mut digits = itoa::Buffer::new();
+            put_field(digits.format(number).as_bytes(), buffer, sink)
+        }
+        ValueRef::Text(text) => put_field(text.as_bytes(), buffer, sink),
+    }
+}
+
+// The same of a record's only field.
+fn put_lone_value<N: Sink>(value: ValueRef, buffer: &mut Buffer, sink: &mut N) -> Result<(), Failed>
+    ensures ok { OnOk result (TookBut (N.taken sink.old) (N.taken sink.new) buffer.new (buffer.old ++ lone_field_text (value_text (value_seen value.entry)))) }
+    ensures prefix { GrewByPrefix (N.taken sink.old) (N.taken sink.new) (buffer.old ++ lone_field_text (value_text (value_seen value.entry))) }
+    ensures later { N.faults sink.old ≤ N.faults sink.new }
+    ensures failed { OnErr result (Rose (N.faults sink.old) (N.faults sink.new)) }
+{
+    match value {
+        ValueRef::Int(number) => {
+            let mut digits = itoa::Buffer::new();
+            put_lone_field(digits.format(number).as_bytes(), buffer, sink)
+        }
+        ValueRef::Text(text) => put_lone_field(text.as_bytes(), buffer, sink),
+    }
+}
+
+// A comma, and then the field of another output.
+fn put_next<N: Sink>(
+    out: &Out,
+    line: Line,
+    db: &Database,
+    buffer: &mut Buffer,
+    sink: &mut N,
+) -> Result<(), Failed>
+    requires table { IsOneTable db.now }
+    requires column { IsColumnOf db.now out.now.column }
+    requires line { IsLineOf db.now line }
+    ensures ok { OnOk result (TookBut (N.taken sink.old) (N.taken sink.new) buffer.new (buffer.old ++ next_field (tables_of db.now) line out.now)) }
+    ensures prefix { GrewByPrefix (N.taken sink.old) (N.taken sink.new) (buffer.old ++ next_field (tables_of db.now) line out.now) }
+    ensures later { N.faults sink.old ≤ N.faults sink.new }
+    ensures failed { OnErr result (Rose (N.faults sink.old) (N.faults sink.new)) }
+{
+    put_comma(buffer, sink)?;
+    put_value(field(out, line, db), buffer, sink)?;
+    Ok(())
+}
+
+// The fields of further outputs, each behind a comma.
+fn put_others<N: Sink>(
+    outs: &[Out],
+    line: Line,
+    db: &Database,
+    buffer: &mut Buffer,
+    sink: &mut N,
+) -> Result<(), Failed>
+    requires table { IsOneTable db.now }
+    requires columns { All (λ out. IsColumnOf db.now out.column) outs.now }
+    requires line { IsLineOf db.now line }
+    ensures ok { OnOk result (TookBut (N.taken sink.old) (N.taken sink.new) buffer.new (buffer.old ++ flat_map (next_field (tables_of db.now) line) outs.now)) }
+    ensures prefix { GrewByPrefix (N.taken sink.old) (N.taken sink.new) (buffer.old ++ flat_map (next_field (tables_of db.now) line) outs.now) }
+    ensures later { N.faults sink.old ≤ N.faults sink.new }
+    ensures failed { OnErr result (Rose (N.faults sink.old) (N.faults sink.new)) }
+{
+    'outs: for out in outs {
+        put_next(out, line, db, buffer, sink)?;
+    }
+    Ok(())
+}
+
+// The fields of two or more outputs.
+fn put_several<N: Sink>(
+    outs: &[Out],
+    line: Line,
+    db: &Database,
+    buffer: &mut Buffer,
+    sink: &mut N,
+) -> Result<(), Failed>
+    requires several { 2 ≤ length outs.now }
+    requires table { IsOneTable db.now }
+    requires columns { All (λ out. IsColumnOf db.now out.column) outs.now }
+    requires line { IsLineOf db.now line }
+    ensures ok { OnOk result (TookBut (N.taken sink.old) (N.taken sink.new) buffer.new (buffer.old ++ fields_at outs.now (tables_of db.now) line)) }
+    ensures prefix { GrewByPrefix (N.taken sink.old) (N.taken sink.new) (buffer.old ++ fields_at outs.now (tables_of db.now) line) }
+    ensures later { N.faults sink.old ≤ N.faults sink.new }
+    ensures failed { OnErr result (Rose (N.faults sink.old) (N.faults sink.new)) }
+{
+    let first = &outs[0];
+    put_value(field(first, line, db), buffer, sink)?;
+    put_others(&outs[1..], line, db, buffer, sink)?;
+    Ok(())
+}
+
+// The fields of a record.
+fn put_fields<N: Sink>(
+    outs: &[Out],
+    line: Line,
+    db: &Database,
+    buffer: &mut Buffer,
+    sink: &mut N,
+) -> Result<(), Failed>
+    requires table { IsOneTable db.now }
+    requires columns { All (λ out. IsColumnOf db.now out.column) outs.now }
+    requires line { IsLineOf db.now line }
+    ensures ok { OnOk result (TookBut (N.taken sink.old) (N.taken sink.new) buffer.new (buffer.old ++ fields_at outs.now (tables_of db.now) line)) }
+    ensures prefix { GrewByPrefix (N.taken sink.old) (N.taken sink.new) (buffer.old ++ fields_at outs.now (tables_of db.now) line) }
+    ensures later { N.faults sink.old ≤ N.faults sink.new }
+    ensures failed { OnErr result (Rose (N.faults sink.old) (N.faults sink.new)) }
+{
+    match outs.len() {
+        0 => buffer.put(sink, b""),
+        1 => put_lone_value(field(&outs[0], line, db), buffer, sink),
+        _ => put_several(outs, line, db, buffer, sink),
+    }
+}
+
+// A record: its fields and its end.
+fn put_line<N: Sink>(
+    outs: &[Out],
+    line: Line,
+    db: &Database,
+    buffer: &mut Buffer,
+    sink: &mut N,
+) -> Result<(), Failed>
+    requires table { IsOneTable db.now }
+    requires columns { All (λ out. IsColumnOf db.now out.column) outs.now }
+    requires line { IsLineOf db.now line }
+    ensures ok { OnOk result (TookBut (N.taken sink.old) (N.taken sink.new) buffer.new (buffer.old ++ line_at outs.now (tables_of db.now) line)) }
+    ensures prefix { GrewByPrefix (N.taken sink.old) (N.taken sink.new) (buffer.old ++ line_at outs.now (tables_of db.now) line) }
+    ensures later { N.faults sink.old ≤ N.faults sink.new }
+    ensures failed { OnErr result (Rose (N.faults sink.old) (N.faults sink.new)) }
+{
+    put_fields(outs, line, db, buffer, sink)?;
+    put_record_end(buffer, sink)?;
+    Ok(())
+}
+
+// A record for each of these rows.
+fn put_rows<N: Sink>(
+    outs: &[Out],
+    rows: &[u32],
+    db: &Database,
+    buffer: &mut Buffer,
+    sink: &mut N,
+) -> Result<(), Failed>
+    requires table { IsOneTable db.now }
+    requires columns { All (λ out. IsColumnOf db.now out.column) outs.now }
+    requires rows { All (λ row. IsLineOf db.now (Line.Row row)) rows.now }
+    ensures ok { OnOk result (TookBut (N.taken sink.old) (N.taken sink.new) buffer.new (buffer.old ++ flat_map (λ row. line_at outs.now (tables_of db.now) (Line.Row row)) rows.now)) }
+    ensures prefix { GrewByPrefix (N.taken sink.old) (N.taken sink.new) (buffer.old ++ flat_map (λ row. line_at outs.now (tables_of db.now) (Line.Row row)) rows.now) }
+    ensures later { N.faults sink.old ≤ N.faults sink.new }
+    ensures failed { OnErr result (Rose (N.faults sink.old) (N.faults sink.new)) }
+{
+    'rows: for row in rows {
+        put_line(outs, Line::Row(*row), db, buffer, sink)?;
+    }
+    Ok(())
+}
+
+/// Writes the rows text: a header of the outputs' names, and a record for each of these rows.
+pub fn write_rows<N: Sink>(
+    outs: &[Out],
+    rows: &[u32],
+    db: &Database,
+    sink: &mut N,
+) -> Result<(), Failed>
+    requires table { IsOneTable db.now }
+    requires columns { All (λ out. IsColumnOf db.now out.column) outs.now }
+    requires rows { All (λ row. IsLineOf db.now (Line.Row row)) rows.now }
+    ensures ok { OnOk result (N.taken sink.new ≡ appended (N.taken sink.old) (lines_at outs.now (tables_of db.now) rows.now)) }
+    ensures prefix { GrewByPrefix (N.taken sink.old) (N.taken sink.new) (lines_at outs.now (tables_of db.now) rows.now) }
+    ensures later { N.faults sink.old ≤ N.faults sink.new }
+    ensures failed { OnErr result (Rose (N.faults sink.old) (N.faults sink.new)) }
+{
+    let mut buffer = Buffer::new();
+    put_line(outs, Line::Header, db, &mut buffer, sink)?;
+    put_rows(outs, rows, db, &mut buffer, sink)?;
+    buffer.flush(sink)?;
+    Ok(())
+}

@@ -1,0 +1,8 @@
+use Rattle.safebound_top.proofs.Meanings.{bounds_hold, rows_are_the_answer}
+use Rattle.safebound_top.proofs.laws.run_law.Goals as goal
+
+pub returns-clause-bounds : goal.returns-clause-bounds
+returns-clause-bounds c = bounds_hold
+
+pub returns-clause-rows : goal.returns-clause-rows
+returns-clause-rows c = rows_are_the_answer
