@@ -14,7 +14,7 @@ build:
 # The program over the example at once, compiled with checks and nothing proved.
 try:
 	cd crates/safebound_cli && rt try --data schema.sql=../../examples/first/schema.sql \
-	    --data query.sql=../../examples/first/query.sql --data r.csv=../../examples/first/r.csv \
+	    --data query.sql=../../examples/first/query.sql --data city.csv=../../examples/first/city.csv \
 	    -- run schema.sql query.sql
 
 # Everything: each proof from nothing, the edits that must fail, the tests, the stored runs.
