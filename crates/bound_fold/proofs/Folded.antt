@@ -1,0 +1,62 @@
+-- The fold, node by node, and what its answer bounds.
+use Rattle.std.proofs.Common.{◌≡◌, ◌⊎◌, inl, inr, ℕ, ◌+◌, ◌-◌, ◌^◌, ◌<◌, ◌≤◌, List, [], length, get_or, set, refl, ap, sym, ◌∙◌, subst, arith, get_or-set_other, get_or-set_same, length-set}
+use Rattle.std.specs.Prelude.{Option, Some, None, IsSome, unwrap_or}
+use Rattle.std.specs.List.{AllByRecursion}
+use Rattle.std.proofs.lemmas.Bool.{cases_lt}
+use Rattle.degree_sequences.specs.Falling.{IsFalling}
+use Rattle.degree_sequences.specs.Saturation.{saturated}
+use Rattle.berge_tree.specs.declared.tree.Node.{Node}
+use Rattle.berge_tree.specs.Trees.{Classes, no_class, and_class, Members, one_member, and_member, JoinTree, entries}
+use Rattle.tree_bounds.specs.Columns.{EachColumnBelow, EachColumnWithin}
+use Rattle.tree_bounds.specs.Tables.{KeyedTables, Agrees, AreDifferent, TreeDominates}
+use Rattle.tree_bounds.specs.TreeBounds.{EntryBounds, HasList, HasLists, bound_of_tree}
+use Rattle.tree_bounds.proofs.Injected.{choices_within}
+use Rattle.tree_bounds.proofs.Saturated.{within_saturated}
+use Rattle.bound_fold.specs.declared.lists.EntryLists.{EntryLists}
+use Rattle.bound_fold.specs.Folding.{AreDone, saturated_list}
+use Rattle.bound_fold.specs.Lists.{bounds_of, list_of, IsListed}
+use Rattle.bound_fold.proofs.OneNode.{listed_total}
+
+-- one node more
+pub one_more : (b : EntryBounds) (nodes : List Node) (done : List (List ℕ)) (i : ℕ) (list : List ℕ) → i < length nodes → AreDone b nodes done (i + 1) → list ≡ saturated_list b nodes i
+    → AreDone b nodes (set done i list) i
+one_more b nodes done i list h before is = record {
+  one_each = omega (arith, length-set done i list, before.one_each);
+  lists = λ k from within. elim (cases_lt i k) [
+    | inl later ↦ get_or-set_other done i k list [] (λ e. omega arith) ∙ before.lists k (omega arith) within
+    | inr here ↦ (let e : k ≡ i = omega arith in
+        ap (λ j. get_or (set done i list) j []) e ∙ get_or-set_same done i list [] (omega (arith, before.one_each)) ∙ is ∙ sym (ap (saturated_list b nodes) e))
+  ];
+}
+
+-- ---- what holds at each column
+
+abbrev mutual
+  pub carried_below : (Q R : ℕ → ℕ → Type 0) → ((entry column : ℕ) → Q entry column → R entry column) → (entry : ℕ) (cs : Classes) → EachColumnBelow Q entry cs → EachColumnBelow R entry cs
+  carried_below Q R f entry no_class h = tt
+  carried_below Q R f entry (and_class column members rest) h = (f entry column h.0, carried_within Q R f members h.1, carried_below Q R f entry rest h.2)
+
+  pub carried_within : (Q R : ℕ → ℕ → Type 0) → ((entry column : ℕ) → Q entry column → R entry column) → (ms : Members) → EachColumnWithin Q ms → EachColumnWithin R ms
+  carried_within Q R f (one_member entry column below) h = (f entry column h.0, carried_below Q R f entry below h.1)
+  carried_within Q R f (and_member entry column below rest) h = (f entry column h.0, carried_below Q R f entry below h.1, carried_within Q R f rest h.2)
+
+falls_there : (lists : EntryLists) (entry column : ℕ) (o : Option (List ℕ)) → list_of lists entry column ≡ o → IsSome o → IsFalling (unwrap_or o [])
+falls_there lists entry column None e h = absurd (cc h)
+falls_there lists entry column (Some list) e h = (lists.sums entry column list e).0
+
+-- a list that is there is a list of its entry
+pub has_list : (lists : EntryLists) (entry column : ℕ) → IsSome (list_of lists entry column) → HasList (bounds_of lists) entry column
+has_list lists entry column h = record { falls = falls_there lists entry column (list_of lists entry column) refl h; total = listed_total lists entry column h }
+
+has_lists : (lists : EntryLists) (t : JoinTree) → IsListed lists t → HasLists (bounds_of lists) t
+has_lists lists t listed =
+    carried_below (λ entry column. IsSome (list_of lists entry column)) (HasList (bounds_of lists)) (has_list lists) t.root t.below listed.columns
+
+-- ---- never under
+
+pub choices_bounded : (lists : EntryLists) (t : JoinTree) (n : ℕ) → IsListed lists t → n ≡ saturated (bound_of_tree (bounds_of lists) t)
+    → (tables : KeyedTables) → TreeDominates (bounds_of lists) tables t → (choices : List (ℕ → ℕ)) → AllByRecursion (Agrees tables t) choices → AreDifferent (entries t) choices
+    → (length choices ≤ n) ⊎ (n ≡ 2 ^ 128 - 1)
+choices_bounded lists t n listed is tables dominates choices agree differ =
+    subst (λ m. (length choices ≤ m) ⊎ (m ≡ 2 ^ 128 - 1)) (sym is)
+    (within_saturated (length choices) (bound_of_tree (bounds_of lists) t) (choices_within (bounds_of lists) tables t (has_lists lists t listed) dominates choices agree differ))

@@ -1,0 +1,54 @@
+-- Where a set has its lists, each tree of a turn has them, and they are lists of the set's entries.
+use Rattle.std.proofs.Common.{ℕ, List, [], ◌∷◌, ◌++◌}
+use Rattle.std.specs.Prelude.{IsSome}
+use Rattle.std.specs.List.{AllByRecursion}
+use Rattle.berge_tree.specs.declared.edges.Edge.{Edge}
+use Rattle.berge_tree.specs.Equalities.{places_of}
+use Rattle.berge_tree.specs.Rooted.{AreAllTreesOf, IsTreeOf, entries_of_set}
+use Rattle.berge_tree.specs.Trees.{JoinTree, entries, entries_of_all}
+use Rattle.berge_tree.proofs.Separate.{all_map}
+use Rattle.join_graph.specs.Kept.{equalities_within, kept_of}
+use Rattle.tree_bounds.specs.TreeBounds.{HasList}
+use Rattle.tree_bounds.specs.SetBounds.{SetHasLists}
+use Rattle.tree_bounds.proofs.Agreeing.{in_trees, named_in_turn, tree_columns}
+use Rattle.bound_fold.specs.declared.lists.EntryLists.{EntryLists}
+use Rattle.bound_fold.specs.Lists.{bounds_of, rows_of, list_of, IsListed}
+use Rattle.bound_fold.proofs.Folded.{has_list}
+use Rattle.bound_fold.specs.Sets.{SetIsListed}
+
+-- ---- the trees of a turn are listed
+
+module _ (Q : ℕ → Type 0) where
+  all_left : (xs ys : List ℕ) → AllByRecursion Q (xs ++ ys) → AllByRecursion Q xs
+  all_left [] ys h = tt
+  all_left (x ∷ xs) ys h = (h.0, all_left xs ys h.1)
+
+  all_right : (xs ys : List ℕ) → AllByRecursion Q (xs ++ ys) → AllByRecursion Q ys
+  all_right [] ys h = h
+  all_right (x ∷ xs) ys h = all_right xs ys h.1
+
+module _ (lists : EntryLists) (es : List Edge) (subset turn : ℕ) (h : SetIsListed lists es subset) where
+  abbrev HasRows : ℕ → Type 0
+  HasRows entry = IsSome (rows_of lists entry)
+
+  abbrev IsThere : ℕ → ℕ → Type 0
+  IsThere entry column = IsSome (list_of lists entry column)
+
+  each_listed : (ts : List JoinTree) → AllByRecursion (IsTreeOf (kept_of subset turn es)) ts → AllByRecursion HasRows (entries_of_all ts) → AllByRecursion (IsListed lists) ts
+  each_listed [] trees rows = tt
+  each_listed (t ∷ ts) trees rows = (
+    record {
+      rows = all_left HasRows (entries t) (entries_of_all ts) rows;
+      columns = tree_columns IsThere (kept_of subset turn es) (named_in_turn IsThere subset turn es h.columns) t trees.0;
+    },
+    each_listed ts trees.1 (all_right HasRows (entries t) (entries_of_all ts) rows),
+  )
+
+  pub turn_listed : (ts : List JoinTree) → AreAllTreesOf (kept_of subset turn es) (entries_of_set subset) ts → AllByRecursion (IsListed lists) ts
+  turn_listed ts all = each_listed ts all.trees (in_trees es subset turn ts all HasRows h.rows)
+
+-- ---- the lists of a set are lists of its entries
+
+pub set_has_lists : (lists : EntryLists) (es : List Edge) (subset : ℕ) → SetIsListed lists es subset → SetHasLists (bounds_of lists) es subset
+set_has_lists lists es subset h =
+    all_map (λ p. IsSome (list_of lists p.entry p.column)) (λ p. HasList (bounds_of lists) p.entry p.column) (λ p. has_list lists p.entry p.column) (places_of (equalities_within subset es)) h.columns

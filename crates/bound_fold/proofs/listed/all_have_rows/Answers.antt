@@ -1,0 +1,11 @@
+use Rattle.std.proofs.Common.{arith}
+use Rattle.std.specs.Prelude.{IsSome}
+use Rattle.bound_fold.specs.Lists.{rows_of}
+use Rattle.bound_fold.proofs.TestedSets.{entry_more, each_in_set}
+use Rattle.bound_fold.proofs.listed.all_have_rows.Goals as goal
+
+pub loop-entry-preserved : goal.loop-entry-preserved
+loop-entry-preserved c = entry_more (λ k. IsSome (rows_of c.args.lists.now k)) c.args.subset c.loop-entry.entry c.loop-entry.invariant c.if-not-has_rows.ensures
+
+pub returns : goal.returns
+returns c = each_in_set (λ k. IsSome (rows_of c.args.lists.now k)) c.args.subset (λ k low has. c.loop-entry.invariant k (omega arith) has)

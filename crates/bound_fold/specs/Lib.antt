@@ -1,0 +1,4 @@
+pub mod Known
+pub mod Lists
+pub mod Folding
+pub mod Sets

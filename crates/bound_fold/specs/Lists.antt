@@ -1,0 +1,25 @@
+-- What an `EntryLists` holds, as bounds of entries, and what a tree needs of it.
+use Rattle.std.specs.Prelude.{ℕ, List, [], Option, unwrap_or, IsSome}
+use Rattle.std.specs.List.{AllByRecursion}
+use Rattle.berge_tree.specs.Trees.{JoinTree, entries}
+use Rattle.tree_bounds.specs.Columns.{EachColumn}
+use Rattle.tree_bounds.specs.TreeBounds.{EntryBounds}
+use Rattle.bound_fold.specs.declared.lists.EntryLists.{EntryLists}
+use Rattle.bound_fold.specs.Known.{rows_in, list_in}
+
+-- the row bound of an entry, where it was set
+abbrev pub rows_of : EntryLists → ℕ → Option ℕ
+rows_of lists entry = rows_in lists.rows entry
+
+-- the list of a column, where it was added
+abbrev pub list_of : EntryLists → ℕ → ℕ → Option (List ℕ)
+list_of lists entry column = list_in lists.lists entry column
+
+-- the same as bounds of entries, with 0 and the empty list for what is not there
+abbrev pub bounds_of : EntryLists → EntryBounds
+bounds_of lists = record { rows = λ entry. unwrap_or (rows_of lists entry) 0; list = λ entry column. unwrap_or (list_of lists entry column) [] }
+
+-- every entry of a tree has its row bound, and every column of it its list
+pub record IsListed (lists : EntryLists) (t : JoinTree) : Type 0 where
+  pub rows : AllByRecursion (λ entry. IsSome (rows_of lists entry)) (entries t)
+  pub columns : EachColumn (λ entry column. IsSome (list_of lists entry column)) t

@@ -1,0 +1,92 @@
+//! Whether an `EntryLists` has what the bound of a set needs.
+ghost use Rattle.std.specs.Prelude.{◌≡◌, true, IsSome};
+ghost use Rattle.std.specs.Bool.{OnTrue};
+ghost use Rattle.std.specs.List.{AllByRecursion};
+ghost use Rattle.berge_tree.specs.Rooted.{entries_of_set};
+ghost use Rattle.berge_tree.specs.Testing.{has_entry};
+ghost use Rattle.join_graph.specs.Kept.{equalities_within, joins_within};
+ghost use Rattle.tree_bounds.specs.Columns.{EachNamedColumn};
+ghost use Rattle.bound_fold.specs.Lists.{list_of, rows_of};
+ghost use Rattle.bound_fold.specs.Sets.{SetIsListed};
+
+use crate::lists::EntryLists;
+use berge_tree::Edge;
+use join_graph::Parts;
+
+fn has_entry(subset: u16, entry: u8) -> bool
+    ensures { result ≡ has_entry subset entry }
+{
+    entry < 16 && (subset >> entry) & 1 == 1
+}
+
+fn joins_within(subset: u16, edge: Edge) -> bool
+    ensures { result ≡ joins_within subset edge }
+{
+    has_entry(subset, edge.left.entry) && has_entry(subset, edge.right.entry)
+}
+
+// Whether an entry has its row bound, if it is in the set.
+fn has_rows(lists: &EntryLists, subset: u16, entry: u8) -> bool
+    ensures { OnTrue result (has_entry subset entry ≡ true → IsSome (rows_of lists.now entry)) }
+{
+    if has_entry(subset, entry) {
+        lists.rows(entry).is_some()
+    } else {
+        true
+    }
+}
+
+fn all_have_rows(lists: &EntryLists, subset: u16) -> bool
+    ensures { OnTrue result (AllByRecursion (λ entry. IsSome (rows_of lists.now entry)) (entries_of_set subset)) }
+{
+    for entry in 0..16u8 {
+        if !has_rows(lists, subset, entry) {
+            return false;
+        }
+    }
+    true
+}
+
+// Whether both columns of an equality have their lists.
+fn has_both_lists(lists: &EntryLists, edge: Edge) -> bool
+    ensures { OnTrue result (IsSome (list_of lists.now edge.left.entry edge.left.column) × IsSome (list_of lists.now edge.right.entry edge.right.column)) }
+{
+    if lists.list(edge.left.entry, edge.left.column).is_none() {
+        return false;
+    }
+    lists.list(edge.right.entry, edge.right.column).is_some()
+}
+
+// The same, if the equality is one of the set.
+fn has_lists(lists: &EntryLists, subset: u16, edge: Edge) -> bool
+    ensures { OnTrue result (joins_within subset edge ≡ true
+        → IsSome (list_of lists.now edge.left.entry edge.left.column) × IsSome (list_of lists.now edge.right.entry edge.right.column)) }
+{
+    if joins_within(subset, edge) {
+        has_both_lists(lists, edge)
+    } else {
+        true
+    }
+}
+
+fn all_have_lists(lists: &EntryLists, subset: u16, edges: &[Edge]) -> bool
+    ensures { OnTrue result (EachNamedColumn (λ entry column. IsSome (list_of lists.now entry column)) (equalities_within subset edges.now)) }
+{
+    for edge in edges {
+        if !has_lists(lists, subset, *edge) {
+            return false;
+        }
+    }
+    true
+}
+
+/// Whether each entry of a set has its row bound, and each column that an equality of the set names its list: then
+/// `set_bound` may be called. It takes no memory.
+pub fn is_listed(parts: &Parts, subset: u16, lists: &EntryLists) -> bool
+    ensures { OnTrue result (SetIsListed lists.now parts.now.equalities subset) }
+{
+    if !all_have_rows(lists, subset) {
+        return false;
+    }
+    all_have_lists(lists, subset, parts.equalities.as_slice())
+}

@@ -1,0 +1,79 @@
+//! The bound of a set of entries: the least over the turns of the product over the trees.
+ghost use Rattle.std.specs.Prelude.{◌≡◌, ◌⊎◌, ◌-◌, ◌^◌, ◌≤◌, ℕ, All, List, length, IfOk};
+ghost use Rattle.std.specs.List.{AllByRecursion};
+ghost use Rattle.degree_sequences.specs.Saturation.{saturated};
+ghost use Rattle.berge_tree.specs.Rooted.{entries_of_set};
+ghost use Rattle.berge_tree.specs.Standing.{StandsIn};
+ghost use Rattle.berge_tree.specs.Trees.{JoinTree};
+ghost use Rattle.berge_tree.specs.Valid.{IsValid};
+ghost use Rattle.join_graph.specs.Kept.{equalities_within};
+ghost use Rattle.tree_bounds.specs.SetBounds.{bound_of_set, bound_of_turn};
+ghost use Rattle.tree_bounds.specs.Tables.{KeyedTables, AreDifferent, Satisfies, SetDominates};
+ghost use Rattle.tree_bounds.specs.TreeBounds.{bound_of_trees};
+ghost use Rattle.bound_fold.specs.Lists.{bounds_of, IsListed};
+ghost use Rattle.bound_fold.specs.Sets.{AreNodesOf, SetIsListed};
+
+use crate::lists::EntryLists;
+use crate::over_nodes::fold;
+use base_io::NoMemory;
+use berge_tree::{Tree, rooted};
+use join_graph::{Parts, kept, turns};
+use std::alloc::Global;
+
+// The product of the bounds of trees.
+fn product_of_trees(alloc: Global, trees: &[Tree], lists: &EntryLists) -> Result<u128, NoMemory>
+    requires valid { All (λ tree. IsValid tree.nodes) trees.now }
+    requires listed { All (λ tree. (t : JoinTree) → StandsIn tree.nodes t → IsListed lists.now t) trees.now }
+    ensures { IfOk result (λ n. (ts : List JoinTree) → AreNodesOf ts trees.now → n ≡ saturated (bound_of_trees (bounds_of lists.now) ts)) }
+{
+    let mut product: u128 = 1;
+    for tree in trees {
+        product = product.saturating_mul(fold(alloc, tree, lists)?);
+    }
+    Ok(product)
+}
+
+// The bound that a set has in one turn.
+fn turn_bound(
+    alloc: Global,
+    parts: &Parts,
+    subset: u16,
+    turn: u32,
+    lists: &EntryLists,
+) -> Result<u128, NoMemory>
+    requires { SetIsListed lists.now parts.now.equalities subset }
+    ensures { IfOk result (λ n. n ≡ saturated (bound_of_turn (bounds_of lists.now) parts.now.equalities subset turn)) }
+{
+    let edges = kept(alloc, parts, subset, turn)?;
+    let trees = rooted(alloc, edges.as_slice(), subset)?;
+    product_of_trees(alloc, trees.as_slice(), lists)
+}
+
+/// The bound of a set of entries, or `u128::MAX` where it is larger.
+///
+/// In each turn the set has the trees of the equalities that it keeps, and the product of their bounds; of the turns the
+/// least counts (SafeBound, SIGMOD 2023). What a turn leaves out only makes rows fewer. Where the lists dominate tables, no
+/// join of the set's tables by all its equalities has more rows.
+pub fn set_bound(
+    alloc: Global,
+    parts: &Parts,
+    subset: u16,
+    lists: &EntryLists,
+) -> Result<u128, NoMemory>
+    requires { SetIsListed lists.now parts.now.equalities subset }
+    ensures exact { IfOk result (λ n. n ≡ saturated (bound_of_set (bounds_of lists.now) parts.now.equalities subset)) }
+    ensures never_under { IfOk result (λ n. (tables : KeyedTables) → SetDominates (bounds_of lists.now) tables parts.now.equalities subset
+        → (choices : List (ℕ → ℕ))
+        → AllByRecursion (Satisfies tables (entries_of_set subset) (equalities_within subset parts.now.equalities)) choices
+        → AreDifferent (entries_of_set subset) choices
+        → (length choices ≤ n) ⊎ (n ≡ 2 ^ 128 - 1)) }
+{
+    let mut least = turn_bound(alloc, parts, subset, 0, lists)?;
+    for turn in 1..turns(parts, subset) {
+        least = least.min(turn_bound(alloc, parts, subset, turn, lists)?);
+    }
+    Ok(least)
+}
+
+#[cfg(test)]
+mod tests;
