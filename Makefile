@@ -27,12 +27,14 @@ bench: build
 	@cd crates/bench_tables && rt run -- time > build.log 2>&1 || { cat build.log; exit 1; }
 	@cd crates/bench_orders && rt run -- time > build.log 2>&1 || { cat build.log; exit 1; }
 	@cd crates/bench_queries && rt run -- time > build.log 2>&1 || { cat build.log; exit 1; }
+	@cd crates/bench_fold && rt run -- time > build.log 2>&1 || { cat build.log; exit 1; }
 	bench/one-table
 	bench/degrees
 	bench/link-index
 	bench/tables
 	bench/orders
 	bench/queries
+	bench/fold
 
 clean:
 	rm -rf crates/*/out

@@ -1,0 +1,265 @@
+//! What `set_bound` of bound_fold is measured against: the same steps over plain vectors.
+//! Build with `rustc -O bench/fold.rs`. It prints for each measure the shape, the entries, the pieces of each list, the
+//! trees, the bound, the nanoseconds of one bound, the least of several, and the pieces of the lists of a tree's nodes.
+use std::collections::HashMap;
+use std::time::Instant;
+
+type Place = (u8, u32);
+type Pieces = Vec<(u128, u64)>;
+
+const ROUNDS: u32 = 20;
+
+struct Query {
+    equalities: Vec<(Place, Place)>,
+    rows: HashMap<u8, u64>,
+    lists: HashMap<Place, Pieces>,
+}
+
+#[derive(Clone, Copy)]
+enum Kind {
+    Entry(u8),
+    Class,
+}
+
+struct Node {
+    kind: Kind,
+    via: u32,
+    children: Vec<usize>,
+}
+
+// ---- lists ----
+
+fn put(list: &mut Pieces, value: u128, count: u64) {
+    if value == 0 || count == 0 {
+        return;
+    }
+    match list.last_mut() {
+        Some(last) if last.0 == value => last.1 += count,
+        _ => list.push((value, count)),
+    }
+}
+
+// Elements ahead at a place, and the place after some of them.
+fn ahead(list: &[(u128, u64)], (at, used): (usize, u64)) -> (u128, u64) {
+    list.get(at).map_or((0, u64::MAX), |&(value, count)| (value, count - used))
+}
+
+fn passed(list: &[(u128, u64)], (at, used): (usize, u64), count: u64) -> (usize, u64) {
+    match list.get(at) {
+        None => (at, used),
+        Some(piece) if used + count < piece.1 => (at, used + count),
+        Some(_) => (at + 1, 0),
+    }
+}
+
+fn walk(a: &[(u128, u64)], b: &[(u128, u64)], mut each: impl FnMut(u128, u128, u64)) {
+    let (mut left, mut right) = ((0, 0), (0, 0));
+    while left.0 < a.len() || right.0 < b.len() {
+        let (x, m) = ahead(a, left);
+        let (y, n) = ahead(b, right);
+        let count = m.min(n);
+        each(x, y, count);
+        left = passed(a, left, count);
+        right = passed(b, right, count);
+    }
+}
+
+fn product(a: &[(u128, u64)], b: &[(u128, u64)]) -> Pieces {
+    let mut list = Vec::new();
+    walk(a, b, |x, y, count| put(&mut list, x.saturating_mul(y), count));
+    list
+}
+
+fn row_weights(children: &[(Pieces, Pieces)], rows: u64) -> Pieces {
+    let mut weights = vec![(1, rows)];
+    for (column, class) in children {
+        let mut own = Vec::new();
+        walk(column, class, |x, y, count| put(&mut own, y, (x * u128::from(count)) as u64));
+        weights = product(&weights, &own);
+    }
+    weights
+}
+
+fn total(list: &[(u128, u64)]) -> u128 {
+    list.iter().fold(0, |sum: u128, &(value, count)| sum.saturating_add(value.saturating_mul(u128::from(count))))
+}
+
+// One block over several pieces of weights.
+fn block(weights: &[(u128, u64)], mut place: (usize, u64), rows: u128) -> (u128, (usize, u64)) {
+    let (mut sum, mut left) = (0u128, rows);
+    while left > 0 && place.0 < weights.len() {
+        let (value, count) = ahead(weights, place);
+        let count = left.min(u128::from(count)) as u64;
+        sum = sum.saturating_add(value.saturating_mul(u128::from(count)));
+        place = passed(weights, place, count);
+        left -= u128::from(count);
+    }
+    (sum, place)
+}
+
+fn compose(parent: &[(u128, u64)], children: &[(Pieces, Pieces)]) -> Pieces {
+    let weights = row_weights(children, total(parent) as u64);
+    let mut list = Vec::new();
+    let (mut at, mut row) = ((0, 0), (0, 0));
+    while at.0 < parent.len() && row.0 < weights.len() {
+        let (rows, blocks) = ahead(parent, at);
+        let (value, count) = ahead(&weights, row);
+        let whole = u128::from(count) / rows;
+        if whole == 0 {
+            let (sum, next) = block(&weights, row, rows);
+            put(&mut list, sum, 1);
+            at = passed(parent, at, 1);
+            row = next;
+        } else {
+            let count = (whole as u64).min(blocks);
+            put(&mut list, rows.saturating_mul(value), count);
+            at = passed(parent, at, count);
+            row = passed(&weights, row, rows as u64 * count);
+        }
+    }
+    list
+}
+
+// ---- trees ----
+
+// The equalities that a turn keeps.
+fn kept(query: &Query, entries: u8, turn: usize) -> Vec<(Place, Place)> {
+    let (before, from) = query.equalities.split_at(turn);
+    let mut names: Vec<u8> = (0..entries).collect();
+    let mut kept = Vec::new();
+    for &(left, right) in from.iter().chain(before) {
+        let (new, old) = (names[usize::from(left.0)], names[usize::from(right.0)]);
+        if new != old {
+            kept.push((left, right));
+            names.iter_mut().filter(|name| **name == old).for_each(|name| *name = new);
+        }
+    }
+    kept
+}
+
+// The columns of the equalities in order, each with the name of its class.
+fn classes(edges: &[(Place, Place)]) -> Vec<(Place, Place)> {
+    let mut columns: Vec<Place> = edges.iter().flat_map(|&(left, right)| [left, right]).collect();
+    columns.sort();
+    columns.dedup();
+    let mut columns: Vec<(Place, Place)> = columns.into_iter().map(|column| (column, column)).collect();
+    let class = |columns: &[(Place, Place)], place| columns.iter().find(|column| column.0 == place).unwrap().1;
+    for &(left, right) in edges {
+        let (new, old) = (class(&columns, left), class(&columns, right));
+        columns.iter_mut().filter(|column| column.1 == old).for_each(|column| column.1 = new);
+    }
+    columns
+}
+
+fn add_below(nodes: &mut Vec<Node>, columns: &[(Place, Place)], at: usize, entry: u8, above: Option<u32>) {
+    for &((own, column), class) in columns {
+        if own != entry || Some(column) == above {
+            continue;
+        }
+        let here = nodes.len();
+        nodes[at].children.push(here);
+        nodes.push(Node { kind: Kind::Class, via: column, children: Vec::new() });
+        for &(member, other) in columns {
+            if other == class && member != (own, column) {
+                let child = nodes.len();
+                nodes[here].children.push(child);
+                nodes.push(Node { kind: Kind::Entry(member.0), via: member.1, children: Vec::new() });
+                add_below(nodes, columns, child, member.0, Some(member.1));
+            }
+        }
+    }
+}
+
+// ---- bounds ----
+
+fn children_of(query: &Query, nodes: &[Node], done: &[Pieces], entry: u8, i: usize) -> Vec<(Pieces, Pieces)> {
+    let child = |&class: &usize| (query.lists[&(entry, nodes[class].via)].clone(), done[class].clone());
+    nodes[i].children.iter().map(child).collect()
+}
+
+// The bound of a tree, and how many pieces the lists of its nodes have.
+fn fold(query: &Query, nodes: &[Node]) -> (u128, usize) {
+    let mut done: Vec<Pieces> = vec![Vec::new(); nodes.len()];
+    for i in (0..nodes.len()).rev() {
+        let list = match nodes[i].kind {
+            Kind::Entry(entry) => {
+                let children = children_of(query, nodes, &done, entry, i);
+                if i == 0 {
+                    let rows = query.rows[&entry];
+                    return (total(&row_weights(&children, rows)), done.iter().map(Vec::len).sum());
+                }
+                compose(&query.lists[&(entry, nodes[i].via)], &children)
+            }
+            Kind::Class => {
+                let mut list = done[nodes[i].children[0]].clone();
+                for &child in &nodes[i].children[1..] {
+                    list = product(&list, &done[child]);
+                }
+                list
+            }
+        };
+        done[i] = list;
+    }
+    unreachable!()
+}
+
+fn bound(query: &Query, entries: u8) -> (u128, usize) {
+    let turns = query.equalities.len().clamp(1, 16);
+    let of_turn = |turn| {
+        let columns = classes(&kept(query, entries, turn));
+        let mut nodes = vec![Node { kind: Kind::Entry(0), via: 0, children: Vec::new() }];
+        add_below(&mut nodes, &columns, 0, 0, None);
+        fold(query, &nodes)
+    };
+    (0..turns).map(of_turn).min().unwrap()
+}
+
+// ---- queries ----
+
+fn list_of_column(rows: u64, pieces: u32, column: u32) -> Pieces {
+    let mut list = Vec::new();
+    let mut left = rows;
+    for step in (2..=pieces).rev() {
+        let value = u64::from(step) * (u64::from(column) + 1);
+        let count = rows / u64::from(pieces) / value;
+        left -= value * count;
+        put(&mut list, u128::from(value), count);
+    }
+    put(&mut list, 1, left);
+    list
+}
+
+fn equality(shape: &str, entry: u8) -> (Place, Place) {
+    match shape {
+        "chain" => ((entry - 1, 1), (entry, 0)),
+        "star" if entry > 1 => ((1, u32::from(entry)), (entry, 0)),
+        _ => ((0, 0), (entry, 0)),
+    }
+}
+
+fn query_of_shape(shape: &str, entries: u8, pieces: u32) -> Query {
+    let rows: HashMap<u8, u64> = (0..entries).map(|entry| (entry, 1_000_000 + 77_777 * u64::from(entry))).collect();
+    let equalities: Vec<_> = (1..entries).map(|entry| equality(shape, entry)).collect();
+    let mut lists = HashMap::new();
+    for place in equalities.iter().flat_map(|&(left, right)| [left, right]) {
+        lists.entry(place).or_insert_with(|| list_of_column(rows[&place.0], pieces, place.1));
+    }
+    Query { equalities, rows, lists }
+}
+
+fn main() {
+    for shape in ["chain", "star", "one_class"] {
+        for (entries, pieces) in [(12, 16), (12, 32), (3, 64), (6, 64), (12, 64)] {
+            let query = query_of_shape(shape, entries, pieces);
+            let mut least = u128::MAX;
+            let mut answer = (0, 0);
+            for _ in 0..ROUNDS {
+                let start = Instant::now();
+                answer = std::hint::black_box(bound(std::hint::black_box(&query), entries));
+                least = least.min(start.elapsed().as_nanos());
+            }
+            let (bound, held) = answer;
+            println!("{shape} {entries} {pieces} {} {bound} {least} {held}", query.equalities.len());
+        }
+    }
+}

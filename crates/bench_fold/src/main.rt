@@ -1,0 +1,111 @@
+//! The proved side of the measures of bound_fold; bench/fold.rs is the plain one.
+//!
+//! Without a word it writes the bounds of two small queries. With one, as `time`, it writes a line for each measure: the
+//! shape, the entries, the pieces of each list, the trees that are folded, the bound, and the nanoseconds of one bound,
+//! the least of several.
+#![tactic(auto)]
+
+mod queries;
+
+use base_io::NoMemory;
+use bound_fold::{is_listed, set_bound};
+use join_graph::turns;
+use queries::{Query, Shape, add_list, edge, list_of_numbers, query_of, query_of_shape};
+use std::alloc::Global;
+use std::rt::Runtime;
+use std::time::Instant;
+use std::{env, io};
+
+const ROUNDS: u32 = 20;
+
+fn out_of_memory(_: NoMemory) -> io::Error {
+    io::Error::from(io::ErrorKind::OutOfMemory)
+}
+
+// The bound of a set, and the least time that it took.
+#[derive(Clone, Copy, Debug)]
+struct Timing {
+    bound: u128,
+    nanos: u128,
+}
+
+// A set that misses a row bound or a list is refused.
+fn timed<R: Runtime>(
+    rt: &R,
+    alloc: Global,
+    query: &Query,
+    subset: u16,
+    rounds: u32,
+) -> io::Result<Timing> {
+    if !is_listed(&query.parts, subset, &query.lists) {
+        return Err(io::Error::from(io::ErrorKind::InvalidInput));
+    }
+    let mut least = Timing {
+        bound: 0,
+        nanos: u128::MAX,
+    };
+    for _ in 0..rounds {
+        let start = Instant::now(rt)?;
+        let bound = set_bound(alloc, &query.parts, subset, &query.lists).map_err(out_of_memory)?;
+        let nanos = least.nanos.min(start.elapsed(rt)?.as_nanos());
+        least = Timing { bound, nanos };
+    }
+    Ok(least)
+}
+
+// R.X = S.X and S.Y = T.Y.
+fn path(alloc: Global) -> Result<Query, NoMemory> {
+    let edges = [edge(0, 0, 1, 0), edge(1, 1, 2, 0)];
+    let mut query = query_of(alloc, &edges, &[3, 6, 5])?;
+    let lists = &mut query.lists;
+    add_list(lists, 0, 0, list_of_numbers(alloc, &[2, 1])?)?;
+    add_list(lists, 1, 0, list_of_numbers(alloc, &[3, 3])?)?;
+    add_list(lists, 1, 1, list_of_numbers(alloc, &[2, 2, 2])?)?;
+    add_list(lists, 2, 0, list_of_numbers(alloc, &[4, 1])?)?;
+    Ok(query)
+}
+
+// Three entries of two columns, and each column is equal to one of another entry.
+fn triangle(alloc: Global) -> Result<Query, NoMemory> {
+    let edges = [edge(0, 0, 1, 0), edge(1, 1, 2, 0), edge(2, 1, 0, 1)];
+    let mut query = query_of(alloc, &edges, &[3, 3, 3])?;
+    for entry in 0..3 {
+        for column in 0..2 {
+            let list = list_of_numbers(alloc, &[2, 1])?;
+            add_list(&mut query.lists, entry, column, list)?;
+        }
+    }
+    Ok(query)
+}
+
+fn time(rt: &HostRuntime, shape: Shape, entries: u8, pieces: u32) -> io::Result<()> {
+    let alloc = rt.alloc();
+    let query = query_of_shape(alloc, shape, entries, pieces).map_err(out_of_memory)?;
+    let subset = u16::MAX
+        .checked_shr(16 - u32::from(entries.min(16)))
+        .unwrap_or(0);
+    let trees = turns(&query.parts, subset);
+    let Timing { bound, nanos } = timed(rt, alloc, &query, subset, ROUNDS)?;
+    println!(rt;
+        "{} {entries} {pieces} {trees} {bound} {nanos}",
+        shape.name()
+    )
+}
+
+fn main(rt: HostRuntime) -> io::Result<()> {
+    let alloc = rt.alloc();
+    if env::args(&rt)?.count() <= 1 {
+        let three = path(alloc).map_err(out_of_memory)?;
+        let path = timed(&rt, alloc, &three, 0b111, 1)?;
+        println!(rt; "path {}", path.bound)?;
+        let cycle = triangle(alloc).map_err(out_of_memory)?;
+        let triangle = timed(&rt, alloc, &cycle, 0b111, 1)?;
+        return println!(rt; "triangle {}", triangle.bound);
+    }
+    for shape in [Shape::Chain, Shape::Star, Shape::OneClass] {
+        for (entries, pieces) in [(12, 16), (12, 32), (3, 64), (6, 64), (12, 64)] {
+            time(&rt, shape, entries, pieces)?;
+        }
+    }
+    Ok(())
+}

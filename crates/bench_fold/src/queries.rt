@@ -1,0 +1,195 @@
+//! What is joined: equalities of columns in three shapes, and for each entry a row bound and lists.
+ghost use Rattle.std.specs.Prelude.{◌≡◌, ℕ, None, IfOk};
+ghost use Rattle.bound_fold.specs.Lists.{list_of};
+
+use base_io::{NoMemory, Seq};
+use berge_tree::{Edge, Place};
+use bound_fold::EntryLists;
+use join_graph::Parts;
+use piece_math::{Piece, Pieces};
+use std::alloc::Global;
+
+/// Equalities of columns, and what is known of the entries.
+#[derive(Drop)]
+pub struct Query {
+    pub parts: Parts,
+    pub lists: EntryLists,
+}
+
+/// How the entries of a query are joined.
+#[derive(Clone, Copy, Debug)]
+pub enum Shape {
+    /// Each entry by a column of its own with the next one.
+    Chain,
+    /// Entry 1 by a column of its own with each of the others, so it stands below entry 0.
+    Star,
+    /// The first columns of all entries are equal.
+    OneClass,
+}
+
+impl Shape {
+    pub fn name(self) -> &'static str {
+        match self {
+            Shape::Chain => "chain",
+            Shape::Star => "star",
+            Shape::OneClass => "one_class",
+        }
+    }
+
+    // The equality that joins an entry, other than the first, with one before it.
+    fn equality(self, entry: u8) -> Edge {
+        match self {
+            Shape::Chain => edge(entry.saturating_sub(1), 1, entry, 0),
+            Shape::Star if entry > 1 => edge(1, u32::from(entry), entry, 0),
+            _ => edge(0, 0, entry, 0),
+        }
+    }
+}
+
+/// The equality of two columns, each of which has its entry before it.
+pub fn edge(left: u8, left_column: u32, right: u8, right_column: u32) -> Edge {
+    Edge {
+        left: Place {
+            entry: left,
+            column: left_column,
+        },
+        right: Place {
+            entry: right,
+            column: right_column,
+        },
+    }
+}
+
+fn parts_of(alloc: Global, edges: &[Edge]) -> Result<Parts, NoMemory> {
+    let mut equalities = Seq::new(alloc);
+    for edge in edges {
+        equalities.push(*edge)?;
+    }
+    Ok(Parts {
+        local: Seq::new(alloc),
+        equalities,
+        residual: Seq::new(alloc),
+    })
+}
+
+// The list of these runs. One that doesn't fall is left out.
+fn list_of_runs(alloc: Global, runs: &[Piece]) -> Result<Pieces, NoMemory> {
+    let mut list = Pieces::empty(alloc);
+    let mut last = u128::MAX;
+    let mut room = u64::MAX;
+    for run in runs {
+        if 0 < run.value && run.value <= last && 0 < run.count && run.count <= room {
+            list.push_run(run.value, run.count)?;
+            last = run.value;
+            room -= run.count;
+        }
+    }
+    Ok(list)
+}
+
+/// The list of these numbers.
+pub fn list_of_numbers(alloc: Global, numbers: &[u128]) -> Result<Pieces, NoMemory> {
+    let mut runs = Vec::new(alloc);
+    for value in numbers {
+        runs.push(Piece {
+            value: *value,
+            count: 1,
+        })?;
+    }
+    list_of_runs(alloc, runs.as_slice())
+}
+
+// So many pieces, each for about as many of the rows. The values fall to 1, in wider steps where the column's number is larger.
+fn list_of_column(alloc: Global, rows: u64, pieces: u32, column: u32) -> Result<Pieces, NoMemory> {
+    let mut runs = Vec::new(alloc);
+    let mut left = rows;
+    for step in (2..=pieces).rev() {
+        let value = u64::from(step) * (u64::from(column) + 1);
+        let count = (rows / u64::from(pieces)).checked_div(value).unwrap_or(0);
+        left = left.saturating_sub(value.saturating_mul(count));
+        runs.push(Piece {
+            value: u128::from(value),
+            count,
+        })?;
+    }
+    runs.push(Piece {
+        value: 1,
+        count: left,
+    })?;
+    list_of_runs(alloc, runs.as_slice())
+}
+
+// The row bounds alone, and no list.
+fn with_rows(alloc: Global, rows: &[u64]) -> Result<EntryLists, NoMemory>
+    ensures { IfOk result (λ lists. (entry column : ℕ) → list_of lists entry column ≡ None) }
+{
+    let mut lists = EntryLists::new(alloc);
+    let mut entry: u8 = 0;
+    for count in rows {
+        lists.set_rows(entry, (*count).min(1 << 32))?;
+        entry = entry.wrapping_add(1);
+    }
+    Ok(lists)
+}
+
+/// Equalities, and the entries' row bounds.
+pub fn query_of(alloc: Global, edges: &[Edge], rows: &[u64]) -> Result<Query, NoMemory> {
+    Ok(Query {
+        parts: parts_of(alloc, edges)?,
+        lists: with_rows(alloc, rows)?,
+    })
+}
+
+/// Adds the list of a column. One whose sum isn't the row bound is left out, and so is a second one.
+pub fn add_list(
+    lists: &mut EntryLists,
+    entry: u8,
+    column: u32,
+    list: Pieces,
+) -> Result<(), NoMemory> {
+    let Some(rows) = lists.rows(entry) else {
+        return Ok(());
+    };
+    if u128::from(rows) != list.total() || lists.list(entry, column).is_some() {
+        return Ok(());
+    }
+    lists.add(entry, column, list)
+}
+
+// Adds lists of both columns of an equality.
+fn add_lists(
+    alloc: Global,
+    lists: &mut EntryLists,
+    edge: Edge,
+    rows: &[u64],
+    pieces: u32,
+) -> Result<(), NoMemory> {
+    for place in [edge.left, edge.right] {
+        let count = rows.get(place.entry as usize).copied().unwrap_or(0);
+        let list = list_of_column(alloc, count, pieces, place.column)?;
+        add_list(lists, place.entry, place.column, list)?;
+    }
+    Ok(())
+}
+
+/// So many entries in a shape, whose joined columns have lists of so many pieces.
+pub fn query_of_shape(
+    alloc: Global,
+    shape: Shape,
+    entries: u8,
+    pieces: u32,
+) -> Result<Query, NoMemory> {
+    let mut rows = Vec::new(alloc);
+    let mut edges = Vec::new(alloc);
+    for entry in 0..entries {
+        rows.push(1_000_000 + 77_777 * u64::from(entry))?;
+        if entry > 0 {
+            edges.push(shape.equality(entry))?;
+        }
+    }
+    let mut query = query_of(alloc, edges.as_slice(), rows.as_slice())?;
+    for edge in edges.as_slice() {
+        add_lists(alloc, &mut query.lists, *edge, rows.as_slice(), pieces)?;
+    }
+    Ok(query)
+}
