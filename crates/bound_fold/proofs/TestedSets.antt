@@ -1,14 +1,16 @@
 -- What holds of each entry whose bit is set, and of each equality, holds of a set.
-use Rattle.std.proofs.Common.{◌≡◌, ℕ, suc, ◌+◌, ◌<◌, Bool, true, false, List, [], ◌∷◌, get_or, length, refl, ap, ◌∙◌, sym, subst, arith, inl, inr}
-use Rattle.std.specs.Bool.{OnTrue}
+use Rattle.std.proofs.Common.{Bor, zero, ◌≡◌, ℕ, suc, ◌+◌, ◌<◌, Bool, true, false, eqb, ltb, List, [], ◌∷◌, get_or, length, refl, ap, ◌∙◌, sym, subst, arith, inl, inr}
+use Rattle.std.specs.Prelude.{Option, Some, None, IsSome, IsTrue, MatchBool, ◌↔◌, is_some, ◌&&◌}
+use Rattle.std.specs.Option.{option_copied}
 use Rattle.std.specs.Int.{bit_at}
 use Rattle.std.specs.List.{AllByRecursion, Contains}
-use Rattle.std.proofs.lemmas.Bool.{cases_Bool, cases_lt, eq-eqb, lt-ltb}
+use Rattle.std.proofs.lemmas.Bool.{cases_Bool, cases_lt, eq-eqb, eqb-true, lt-ltb, ltb-true}
 use Rattle.std.proofs.lemmas.List.{get_or_default}
 use Rattle.std.proofs.lemmas.List.Elements.{All-contains_itself, All-weaker, recursion_from_All}
 use Rattle.berge_tree.specs.declared.edges.Edge.{Edge}
 use Rattle.berge_tree.specs.Rooted.{entries_of_set}
-use Rattle.berge_tree.proofs.Planting.{set_bits}
+use Rattle.berge_tree.proofs.Forest.{each}
+use Rattle.berge_tree.proofs.Planting.{set_bits, set_bits_only}
 use Rattle.berge_tree.specs.Testing.{has_entry}
 use Rattle.join_graph.specs.Kept.{equalities_within, joins_within}
 use Rattle.tree_bounds.specs.Columns.{EachNamedColumn}
@@ -53,6 +55,57 @@ each_named Q subset (e ∷ es) h =
       | inr apart ↦ rw apart later
     ]
 
-pub on_true : (b : Bool) (P Q : Type 0) → (P → Q) → OnTrue b P → OnTrue b Q
-on_true true P Q f h = f h
-on_true false P Q f h = tt
+-- what an equality of the set does not have, the set does not have
+pub named_at : (Q : ℕ → ℕ → Type 0) (subset : ℕ) (es : List Edge) → EachNamedColumn Q (equalities_within subset es) → (k : ℕ) (d : Edge) → k < length es → AtBoth Q subset (get_or es k d)
+named_at Q subset [] h k d low joins = absurd (omega arith)
+named_at Q subset (e ∷ es) h zero d low joins =
+    let named : EachNamedColumn Q (e ∷ equalities_within subset es) = subst (EachNamedColumn Q) (kept joins) h in
+    (named.0, named.1.0)
+  where
+    kept : joins_within subset e ≡ true → equalities_within subset (e ∷ es) ≡ e ∷ equalities_within subset es
+    kept is = rw is refl
+named_at Q subset (e ∷ es) h (suc k) d low joins = named_at Q subset es (later (joins_within subset e) refl) k d (omega arith) joins
+  where
+    kept : joins_within subset e ≡ true → equalities_within subset (e ∷ es) ≡ e ∷ equalities_within subset es
+    kept is = rw is refl
+
+    passed : joins_within subset e ≡ false → equalities_within subset (e ∷ es) ≡ equalities_within subset es
+    passed is = rw is refl
+
+    later : (t : Bool) → joins_within subset e ≡ t → EachNamedColumn Q (equalities_within subset es)
+    later true is = let named : EachNamedColumn Q (e ∷ equalities_within subset es) = subst (EachNamedColumn Q) (kept is) h in named.1.1
+    later false is = subst (EachNamedColumn Q) (passed is) h
+
+-- what an entry of the set does not have, the set does not have
+pub entry_at : (P : ℕ → Type 0) (subset : ℕ) → AllByRecursion P (entries_of_set subset) → (k : ℕ) → has_entry subset k ≡ true → P k
+entry_at P subset h k has =
+    let bits : (ltb k 16 ≡ true) × (eqb (bit_at subset k) 1 ≡ true) = both (ltb k 16) (eqb (bit_at subset k) 1) has in
+    each P (entries_of_set subset) h k (set_bits_only subset k (ltb-true k 16 bits.0, eqb-true (bit_at subset k) 1 bits.1))
+  where
+    both : (x y : Bool) → (x && y) ≡ true → (x ≡ true) × (y ≡ true)
+    both true y e = (refl, e)
+    both false y e = absurd (cc e)
+
+-- ---- answers of tests
+
+pub some_or_not : {X : Type 0} (r o : Option X) (b : Bool) → r ≡ o → b ≡ is_some r → MatchBool b (IsSome o) (¬ IsSome o)
+some_or_not r (Some x) true e f = refl
+some_or_not r None true e f = absurd (cc (ap is_some e, f))
+some_or_not r (Some x) false e f = absurd (cc (ap is_some e, f))
+some_or_not r None false e f = λ h. cc h
+
+pub copied_or_not : {X : Type 0} (r : Option (Bor X)) (o : Option X) (b : Bool) → option_copied r ≡ o → b ≡ is_some r → MatchBool b (IsSome o) (¬ IsSome o)
+copied_or_not None o b e f = some_or_not None o b e f
+copied_or_not (Some x) o b e f = some_or_not (Some x.now) o b e f
+
+pub if_held : (b : Bool) (H P : Type 0) → H → MatchBool b P (¬ P) → MatchBool b (H → P) (H × ¬ P)
+if_held true H P held h = λ _. h
+if_held false H P held h = (held, h)
+
+pub alike : (b : Bool) (Q R : Type 0) → (Q → R) → (R → Q) → MatchBool b Q (¬ Q) → MatchBool b R (¬ R)
+alike true Q R f g h = f h
+alike false Q R f g h = λ r. h (g r)
+
+pub told : (b : Bool) (P : Type 0) → MatchBool b P (¬ P) → IsTrue b ↔ P
+told true P h = (λ _. h, λ _. refl)
+told false P h = (λ e. absurd (cc e), λ p. absurd (h p))

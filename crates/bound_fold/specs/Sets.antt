@@ -19,3 +19,7 @@ pub record SetIsListed (lists : EntryLists) (es : List Edge) (subset : ℕ) : Ty
 -- the nodes of each tree are those of the join tree at its place
 abbrev pub AreNodesOf : List JoinTree → List Tree → Type 0
 AreNodesOf ts trees = map (λ (tree : Tree). tree.nodes) trees ≡ map nodes_of ts
+
+-- both columns of an equality have their lists
+abbrev pub HaveLists : EntryLists → Edge → Type 0
+HaveLists lists e = IsSome (list_of lists e.left.entry e.left.column) × IsSome (list_of lists e.right.entry e.right.column)

@@ -1,16 +1,15 @@
 //! Whether an `EntryLists` has what the bound of a set needs.
-ghost use Rattle.std.specs.Prelude.{◌≡◌, true, IsSome};
-ghost use Rattle.std.specs.Bool.{OnTrue};
+ghost use Rattle.std.specs.Prelude.{◌≡◌, ◌↔◌, true, IsSome, IsTrue, MatchBool};
 ghost use Rattle.std.specs.List.{AllByRecursion};
 ghost use Rattle.berge_tree.specs.Rooted.{entries_of_set};
 ghost use Rattle.berge_tree.specs.Testing.{has_entry};
 ghost use Rattle.join_graph.specs.Kept.{equalities_within, joins_within};
 ghost use Rattle.tree_bounds.specs.Columns.{EachNamedColumn};
 ghost use Rattle.bound_fold.specs.Lists.{list_of, rows_of};
-ghost use Rattle.bound_fold.specs.Sets.{SetIsListed};
+ghost use Rattle.bound_fold.specs.Sets.{HaveLists, SetIsListed};
 
 use crate::lists::EntryLists;
-use berge_tree::Edge;
+use berge_tree::{Edge, Place};
 use join_graph::Parts;
 
 fn has_entry(subset: u16, entry: u8) -> bool
@@ -25,55 +24,70 @@ fn joins_within(subset: u16, edge: Edge) -> bool
     has_entry(subset, edge.left.entry) && has_entry(subset, edge.right.entry)
 }
 
+fn has_rows(lists: &EntryLists, entry: u8) -> bool
+    ensures { MatchBool result (IsSome (rows_of lists.now entry)) (¬ IsSome (rows_of lists.now entry)) }
+{
+    lists.rows(entry).is_some()
+}
+
 // Whether an entry has its row bound, if it is in the set.
-fn has_rows(lists: &EntryLists, subset: u16, entry: u8) -> bool
-    ensures { OnTrue result (has_entry subset entry ≡ true → IsSome (rows_of lists.now entry)) }
+fn may_have_rows(lists: &EntryLists, subset: u16, entry: u8) -> bool
+    ensures { MatchBool result (has_entry subset entry ≡ true → IsSome (rows_of lists.now entry))
+        ((has_entry subset entry ≡ true) × ¬ IsSome (rows_of lists.now entry)) }
 {
     if has_entry(subset, entry) {
-        lists.rows(entry).is_some()
+        has_rows(lists, entry)
     } else {
         true
     }
 }
 
 fn all_have_rows(lists: &EntryLists, subset: u16) -> bool
-    ensures { OnTrue result (AllByRecursion (λ entry. IsSome (rows_of lists.now entry)) (entries_of_set subset)) }
+    ensures { MatchBool result (AllByRecursion (λ entry. IsSome (rows_of lists.now entry)) (entries_of_set subset))
+        (¬ AllByRecursion (λ entry. IsSome (rows_of lists.now entry)) (entries_of_set subset)) }
 {
     for entry in 0..16u8 {
-        if !has_rows(lists, subset, entry) {
+        if !may_have_rows(lists, subset, entry) {
             return false;
         }
     }
     true
 }
 
-// Whether both columns of an equality have their lists.
-fn has_both_lists(lists: &EntryLists, edge: Edge) -> bool
-    ensures { OnTrue result (IsSome (list_of lists.now edge.left.entry edge.left.column) × IsSome (list_of lists.now edge.right.entry edge.right.column)) }
+fn has_list(lists: &EntryLists, place: Place) -> bool
+    ensures { MatchBool result (IsSome (list_of lists.now place.entry place.column)) (¬ IsSome (list_of lists.now place.entry place.column)) }
 {
-    if lists.list(edge.left.entry, edge.left.column).is_none() {
+    lists.list(place.entry, place.column).is_some()
+}
+
+// Whether both columns of an equality have their lists.
+fn has_lists(lists: &EntryLists, edge: Edge) -> bool
+    ensures { MatchBool result (HaveLists lists.now edge) (¬ HaveLists lists.now edge) }
+{
+    if !has_list(lists, edge.left) {
         return false;
     }
-    lists.list(edge.right.entry, edge.right.column).is_some()
+    has_list(lists, edge.right)
 }
 
 // The same, if the equality is one of the set.
-fn has_lists(lists: &EntryLists, subset: u16, edge: Edge) -> bool
-    ensures { OnTrue result (joins_within subset edge ≡ true
-        → IsSome (list_of lists.now edge.left.entry edge.left.column) × IsSome (list_of lists.now edge.right.entry edge.right.column)) }
+fn may_have_lists(lists: &EntryLists, subset: u16, edge: Edge) -> bool
+    ensures { MatchBool result (joins_within subset edge ≡ true → HaveLists lists.now edge)
+        ((joins_within subset edge ≡ true) × ¬ HaveLists lists.now edge) }
 {
     if joins_within(subset, edge) {
-        has_both_lists(lists, edge)
+        has_lists(lists, edge)
     } else {
         true
     }
 }
 
 fn all_have_lists(lists: &EntryLists, subset: u16, edges: &[Edge]) -> bool
-    ensures { OnTrue result (EachNamedColumn (λ entry column. IsSome (list_of lists.now entry column)) (equalities_within subset edges.now)) }
+    ensures { MatchBool result (EachNamedColumn (λ entry column. IsSome (list_of lists.now entry column)) (equalities_within subset edges.now))
+        (¬ EachNamedColumn (λ entry column. IsSome (list_of lists.now entry column)) (equalities_within subset edges.now)) }
 {
     for edge in edges {
-        if !has_lists(lists, subset, *edge) {
+        if !may_have_lists(lists, subset, *edge) {
             return false;
         }
     }
@@ -83,7 +97,7 @@ fn all_have_lists(lists: &EntryLists, subset: u16, edges: &[Edge]) -> bool
 /// Whether each entry of a set has its row bound, and each column that an equality of the set names its list: then
 /// `set_bound` may be called. It takes no memory.
 pub fn is_listed(parts: &Parts, subset: u16, lists: &EntryLists) -> bool
-    ensures { OnTrue result (SetIsListed lists.now parts.now.equalities subset) }
+    ensures { IsTrue result ↔ SetIsListed lists.now parts.now.equalities subset }
 {
     if !all_have_rows(lists, subset) {
         return false;
