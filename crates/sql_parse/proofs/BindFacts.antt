@@ -71,25 +71,26 @@ cut_twice n = grind (arith, common_steps)
 over_capped : (n : ℕ) → over limit.Outputs most_outputs (capped n) ≡ over limit.Outputs most_outputs n
 over_capped n = ap (λ b. cond b (refusal limit.Outputs (capped n) ∷ []) []) (same_test n) ∙ ap (λ m. cond (nat_lt 1024 n) (error.Limit limit.Outputs m ∷ []) []) (cut_twice n)
 
-listed : (lists : List ℕ) → too_long_list (first lists) ≡ first_list lists
-listed [] = refl
-listed (n ∷ rest) = refl
+no_list : (lists : List ℕ) → first (first_list lists) ≡ None → first lists ≡ None
+no_list [] none = refl
+no_list (n ∷ rest) none = absurd cc
 
-module _ (from : ℕ) (lists : List ℕ) (counted conjuncts outputs : ℕ) where
-  abbrev due : List QueryError
-  due = over limit.FromEntries most_entries from ++ first_list lists ++ over limit.Conjuncts most_conjuncts conjuncts ++ over limit.Outputs most_outputs outputs
+module _ (from counted conjuncts outputs : ℕ) where
+  abbrev due : List ℕ → List QueryError
+  due lists = over limit.FromEntries most_entries from ++ first_list lists ++ over limit.Conjuncts most_conjuncts conjuncts ++ over limit.Outputs most_outputs outputs
 
-  passed_by : (many : Bool) → many ≡ nat_lt most_entries from → (from ≤ 12 → counted ≡ conjuncts)
+  passed_by : (many : Bool) (lists : List ℕ) → many ≡ nat_lt most_entries from → (from ≤ 12 → first lists ≡ None → counted ≡ conjuncts)
       → first (cond many (refusal limit.FromEntries from ∷ []) [] ++ too_long_list (first lists) ++ over limit.Conjuncts most_conjuncts counted ++ over limit.Outputs most_outputs (capped outputs))
       ≡ first (cond many (refusal limit.FromEntries from ∷ []) [] ++ first_list lists ++ over limit.Conjuncts most_conjuncts conjuncts ++ over limit.Outputs most_outputs outputs)
-  passed_by true is same = refl
-  passed_by false is same =
-      ap (λ l. first (l ++ over limit.Conjuncts most_conjuncts counted ++ over limit.Outputs most_outputs (capped outputs))) (listed lists)
-      ∙ ap (λ n. first (first_list lists ++ over limit.Conjuncts most_conjuncts n ++ over limit.Outputs most_outputs (capped outputs))) (same (ltb-false most_entries from (sym is)))
-      ∙ ap (λ l. first (first_list lists ++ over limit.Conjuncts most_conjuncts conjuncts ++ l)) (over_capped outputs)
+  passed_by true lists is same = refl
+  passed_by false (n ∷ rest) is same = refl
+  passed_by false [] is same =
+      ap (λ n. first (over limit.Conjuncts most_conjuncts n ++ over limit.Outputs most_outputs (capped outputs))) (same (ltb-false most_entries from (sym is)) refl)
+      ∙ ap (λ l. first (over limit.Conjuncts most_conjuncts conjuncts ++ l)) (over_capped outputs)
 
-  passed : (from ≤ 12 → counted ≡ conjuncts) → first (limits_passed from (first lists) counted (capped outputs)) ≡ first due
-  passed same = passed_by (nat_lt most_entries from) refl same
+  -- conjuncts count only where no limit before theirs is passed
+  passed : (lists : List ℕ) → (from ≤ 12 → first lists ≡ None → counted ≡ conjuncts) → first (limits_passed from (first lists) counted (capped outputs)) ≡ first (due lists)
+  passed lists same = passed_by (nat_lt most_entries from) lists refl same
 
 module _ (binder : Binder) (query : QueryText) where
   pub kind_first : (at : ℕ) → Some at ≡ first (kinds_behind binder query) → Some (error.Kind at) ≡ first (late_refusals binder query)
@@ -97,13 +98,13 @@ module _ (binder : Binder) (query : QueryText) where
   kind_first at is = sym (first_append (first_place kind_error (kinds_behind binder query)) (limits_by binder query) (error.Kind at) (at_place kind_error (kinds_behind binder query) at (sym is)))
 
   pub limit_first : (list : Option ℕ) (found : List Cond) (outputs : ℕ) → list ≡ first (lists_behind binder query)
-      → (length (from_of binder) ≤ 12 → found ≡ conjuncts_by binder query) → outputs ≡ capped (length (selected_by binder query.outs))
+      → (length (from_of binder) ≤ 12 → list ≡ None → found ≡ conjuncts_by binder query) → outputs ≡ capped (length (selected_by binder query.outs))
       → first (limits_passed (length (from_of binder)) list (length found) outputs) ≡ first (limits_by binder query)
   unfolding limits_by
   limit_first list found outputs is_list is_found is_outputs =
       ap (λ l. first (limits_passed (length (from_of binder)) l (length found) outputs)) is_list
       ∙ ap (λ n. first (limits_passed (length (from_of binder)) (first (lists_behind binder query)) (length found) n)) is_outputs
-      ∙ passed (length (from_of binder)) (lists_behind binder query) (length found) (length (conjuncts_by binder query)) (length (selected_by binder query.outs)) (λ few. ap length (is_found few))
+      ∙ passed (length (from_of binder)) (length found) (length (conjuncts_by binder query)) (length (selected_by binder query.outs)) (lists_behind binder query) (λ few none. ap length (is_found few (is_list ∙ none)))
 
   pub no_kind : None ≡ first (kinds_behind binder query) → first (limits_by binder query) ≡ first (late_refusals binder query)
   unfolding late_refusals
@@ -129,17 +130,27 @@ module _ (binder : Binder) (query : QueryText) where
   pub none_refused : names_behind binder query ≡ [] → None ≡ first (late_refusals binder query) → first (refusals_behind binder query) ≡ None
   none_refused none is = ap first (no_name none) ∙ sym is
 
-  pub few_entries : None ≡ first (late_refusals binder query) → length (from_of binder) ≤ 12
-  unfolding late_refusals limits_by
-  few_entries is =
-      let many : List QueryError = over limit.FromEntries most_entries (length (from_of binder)) in
-      let lists : List QueryError = first_list (lists_behind binder query) in
-      let conjs : List QueryError = over limit.Conjuncts most_conjuncts (length (conjuncts_by binder query)) in
-      let outs : List QueryError = over limit.Outputs most_outputs (length (selected_by binder query.outs)) in
-      let none : first (((many ++ lists) ++ conjs) ++ outs) ≡ None = none_last (first_place kind_error (kinds_behind binder query)) (limits_by binder query) (sym is) in
-      let three : (many ++ lists) ++ conjs ≡ [] = none_first ((many ++ lists) ++ conjs) outs none in
-      let two : many ++ lists ≡ [] = none_first (many ++ lists) conjs (ap first three) in
-      not_over limit.FromEntries most_entries (length (from_of binder)) (none_first many lists (ap first two))
+  module _ (is : None ≡ first (late_refusals binder query)) where
+    abbrev many : List QueryError
+    many = over limit.FromEntries most_entries (length (from_of binder))
+
+    abbrev lists : List QueryError
+    lists = first_list (lists_behind binder query)
+
+    no_early : many ++ lists ≡ []
+    unfolding late_refusals limits_by
+    no_early =
+        let conjs : List QueryError = over limit.Conjuncts most_conjuncts (length (conjuncts_by binder query)) in
+        let outs : List QueryError = over limit.Outputs most_outputs (length (selected_by binder query.outs)) in
+        let none : first (((many ++ lists) ++ conjs) ++ outs) ≡ None = none_last (first_place kind_error (kinds_behind binder query)) (limits_by binder query) (sym is) in
+        let three : (many ++ lists) ++ conjs ≡ [] = none_first ((many ++ lists) ++ conjs) outs none in
+        none_first (many ++ lists) conjs (ap first three)
+
+    pub few_entries : length (from_of binder) ≤ 12
+    few_entries = not_over limit.FromEntries most_entries (length (from_of binder)) (none_first many lists (ap first no_early))
+
+    pub no_long_list : first (lists_behind binder query) ≡ None
+    no_long_list = no_list (lists_behind binder query) (none_last many lists (ap first no_early))
 
 -- ---- from the binder's words to the schema's, the text's and the tree's
 

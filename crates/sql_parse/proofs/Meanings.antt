@@ -1,5 +1,5 @@
 -- What texts mean, part by part.
-use Rattle.std.proofs.Common.{◌≡◌, ℕ, zero, suc, ◌<◌, ◌≤◌, List, [], ◌∷◌, ◌++◌, length, map, Option, Some, None, ap, subst, sym, ◌∙◌, refl, arith}
+use Rattle.std.proofs.Common.{◌≡◌, ℕ, zero, suc, ◌+◌, ◌<◌, ◌≤◌, List, [], ◌∷◌, ◌++◌, length, map, take, get_or, Option, Some, None, ap, subst, sym, ◌∙◌, refl, arith}
 use Rattle.std.specs.Prelude.{IfSome, slice_get, Bool, true, false, if◌then◌else◌}
 use Rattle.std.proofs.lemmas.List.{append_assoc}
 use Rattle.query_grammar.specs.declared.tree.ColumnText.{ColumnText}
@@ -8,6 +8,7 @@ use Rattle.sql_parse.specs.declared.scope.Scope.{Scope}
 use Rattle.sql_parse.specs.declared.scope.Found.{Found}
 use Rattle.query_types.specs.declared.types.Source.{Source}
 use Rattle.query_types.specs.declared.types.Cond.{Cond}
+use Rattle.query_types.specs.declared.types.Operand.{Operand}
 use Rattle.query_types.specs.declared.types.Cond.TheVariants as cond
 use Rattle.std.specs.List.{flat_map}
 use Rattle.std.specs.Prelude.{Result, Ok, Err, IfOk, OnOk, All}
@@ -26,9 +27,10 @@ use Rattle.query_grammar.specs.declared.tree.CondText.TheVariants.{rolls-And, ro
 use Rattle.query_grammar.specs.declared.tree.CondText.TheOpen.{CondText-F}
 use Rattle.query_grammar.specs.declared.tree.CondText.TheFolds.{fold-roll-CondText}
 use Rattle.sql_parse.specs.Offences.{of_literal}
-use Rattle.sql_parse.specs.Values.{any_of, all_of, equality, alone, wholes, negated_where, Meaning, meaning, meaning_step, test_meaning}
-use Rattle.sql_parse.specs.Binding.{schema_of, from_of, resolved_by, compared_by, test_value_by, test_members_by, value_by, members_by}
+use Rattle.sql_parse.specs.Values.{any_of, all_of, equality, alone, wholes, negated_where, Meaning, meaning, meaning_step, test_meaning, literal_value}
+use Rattle.sql_parse.specs.Binding.{schema_of, from_of, resolved_by, operand_by, compared_by, test_value_by, test_members_by, value_by, members_by}
 use Rattle.sql_parse.proofs.Resolved.{Stands, resolve_stands}
+use Rattle.sql_parse.proofs.Walk.{map_more}
 
 within : (from : List Source) (n : ℕ) (source : Source) → slice_get from n ≡ Some source → n < length from
 within [] n source is = absurd cc
@@ -60,6 +62,17 @@ several_of (x ∷ y ∷ parts) many = refl
 negated_whole : (negated : Bool) (m : Meaning) → (negated_where negated m).whole ≡ (if negated then cond.Not m.whole else m.whole)
 negated_whole true m = refl
 negated_whole false m = refl
+
+-- one more equality of IN, from what its operands mean
+pub equality_more : (binder : Binder) (scope : Scope) (left : OperandText) (values : List LiteralText) (i : ℕ) (d : LiteralText) {old new : List Cond} {subject copy right : Operand}
+    → i < length values → old ≡ map (λ value. compared_by binder scope op.Eq left (of_literal value)) (take i values)
+    → subject ≡ operand_by binder scope left → copy ≡ subject → right ≡ literal_value binder.text.now (get_or values i d)
+    → new ≡ old ++ cond.Compare op.Eq copy right ∷ []
+    → new ≡ map (λ value. compared_by binder scope op.Eq left (of_literal value)) (take (i + 1) values)
+unfolding operand_by compared_by
+equality_more binder scope left values i d {old} {new} {subject} {copy} {right} below so_far means same is pushed =
+    map_more (λ value. compared_by binder scope op.Eq left (of_literal value)) values i d old new (cond.Compare op.Eq copy right) below so_far
+    (ap (λ o. cond.Compare op.Eq o right) (same ∙ means) ∙ ap (λ o. cond.Compare op.Eq (operand_by binder scope left) o) is) pushed
 
 -- IN is the OR of the equalities, or NOT of it
 pub in_means : (binder : Binder) (scope : Scope) (left : OperandText) (negated : Bool) (values : List LiteralText) {each : List Cond} {one v : Cond}

@@ -63,6 +63,11 @@ or_first-nil : (found : Option ℕ) → or_first found [] ≡ found
 or_first-nil (Some n) = refl
 or_first-nil None = refl
 
+-- what was found before is what was found first
+pub none_before : (found : Option ℕ) (xs : List ℕ) → or_first found xs ≡ None → found ≡ None
+none_before (Some n) xs none = absurd cc
+none_before None xs none = refl
+
 -- an error behind what has no offence
 pub error_behind : (xs ys : List ℕ) (e : QueryError) → xs ≡ [] → IsNameError ys e → IsNameError (xs ++ ys) e
 error_behind xs ys e none wrong = subst (λ l. IsNameError (l ++ ys) e) (sym none) wrong

@@ -68,7 +68,7 @@ impl<'a> Binder<'a> {
     ) -> Result<Option<QueryError>, NoMemory>
         requires all { scope ≡ everything (from_of self.now) }
         requires list { list ≡ first (lists_behind self.now query.now) }
-        requires members { length (from_of self.now) ≤ 12 → conjuncts.now ≡ conjuncts_by self.now query.now }
+        requires members { length (from_of self.now) ≤ 12 → list ≡ None → conjuncts.now ≡ conjuncts_by self.now query.now }
         requires tokens { IsQueryOf (IsLexemeOf self.now.text.now) query.now }
         ensures { IfOk result (λ wrong. wrong ≡ first (limits_by self.now query.now)) }
     {
@@ -89,7 +89,7 @@ impl<'a> Binder<'a> {
         requires all { scope ≡ everything (from_of self.now) }
         requires kind { seen.kind ≡ first (kinds_behind self.now query.now) }
         requires list { seen.list ≡ first (lists_behind self.now query.now) }
-        requires members { length (from_of self.now) ≤ 12 → conjuncts.now ≡ conjuncts_by self.now query.now }
+        requires members { length (from_of self.now) ≤ 12 → seen.list ≡ None → conjuncts.now ≡ conjuncts_by self.now query.now }
         requires tokens { IsQueryOf (IsLexemeOf self.now.text.now) query.now }
         ensures { IfOk result (λ wrong. wrong ≡ first (late_refusals self.now query.now)) }
     {
@@ -100,7 +100,7 @@ impl<'a> Binder<'a> {
     }
 
     /// The conjuncts and the outputs, or the first refusal behind FROM.
-    #[tactic(auto, using(crate::proofs::BindFacts::name_refused, crate::proofs::BindFacts::late_refused, crate::proofs::BindFacts::none_refused, crate::proofs::BindFacts::few_entries), unfolding(query_grammar::specs::Lexemes::IsQueryOf))]
+    #[tactic(auto, using(crate::proofs::BindFacts::name_refused, crate::proofs::BindFacts::none_refused, crate::proofs::BindFacts::few_entries, crate::proofs::BindFacts::no_long_list), unfolding(query_grammar::specs::Lexemes::IsQueryOf))]
     pub fn behind_from(&self, query: &QueryText) -> Result<(Seq<Cond>, Seq<Out>), QueryError>
         requires valid { IsValid (schema_of self.now) }
         requires ends { length (flat_map sources_of query.now.parts) ≤ length (from_of self.now) }

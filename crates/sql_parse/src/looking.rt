@@ -1,5 +1,5 @@
 //! Names, kinds and the lengths of lists behind FROM.
-ghost use Rattle.std.specs.Prelude.{◌≡◌, ◌≤◌, ◌++◌, [], IfOk, IfErr, length};
+ghost use Rattle.std.specs.Prelude.{◌≡◌, ◌≤◌, ◌++◌, [], None, IfOk, IfErr, length};
 ghost use Rattle.std.specs.List.{flat_map};
 ghost use Rattle.sql_tokens.specs.Words.{IsLexemeOf};
 ghost use Rattle.query_grammar.specs.Lexemes.{IsQueryOf};
@@ -19,7 +19,7 @@ use query_types::Cond;
 
 impl<'a> Binder<'a> {
     /// Looks at the SELECT list and then at all conditions, and adds the conjuncts where the query has not too many
-    /// entries.
+    /// entries and no list of IN is too long.
     #[tactic(auto, using(crate::proofs::BehindFacts::no_name, crate::proofs::BehindFacts::name_in_outs, crate::proofs::BehindFacts::name_in_parts, crate::proofs::BehindFacts::name_in_filter, crate::proofs::BehindFacts::kinds_behind_are, crate::proofs::BehindFacts::lists_behind_are, crate::proofs::BehindFacts::conjuncts_are_both), unfolding(query_grammar::specs::Lexemes::IsQueryOf))]
     pub fn look_behind(
         &self,
@@ -35,7 +35,7 @@ impl<'a> Binder<'a> {
         ensures names { IfOk result (λ _. names_behind self.now query.now ≡ []) }
         ensures kind { IfOk result (λ _. seen.new.kind ≡ or_first seen.old.kind (kinds_behind self.now query.now)) }
         ensures list { IfOk result (λ _. seen.new.list ≡ or_first seen.old.list (lists_behind self.now query.now)) }
-        ensures members { IfOk result (λ _. length (from_of self.now) ≤ 12 → conjuncts.new ≡ conjuncts.old ++ conjuncts_by self.now query.now) }
+        ensures members { IfOk result (λ _. length (from_of self.now) ≤ 12 → seen.new.list ≡ None → conjuncts.new ≡ conjuncts.old ++ conjuncts_by self.now query.now) }
         ensures err { IfErr result (IsNameError (names_behind self.now query.now)) }
     {
         self.check_outs(visible, &query.outs)?;

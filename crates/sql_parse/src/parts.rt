@@ -1,5 +1,5 @@
 //! The conditions of all parts of FROM, and that of WHERE.
-ghost use Rattle.std.specs.Prelude.{◌≡◌, ◌≤◌, ◌+◌, ◌++◌, [], All, IfOk, IfErr, IfSome, length};
+ghost use Rattle.std.specs.Prelude.{◌≡◌, ◌≤◌, ◌+◌, ◌++◌, [], All, None, IfOk, IfErr, IfSome, length};
 ghost use Rattle.std.specs.List.{flat_map};
 ghost use Rattle.sql_tokens.specs.Words.{IsLexemeOf};
 ghost use Rattle.query_grammar.specs.Lexemes.{IsCondOf, IsPartOf};
@@ -30,7 +30,8 @@ impl<'a> Binder<'a> {
         ensures names { IfOk result (λ _. flat_map (names_in self.now) (joined first (first + 1) part.now.joins) ≡ []) }
         ensures kind { IfOk result (λ _. seen.new.kind ≡ or_first seen.old.kind (flat_map (kinds_in self.now) (joined first (first + 1) part.now.joins))) }
         ensures list { IfOk result (λ _. seen.new.list ≡ or_first seen.old.list (flat_map lists_in (joined first (first + 1) part.now.joins))) }
-        ensures members { IfOk result (λ _. length (from_of self.now) ≤ 12 → conjuncts.new ≡ conjuncts.old ++ flat_map (members_in self.now) (joined first (first + 1) part.now.joins)) }
+        ensures lasts { IfOk result (λ _. seen.new.list ≡ None → seen.old.list ≡ None) }
+        ensures members { IfOk result (λ _. length (from_of self.now) ≤ 12 → seen.new.list ≡ None → conjuncts.new ≡ conjuncts.old ++ flat_map (members_in self.now) (joined first (first + 1) part.now.joins)) }
         ensures err { IfErr result (IsNameError (flat_map (names_in self.now) (joined first (first + 1) part.now.joins))) }
     {
         let mut visible = self.none_visible(first);
@@ -52,7 +53,7 @@ impl<'a> Binder<'a> {
         ensures names { IfOk result (λ _. flat_map (names_in self.now) (on_conditions 0 parts.now) ≡ []) }
         ensures kind { IfOk result (λ _. seen.new.kind ≡ or_first seen.old.kind (flat_map (kinds_in self.now) (on_conditions 0 parts.now))) }
         ensures list { IfOk result (λ _. seen.new.list ≡ or_first seen.old.list (flat_map lists_in (on_conditions 0 parts.now))) }
-        ensures members { IfOk result (λ _. length (from_of self.now) ≤ 12 → conjuncts.new ≡ conjuncts.old ++ flat_map (members_in self.now) (on_conditions 0 parts.now)) }
+        ensures members { IfOk result (λ _. length (from_of self.now) ≤ 12 → seen.new.list ≡ None → conjuncts.new ≡ conjuncts.old ++ flat_map (members_in self.now) (on_conditions 0 parts.now)) }
         ensures err { IfErr result (IsNameError (flat_map (names_in self.now) (on_conditions 0 parts.now))) }
     {
         let mut first = 0;
@@ -73,7 +74,8 @@ impl<'a> Binder<'a> {
         ensures names { IfOk result (λ _. flat_map (names_in self.now) (filtered (from_of self.now) filter.now) ≡ []) }
         ensures kind { IfOk result (λ _. seen.new.kind ≡ or_first seen.old.kind (flat_map (kinds_in self.now) (filtered (from_of self.now) filter.now))) }
         ensures list { IfOk result (λ _. seen.new.list ≡ or_first seen.old.list (flat_map lists_in (filtered (from_of self.now) filter.now))) }
-        ensures members { IfOk result (λ _. length (from_of self.now) ≤ 12 → conjuncts.new ≡ conjuncts.old ++ flat_map (members_in self.now) (filtered (from_of self.now) filter.now)) }
+        ensures lasts { IfOk result (λ _. seen.new.list ≡ None → seen.old.list ≡ None) }
+        ensures members { IfOk result (λ _. length (from_of self.now) ≤ 12 → seen.new.list ≡ None → conjuncts.new ≡ conjuncts.old ++ flat_map (members_in self.now) (filtered (from_of self.now) filter.now)) }
         ensures err { IfErr result (IsNameError (flat_map (names_in self.now) (filtered (from_of self.now) filter.now))) }
     {
         match filter {

@@ -10,7 +10,7 @@ ghost use Rattle.sql_parse.specs.Binding.{Shows, from_of, operand_by, compared_b
 
 use crate::binder::Binder;
 use crate::scope::{Found, Visible};
-use base_io::{Boxed, NoMemory, Seq};
+use base_io::{Boxed, Name, NoMemory, Seq};
 use ll_grammars::{Lexeme, Terminal};
 use query_grammar::{LiteralText, OperandText, TestText};
 use query_types::{ColumnRef, Cond, Op, Operand};
@@ -56,6 +56,17 @@ fn literal_value(alloc: Global, text: &[u8], value: &LiteralText) -> Result<Oper
             Ok(Operand::Int(signed(is_negative(sign), number(text, digits))))
         }
         LiteralText::Text(token) => Ok(Operand::Text(literal(alloc, text, token)?)),
+    }
+}
+
+/// The same operand once more.
+fn copied(alloc: Global, operand: &Operand) -> Result<Operand, NoMemory>
+    ensures { IfOk result (λ copy. copy ≡ operand.now) }
+{
+    match operand {
+        Operand::Column(column) => Ok(Operand::Column(*column)),
+        Operand::Int(value) => Ok(Operand::Int(*value)),
+        Operand::Text(text) => Ok(Operand::Text(Name::from_str(alloc, text.as_str())?)),
     }
 }
 
@@ -137,7 +148,7 @@ impl<'a> Binder<'a> {
         Ok(Cond::Compare { op, left, right })
     }
 
-    /// The equalities of an operand with values.
+    /// The equalities of an operand with values. The operand is resolved once, however many the values.
     fn equalities(
         &self,
         visible: &Visible,
@@ -150,10 +161,16 @@ impl<'a> Binder<'a> {
         requires values { All (IsLiteralOf (IsLexemeOf self.now.text.now)) values.now }
         ensures { IfOk result (λ found. found ≡ map (λ value. compared_by self.now visible.now.scope Op.Eq left.now (of_literal value)) values.now) }
     {
+        let subject = self.operand(visible, left)?;
         let mut found = Seq::new(self.alloc);
         'all: for value in values {
-            let right = OperandText::Literal(*value);
-            found.push(self.compared(visible, Op::Eq, left, &right)?)?;
+            let left = copied(self.alloc, &subject)?;
+            let right = literal_value(self.alloc, self.text, value)?;
+            found.push(Cond::Compare {
+                op: Op::Eq,
+                left,
+                right,
+            })?;
         }
         Ok(found)
     }

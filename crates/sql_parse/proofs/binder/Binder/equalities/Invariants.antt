@@ -1,8 +1,11 @@
 use Rattle.std.proofs.Common.{◌≡◌, map, take}
 use Rattle.query_grammar.specs.declared.tree.Op.TheVariants as op
 use Rattle.sql_parse.specs.Offences.{of_literal}
-use Rattle.sql_parse.specs.Binding.{compared_by}
+use Rattle.sql_parse.specs.Binding.{operand_by, compared_by}
 use Rattle.sql_parse.proofs.binder.Binder.equalities.Given as goal
 
 abbrev pub invariant-all : goal.invariant-all
-invariant-all l = l.found ≡ map (λ value. compared_by l.self l.visible.scope op.Eq l.left (of_literal value)) (take l.value-index l.values)
+invariant-all l = record {
+  means : l.subject ≡ operand_by l.self l.visible.scope l.fn.left;
+  made : l.found ≡ map (λ value. compared_by l.self l.visible.scope op.Eq l.fn.left (of_literal value)) (take l.value-index l.values);
+}

@@ -1,4 +1,4 @@
-use Rattle.std.proofs.Common.{◌≡◌, ◌≤◌, ◌+◌, ◌++◌, length, drop}
+use Rattle.std.proofs.Common.{◌≡◌, ◌≤◌, ◌+◌, ◌++◌, length, drop, None}
 use Rattle.std.specs.List.{flat_map}
 use Rattle.sql_parse.specs.Scopes.{joined}
 use Rattle.sql_parse.specs.Answers.{or_first}
@@ -15,6 +15,7 @@ invariant-all l = record {
       ≡ or_first l.seen.kind (flat_map (kinds_in l.self) (joined l.fn.visible.scope.first (l.fn.visible.scope.end + l.join-index) (drop l.join-index l.joins)));
   list : or_first l.fn.seen.list (flat_map lists_in (joined l.fn.visible.scope.first l.fn.visible.scope.end l.joins))
       ≡ or_first l.seen.list (flat_map lists_in (joined l.fn.visible.scope.first (l.fn.visible.scope.end + l.join-index) (drop l.join-index l.joins)));
-  members : length (from_of l.self) ≤ 12 → l.fn.conjuncts ++ flat_map (members_in l.self) (joined l.fn.visible.scope.first l.fn.visible.scope.end l.joins)
+  lasts : l.seen.list ≡ None → l.fn.seen.list ≡ None;
+  members : length (from_of l.self) ≤ 12 → l.seen.list ≡ None → l.fn.conjuncts ++ flat_map (members_in l.self) (joined l.fn.visible.scope.first l.fn.visible.scope.end l.joins)
       ≡ l.conjuncts ++ flat_map (members_in l.self) (joined l.fn.visible.scope.first (l.fn.visible.scope.end + l.join-index) (drop l.join-index l.joins));
 }

@@ -1,4 +1,4 @@
-use Rattle.std.proofs.Common.{◌≡◌, ◌≤◌, ◌+◌, ◌++◌, length, drop}
+use Rattle.std.proofs.Common.{◌≡◌, ◌≤◌, ◌+◌, ◌++◌, length, drop, None}
 use Rattle.std.specs.List.{flat_map}
 use Rattle.sql_parse.specs.Names.{sources_of}
 use Rattle.sql_parse.specs.Scopes.{on_conditions}
@@ -12,5 +12,5 @@ invariant-all l = record {
   names : flat_map (names_in l.self) (on_conditions 0 l.parts) ≡ flat_map (names_in l.self) (on_conditions l.first (drop l.part-index l.parts));
   kind : or_first l.fn.seen.kind (flat_map (kinds_in l.self) (on_conditions 0 l.parts)) ≡ or_first l.seen.kind (flat_map (kinds_in l.self) (on_conditions l.first (drop l.part-index l.parts)));
   list : or_first l.fn.seen.list (flat_map lists_in (on_conditions 0 l.parts)) ≡ or_first l.seen.list (flat_map lists_in (on_conditions l.first (drop l.part-index l.parts)));
-  members : length (from_of l.self) ≤ 12 → l.fn.conjuncts ++ flat_map (members_in l.self) (on_conditions 0 l.parts) ≡ l.conjuncts ++ flat_map (members_in l.self) (on_conditions l.first (drop l.part-index l.parts));
+  members : length (from_of l.self) ≤ 12 → l.seen.list ≡ None → l.fn.conjuncts ++ flat_map (members_in l.self) (on_conditions 0 l.parts) ≡ l.conjuncts ++ flat_map (members_in l.self) (on_conditions l.first (drop l.part-index l.parts));
 }
