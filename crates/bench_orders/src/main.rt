@@ -6,7 +6,8 @@
 ghost use Rattle.std.specs.Prelude.{◌≡◌, ◌<◌, length, vec_len, IfOk};
 
 use base_io::Seq;
-use order_search::{Plan, PlanError, choose};
+use order_search::{PlanError, choose};
+use plans::Plan;
 use std::alloc::{AllocError, Global};
 use std::rt::Runtime;
 use std::time::Instant;

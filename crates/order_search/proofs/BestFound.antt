@@ -3,7 +3,8 @@ use Rattle.std.proofs.Common.{◌≡◌, ℕ, ◌-◌, ◌^◌, ◌<◌, ◌≤�
 use Rattle.std.proofs.lemmas.Nat.{pow_pos}
 use Rattle.std.proofs.lemmas.Bool.{cases_lt}
 use Rattle.order_search.specs.declared.weight.Weight.TheVariants as weight
-use Rattle.order_search.specs.Orders.{IsOrder, IsBest, IsLeastCost, cost, total}
+use Rattle.order_search.specs.Orders.{IsBest, IsLeastCost, cost, total}
+use Rattle.plans.specs.LeftDeep.{IsOrder}
 use Rattle.order_search.specs.Ways.{IsLeastWeight, IsTable, IsFirstLightest, IsWay, weight_of}
 use Rattle.order_search.proofs.WholeWays.{order_from_way, way_from_order}
 use Rattle.order_search.proofs.Prefixes.{total-small}

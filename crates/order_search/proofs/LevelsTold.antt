@@ -2,7 +2,8 @@
 use Rattle.std.proofs.Common.{◌≡◌, ℕ, ◌+◌, ◌-◌, ◌^◌, ◌<◌, ◌≤◌, List, [], ◌∷◌, ◌++◌, length, get_or, drop, ap, sym, ◌∙◌, subst, pow_mono, arith}
 use Rattle.std.proofs.lemmas.Nat.{pow_pos}
 use Rattle.std.proofs.lemmas.List.{append_assoc, append-nil, drop_more, drop_all}
-use Rattle.order_search.specs.Orders.{IsOrder, cost, greatest, levels}
+use Rattle.order_search.specs.Orders.{cost, greatest, levels}
+use Rattle.plans.specs.LeftDeep.{IsOrder}
 use Rattle.order_search.specs.Ways.{IsWay}
 use Rattle.order_search.proofs.Bits.{entry_below, power_within}
 use Rattle.order_search.proofs.Prefixes.{levels_after, levels_are}

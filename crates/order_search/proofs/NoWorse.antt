@@ -2,7 +2,8 @@
 use Rattle.std.proofs.Common.{◌≡◌, ℕ, ◌<◌, ◌≤◌, List, [], ◌∷◌, refl, sym, ◌∙◌, arith, inl, inr}
 use Rattle.std.specs.Prelude.{◌⊎◌}
 use Rattle.std.proofs.lemmas.Bool.{cases_order}
-use Rattle.order_search.specs.Orders.{IsBest, IsLeastCost, IsNotAfter, IsOrder, cost, total}
+use Rattle.order_search.specs.Orders.{IsBest, IsLeastCost, IsNotAfter, cost, total}
+use Rattle.plans.specs.LeftDeep.{IsOrder}
 
 -- by a number, and by another relation where the numbers are equal
 abbrev pub First : (List ℕ → ℕ) → (List ℕ → List ℕ → Type 0) → List ℕ → List ℕ → Type 0

@@ -3,8 +3,8 @@ use Rattle.std.proofs.Common.{◌≡◌, ℕ, ◌≤◌, List, [], ◌∷◌, re
 use Rattle.std.specs.Prelude.{◌⊎◌}
 use Rattle.order_search.specs.Causes.{IsCause}
 use Rattle.order_search.specs.Orders.{IsBest, IsLeastCost, IsNotAfter, cost, total}
-use Rattle.order_search.specs.declared.plan.PlanError.{PlanError}
-use Rattle.order_search.specs.declared.plan.PlanError.TheVariants as error
+use Rattle.order_search.specs.declared.refusal.PlanError.{PlanError}
+use Rattle.order_search.specs.declared.refusal.PlanError.TheVariants as error
 
 same_from_both : (a b : List ℕ) → IsNotAfter a b → IsNotAfter b a → a ≡ b
 same_from_both [] [] p q = refl

@@ -1,7 +1,9 @@
 -- The bounds of an order's prefixes, one entry at a time.
 use Rattle.std.proofs.Common.{◌≡◌, ℕ, ◌+◌, ◌*◌, ◌^◌, ◌≤◌, suc, List, [], ◌∷◌, length, map, get_or, refl, ap, ◌∙◌, sum, arith}
 use Rattle.std.proofs.lemmas.List.Sums.{sum_by-cons}
-use Rattle.order_search.specs.Orders.{IsOrder, cost, greatest, levels, prefixes, set_of, total}
+use Rattle.order_search.specs.Orders.{cost, greatest, levels, prefixes, set_of, total}
+use Rattle.plans.specs.declared.left_deep.Plan.{Plan}
+use Rattle.plans.specs.LeftDeep.{IsOrder, IsPlan}
 
 -- the bounds of the sets that are placed, from a set on, as the entries come
 abbrev pub levels_after : List ℕ → ℕ → List ℕ → List ℕ
@@ -55,3 +57,11 @@ pub total-small : (bounds : List ℕ) (n : ℕ) (order : List ℕ) → n ≤ 12 
 total-small bounds n order few is_order h =
     let size : length (levels_after bounds 0 order) ≡ n = length-levels_after bounds 0 order ∙ is_order.all in
     omega (arith, size, total_is bounds order, sum-at_most 20000000 (levels_after bounds 0 order) (omega (arith, cost_is bounds order)))
+
+-- an order with its levels and a scan for each entry is a plan
+pub plan_from : (bounds scans : List ℕ) (plan : Plan) → IsOrder (length scans) plan.order → plan.levels ≡ levels bounds plan.order → plan.scans ≡ scans → IsPlan (length scans) plan
+plan_from bounds scans plan is_order has_levels has_scans = record {
+  order = is_order;
+  scans = ap length has_scans;
+  levels = ap length (has_levels ∙ levels_are bounds plan.order) ∙ length-levels_after bounds 0 plan.order ∙ is_order.all;
+}

@@ -6,7 +6,8 @@ use Rattle.std.proofs.lemmas.Nat.Bits.{bit_at_ones}
 use Rattle.std.proofs.lemmas.Bool.{cases_eq, eqb-false, ne_eqb}
 use Rattle.std.proofs.lemmas.Map.Keys.{IsDistinct-head, IsDistinct-tail, IsDistinct-cons}
 use Rattle.std.proofs.lemmas.Nat.{pow_pos}
-use Rattle.order_search.specs.Orders.{IsOrder}
+use Rattle.order_search.specs.Orders.{}
+use Rattle.plans.specs.LeftDeep.{IsOrder}
 use Rattle.order_search.specs.Ways.{IsWay}
 use Rattle.order_search.proofs.Bits.{bit_without_other, bit_without_same, entry_below, set_is_empty, size_below, size-none, size-whole, size-without}
 

@@ -1,8 +1,8 @@
 -- Why there is no plan.
 use Rattle.std.specs.Prelude.{◌-◌, ◌^◌, ◌<◌, ◌≤◌, ℕ, List, ⊤}
 use Rattle.order_search.specs.Orders.{IsLeastCost}
-use Rattle.order_search.specs.declared.plan.PlanError.{PlanError}
-use Rattle.order_search.specs.declared.plan.PlanError.TheVariants as error
+use Rattle.order_search.specs.declared.refusal.PlanError.{PlanError}
+use Rattle.order_search.specs.declared.refusal.PlanError.TheVariants as error
 
 -- the least cost is above the budget, or above what 128 bits tell. Want of memory has no cause here
 abbrev pub IsCause : List ℕ → ℕ → ℕ → PlanError → Type 0

@@ -1,12 +1,7 @@
 -- Orders in which entries are joined, and which order is best. Bounds are given for every set of entries, each at the number whose bits are the set.
-use Rattle.std.specs.Prelude.{◌≡◌, ℕ, ◌+◌, ◌^◌, ◌<◌, ◌≤◌, ◌==◌, ◌⊎◌, max, List, [], ◌∷◌, map, length, slice_index, ⊤}
-use Rattle.std.specs.List.{AllByRecursion, IsDistinct, sum}
-
--- the order has each of the entries 0 to n - 1, and once
-pub record IsOrder (n : ℕ) (order : List ℕ) : Type 0 where
-  pub entries : AllByRecursion (λ entry. entry < n) order
-  pub once : IsDistinct ◌==◌ order
-  pub all : length order ≡ n
+use Rattle.std.specs.Prelude.{◌≡◌, ℕ, ◌+◌, ◌^◌, ◌<◌, ◌≤◌, ◌⊎◌, max, List, [], ◌∷◌, map, slice_index, ⊤}
+use Rattle.std.specs.List.{sum}
+use Rattle.plans.specs.LeftDeep.{IsOrder}
 
 -- the number of a set of entries, in which entry x is bit x
 abbrev pub set_of : List ℕ → ℕ

@@ -5,8 +5,8 @@ ghost use Rattle.std.specs.List.{Contains, IsDistinct};
 ghost use Rattle.order_search.specs.Causes.{IsCause};
 ghost use Rattle.order_search.specs.Examples.{dearer_prefix, equal_bounds, one_pair_past_bits, past_bits, three_entries};
 ghost use Rattle.order_search.specs.Orders.{IsBest, cost, levels, prefixes, set_of, total};
-ghost use Rattle.order_search.specs.declared.plan.PlanError.{PlanError};
-ghost use Rattle.order_search.specs.declared.plan.PlanError.TheVariants as error;
+ghost use Rattle.order_search.specs.declared.refusal.PlanError.{PlanError};
+ghost use Rattle.order_search.specs.declared.refusal.PlanError.TheVariants as error;
 
 /// The number of a set of different entries has their bits and no others.
 pub fn sets_have_their_bits()

@@ -2,7 +2,7 @@
 //!
 //! In: a bound for each set of the FROM entries, at the number whose bits are the set, and the bound of each entry's scan. Out: the order whose greatest bound is least, with the bounds of its prefixes; or the least cost, where that is above the budget.
 //!
-//! Callers cite `IsBest`, `levels` and `cost` for a plan, and `IsCause` for a refusal.
+//! Callers cite `IsBest`, `levels` and `cost` for a plan, `IsPlan` of plans, and `IsCause` for a refusal.
 //!
 //! ```text
 //! let plan = choose(alloc, &bounds, &scans, budget)?;
@@ -11,7 +11,7 @@
 #![tactic(auto)]
 
 mod laws;
-mod plan;
+mod refusal;
 mod search;
 mod sets;
 mod table;
@@ -19,7 +19,7 @@ mod way;
 mod weight;
 
 pub use laws::{examples, one_answer, one_best_order, sets_have_their_bits};
-pub use plan::{Plan, PlanError};
+pub use refusal::PlanError;
 pub use search::choose;
 
 #[cfg(test)]

@@ -1,14 +1,16 @@
 //! The search.
 ghost use Rattle.std.specs.Prelude.{◌≡◌, ◌≤◌, ◌<◌, ◌^◌, length, IfErr, IfOk};
 ghost use Rattle.order_search.specs.Causes.{IsCause};
-ghost use Rattle.order_search.specs.Orders.{IsBest, IsLeastCost, IsOrder, cost, levels as levels_of};
+ghost use Rattle.order_search.specs.Orders.{IsBest, IsLeastCost, cost, levels as levels_of};
+ghost use Rattle.plans.specs.LeftDeep.{IsOrder, IsPlan};
 
+use crate::PlanError;
 use crate::sets::with;
 use crate::table::least_weights;
 use crate::way::first_lightest;
 use crate::weight::Weight;
-use crate::{Plan, PlanError};
 use base_io::{NoMemory, Seq};
+use plans::Plan;
 use std::alloc::Global;
 
 /// The best order of n entries, n from 1 to 12, over a bound for each of the 2^n sets: the order of least cost, which is the greatest bound of its first k entries, k from 1; among those the one of least sum of these bounds; among those the first in lexicographic order.
@@ -28,6 +30,7 @@ pub fn choose(
     requires bounds { length bounds.now ≡ 2 ^ length scans.now }
     requires budget { budget ≤ 20000000 }
 
+    ensures plan { IfOk result (IsPlan (length scans.now)) }
     ensures best { IfOk result (λ plan. IsBest bounds.now (length scans.now) plan.order) }
     ensures within { IfOk result (λ plan. cost bounds.now plan.order ≤ budget) }
     ensures levels { IfOk result (λ plan. plan.levels ≡ levels_of bounds.now plan.order) }

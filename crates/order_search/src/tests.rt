@@ -1,7 +1,8 @@
 ghost use Rattle.std.specs.Prelude.{◌≡◌, ◌^◌, ◌≤◌};
 
-use crate::{Plan, PlanError, choose};
+use crate::{PlanError, choose};
 use base_io::Seq;
+use plans::Plan;
 use std::alloc::{AllocError, AllocFailed, Global};
 
 #[derive(Debug, Drop)]

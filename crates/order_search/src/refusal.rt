@@ -1,19 +1,9 @@
-//! What is chosen, and why nothing is.
+//! Why nothing is chosen.
 ghost use Rattle.std.specs.Prelude.{◌≡◌};
-ghost use Rattle.order_search.specs.declared.plan.PlanError.TheVariants as error;
+ghost use Rattle.order_search.specs.declared.refusal.PlanError.TheVariants as error;
 
-use base_io::{NoMemory, Seq};
+use base_io::NoMemory;
 use std::alloc::AllocError;
-
-/// A left-deep order of n entries, which are named by their FROM positions from 0 on.
-///
-/// `scans` are the bounds of the entries' scans in FROM order, in rows. `levels` are the bounds of the joins of the first k entries of the order, k from 1 to n, in rows.
-#[derive(Drop)]
-pub struct Plan {
-    pub order: Seq<u8>,
-    pub scans: Seq<u64>,
-    pub levels: Seq<u64>,
-}
 
 /// Why there is no plan.
 #[derive(Clone, Copy, Debug, PartialEq, Eq)]

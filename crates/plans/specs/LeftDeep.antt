@@ -1,0 +1,16 @@
+-- Left-deep plans: which lists are orders of so many entries, and what fits such an order.
+use Rattle.std.specs.Prelude.{◌≡◌, ℕ, ◌<◌, ◌==◌, List, length}
+use Rattle.std.specs.List.{AllByRecursion, IsDistinct}
+use Rattle.plans.specs.declared.left_deep.Plan.{Plan}
+
+-- the order has each of the entries 0 to n - 1, and once
+pub record IsOrder (n : ℕ) (order : List ℕ) : Type 0 where
+  pub entries : AllByRecursion (λ entry. entry < n) order
+  pub once : IsDistinct ◌==◌ order
+  pub all : length order ≡ n
+
+-- a plan for n entries: an order of them, a bound for the scan of each, and one for each number of first entries
+pub record IsPlan (n : ℕ) (plan : Plan) : Type 0 where
+  pub order : IsOrder n plan.order
+  pub scans : length plan.scans ≡ n
+  pub levels : length plan.levels ≡ n
