@@ -9,6 +9,7 @@ mod queries;
 
 use base_io::NoMemory;
 use bound_fold::{is_listed, set_bound};
+use entry_sets::EntrySet;
 use join_graph::turns;
 use queries::{Query, Shape, add_list, edge, list_of_numbers, query_of, query_of_shape};
 use std::alloc::Global;
@@ -34,7 +35,7 @@ fn timed<R: Runtime>(
     rt: &R,
     alloc: Global,
     query: &Query,
-    subset: u16,
+    subset: EntrySet,
     rounds: u32,
 ) -> io::Result<Timing> {
     if !is_listed(&query.parts, subset, &query.lists) {
@@ -84,6 +85,7 @@ fn time(rt: &HostRuntime, shape: Shape, entries: u8, pieces: u32) -> io::Result<
     let subset = u16::MAX
         .checked_shr(16 - u32::from(entries.min(16)))
         .unwrap_or(0);
+    let subset = EntrySet::from_bits(subset);
     let trees = turns(&query.parts, subset);
     let Timing { bound, nanos } = timed(rt, alloc, &query, subset, ROUNDS)?;
     println!(rt;
@@ -96,10 +98,10 @@ fn main(rt: HostRuntime) -> io::Result<()> {
     let alloc = rt.alloc();
     if env::args(&rt)?.count() <= 1 {
         let three = path(alloc).map_err(out_of_memory)?;
-        let path = timed(&rt, alloc, &three, 0b111, 1)?;
+        let path = timed(&rt, alloc, &three, EntrySet::from_bits(0b111), 1)?;
         println!(rt; "path {}", path.bound)?;
         let cycle = triangle(alloc).map_err(out_of_memory)?;
-        let triangle = timed(&rt, alloc, &cycle, 0b111, 1)?;
+        let triangle = timed(&rt, alloc, &cycle, EntrySet::from_bits(0b111), 1)?;
         return println!(rt; "triangle {}", triangle.bound);
     }
     for shape in [Shape::Chain, Shape::Star, Shape::OneClass] {

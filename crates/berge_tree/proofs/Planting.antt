@@ -13,7 +13,9 @@ use Rattle.berge_tree.specs.declared.tree.Tree.{Tree}
 use Rattle.berge_tree.specs.Equalities.{AreWithin, ClosesNoCycle}
 use Rattle.berge_tree.specs.Trees.{JoinTree, entries}
 use Rattle.berge_tree.specs.Nodes.{nodes_of, nodes_below}
-use Rattle.berge_tree.specs.Rooted.{entries_from, entries_of_set, IsTreeOf, AreAllTreesOf, AreRooted}
+use Rattle.berge_tree.specs.Rooted.{IsTreeOf, AreAllTreesOf, AreRooted}
+use Rattle.entry_sets.specs.Sets.{entries_from, entries_of_set}
+use Rattle.entry_sets.proofs.Listing.{from_next, from_skip, set_from, set_has, set_increases, set_low}
 use Rattle.berge_tree.specs.Valid.{entries_in, IsValid}
 use Rattle.berge_tree.specs.Walk.{HaveOthers, columns_of, is_among, stands_in, added, tree_at, forest, walked}
 use Rattle.berge_tree.proofs.Steps.{in_front, in_rest}
@@ -24,77 +26,6 @@ use Rattle.berge_tree.proofs.Made.{have_others, rising}
 use Rattle.berge_tree.proofs.Forest.{all_trees, each}
 use Rattle.berge_tree.proofs.Sizes.{tree_small}
 use Rattle.berge_tree.proofs.Validity.{entries_in-nodes, nodes_valid}
-
--- ---- the entries of a set
-
-range_above : (first count : ℕ) (x : ℕ) → x < first → AllByRecursion (λ y. x < y) (range_with_len first count)
-range_above first zero x h = tt
-range_above first (suc count) x h = (h, range_above (first + 1) count x (omega arith))
-
-range_below : (first count n : ℕ) → first + count ≤ n → AllByRecursion (λ y. y < n) (range_with_len first count)
-range_below first zero n h = tt
-range_below first (suc count) n h = (omega arith, range_below (first + 1) count n (omega arith))
-
-kept_all : (Q : ℕ → Type 0) (test : ℕ → Bool) (xs : List ℕ) → AllByRecursion Q xs → AllByRecursion Q (filter test xs)
-kept_all Q test [] h = tt
-kept_all Q test (x ∷ xs) h = elim (cases_Bool (test x)) [
-  | inl t ↦ rw t (h.0, kept_all Q test xs h.1)
-  | inr n ↦ rw n (kept_all Q test xs h.1)
-]
-
-from_increase : (subset first count : ℕ) → IsStrictlyIncreasing (entries_from subset first count)
-from_increase subset first zero = λ k l. absurd (omega (arith, l))
-from_increase subset first (suc count) = elim (cases_Bool (eqb (bit_at subset first) 1)) [
-  | inl t ↦ rw t (rising first (entries_from subset (first + 1) count) (kept_all (λ y. first < y) (λ e. eqb (bit_at subset e) 1) (range_with_len (first + 1) count) (range_above (first + 1) count first (omega arith))) (from_increase subset (first + 1) count))
-  | inr n ↦ rw n (from_increase subset (first + 1) count)
-]
-
-pub set_increases : (subset : ℕ) → IsStrictlyIncreasing (entries_of_set subset)
-unfolding entries_of_set
-set_increases subset = from_increase subset 0 16
-
-pub set_low : (subset : ℕ) → AllByRecursion (λ x. x < 16) (entries_of_set subset)
-unfolding entries_of_set
-set_low subset = kept_all (λ y. y < 16) (λ e. eqb (bit_at subset e) 1) (range_with_len 0 16) (range_below 0 16 16 (omega arith))
-
-set_from : (subset : ℕ) → entries_of_set subset ≡ entries_from subset 0 16
-unfolding entries_of_set
-set_from subset = refl
-
-from_next : (subset first count : ℕ) → eqb (bit_at subset first) 1 ≡ true → entries_from subset first (suc count) ≡ first ∷ entries_from subset (first + 1) count
-from_next subset first count t = rw t refl
-
-from_skip : (subset first count : ℕ) → eqb (bit_at subset first) 1 ≡ false → entries_from subset first (suc count) ≡ entries_from subset (first + 1) count
-from_skip subset first count n = rw n refl
-
-from_in : (subset first count x : ℕ) → first ≤ x → x < first + count → eqb (bit_at subset x) 1 ≡ true → Contains (entries_from subset first count) x
-from_in subset first zero x low high bit = absurd (omega arith)
-from_in subset first (suc count) x low high bit = elim (cases_eq first x) [
-  | inl same ↦ rw (subst (λ (y : ℕ). eqb (bit_at subset y) 1 ≡ true) (sym same) bit) (in_front first (entries_from subset (first + 1) count) x (sym same))
-  | inr apart ↦ elim (cases_Bool (eqb (bit_at subset first) 1)) [
-    | inl t ↦ rw t (in_rest first (entries_from subset (first + 1) count) x (from_in subset (first + 1) count x (omega arith) (omega arith) bit))
-    | inr n ↦ rw n (from_in subset (first + 1) count x (omega arith) (omega arith) bit)
-  ]
-]
-
-pub set_has : (subset x : ℕ) → x < 16 → eqb (bit_at subset x) 1 ≡ true → Contains (entries_of_set subset) x
-set_has subset x h bit = subst (λ xs. Contains xs x) (sym (set_from subset)) (from_in subset 0 16 x (omega arith) (omega arith) bit)
-
-passed : (test : ℕ → Bool) (xs : List ℕ) → AllByRecursion (λ x. test x ≡ true) (filter test xs)
-passed test [] = tt
-passed test (x ∷ xs) = elim (cases_Bool (test x)) [
-  | inl t ↦ rw t (t, passed test xs)
-  | inr n ↦ rw n (passed test xs)
-]
-
-pub set_bits : (subset x : ℕ) → Contains (entries_of_set subset) x → (x < 16) × (bit_at subset x ≡ 1)
-set_bits subset x k = (
-  each (λ y. y < 16) (entries_of_set subset) (set_low subset) x k,
-  eqb-true (bit_at subset x) 1 (each (λ y. eqb (bit_at subset y) 1 ≡ true) (entries_from subset 0 16) (passed (λ e. eqb (bit_at subset e) 1) (range_with_len 0 16)) x (subst (λ xs. Contains xs x) (set_from subset) k)),
-)
-
-pub set_bits_only : (subset x : ℕ) → (x < 16) × (bit_at subset x ≡ 1) → Contains (entries_of_set subset) x
-set_bits_only subset x h = set_has subset x h.0 (eq-eqb (bit_at subset x) 1 h.1)
 
 -- ---- what stands in the trees
 

@@ -8,10 +8,10 @@ use Rattle.berge_tree.specs.declared.edges.Edge.{Edge}
 use Rattle.berge_tree.specs.declared.tree.Tree.{Tree}
 use Rattle.berge_tree.specs.Valid.{IsValid}
 use Rattle.berge_tree.specs.Equalities.{AreWithin, ClosesNoCycleAfter, ClosesNoCycle}
-use Rattle.berge_tree.specs.Rooted.{entries_of_set}
-use Rattle.berge_tree.specs.Testing.{joined_parts, joins_parts, has_entry, has_entries}
+use Rattle.entry_sets.specs.Sets.{entries_of_set, has_entry}
+use Rattle.berge_tree.specs.Testing.{joined_parts, joins_parts, has_entries}
 use Rattle.berge_tree.proofs.NoCycle.{apart_by}
-use Rattle.berge_tree.proofs.Planting.{set_has}
+use Rattle.entry_sets.proofs.Listing.{set_has}
 
 both : (a b : Bool) → (a && b) ≡ true → (a ≡ true) × (b ≡ true)
 both true b e = (refl, e)

@@ -1,22 +1,13 @@
 -- The trees of equalities: which classes stand below an entry, which entries below a class, and in which order.
-use Rattle.std.specs.Prelude.{◌≡◌, ◌≢◌, ℕ, ◌≤◌, ◌==◌, ⊤, List, [], ◌∷◌, filter, map, Option, Some, None}
-use Rattle.std.specs.List.{AllByRecursion, AllPairs, Contains, range_with_len}
+use Rattle.std.specs.Prelude.{◌≡◌, ◌≢◌, ℕ, ◌≤◌, ⊤, List, [], ◌∷◌, map, Option, Some, None}
+use Rattle.std.specs.List.{AllByRecursion, AllPairs, Contains}
 use Rattle.std.specs.List.Sorted.{IsStrictlyIncreasing}
-use Rattle.std.specs.Int.{bit_at}
 use Rattle.berge_tree.specs.declared.edges.Place.{Place}
 use Rattle.berge_tree.specs.declared.edges.Edge.{Edge}
 use Rattle.berge_tree.specs.declared.tree.Tree.{Tree}
 use Rattle.berge_tree.specs.Equalities.{place, places_of, class_of}
 use Rattle.berge_tree.specs.Trees.{Classes, no_class, and_class, Members, one_member, and_member, JoinTree, entries, entries_of_all}
 use Rattle.berge_tree.specs.Nodes.{nodes_of}
-
--- those of `count` entries from a first one on whose bits are set, in FROM order
-abbrev pub entries_from : ℕ → ℕ → ℕ → List ℕ
-entries_from subset first count = filter (λ entry. bit_at subset entry == 1) (range_with_len first count)
-
--- the entries of a set
-unfoldable pub entries_of_set : ℕ → List ℕ
-entries_of_set subset = entries_from subset 0 16
 
 -- the entry's columns in the classes below it
 abbrev pub class_columns : Classes → List ℕ

@@ -1,6 +1,6 @@
 -- Tests by computation of what `rooted` asks for.
-use Rattle.std.specs.Prelude.{ℕ, Bool, true, not, ◌&&◌, ◌==◌, nat_lt, if◌then◌else◌, List, [], ◌∷◌}
-use Rattle.std.specs.Int.{bit_at}
+use Rattle.std.specs.Prelude.{ℕ, Bool, true, not, ◌&&◌, ◌==◌, if◌then◌else◌, List, [], ◌∷◌}
+use Rattle.entry_sets.specs.Sets.{has_entry}
 use Rattle.berge_tree.specs.declared.edges.Edge.{Edge}
 use Rattle.berge_tree.specs.Equalities.{place}
 
@@ -13,11 +13,7 @@ abbrev pub joins_parts : (ℕ → ℕ) → List Edge → Bool
 joins_parts name [] = true
 joins_parts name (e ∷ es) = not (name e.left.entry == name e.right.entry) && joins_parts (joined_parts name e.left.entry e.right.entry) es
 
--- the entry's bit is set
-abbrev pub has_entry : ℕ → ℕ → Bool
-has_entry subset x = nat_lt x 16 && (bit_at subset x == 1)
-
--- each equality is one of entries whose bits are set
+-- each equality is one of entries of the set
 abbrev pub has_entries : ℕ → List Edge → Bool
 has_entries subset [] = true
 has_entries subset (e ∷ es) = has_entry subset e.left.entry && (has_entry subset e.right.entry && has_entries subset es)

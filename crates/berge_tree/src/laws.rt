@@ -1,11 +1,11 @@
 //! What the definitions say, as laws. Each call does nothing.
-ghost use Rattle.std.specs.Prelude.{[], ◌∷◌, ◌≡◌, ◌≢◌, ◌↔◌, ◌<◌, ℕ, Bool, true, List};
-ghost use Rattle.std.specs.Int.{bit_at};
+ghost use Rattle.std.specs.Prelude.{[], ◌∷◌, ◌≡◌, ◌≢◌, ◌↔◌, ℕ, Bool, true, List};
 ghost use Rattle.std.specs.List.{AllByRecursion, AllPairs, Contains};
 ghost use Rattle.berge_tree.specs.Equalities.{AreApart, AreJoined, AreWithin, ClosesNoCycle, HasNoCycle, class_of, place};
 ghost use Rattle.berge_tree.specs.Examples.{four_entries, four_entries_nodes, four_entries_tree, tree_of_one};
 ghost use Rattle.berge_tree.specs.Nodes.{nodes_of};
-ghost use Rattle.berge_tree.specs.Rooted.{AreAllTreesOf, IsTreeOf, entries_of_set};
+ghost use Rattle.berge_tree.specs.Rooted.{AreAllTreesOf, IsTreeOf};
+ghost use Rattle.entry_sets.specs.Sets.{entries_of_set};
 ghost use Rattle.berge_tree.specs.Testing.{has_entries, joins_parts};
 ghost use Rattle.berge_tree.specs.Trees.{JoinTree, entries};
 ghost use Rattle.berge_tree.specs.Valid.{IsValid, children_of};
@@ -40,11 +40,6 @@ pub fn joined_parts_close_no_cycle()
 pub fn bits_tell_what_a_set_has()
     ensures { (subset : ℕ) (es : List Edge) → has_entries subset es ≡ true
         → AreWithin (entries_of_set subset) es }
-{}
-
-/// A set has the entries below 16 whose bits are set.
-pub fn a_set_has_its_bits()
-    ensures { (subset x : ℕ) → Contains (entries_of_set subset) x ↔ ((x < 16) × (bit_at subset x ≡ 1)) }
 {}
 
 /// A tree of equalities is a component: it has all that they connect with one of its entries and nothing else, and each entry once.

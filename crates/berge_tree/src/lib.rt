@@ -1,6 +1,6 @@
 //! Join trees. From the equalities that a plan keeps to the tree of entries and classes that a bound is folded over.
 //!
-//! In: equalities of columns that close no cycle between entries, and a set of entries. Out: one tree for each component of the set, as nodes in the order of a walk. A class is a largest set of columns that the equalities connect; below an entry stand the classes of its other columns, below a class its other entries.
+//! In: equalities of columns that close no cycle between entries, and a set of entries, an `EntrySet`. Out: one tree for each component of the set, as nodes in the order of a walk. A class is a largest set of columns that the equalities connect; below an entry stand the classes of its other columns, below a class its other entries.
 //!
 //! Callers cite `ClosesNoCycle` and `AreWithin` for what they hand in, `AreRooted` for the trees, `IsValid` for the nodes of any tree, and `children_of`.
 #![tactic(auto)]
@@ -13,9 +13,9 @@ mod walk;
 
 pub use edges::{Edge, Place};
 pub use laws::{
-    a_set_has_its_bits, a_tree_is_a_component, bits_tell_what_a_set_has,
-    classes_are_joined_columns, examples, joined_parts_close_no_cycle, names_keep_entries_apart,
-    no_cycle_of_classes, trees_stand_in_nodes,
+    a_tree_is_a_component, bits_tell_what_a_set_has, classes_are_joined_columns, examples,
+    joined_parts_close_no_cycle, names_keep_entries_apart, no_cycle_of_classes,
+    trees_stand_in_nodes,
 };
 pub use tree::{Children, Node, NodeKind, Tree};
 pub use walk::rooted;

@@ -3,6 +3,7 @@ ghost use Rattle.berge_tree.specs.Testing.{edge_of};
 
 use crate::{Edge, Node, NodeKind, Place, rooted};
 use base_io::NoMemory;
+use entry_sets::EntrySet;
 
 #[derive(Debug, Drop)]
 struct Failed;
@@ -49,7 +50,7 @@ fn class(class: u32, via: u32, first_child: Option<u32>, next_sibling: Option<u3
 #[test]
 fn four_entries_make_one_tree(rt: HostRuntime) -> Result<(), Failed> {
     let edges = [edge(0, 0, 1, 0), edge(1, 0, 2, 0), edge(1, 1, 3, 1)];
-    let trees = rooted(rt.alloc(), &edges, 0b1111)?;
+    let trees = rooted(rt.alloc(), &edges, EntrySet::from_bits(0b1111))?;
     assert_eq!(rt; trees.len(), 1);
     let nodes = [
         entry(0, 0, Some(1), None),
@@ -72,7 +73,7 @@ fn four_entries_make_one_tree(rt: HostRuntime) -> Result<(), Failed> {
 #[test]
 fn three_entries_make_five_nodes(rt: HostRuntime) -> Result<(), Failed> {
     let edges = [edge(0, 0, 1, 0), edge(1, 1, 2, 0)];
-    let trees = rooted(rt.alloc(), &edges, 0b111)?;
+    let trees = rooted(rt.alloc(), &edges, EntrySet::from_bits(0b111))?;
     assert_eq!(rt; trees.len(), 1);
     let nodes = [
         entry(0, 0, Some(1), None),
@@ -87,11 +88,11 @@ fn three_entries_make_five_nodes(rt: HostRuntime) -> Result<(), Failed> {
 
 #[test]
 fn components_come_in_the_order_of_their_roots(rt: HostRuntime) -> Result<(), Failed> {
-    let none = rooted(rt.alloc(), &[], 0b111)?;
+    let none = rooted(rt.alloc(), &[], EntrySet::from_bits(0b111))?;
     assert_eq!(rt; none.len(), 3);
     assert!(rt; none.get(2).nodes.as_slice() == [entry(2, 0, None, None)].as_slice());
     let edges = [edge(5, 3, 1, 2), edge(3, 0, 0, 0)];
-    let trees = rooted(rt.alloc(), &edges, 0b101011)?;
+    let trees = rooted(rt.alloc(), &edges, EntrySet::from_bits(0b101011))?;
     assert_eq!(rt; trees.len(), 2);
     let first = [
         entry(0, 0, Some(1), None),
@@ -123,7 +124,7 @@ fn twelve_entries_make_one_class(rt: HostRuntime) -> Result<(), Failed> {
         edge(9, 0, 10, 0),
         edge(10, 0, 11, 0),
     ];
-    let trees = rooted(rt.alloc(), &edges, 0xfff)?;
+    let trees = rooted(rt.alloc(), &edges, EntrySet::from_bits(0xfff))?;
     assert_eq!(rt; trees.len(), 1);
     assert_eq!(rt; trees.get(0).nodes.len(), 13);
     assert!(rt; *trees.get(0).nodes.get(1) == class(0, 0, Some(2), None));
@@ -146,7 +147,7 @@ fn twelve_entries_make_a_path(rt: HostRuntime) -> Result<(), Failed> {
         edge(2, 1, 1, 0),
         edge(1, 1, 0, 0),
     ];
-    let trees = rooted(rt.alloc(), &edges, 0xfff)?;
+    let trees = rooted(rt.alloc(), &edges, EntrySet::from_bits(0xfff))?;
     assert_eq!(rt; trees.len(), 1);
     assert_eq!(rt; trees.get(0).nodes.len(), 23);
     assert!(rt; *trees.get(0).nodes.get(22) == entry(11, 1, None, None));

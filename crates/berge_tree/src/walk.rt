@@ -1,9 +1,9 @@
 //! The walk that makes the trees.
-ghost use Rattle.std.specs.Prelude.{◌≡◌, ◌+◌, ◌^◌, ◌<◌, ◌≤◌, ◌++◌, length, map, Some, None, IfOk, All, ◌==◌};
-ghost use Rattle.std.specs.Int.{bit_at};
+ghost use Rattle.std.specs.Prelude.{◌≡◌, ◌+◌, ◌^◌, ◌<◌, ◌≤◌, ◌++◌, length, map, Some, None, IfOk, All};
 ghost use Rattle.berge_tree.specs.Equalities.{AreWithin, ClosesNoCycle};
 ghost use Rattle.berge_tree.specs.Nodes.{nodes_below, nodes_of, nodes_of_classes, classes_below};
-ghost use Rattle.berge_tree.specs.Rooted.{AreRooted, entries_of_set};
+ghost use Rattle.berge_tree.specs.Rooted.{AreRooted};
+ghost use Rattle.entry_sets.specs.Sets.{entries_of_set};
 ghost use Rattle.berge_tree.specs.Valid.{IsValid, entries_in};
 ghost use Rattle.berge_tree.specs.Walk.{HaveOthers, IsNext, classes_at, classes_in, is_at, is_other, link_where, members_at, nodes_in, nodes_of_some, tree_at, walked, is_among, is_kind, stands_in, added};
 
@@ -11,6 +11,7 @@ use crate::columns::{Column, columns_of, is_same};
 use crate::edges::Edge;
 use crate::tree::{Node, NodeKind, Tree};
 use base_io::{NoMemory, Seq};
+use entry_sets::EntrySet;
 use std::alloc::Global;
 
 // An entry stands once in a tree, and there are at most sixteen.
@@ -243,17 +244,10 @@ fn add_tree(
     Ok(())
 }
 
-fn has(subset: u16, entry: u8) -> bool
-    requires { entry < 16 }
-    ensures { result ≡ (bit_at subset entry == 1) }
-{
-    (subset >> entry) & 1 == 1
-}
-
 /// The trees of the set: one for each component, in the order of their roots, each rooted at its least entry.
 ///
 /// The children of an entry are its classes other than the one above, in the order of the columns' numbers; those of a class are its other entries, in FROM order. The nodes stand in the order of the walk, and classes are numbered from 0 in that order.
-pub fn rooted(alloc: Global, edges: &[Edge], subset: u16) -> Result<Seq<Tree>, NoMemory>
+pub fn rooted(alloc: Global, edges: &[Edge], subset: EntrySet) -> Result<Seq<Tree>, NoMemory>
     requires within { AreWithin (entries_of_set subset) edges.now }
     requires no_cycle { ClosesNoCycle edges.now }
     ensures trees { IfOk result (λ trees. AreRooted edges.now (entries_of_set subset) trees) }
@@ -262,7 +256,7 @@ pub fn rooted(alloc: Global, edges: &[Edge], subset: u16) -> Result<Seq<Tree>, N
     let columns = columns_of(alloc, edges)?;
     let mut trees = Seq::new(alloc);
     for entry in 0..16u8 {
-        if has(subset, entry) {
+        if subset.has(entry) {
             add_tree(alloc, &mut trees, columns.as_slice(), entry)?;
         }
     }

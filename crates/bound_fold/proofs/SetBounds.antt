@@ -10,7 +10,8 @@ use Rattle.berge_tree.specs.declared.edges.Edge.{Edge}
 use Rattle.berge_tree.specs.declared.tree.Node.{Node}
 use Rattle.berge_tree.specs.declared.tree.Tree.{Tree}
 use Rattle.berge_tree.specs.Nodes.{nodes_of}
-use Rattle.berge_tree.specs.Rooted.{AreAllTreesOf, AreRooted, entries_of_set}
+use Rattle.berge_tree.specs.Rooted.{AreAllTreesOf, AreRooted}
+use Rattle.entry_sets.specs.Sets.{entries_of_set}
 use Rattle.berge_tree.specs.Standing.{StandsIn}
 use Rattle.berge_tree.specs.Trees.{JoinTree}
 use Rattle.berge_tree.proofs.Standing.{nodes_stand}

@@ -4,7 +4,8 @@ use Rattle.std.specs.Prelude.{IsSome}
 use Rattle.std.specs.List.{AllByRecursion}
 use Rattle.berge_tree.specs.declared.edges.Edge.{Edge}
 use Rattle.berge_tree.specs.Equalities.{places_of}
-use Rattle.berge_tree.specs.Rooted.{AreAllTreesOf, IsTreeOf, entries_of_set}
+use Rattle.berge_tree.specs.Rooted.{AreAllTreesOf, IsTreeOf}
+use Rattle.entry_sets.specs.Sets.{entries_of_set}
 use Rattle.berge_tree.specs.Trees.{JoinTree, entries, entries_of_all}
 use Rattle.berge_tree.proofs.Separate.{all_map}
 use Rattle.join_graph.specs.Kept.{equalities_within, kept_of}

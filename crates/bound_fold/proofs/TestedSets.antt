@@ -8,10 +8,9 @@ use Rattle.std.proofs.lemmas.Bool.{cases_Bool, cases_lt, eq-eqb, eqb-true, lt-lt
 use Rattle.std.proofs.lemmas.List.{get_or_default}
 use Rattle.std.proofs.lemmas.List.Elements.{All-contains_itself, All-weaker, recursion_from_All}
 use Rattle.berge_tree.specs.declared.edges.Edge.{Edge}
-use Rattle.berge_tree.specs.Rooted.{entries_of_set}
+use Rattle.entry_sets.specs.Sets.{entries_of_set, has_entry}
 use Rattle.berge_tree.proofs.Forest.{each}
-use Rattle.berge_tree.proofs.Planting.{set_bits, set_bits_only}
-use Rattle.berge_tree.specs.Testing.{has_entry}
+use Rattle.entry_sets.proofs.Listing.{set_bits, set_bits_only}
 use Rattle.join_graph.specs.Kept.{equalities_within, joins_within}
 use Rattle.tree_bounds.specs.Columns.{EachNamedColumn}
 

@@ -1,8 +1,7 @@
 //! Whether an `EntryLists` has what the bound of a set needs.
 ghost use Rattle.std.specs.Prelude.{◌≡◌, ◌↔◌, true, IsSome, IsTrue, MatchBool};
 ghost use Rattle.std.specs.List.{AllByRecursion};
-ghost use Rattle.berge_tree.specs.Rooted.{entries_of_set};
-ghost use Rattle.berge_tree.specs.Testing.{has_entry};
+ghost use Rattle.entry_sets.specs.Sets.{entries_of_set, has_entry};
 ghost use Rattle.join_graph.specs.Kept.{equalities_within, joins_within};
 ghost use Rattle.tree_bounds.specs.Columns.{EachNamedColumn};
 ghost use Rattle.bound_fold.specs.Lists.{list_of, rows_of};
@@ -10,19 +9,8 @@ ghost use Rattle.bound_fold.specs.Sets.{HaveLists, SetIsListed};
 
 use crate::lists::EntryLists;
 use berge_tree::{Edge, Place};
-use join_graph::Parts;
-
-fn has_entry(subset: u16, entry: u8) -> bool
-    ensures { result ≡ has_entry subset entry }
-{
-    entry < 16 && (subset >> entry) & 1 == 1
-}
-
-fn joins_within(subset: u16, edge: Edge) -> bool
-    ensures { result ≡ joins_within subset edge }
-{
-    has_entry(subset, edge.left.entry) && has_entry(subset, edge.right.entry)
-}
+use entry_sets::EntrySet;
+use join_graph::{Parts, joins_within};
 
 fn has_rows(lists: &EntryLists, entry: u8) -> bool
     ensures { MatchBool result (IsSome (rows_of lists.now entry)) (¬ IsSome (rows_of lists.now entry)) }
@@ -31,18 +19,18 @@ fn has_rows(lists: &EntryLists, entry: u8) -> bool
 }
 
 // Whether an entry has its row bound, if it is in the set.
-fn may_have_rows(lists: &EntryLists, subset: u16, entry: u8) -> bool
+fn may_have_rows(lists: &EntryLists, subset: EntrySet, entry: u8) -> bool
     ensures { MatchBool result (has_entry subset entry ≡ true → IsSome (rows_of lists.now entry))
         ((has_entry subset entry ≡ true) × ¬ IsSome (rows_of lists.now entry)) }
 {
-    if has_entry(subset, entry) {
+    if subset.has(entry) {
         has_rows(lists, entry)
     } else {
         true
     }
 }
 
-fn all_have_rows(lists: &EntryLists, subset: u16) -> bool
+fn all_have_rows(lists: &EntryLists, subset: EntrySet) -> bool
     ensures { MatchBool result (AllByRecursion (λ entry. IsSome (rows_of lists.now entry)) (entries_of_set subset))
         (¬ AllByRecursion (λ entry. IsSome (rows_of lists.now entry)) (entries_of_set subset)) }
 {
@@ -71,7 +59,7 @@ fn has_lists(lists: &EntryLists, edge: Edge) -> bool
 }
 
 // The same, if the equality is one of the set.
-fn may_have_lists(lists: &EntryLists, subset: u16, edge: Edge) -> bool
+fn may_have_lists(lists: &EntryLists, subset: EntrySet, edge: Edge) -> bool
     ensures { MatchBool result (joins_within subset edge ≡ true → HaveLists lists.now edge)
         ((joins_within subset edge ≡ true) × ¬ HaveLists lists.now edge) }
 {
@@ -82,7 +70,7 @@ fn may_have_lists(lists: &EntryLists, subset: u16, edge: Edge) -> bool
     }
 }
 
-fn all_have_lists(lists: &EntryLists, subset: u16, edges: &[Edge]) -> bool
+fn all_have_lists(lists: &EntryLists, subset: EntrySet, edges: &[Edge]) -> bool
     ensures { MatchBool result (EachNamedColumn (λ entry column. IsSome (list_of lists.now entry column)) (equalities_within subset edges.now))
         (¬ EachNamedColumn (λ entry column. IsSome (list_of lists.now entry column)) (equalities_within subset edges.now)) }
 {
@@ -96,7 +84,7 @@ fn all_have_lists(lists: &EntryLists, subset: u16, edges: &[Edge]) -> bool
 
 /// Whether each entry of a set has its row bound, and each column that an equality of the set names its list: then
 /// `set_bound` may be called. It takes no memory.
-pub fn is_listed(parts: &Parts, subset: u16, lists: &EntryLists) -> bool
+pub fn is_listed(parts: &Parts, subset: EntrySet, lists: &EntryLists) -> bool
     ensures { IsTrue result ↔ SetIsListed lists.now parts.now.equalities subset }
 {
     if !all_have_rows(lists, subset) {

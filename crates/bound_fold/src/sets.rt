@@ -2,7 +2,7 @@
 ghost use Rattle.std.specs.Prelude.{◌≡◌, ◌⊎◌, ◌-◌, ◌^◌, ◌≤◌, ℕ, All, List, length, IfOk};
 ghost use Rattle.std.specs.List.{AllByRecursion};
 ghost use Rattle.degree_sequences.specs.Saturation.{saturated};
-ghost use Rattle.berge_tree.specs.Rooted.{entries_of_set};
+ghost use Rattle.entry_sets.specs.Sets.{entries_of_set};
 ghost use Rattle.berge_tree.specs.Standing.{StandsIn};
 ghost use Rattle.berge_tree.specs.Trees.{JoinTree};
 ghost use Rattle.berge_tree.specs.Valid.{IsValid};
@@ -17,6 +17,7 @@ use crate::lists::EntryLists;
 use crate::over_nodes::fold;
 use base_io::NoMemory;
 use berge_tree::{Tree, rooted};
+use entry_sets::EntrySet;
 use join_graph::{Parts, kept, turns};
 use std::alloc::Global;
 
@@ -37,7 +38,7 @@ fn product_of_trees(alloc: Global, trees: &[Tree], lists: &EntryLists) -> Result
 fn turn_bound(
     alloc: Global,
     parts: &Parts,
-    subset: u16,
+    subset: EntrySet,
     turn: u32,
     lists: &EntryLists,
 ) -> Result<u128, NoMemory>
@@ -57,7 +58,7 @@ fn turn_bound(
 pub fn set_bound(
     alloc: Global,
     parts: &Parts,
-    subset: u16,
+    subset: EntrySet,
     lists: &EntryLists,
 ) -> Result<u128, NoMemory>
     requires { SetIsListed lists.now parts.now.equalities subset }

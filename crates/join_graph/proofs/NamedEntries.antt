@@ -15,7 +15,8 @@ use Rattle.query_types.specs.declared.types.Cond.TheViews.{out-Cond, roll-Cond, 
 use Rattle.query_types.specs.declared.types.Cond.TheFolds.{fold-roll-Cond}
 use Rattle.join_graph.specs.declared.naming.Named.{Named}
 use Rattle.join_graph.specs.declared.naming.Named.TheVariants as named
-use Rattle.join_graph.specs.Conjuncts.{column_of, equality_in, equality_of, joining, compared, is_just, are_one}
+use Rattle.entry_sets.specs.Naming.{are_just, are_within}
+use Rattle.join_graph.specs.Conjuncts.{column_of, equality_in, equality_of, joining, compared, are_one}
 use Rattle.query_types.specs.Named.{entries_of_operand, entries_named, entries_step}
 use Rattle.join_graph.specs.Naming.{named_of, together}
 
@@ -118,14 +119,22 @@ one_with x (named.Just own) = elim (cases_Bool (eqb x own)) [
   | inr n ↦ rw (n, ne_eqb own x (λ e. eqb-false x own n (sym e))) refl
 ]
 
-both_of : (p q r : Bool) → ((p || q) && (p && r)) ≡ (p && r)
-both_of true q r = refl
-both_of false q r = never q
+or_none : (b : Bool) → (b || false) ≡ b
+or_none true = refl
+or_none false = refl
 
-pub just_named : (entry : ℕ) (xs : List ℕ) → is_just entry xs ≡ tells_just entry (named_of xs)
+and_all : (b : Bool) → (b && true) ≡ b
+and_all true = refl
+and_all false = refl
+
+within_one : (entry : ℕ) (xs : List ℕ) → are_within xs (entry ∷ []) ≡ list_all (λ e. eqb e entry) xs
+within_one entry [] = refl
+within_one entry (x ∷ xs) = rw (or_none (eqb x entry), within_one entry xs) refl
+
+pub just_named : (entry : ℕ) (xs : List ℕ) → are_just xs entry ≡ tells_just entry (named_of xs)
 just_named entry [] = refl
 just_named entry (x ∷ xs) =
-    both_of (eqb x entry) (list_any (λ e. eqb e entry) xs) (list_all (λ e. eqb e entry) xs) ∙ all_named entry (x ∷ xs) ∙ just_with entry x (named_of xs)
+    and_all (are_within (x ∷ xs) (entry ∷ [])) ∙ within_one entry (x ∷ xs) ∙ all_named entry (x ∷ xs) ∙ just_with entry x (named_of xs)
 
 pub one_named : (xs : List ℕ) → are_one xs ≡ tells_one (named_of xs)
 one_named [] = refl

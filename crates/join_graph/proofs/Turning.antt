@@ -7,8 +7,8 @@ use Rattle.std.proofs.lemmas.List.Elements.{filter-append}
 use Rattle.std.proofs.Math.Seq.{take-append_seam, drop-append_seam}
 use Rattle.berge_tree.specs.declared.edges.Edge.{Edge}
 use Rattle.berge_tree.specs.Equalities.{AreWithin}
-use Rattle.berge_tree.specs.Rooted.{entries_of_set}
-use Rattle.berge_tree.specs.Testing.{has_entry, has_entries, joined_parts}
+use Rattle.entry_sets.specs.Sets.{entries_of_set, has_entry}
+use Rattle.berge_tree.specs.Testing.{has_entries, joined_parts}
 use Rattle.berge_tree.proofs.Tested.{has_within}
 use Rattle.join_graph.specs.Kept.{joins_within, equalities_within, order_of_turn, kept_by_names, kept_of}
 use Rattle.join_graph.specs.Names.{IsNamed, AreNamed}

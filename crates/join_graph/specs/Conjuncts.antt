@@ -1,6 +1,7 @@
 -- The conjuncts of a query in parts: those that name one entry, the equalities that join two, and all others.
 use Rattle.std.specs.Prelude.{ℕ, ◌+◌, Bool, false, not, ◌&&◌, ◌==◌, if◌then◌else◌, List, [], ◌∷◌, map, length, Option, Some, None, is_none, is_some, filter}
 use Rattle.std.specs.List.{filter_map, list_all, list_any, range_with_len}
+use Rattle.entry_sets.specs.Naming.{are_just}
 use Rattle.berge_tree.specs.declared.edges.Edge.{Edge}
 use Rattle.berge_tree.specs.Equalities.{place}
 use Rattle.query_grammar.specs.declared.tree.Op.{Op}
@@ -16,13 +17,9 @@ use Rattle.query_types.specs.declared.types.Query.{Query}
 
 -- ---- what stands in which part
 
--- this entry and no other one
-abbrev pub is_just : ℕ → List ℕ → Bool
-is_just entry entries = list_any (λ e. e == entry) entries && list_all (λ e. e == entry) entries
-
 -- the condition names this entry and no other one
 abbrev pub names_just : ℕ → Cond → Bool
-names_just entry cond = is_just entry (entries_named cond)
+names_just entry cond = are_just (entries_named cond) entry
 
 abbrev pub column_operand : ℕ → ℕ → Operand
 column_operand from column = operand.Column (record { from = from; column = column })

@@ -3,7 +3,8 @@ use Rattle.std.specs.Prelude.{◌≡◌, ℕ, Bool, ◌&&◌, ◌==◌, if◌the
 use Rattle.std.specs.List.{AllByRecursion}
 use Rattle.berge_tree.specs.declared.edges.Edge.{Edge}
 use Rattle.berge_tree.specs.Equalities.{AreApart}
-use Rattle.berge_tree.specs.Testing.{has_entry, joined_parts}
+use Rattle.berge_tree.specs.Testing.{joined_parts}
+use Rattle.entry_sets.specs.Sets.{has_entry}
 
 -- ---- the equalities of a set
 

@@ -2,33 +2,29 @@
 ghost use Rattle.std.specs.Prelude.{◌≡◌, ◌<◌, ◌≤◌, ◌++◌, ◌∷◌, List, take, drop, length, slice_index, IfOk, ℕ};
 ghost use Rattle.berge_tree.specs.declared.edges.Edge.{Edge};
 ghost use Rattle.berge_tree.specs.Equalities.{AreWithin, ClosesNoCycle, HasNoCycle, class_of};
-ghost use Rattle.berge_tree.specs.Rooted.{entries_of_set};
-ghost use Rattle.berge_tree.specs.Testing.{has_entry, joined_parts};
+ghost use Rattle.entry_sets.specs.Sets.{entries_of_set};
+ghost use Rattle.berge_tree.specs.Testing.{joined_parts};
 ghost use Rattle.join_graph.specs.Kept.{Keeps, equalities_within, joins_within, kept_by_names, kept_of, order_of_turn, turn_count};
 ghost use Rattle.join_graph.specs.Names.{AreNamed, IsNamed};
 
 use crate::parts::Parts;
 use base_io::{NoMemory, Seq};
 use berge_tree::Edge;
+use entry_sets::EntrySet;
 use std::alloc::Global;
 
 const ENTRIES: usize = 16;
 
 const MOST_TURNS: usize = 16;
 
-fn has(subset: u16, entry: u8) -> bool
-    ensures { result ≡ has_entry subset entry }
-{
-    entry < 16 && (subset >> entry) & 1 == 1
-}
-
-fn joins_within(subset: u16, edge: Edge) -> bool
+/// Whether an equality is one of two entries of a set. It takes no memory.
+pub fn joins_within(subset: EntrySet, edge: Edge) -> bool
     ensures { result ≡ joins_within subset edge }
 {
-    has(subset, edge.left.entry) && has(subset, edge.right.entry)
+    subset.has(edge.left.entry) && subset.has(edge.right.entry)
 }
 
-fn count_within(edges: &[Edge], subset: u16) -> usize
+fn count_within(edges: &[Edge], subset: EntrySet) -> usize
     ensures { result ≡ length (equalities_within subset edges.now) }
 {
     edges
@@ -38,7 +34,7 @@ fn count_within(edges: &[Edge], subset: u16) -> usize
 }
 
 /// How many turns a set has: one for each equality of two of its entries, but 16 at most and 1 at least. It takes no memory.
-pub fn turns(parts: &Parts, subset: u16) -> u32
+pub fn turns(parts: &Parts, subset: EntrySet) -> u32
     ensures { result ≡ turn_count subset parts.now.equalities }
 {
     let count = count_within(parts.equalities.as_slice(), subset);
@@ -46,7 +42,7 @@ pub fn turns(parts: &Parts, subset: u16) -> u32
 }
 
 // Where among all equalities the set's element `turn` stands.
-fn first_of_turn(edges: &[Edge], subset: u16, turn: u32) -> usize
+fn first_of_turn(edges: &[Edge], subset: EntrySet, turn: u32) -> usize
     ensures place { result ≤ length edges.now }
     ensures before { equalities_within subset (take result edges.now) ≡ take turn (equalities_within subset edges.now) }
     ensures from { equalities_within subset (drop result edges.now) ≡ drop turn (equalities_within subset edges.now) }
@@ -103,7 +99,7 @@ fn consider(edge: Edge, names: &mut [u8], kept: &mut Seq<Edge>) -> Result<(), No
 // Goes through equalities, and keeps those of the set that join two parts.
 fn consider_all(
     edges: &[Edge],
-    subset: u16,
+    subset: EntrySet,
     names: &mut [u8],
     kept: &mut Seq<Edge>,
 ) -> Result<(), NoMemory>
@@ -123,7 +119,12 @@ fn consider_all(
 /// The equalities that a set of entries keeps in a turn: of those of two of its entries, begun at element `turn` and gone round, each one whose two entries aren't yet connected by kept ones.
 ///
 /// `rooted` may be called on the answer with this set.
-pub fn kept(alloc: Global, parts: &Parts, subset: u16, turn: u32) -> Result<Seq<Edge>, NoMemory>
+pub fn kept(
+    alloc: Global,
+    parts: &Parts,
+    subset: EntrySet,
+    turn: u32,
+) -> Result<Seq<Edge>, NoMemory>
     ensures kept { IfOk result (λ kept. Keeps (order_of_turn subset turn parts.now.equalities) kept) }
     ensures computed { IfOk result (λ kept. kept ≡ kept_of subset turn parts.now.equalities) }
     ensures within { IfOk result (λ kept. AreWithin (entries_of_set subset) kept) }

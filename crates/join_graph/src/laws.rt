@@ -3,7 +3,7 @@ ghost use Rattle.std.specs.Prelude.{◌≡◌, ◌≢◌, ◌↔◌, ◌⊎◌, 
 ghost use Rattle.std.specs.List.{Contains};
 ghost use Rattle.berge_tree.specs.declared.edges.Edge.{Edge};
 ghost use Rattle.berge_tree.specs.Equalities.{AreApart, AreWithin, ClosesNoCycle, HasNoCycle, class_of};
-ghost use Rattle.berge_tree.specs.Rooted.{entries_of_set};
+ghost use Rattle.entry_sets.specs.Sets.{entries_of_set};
 ghost use Rattle.berge_tree.specs.Testing.{edge_of};
 ghost use Rattle.query_grammar.specs.declared.tree.Op.TheVariants as op;
 ghost use Rattle.schema_types.specs.declared.types.Schema.{Schema};

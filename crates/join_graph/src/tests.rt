@@ -4,6 +4,7 @@ ghost use Rattle.berge_tree.specs.Testing.{edge_of};
 use crate::{Parts, kept, split, turns};
 use base_io::{Boxed, Name, NoMemory, Seq};
 use berge_tree::{Edge, Place, rooted};
+use entry_sets::EntrySet;
 use query_grammar::Op;
 use query_types::{ColumnRef, Cond, Operand, Query, Source};
 use std::alloc::Global;
@@ -86,7 +87,7 @@ fn triangle(alloc: Global) -> Result<Parts, NoMemory> {
 fn is_kept(
     alloc: Global,
     parts: &Parts,
-    subset: u16,
+    subset: EntrySet,
     turn: u32,
     edges: &[Edge],
 ) -> Result<bool, NoMemory> {
@@ -99,23 +100,47 @@ fn a_triangle_keeps_two_equalities(rt: HostRuntime) -> Result<(), Failed> {
     let parts = triangle(rt.alloc())?;
     let edges = [edge(0, 0, 1, 0), edge(1, 1, 2, 0), edge(2, 1, 0, 1)];
     assert!(rt; parts.equalities.as_slice() == edges.as_slice());
-    assert_eq!(rt; turns(&parts, 0b111), 3);
-    assert_eq!(rt; turns(&parts, 0b011), 1);
-    assert_eq!(rt; turns(&parts, 0b001), 1);
+    assert_eq!(rt; turns(&parts, EntrySet::from_bits(0b111)), 3);
+    assert_eq!(rt; turns(&parts, EntrySet::from_bits(0b011)), 1);
+    assert_eq!(rt; turns(&parts, EntrySet::from_bits(0b001)), 1);
     let [first, second, third] = edges;
-    assert!(rt; is_kept(rt.alloc(), &parts, 0b111, 0, &[first, second])?);
-    assert!(rt; is_kept(rt.alloc(), &parts, 0b111, 1, &[second, third])?);
-    assert!(rt; is_kept(rt.alloc(), &parts, 0b111, 2, &[third, first])?);
-    assert!(rt; is_kept(rt.alloc(), &parts, 0b110, 0, &[second])?);
-    assert!(rt; is_kept(rt.alloc(), &parts, 0b001, 0, &[])?);
+    assert!(rt;
+        is_kept(
+            rt.alloc(),
+            &parts,
+            EntrySet::from_bits(0b111),
+            0,
+            &[first, second]
+        )?
+    );
+    assert!(rt;
+        is_kept(
+            rt.alloc(),
+            &parts,
+            EntrySet::from_bits(0b111),
+            1,
+            &[second, third]
+        )?
+    );
+    assert!(rt;
+        is_kept(
+            rt.alloc(),
+            &parts,
+            EntrySet::from_bits(0b111),
+            2,
+            &[third, first]
+        )?
+    );
+    assert!(rt; is_kept(rt.alloc(), &parts, EntrySet::from_bits(0b110), 0, &[second])?);
+    assert!(rt; is_kept(rt.alloc(), &parts, EntrySet::from_bits(0b001), 0, &[])?);
     Ok(())
 }
 
 #[test]
 fn the_triangle_is_one_tree_of_five_nodes(rt: HostRuntime) -> Result<(), Failed> {
     let parts = triangle(rt.alloc())?;
-    let edges = kept(rt.alloc(), &parts, 0b111, 0)?;
-    let trees = rooted(rt.alloc(), edges.as_slice(), 0b111)?;
+    let edges = kept(rt.alloc(), &parts, EntrySet::from_bits(0b111), 0)?;
+    let trees = rooted(rt.alloc(), edges.as_slice(), EntrySet::from_bits(0b111))?;
     assert_eq!(rt; trees.len(), 1);
     assert!(rt; trees.as_slice()[0].nodes.len() == 5);
     Ok(())
@@ -126,9 +151,25 @@ fn each_turn_keeps_another_of_two_equalities(rt: HostRuntime) -> Result<(), Fail
     let mut conjuncts = Seq::one(rt.alloc(), equal(0, 0, 1, 0))?;
     conjuncts.push(equal(0, 1, 1, 1))?;
     let parts = split(rt.alloc(), &query_of(rt.alloc(), 2, conjuncts)?)?;
-    assert_eq!(rt; turns(&parts, 0b11), 2);
-    assert!(rt; is_kept(rt.alloc(), &parts, 0b11, 0, &[edge(0, 0, 1, 0)])?);
-    assert!(rt; is_kept(rt.alloc(), &parts, 0b11, 1, &[edge(0, 1, 1, 1)])?);
+    assert_eq!(rt; turns(&parts, EntrySet::from_bits(0b11)), 2);
+    assert!(rt;
+        is_kept(
+            rt.alloc(),
+            &parts,
+            EntrySet::from_bits(0b11),
+            0,
+            &[edge(0, 0, 1, 0)]
+        )?
+    );
+    assert!(rt;
+        is_kept(
+            rt.alloc(),
+            &parts,
+            EntrySet::from_bits(0b11),
+            1,
+            &[edge(0, 1, 1, 1)]
+        )?
+    );
     Ok(())
 }
 
@@ -143,8 +184,16 @@ fn an_equality_written_often_has_sixteen_turns(rt: HostRuntime) -> Result<(), Fa
         equalities,
         residual: Seq::new(rt.alloc()),
     };
-    assert_eq!(rt; turns(&parts, 0b11), 16);
-    assert!(rt; is_kept(rt.alloc(), &parts, 0b11, 15, &[edge(0, 0, 1, 0)])?);
+    assert_eq!(rt; turns(&parts, EntrySet::from_bits(0b11)), 16);
+    assert!(rt;
+        is_kept(
+            rt.alloc(),
+            &parts,
+            EntrySet::from_bits(0b11),
+            15,
+            &[edge(0, 0, 1, 0)]
+        )?
+    );
     Ok(())
 }
 

@@ -1,11 +1,13 @@
 -- The levels of an order, told entry by entry.
-use Rattle.std.proofs.Common.{◌≡◌, ℕ, ◌+◌, ◌-◌, ◌^◌, ◌<◌, ◌≤◌, List, [], ◌∷◌, ◌++◌, length, get_or, drop, ap, sym, ◌∙◌, subst, pow_mono, arith}
+use Rattle.std.proofs.Common.{◌≡◌, ℕ, zero, suc, ◌+◌, ◌-◌, ◌/◌, ◌%◌, ◌^◌, ◌<◌, ◌≤◌, List, [], ◌∷◌, ◌++◌, length, get_or, drop, ap, sym, ◌∙◌, subst, arith}
+use Rattle.std.specs.Int.{bit_at}
 use Rattle.std.proofs.lemmas.Nat.{pow_pos}
+use Rattle.std.proofs.lemmas.Nat.Bits.{bit_at-suc, bit_at-zero, bit_at_lowest}
 use Rattle.std.proofs.lemmas.List.{append_assoc, append-nil, drop_more, drop_all}
 use Rattle.order_search.specs.Orders.{cost, greatest, levels}
 use Rattle.plans.specs.LeftDeep.{IsOrder}
 use Rattle.order_search.specs.Ways.{IsWay}
-use Rattle.order_search.proofs.Bits.{entry_below, power_within}
+use Rattle.entry_sets.proofs.Bits.{entry_below, power_within, twice}
 use Rattle.order_search.proofs.Prefixes.{levels_after, levels_are}
 use Rattle.order_search.proofs.WholeWays.{way_from_order}
 
@@ -39,6 +41,21 @@ next_together : (bounds : List ℕ) (n : ℕ) (order : List ℕ) (i placed : ℕ
 next_together bounds n order i placed told so_far more =
     subst (λ (s : List ℕ). told ++ levels_after bounds placed s ≡ levels bounds order) (drop_more order i 0 more) so_far.together
 
+-- what is left has none of the bits of what is placed
+placed_no_bit : (entry n placed : ℕ) → placed < 2 ^ n → bit_at (2 ^ n - 1 - placed) entry ≡ 1 → bit_at placed entry ≡ 0
+placed_no_bit entry zero placed fits left = let none : placed ≡ 0 = omega arith in rw none (bit_at-zero entry)
+placed_no_bit zero (suc n) placed fits left =
+    let odd : (2 ^ suc n - 1 - placed) % 2 ≡ 1 = sym (bit_at_lowest (2 ^ suc n - 1 - placed)) ∙ left in
+    bit_at_lowest placed ∙ omega (arith, twice n, odd, fits)
+placed_no_bit (suc entry) (suc n) placed fits left =
+    let half : (2 ^ suc n - 1 - placed) / 2 ≡ 2 ^ n - 1 - placed / 2 = omega (arith, twice n, fits) in
+    bit_at-suc placed entry
+    ∙ placed_no_bit entry n (placed / 2) (omega (arith, twice n, fits)) (sym (ap (λ k. bit_at k entry) half) ∙ sym (bit_at-suc (2 ^ suc n - 1 - placed) entry) ∙ left)
+
+pub not_placed : (bounds : List ℕ) (n : ℕ) (order : List ℕ) (i placed : ℕ) (told : List ℕ) → Told bounds n order i placed told → i < length order → bit_at placed (get_or order i 0) ≡ 0
+not_placed bounds n order i placed told so_far more =
+    placed_no_bit (get_or order i 0) n placed (omega (arith, pow_pos n, so_far.within)) (next_way bounds n order i placed told so_far more).0
+
 below_greatest : (front : List ℕ) (x : ℕ) (behind : List ℕ) → x ≤ greatest (front ++ (x ∷ behind))
 below_greatest [] x behind = omega arith
 below_greatest (y ∷ front) x behind = omega (arith, below_greatest front x behind)
@@ -62,9 +79,3 @@ told_more bounds n order i placed placed' told told' so_far more moved pushed =
 pub told_all : (bounds : List ℕ) (n : ℕ) (order : List ℕ) (i placed : ℕ) (told : List ℕ) → Told bounds n order i placed told → length order ≤ i → told ≡ levels bounds order
 told_all bounds n order i placed told so_far end =
     sym (append-nil told) ∙ ap (λ (s : List ℕ). told ++ levels_after bounds placed s) (sym (drop_all i order end)) ∙ so_far.together
-
-pub placed_fits : (bounds : List ℕ) (n : ℕ) (order : List ℕ) (i placed : ℕ) (told : List ℕ) → n ≤ 12 → Told bounds n order i placed told → placed < 2 ^ 12
-placed_fits bounds n order i placed told few so_far = omega (arith, powers, pow_pos n, so_far.within)
-  where
-    powers : 2 ^ n ≤ 2 ^ 12
-    powers = pow_mono few

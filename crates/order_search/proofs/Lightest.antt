@@ -6,7 +6,8 @@ use Rattle.std.proofs.lemmas.Bool.{cases_lt, cases_eq, le-leb, lt-leb}
 use Rattle.order_search.specs.declared.weight.Weight.{Weight}
 use Rattle.order_search.specs.declared.weight.Weight.TheVariants as weight
 use Rattle.order_search.specs.Ways.{IsWay, IsLeastWeight, IsTable, bound_with, joined, weight_of, weight_through}
-use Rattle.order_search.proofs.Bits.{entry_below, less_without, set_has_entry}
+use Rattle.order_search.proofs.Bits.{set_has_entry}
+use Rattle.entry_sets.proofs.Bits.{entry_below, less_without}
 
 pub joined-within : (most bound behind : ℕ) → bound ≤ most → joined (weight.SumWithin most) bound behind ≡ min (bound + behind) (2 ^ 128 - 1)
 joined-within most bound behind h = rw (le-leb bound most h) refl

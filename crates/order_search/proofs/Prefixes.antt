@@ -1,7 +1,8 @@
 -- The bounds of an order's prefixes, one entry at a time.
 use Rattle.std.proofs.Common.{◌≡◌, ℕ, ◌+◌, ◌*◌, ◌^◌, ◌≤◌, suc, List, [], ◌∷◌, length, map, get_or, refl, ap, ◌∙◌, sum, arith}
 use Rattle.std.proofs.lemmas.List.Sums.{sum_by-cons}
-use Rattle.order_search.specs.Orders.{cost, greatest, levels, prefixes, set_of, total}
+use Rattle.order_search.specs.Orders.{cost, greatest, levels, prefixes, total}
+use Rattle.entry_sets.specs.Sets.{set_of}
 use Rattle.plans.specs.declared.left_deep.Plan.{Plan}
 use Rattle.plans.specs.LeftDeep.{IsOrder, IsPlan}
 

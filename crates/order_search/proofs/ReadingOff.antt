@@ -6,7 +6,7 @@ use Rattle.order_search.specs.declared.weight.Weight.{Weight}
 use Rattle.order_search.specs.declared.weight.Weight.TheVariants as weight
 use Rattle.order_search.specs.Orders.{IsNotAfter}
 use Rattle.order_search.specs.Ways.{IsWay, IsLeastWeight, IsTable, IsFirstLightest, BeginsLightest, bound_with, joined, weight_of}
-use Rattle.order_search.proofs.Bits.{entry_below, less_without}
+use Rattle.entry_sets.proofs.Bits.{entry_below, less_without}
 use Rattle.order_search.proofs.Lightest.{Through, joined-beyond, joined-within, through_is_least, way_through}
 
 -- each lightest way begins with such an entry

@@ -5,9 +5,9 @@ use Rattle.std.specs.List.{AllByRecursion, Contains, IsDistinct}
 use Rattle.std.proofs.lemmas.Bool.{cases_eq, eqb-false}
 use Rattle.std.proofs.lemmas.Map.Keys.{IsDistinct-head, IsDistinct-tail}
 use Rattle.std.proofs.lemmas.Nat.Bits.{bit_at_lowest, bit_at-suc, bit_at-zero}
-use Rattle.order_search.specs.Orders.{set_of}
+use Rattle.entry_sets.specs.Sets.{set_of}
 use Rattle.order_search.specs.Ways.{IsWay}
-use Rattle.order_search.proofs.Bits.{bit_without_other, twice}
+use Rattle.entry_sets.proofs.Bits.{bit_without_other, twice}
 use Rattle.order_search.proofs.WholeWays.{way_within}
 
 bit_with_same : (entry set : ℕ) → bit_at set entry ≡ 0 → bit_at (2 ^ entry + set) entry ≡ 1

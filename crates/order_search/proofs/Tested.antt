@@ -7,7 +7,8 @@ use Rattle.std.proofs.lemmas.List.{append_assoc, append-nil}
 use Rattle.std.proofs.lemmas.Nat.{pow_pos}
 use Rattle.order_search.specs.Orders.{IsBest, IsNotAfter, cost, total}
 use Rattle.order_search.specs.Ways.{IsWay}
-use Rattle.order_search.proofs.Bits.{entry_below, less_without, set_is_empty, size_below, size-none, size-whole, size-without}
+use Rattle.order_search.proofs.Bits.{set_is_empty, size_below, size-none, size-whole, size-without}
+use Rattle.entry_sets.proofs.Bits.{entry_below, less_without}
 use Rattle.order_search.proofs.NoWorse.{NoWorse, best_of}
 use Rattle.order_search.proofs.WholeWays.{order_from_way, way_from_order}
 

@@ -4,7 +4,7 @@ use Rattle.std.proofs.lemmas.Bool.{cases_lt}
 use Rattle.order_search.specs.declared.weight.Weight.TheVariants as weight
 use Rattle.order_search.specs.Orders.{cost, greatest, total}
 use Rattle.order_search.specs.Ways.{IsWay, bound_with, weight_of}
-use Rattle.order_search.proofs.Bits.{power_within}
+use Rattle.entry_sets.proofs.Bits.{power_within}
 use Rattle.order_search.proofs.Lightest.{joined-beyond, joined-within}
 use Rattle.order_search.proofs.Prefixes.{cost_is, levels_after, sum-cons, total_is}
 

@@ -9,7 +9,8 @@ use Rattle.std.proofs.lemmas.Nat.{pow_pos}
 use Rattle.order_search.specs.Orders.{}
 use Rattle.plans.specs.LeftDeep.{IsOrder}
 use Rattle.order_search.specs.Ways.{IsWay}
-use Rattle.order_search.proofs.Bits.{bit_without_other, bit_without_same, entry_below, set_is_empty, size_below, size-none, size-whole, size-without}
+use Rattle.order_search.proofs.Bits.{set_is_empty, size_below, size-none, size-whole, size-without}
+use Rattle.entry_sets.proofs.Bits.{bit_without_other, bit_without_same, entry_below}
 
 all_so : (P Q : ℕ → Type 0) → ((x : ℕ) → P x → Q x) → (xs : List ℕ) → AllByRecursion P xs → AllByRecursion Q xs
 all_so P Q so [] all = tt

@@ -1,12 +1,8 @@
 -- Orders in which entries are joined, and which order is best. Bounds are given for every set of entries, each at the number whose bits are the set.
 use Rattle.std.specs.Prelude.{◌≡◌, ℕ, ◌+◌, ◌^◌, ◌<◌, ◌≤◌, ◌⊎◌, max, List, [], ◌∷◌, map, slice_index, ⊤}
 use Rattle.std.specs.List.{sum}
+use Rattle.entry_sets.specs.Sets.{set_of}
 use Rattle.plans.specs.LeftDeep.{IsOrder}
-
--- the number of a set of entries, in which entry x is bit x
-abbrev pub set_of : List ℕ → ℕ
-set_of [] = 0
-set_of (entry ∷ entries) = 2 ^ entry + set_of entries
 
 -- the first entry, the first two, and so on up to all
 abbrev pub prefixes : List ℕ → List (List ℕ)

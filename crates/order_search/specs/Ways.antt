@@ -1,6 +1,7 @@
 -- How an order goes on from a set of entries that are left, and what that weighs. The search's own words; no public clause cites them.
 use Rattle.std.specs.Prelude.{◌≡◌, ℕ, ◌+◌, ◌-◌, ◌^◌, ◌<◌, ◌≤◌, max, min, List, [], ◌∷◌, slice_index, nat_le, if◌then◌else◌}
 use Rattle.std.specs.Int.{bit_at}
+use Rattle.limits.specs.Profile.{top_bound}
 use Rattle.order_search.specs.Orders.{IsNotAfter}
 use Rattle.order_search.specs.declared.weight.Weight.{Weight}
 use Rattle.order_search.specs.declared.weight.Weight.TheVariants as weight
@@ -13,7 +14,7 @@ IsWay left (entry ∷ entries) = (bit_at left entry ≡ 1) × IsWay (left - 2 ^ 
 -- a bound and the weight of what comes behind it. Where the bound is above what a sum may have, nothing is heavier
 abbrev pub joined : Weight → ℕ → ℕ → ℕ
 joined weight.Greatest bound behind = max bound behind
-joined (weight.SumWithin most) bound behind = if nat_le bound most then (min (bound + behind) (2 ^ 128 - 1)) else (2 ^ 128 - 1)
+joined (weight.SumWithin most) bound behind = if nat_le bound most then (min (bound + behind) top_bound) else top_bound
 
 -- the bound of the set that is placed, all but those left, when the entry comes next
 abbrev pub bound_with : List ℕ → ℕ → ℕ → ℕ → ℕ

@@ -13,7 +13,6 @@
 mod laws;
 mod refusal;
 mod search;
-mod sets;
 mod table;
 mod way;
 mod weight;

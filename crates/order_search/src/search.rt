@@ -1,15 +1,17 @@
 //! The search.
 ghost use Rattle.std.specs.Prelude.{◌≡◌, ◌≤◌, ◌<◌, ◌^◌, length, IfErr, IfOk};
+ghost use Rattle.limits.specs.Profile.{most_budget, most_entries};
 ghost use Rattle.order_search.specs.Causes.{IsCause};
 ghost use Rattle.order_search.specs.Orders.{IsBest, IsLeastCost, cost, levels as levels_of};
 ghost use Rattle.plans.specs.LeftDeep.{IsOrder, IsPlan};
 
 use crate::PlanError;
-use crate::sets::with;
 use crate::table::least_weights;
 use crate::way::first_lightest;
 use crate::weight::Weight;
 use base_io::{NoMemory, Seq};
+use entry_sets::EntrySet;
+use limits::TOP_BOUND;
 use plans::Plan;
 use std::alloc::Global;
 
@@ -26,9 +28,9 @@ pub fn choose(
     budget: u64,
 ) -> Result<Plan, PlanError>
     requires some { 1 ≤ length scans.now }
-    requires few { length scans.now ≤ 12 }
+    requires few { length scans.now ≤ most_entries }
     requires bounds { length bounds.now ≡ 2 ^ length scans.now }
-    requires budget { budget ≤ 20000000 }
+    requires budget { budget ≤ most_budget }
 
     ensures plan { IfOk result (IsPlan (length scans.now)) }
     ensures best { IfOk result (λ plan. IsBest bounds.now (length scans.now) plan.order) }
@@ -37,10 +39,10 @@ pub fn choose(
     ensures scans { IfOk result (λ plan. plan.scans ≡ scans.now) }
     ensures refused { IfErr result (IsCause bounds.now (length scans.now) budget) }
 {
-    let count = scans.len() as u32;
+    let count = scans.len() as u8;
     let bounds = bounds.as_slice();
     let least = least_cost(alloc, count, bounds)?;
-    if least > u128::MAX - 1 {
+    if least == TOP_BOUND {
         return Err(PlanError::PastBits);
     }
     if least > budget as u128 {
@@ -56,8 +58,8 @@ pub fn choose(
     })
 }
 
-fn least_cost(alloc: Global, count: u32, bounds: &[u128]) -> Result<u128, NoMemory>
-    requires count { count ≤ 12 }
+fn least_cost(alloc: Global, count: u8, bounds: &[u128]) -> Result<u128, NoMemory>
+    requires count { count ≤ most_entries }
     requires bounds { length bounds.now ≡ 2 ^ count }
     ensures { IfOk result (λ least. IsLeastCost bounds.now count least) }
 {
@@ -66,11 +68,11 @@ fn least_cost(alloc: Global, count: u32, bounds: &[u128]) -> Result<u128, NoMemo
 }
 
 // The first order of least sum among those of the least cost.
-fn best_order(alloc: Global, count: u32, bounds: &[u128], least: u128) -> Result<Vec<u8>, NoMemory>
-    requires count { count ≤ 12 }
+fn best_order(alloc: Global, count: u8, bounds: &[u128], least: u128) -> Result<Vec<u8>, NoMemory>
+    requires count { count ≤ most_entries }
     requires bounds { length bounds.now ≡ 2 ^ count }
     requires least { IsLeastCost bounds.now count least }
-    requires small { least ≤ 20000000 }
+    requires small { least ≤ most_budget }
     ensures best { IfOk result (λ order. IsBest bounds.now count order.items) }
     ensures cost { IfOk result (λ order. cost bounds.now order.items ≡ least) }
 {
@@ -82,21 +84,21 @@ fn best_order(alloc: Global, count: u32, bounds: &[u128], least: u128) -> Result
 #[tactic(auto, using(crate::proofs::LevelsTold::next_within, crate::proofs::LevelsTold::next_bound, crate::proofs::LevelsTold::next_entry))]
 fn levels_along(
     alloc: Global,
-    count: u32,
+    count: u8,
     bounds: &[u128],
     order: &[u8],
 ) -> Result<Vec<u64>, NoMemory>
-    requires count { count ≤ 12 }
+    requires count { count ≤ most_entries }
     requires bounds { length bounds.now ≡ 2 ^ count }
     requires order { IsOrder count order.now }
     requires small { cost bounds.now order.now < 2 ^ 64 }
     ensures { IfOk result (λ levels. levels.items ≡ levels_of bounds.now order.now) }
 {
     let mut levels = Vec::new(alloc);
-    let mut placed: usize = 0;
+    let mut placed = EntrySet::empty();
     for entry in order {
-        placed = with(placed, *entry as u32);
-        levels.push(bounds[placed] as u64)?;
+        placed = placed.with(*entry);
+        levels.push(bounds[placed.bits() as usize] as u64)?;
     }
     Ok(levels)
 }

@@ -1,47 +1,48 @@
 //! The least weight for each set of entries that are left. A set comes after all that it holds, since its number is greater.
 ghost use Rattle.std.specs.Prelude.{◌≡◌, ◌-◌, ◌^◌, ◌<◌, ◌≤◌, length, IfOk};
 ghost use Rattle.std.specs.Int.{bit_at};
+ghost use Rattle.limits.specs.Profile.{most_entries};
 ghost use Rattle.order_search.specs.Ways.{IsLeastWeight, IsTable, weight_through as weight_through_of};
 
-use crate::sets::{has, without};
 use crate::weight::Weight;
 use base_io::NoMemory;
+use entry_sets::EntrySet;
 use std::alloc::Global;
 
 // The weight of the lightest way on which the entry comes next.
-#[tactic(auto, using(crate::proofs::Bits::less_without))]
+#[tactic(auto, using(entry_sets::proofs::Bits::less_without))]
 pub(crate) fn weight_through(
     weight: Weight,
     bounds: &[u128],
     table: &[u128],
-    left: usize,
-    entry: u32,
+    left: EntrySet,
+    entry: u8,
 ) -> u128
-    requires entry { entry < 12 }
+    requires entry { entry < most_entries }
     requires has { bit_at left entry ≡ 1 }
     requires left { left < length bounds.now }
     requires table { left ≤ length table.now }
     ensures { result ≡ weight_through_of weight bounds.now table.now (length bounds.now - 1) left entry }
 {
-    let behind = without(left, entry);
+    let behind = left.without(entry).bits() as usize;
     weight.joined(bounds[bounds.len() - 1 - behind], table[behind])
 }
 
 // The least weight of a way through the set, by those through the sets before it.
-fn least_weight(weight: Weight, count: u32, bounds: &[u128], table: &[u128], left: usize) -> u128
-    requires count { count ≤ 12 }
+fn least_weight(weight: Weight, count: u8, bounds: &[u128], table: &[u128], left: EntrySet) -> u128
+    requires count { count ≤ most_entries }
     requires bounds { length bounds.now ≡ 2 ^ count }
     requires left { left < length bounds.now }
     requires filled { length table.now ≡ left }
     requires table { IsTable weight bounds.now (length bounds.now - 1) table.now left }
     ensures { IsLeastWeight weight bounds.now (length bounds.now - 1) left result }
 {
-    if left == 0 {
+    if left.bits() == 0 {
         return 0;
     }
     let mut least = u128::MAX;
     for entry in 0..count {
-        if has(left, entry) {
+        if left.has(entry) {
             least = least.min(weight_through(weight, bounds, table, left, entry));
         }
     }
@@ -52,16 +53,17 @@ fn least_weight(weight: Weight, count: u32, bounds: &[u128], table: &[u128], lef
 pub(crate) fn least_weights(
     alloc: Global,
     weight: Weight,
-    count: u32,
+    count: u8,
     bounds: &[u128],
 ) -> Result<Vec<u128>, NoMemory>
-    requires count { count ≤ 12 }
+    requires count { count ≤ most_entries }
     requires bounds { length bounds.now ≡ 2 ^ count }
     ensures filled { IfOk result (λ table. length table.items ≡ 2 ^ count) }
     ensures table { IfOk result (λ table. IsTable weight bounds.now (length bounds.now - 1) table.items (2 ^ count)) }
 {
     let mut table = Vec::with_capacity(alloc, bounds.len())?;
-    for left in 0..bounds.len() {
+    for bits in 0..bounds.len() {
+        let left = EntrySet::from_bits(bits as u16);
         table.push(least_weight(weight, count, bounds, table.as_slice(), left))?;
     }
     Ok(table)

@@ -1,7 +1,9 @@
 ghost use Rattle.std.specs.Prelude.{◌≡◌, ◌^◌, ◌≤◌};
+ghost use Rattle.limits.specs.Profile.{most_entries};
 
 use crate::{PlanError, choose};
 use base_io::Seq;
+use limits::{MOST_BUDGET, MOST_ENTRIES};
 use plans::Plan;
 use std::alloc::{AllocError, AllocFailed, Global};
 
@@ -31,7 +33,7 @@ impl From<PlanError> for Fail {
 }
 
 fn number_of_sets(count: usize) -> usize
-    requires { count ≤ 12 }
+    requires { count ≤ most_entries }
     ensures { result ≡ 2 ^ count }
 {
     1 << count
@@ -39,7 +41,7 @@ fn number_of_sets(count: usize) -> usize
 
 // The choice over these bounds, where each entry's scan has two rows.
 fn chosen(alloc: Global, count: usize, bounds: Vec<u128>, budget: u64) -> Result<Plan, Fail> {
-    if count == 0 || count > 12 || budget > 20_000_000 {
+    if count == 0 || count > MOST_ENTRIES || budget > MOST_BUDGET {
         return Err(Fail::Unfit);
     }
     if bounds.len() != number_of_sets(count) {

@@ -1,25 +1,33 @@
 //! The first of the lightest ways, read off the table from its first entry on.
 ghost use Rattle.std.specs.Prelude.{◌≡◌, ◌-◌, ◌^◌, ◌<◌, ◌≤◌, ◌↔◌, ℕ, length, slice_index, IfOk, IsTrue};
+ghost use Rattle.limits.specs.Profile.{most_entries, top_bound};
 ghost use Rattle.order_search.specs.Ways.{BeginsLightest, IsFirstLightest, IsTable};
 
-use crate::sets::{has, without};
 use crate::table::weight_through;
 use crate::weight::Weight;
 use base_io::NoMemory;
+use entry_sets::EntrySet;
 use std::alloc::Global;
 
-fn begins_lightest(weight: Weight, bounds: &[u128], table: &[u128], left: usize, entry: u32) -> bool
-    requires entry { entry < 12 }
+fn begins_lightest(
+    weight: Weight,
+    bounds: &[u128],
+    table: &[u128],
+    left: EntrySet,
+    entry: u8,
+) -> bool
+    requires entry { entry < most_entries }
     requires left { left < length bounds.now }
     requires filled { length table.now ≡ length bounds.now }
     ensures { IsTrue result ↔ BeginsLightest weight bounds.now table.now (length bounds.now - 1) left entry }
 {
-    has(left, entry) && weight_through(weight, bounds, table, left, entry) == table[left]
+    left.has(entry)
+        && weight_through(weight, bounds, table, left, entry) == table[left.bits() as usize]
 }
 
 // The first entry that begins a lightest way through the set.
-fn next_entry(weight: Weight, count: u32, bounds: &[u128], table: &[u128], left: usize) -> u32
-    requires count { count ≤ 12 }
+fn next_entry(weight: Weight, count: u8, bounds: &[u128], table: &[u128], left: EntrySet) -> u8
+    requires count { count ≤ most_entries }
     requires bounds { length bounds.now ≡ 2 ^ count }
     requires some { 0 < left }
     requires left { left < length bounds.now }
@@ -40,23 +48,23 @@ fn next_entry(weight: Weight, count: u32, bounds: &[u128], table: &[u128], left:
 pub(crate) fn first_lightest(
     alloc: Global,
     most: u128,
-    count: u32,
+    count: u8,
     bounds: &[u128],
     table: &[u128],
 ) -> Result<Vec<u8>, NoMemory>
-    requires count { count ≤ 12 }
+    requires count { count ≤ most_entries }
     requires bounds { length bounds.now ≡ 2 ^ count }
     requires filled { length table.now ≡ length bounds.now }
     requires table { IsTable (Weight.SumWithin most) bounds.now (length bounds.now - 1) table.now (length bounds.now) }
-    requires light { slice_index table.now (length bounds.now - 1) < 2 ^ 128 - 1 }
+    requires light { slice_index table.now (length bounds.now - 1) < top_bound }
     ensures { IfOk result (λ order. IsFirstLightest (Weight.SumWithin most) bounds.now (length bounds.now - 1) (length bounds.now - 1) order.items) }
 {
     let mut order = Vec::new(alloc);
-    let mut left = bounds.len() - 1;
-    while left > 0 {
+    let mut left = EntrySet::from_bits((bounds.len() - 1) as u16);
+    while left.bits() > 0 {
         let entry = next_entry(Weight::SumWithin(most), count, bounds, table, left);
-        order.push(entry as u8)?;
-        left = without(left, entry);
+        order.push(entry)?;
+        left = left.without(entry);
     }
     Ok(order)
 }

@@ -2,6 +2,8 @@
 ghost use Rattle.std.specs.Prelude.{◌≡◌};
 ghost use Rattle.order_search.specs.Ways.{joined as joined_of};
 
+use limits::TOP_BOUND;
+
 // How the bounds on a way make its weight.
 #[derive(Clone, Copy)]
 pub(crate) enum Weight {
@@ -22,7 +24,7 @@ impl Weight {
                 if bound <= most {
                     bound.saturating_add(behind)
                 } else {
-                    u128::MAX
+                    TOP_BOUND
                 }
             }
         }

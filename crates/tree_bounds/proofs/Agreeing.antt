@@ -5,7 +5,8 @@ use Rattle.std.proofs.lemmas.Bool.{cases_Bool}
 use Rattle.berge_tree.specs.declared.edges.Place.{Place}
 use Rattle.berge_tree.specs.declared.edges.Edge.{Edge}
 use Rattle.berge_tree.specs.Equalities.{place, places_of, class_of}
-use Rattle.berge_tree.specs.Rooted.{entries_of_set, class_columns, member_places, FollowsBelow, FollowsWithin, IsTreeOf, AreAllTreesOf}
+use Rattle.berge_tree.specs.Rooted.{class_columns, member_places, FollowsBelow, FollowsWithin, IsTreeOf, AreAllTreesOf}
+use Rattle.entry_sets.specs.Sets.{entries_of_set}
 use Rattle.berge_tree.specs.Testing.{joined_parts}
 use Rattle.berge_tree.specs.Trees.{Classes, no_class, and_class, Members, one_member, and_member, JoinTree, entries_below, entries_within, entries, entries_of_all}
 use Rattle.berge_tree.proofs.Forest.{each}

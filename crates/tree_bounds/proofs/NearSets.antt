@@ -9,9 +9,10 @@ use Rattle.std.proofs.lemmas.List.Kept.{AllPairs-from_increasing}
 use Rattle.std.proofs.lemmas.Map.Keys.{IsDistinct-cons}
 use Rattle.std.proofs.lemmas.Map.Made.{length-le_from_is_member}
 use Rattle.berge_tree.specs.declared.edges.Edge.{Edge}
-use Rattle.berge_tree.specs.Rooted.{entries_of_set, IsTreeOf, AreAllTreesOf}
+use Rattle.berge_tree.specs.Rooted.{IsTreeOf, AreAllTreesOf}
+use Rattle.entry_sets.specs.Sets.{entries_of_set}
 use Rattle.berge_tree.specs.Trees.{JoinTree, entries_of_all}
-use Rattle.berge_tree.proofs.Planting.{set_increases}
+use Rattle.entry_sets.proofs.Listing.{set_increases}
 use Rattle.berge_tree.proofs.Steps.{one_in, in_none}
 use Rattle.join_graph.specs.Kept.{kept_of, turn_count}
 use Rattle.tree_bounds.specs.TreeBounds.{EntryBounds, bound_of_trees}

@@ -6,10 +6,9 @@ use Rattle.std.proofs.lemmas.Bool.{cases_Bool, eqb-true, eq-eqb, ltb-true}
 use Rattle.std.proofs.lemmas.List.{get_or-map, length-map}
 use Rattle.berge_tree.specs.declared.edges.Edge.{Edge}
 use Rattle.berge_tree.specs.Equalities.{AreWithin}
-use Rattle.berge_tree.specs.Rooted.{entries_of_set}
-use Rattle.berge_tree.specs.Testing.{has_entry}
+use Rattle.entry_sets.specs.Sets.{entries_of_set, has_entry}
 use Rattle.berge_tree.proofs.Forest.{all_in, each}
-use Rattle.berge_tree.proofs.Planting.{set_has}
+use Rattle.entry_sets.proofs.Listing.{set_has}
 use Rattle.berge_tree.proofs.Steps.{one_in, in_front, in_rest, in_none}
 use Rattle.join_graph.specs.Kept.{equalities_within, joins_within}
 use Rattle.tree_bounds.specs.TreeBounds.{EntryBounds}

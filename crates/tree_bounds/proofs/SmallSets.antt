@@ -6,7 +6,7 @@ use Rattle.std.proofs.lemmas.List.Sums.{sum_by-cons}
 use Rattle.degree_sequences.specs.Composition.{root_total, weight_by_rank}
 use Rattle.berge_tree.specs.declared.edges.Edge.{Edge}
 use Rattle.berge_tree.specs.Equalities.{AreWithin, ClosesNoCycle}
-use Rattle.berge_tree.specs.Rooted.{entries_of_set}
+use Rattle.entry_sets.specs.Sets.{entries_of_set}
 use Rattle.berge_tree.specs.Walk.{columns_of, forest}
 use Rattle.berge_tree.proofs.Steps.{one_in, in_none}
 use Rattle.join_graph.specs.Kept.{kept_of, turn_count}

@@ -4,12 +4,13 @@ use Rattle.std.specs.List.{AllByRecursion}
 use Rattle.std.proofs.lemmas.Bool.{cases_lt}
 use Rattle.berge_tree.specs.declared.edges.Edge.{Edge}
 use Rattle.berge_tree.specs.Equalities.{ClosesNoCycle}
-use Rattle.berge_tree.specs.Rooted.{AreAllTreesOf, entries_of_set}
+use Rattle.berge_tree.specs.Rooted.{AreAllTreesOf}
+use Rattle.entry_sets.specs.Sets.{entries_of_set}
 use Rattle.berge_tree.specs.Trees.{JoinTree}
 use Rattle.berge_tree.specs.Walk.{columns_of}
 use Rattle.berge_tree.proofs.Forest.{all_trees}
 use Rattle.berge_tree.proofs.Listing.{columns_are}
-use Rattle.berge_tree.proofs.Planting.{set_increases, set_low}
+use Rattle.entry_sets.proofs.Listing.{set_increases, set_low}
 use Rattle.berge_tree.proofs.Tested.{joins_no_cycle}
 use Rattle.join_graph.specs.Kept.{equalities_within, kept_of, order_of_turn, turn_count}
 use Rattle.join_graph.proofs.Connecting.{kept_joins}

@@ -1,7 +1,8 @@
 -- The bound of a set of entries: in each turn the set has the trees of the equalities that it keeps, and the least of the turns counts.
 use Rattle.std.specs.Prelude.{◌≡◌, ℕ, zero, suc, ◌-◌, ◌<◌, ◌≤◌, min, List, []}
 use Rattle.berge_tree.specs.declared.edges.Edge.{Edge}
-use Rattle.berge_tree.specs.Rooted.{AreAllTreesOf, entries_of_set}
+use Rattle.berge_tree.specs.Rooted.{AreAllTreesOf}
+use Rattle.entry_sets.specs.Sets.{entries_of_set}
 use Rattle.berge_tree.specs.Trees.{JoinTree}
 use Rattle.berge_tree.specs.Walk.{columns_of, forest}
 use Rattle.join_graph.specs.Kept.{equalities_within, kept_of, turn_count}

@@ -4,7 +4,7 @@ ghost use Rattle.std.specs.List.{AllByRecursion};
 ghost use Rattle.degree_sequences.specs.Degrees.{degree_list};
 ghost use Rattle.degree_sequences.specs.Saturation.{saturated};
 ghost use Rattle.berge_tree.specs.Nodes.{nodes_of};
-ghost use Rattle.berge_tree.specs.Rooted.{entries_of_set};
+ghost use Rattle.entry_sets.specs.Sets.{entries_of_set};
 ghost use Rattle.berge_tree.specs.Testing.{edge_of};
 ghost use Rattle.berge_tree.specs.Trees.{entries};
 ghost use Rattle.join_graph.specs.Examples.{pair, triangle};

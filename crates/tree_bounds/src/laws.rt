@@ -6,7 +6,8 @@ ghost use Rattle.degree_sequences.specs.Composition.{ChildLists, composed, root_
 ghost use Rattle.degree_sequences.specs.Saturation.{saturated};
 ghost use Rattle.berge_tree.specs.declared.edges.Edge.{Edge};
 ghost use Rattle.berge_tree.specs.Equalities.{ClosesNoCycle};
-ghost use Rattle.berge_tree.specs.Rooted.{AreAllTreesOf, entries_of_set};
+ghost use Rattle.berge_tree.specs.Rooted.{AreAllTreesOf};
+ghost use Rattle.entry_sets.specs.Sets.{entries_of_set};
 ghost use Rattle.berge_tree.specs.Trees.{JoinTree, entries, entries_of_all};
 ghost use Rattle.berge_tree.specs.declared.tree.Node.{Node};
 ghost use Rattle.berge_tree.specs.Standing.{StandsIn};

@@ -5,6 +5,7 @@ use super::*;
 use crate::is_listed;
 use base_io::Seq;
 use berge_tree::{Edge, Place};
+use entry_sets::EntrySet;
 use piece_math::Pieces;
 use std::test::Fail;
 
@@ -115,8 +116,9 @@ fn bound(
     alloc: Global,
     entries: &[Columns<'_>],
     edges: &[Edge],
-    subset: u16,
+    bits: u16,
 ) -> Result<u128, NoMemory> {
+    let subset = EntrySet::from_bits(bits);
     let parts = parts_of(alloc, edges)?;
     let lists = given(alloc, entries)?;
     if !is_listed(&parts, subset, &lists) {

@@ -1,8 +1,9 @@
 use Rattle.std.proofs.Common.{◌≡◌, ◌+◌, ◌-◌, suc, arith, sym, ◌∙◌, ap, subst, List, [], ◌++◌}
 use Rattle.berge_tree.specs.declared.columns.Column.{Column}
 use Rattle.berge_tree.specs.declared.tree.Tree.{Tree}
-use Rattle.berge_tree.specs.Rooted.{entries_from, entries_of_set}
+use Rattle.entry_sets.specs.Sets.{entries_from, entries_of_set}
 use Rattle.berge_tree.specs.Walk.{added, forest}
+use Rattle.entry_sets.proofs.Listing.{bit_told, no_bit_told}
 use Rattle.berge_tree.proofs.Planting.{Planting, nodes_of_trees, planting_none, planting_more, planting_skip, planting_rooted, planting_valid, others_there, tree_fits}
 use Rattle.berge_tree.proofs.walk.rooted.Goals as goal
 use Rattle.berge_tree.proofs.walk.rooted.Goals.{then-has+in_ok-add_tree, else-has}
@@ -16,17 +17,17 @@ add_tree-requires-clause-others c =
 
 pub add_tree-requires-clause-fits : goal.add_tree-requires-clause-fits
 add_tree-requires-clause-fits c =
-    tree_fits c.args.edges.now c.requires.no_cycle c.args.subset c.requires.within c.as_slice.result.now _ (c.as_slice.ensures.value ∙ c.in_ok-columns.ensures {u = tt}) (omega arith) (sym c.has.ensures ∙ c.if-has.true)
+    tree_fits c.args.edges.now c.requires.no_cycle c.args.subset c.requires.within c.as_slice.result.now _ (c.as_slice.ensures.value ∙ c.in_ok-columns.ensures {u = tt}) (omega arith) (bit_told c.args.subset c.loop-entry.entry (sym c.has.ensures.value ∙ c.if-has.true))
 
 pub loop-entry-preserved : goal.loop-entry-preserved
 loop-entry-preserved c =
     let more : 16 - c.loop-entry.entry ≡ suc (16 - (c.loop-entry.entry + 1)) = omega arith in
     elim c.if-has.branch [
       | then-has+in_ok-add_tree w ↦ subst (λ (ts : List Tree). Planting c.in_ok-columns.columns.items ts (entries_from c.args.subset (c.loop-entry.entry + 1) (16 - (c.loop-entry.entry + 1))) (forest 16 c.in_ok-columns.columns.items [] (entries_of_set c.args.subset))) (sym w.trees-is)
-          (planting_more c.in_ok-columns.columns.items c.loop-entry.trees w.add_tree.new.trees c.args.subset c.loop-entry.entry (16 - (c.loop-entry.entry + 1)) (16 - c.loop-entry.entry) (forest 16 c.in_ok-columns.columns.items [] (entries_of_set c.args.subset)) more (sym c.has.ensures ∙ w.if-has.true)
+          (planting_more c.in_ok-columns.columns.items c.loop-entry.trees w.add_tree.new.trees c.args.subset c.loop-entry.entry (16 - (c.loop-entry.entry + 1)) (16 - c.loop-entry.entry) (forest 16 c.in_ok-columns.columns.items [] (entries_of_set c.args.subset)) more (bit_told c.args.subset c.loop-entry.entry (sym c.has.ensures.value ∙ w.if-has.true))
           (w.in_ok-add_tree.ensures {u = tt} ∙ ap (λ (cs : List Column). nodes_of_trees c.loop-entry.trees ++ added cs c.loop-entry.trees c.loop-entry.entry) w.as_slice.ensures.value) c.loop-entry.invariant)
       | else-has w ↦ subst (λ (ts : List Tree). Planting c.in_ok-columns.columns.items ts (entries_from c.args.subset (c.loop-entry.entry + 1) (16 - (c.loop-entry.entry + 1))) (forest 16 c.in_ok-columns.columns.items [] (entries_of_set c.args.subset))) (sym w.trees-is)
-          (planting_skip c.in_ok-columns.columns.items c.loop-entry.trees c.args.subset c.loop-entry.entry (16 - (c.loop-entry.entry + 1)) (16 - c.loop-entry.entry) (forest 16 c.in_ok-columns.columns.items [] (entries_of_set c.args.subset)) more (sym c.has.ensures ∙ w.if-has.false) c.loop-entry.invariant)
+          (planting_skip c.in_ok-columns.columns.items c.loop-entry.trees c.args.subset c.loop-entry.entry (16 - (c.loop-entry.entry + 1)) (16 - c.loop-entry.entry) (forest 16 c.in_ok-columns.columns.items [] (entries_of_set c.args.subset)) more (no_bit_told c.args.subset c.loop-entry.entry (omega arith) (sym c.has.ensures.value ∙ w.if-has.false)) c.loop-entry.invariant)
     ]
 
 pub returns-clause-trees : goal.returns-clause-trees

@@ -1,5 +1,5 @@
 use Rattle.std.proofs.Common.{◌-◌, []}
-use Rattle.berge_tree.specs.Rooted.{entries_from, entries_of_set}
+use Rattle.entry_sets.specs.Sets.{entries_from, entries_of_set}
 use Rattle.berge_tree.specs.Walk.{forest}
 use Rattle.berge_tree.proofs.Planting.{Planting}
 use Rattle.berge_tree.proofs.walk.rooted.Given as goal

@@ -1,6 +1,6 @@
 use Rattle.std.proofs.Common.{◌≡◌, ℕ, ◌<◌, true}
 use Rattle.std.specs.Prelude.{IsSome}
-use Rattle.berge_tree.specs.Testing.{has_entry}
+use Rattle.entry_sets.specs.Sets.{has_entry}
 use Rattle.bound_fold.specs.Lists.{rows_of}
 use Rattle.bound_fold.proofs.listed.all_have_rows.Given as goal
 

@@ -1,14 +1,21 @@
-use Rattle.order_search.proofs.LevelsTold.{placed_fits, told_more, told_none}
+use Rattle.std.proofs.Common.{◌≡◌, ◌+◌, ◌^◌, get_or, length, sym, arith, ◌∙◌}
+use Rattle.order_search.proofs.LevelsTold.{next_bound, next_within, not_placed, told_more, told_none}
 use Rattle.order_search.proofs.search.levels_along.Goals as goal
 
 pub loop-entry-init : goal.loop-entry-init
-loop-entry-init c = rw c.new-levels.ensures.items (told_none c.args.bounds.now c.args.count c.args.order.now c.requires.order)
+loop-entry-init c = let none : c.empty-placed.result ≡ 0 = c.empty-placed.ensures in rw (c.new-levels.ensures.items, none) (told_none c.args.bounds.now c.args.count c.args.order.now c.requires.order)
 
 pub loop-entry-preserved : goal.loop-entry-preserved
 loop-entry-preserved c =
-    told_more c.args.bounds.now c.args.count c.args.order.now c.loop-entry.entry-index c.loop-entry.placed c.with-placed.result c.loop-entry.levels.items c.push.new.self.items
-    c.loop-entry.invariant c.loop-entry-test.true c.with-placed.ensures c.in_ok-push.ensures.items
+    let moved : c.with-placed.result ≡ c.loop-entry.placed + 2 ^ get_or c.args.order.now c.loop-entry.entry-index 0 =
+    c.with-placed.ensures.number (not_placed c.args.bounds.now c.args.count c.args.order.now c.loop-entry.entry-index c.loop-entry.placed c.loop-entry.levels.items c.loop-entry.invariant c.loop-entry-test.true) in
+    ?
 
-pub with-placed-requires-clause-set : goal.with-placed-requires-clause-set
-with-placed-requires-clause-set c =
-    placed_fits c.args.bounds.now c.args.count c.args.order.now c.loop-entry.entry-index c.loop-entry.placed c.loop-entry.levels.items c.requires.count c.loop-entry.invariant
+pub bounds-bounds-bits : goal.bounds-bounds-bits
+bounds-bounds-bits c =
+    let moved : c.with-placed.result ≡ c.loop-entry.placed + 2 ^ get_or c.args.order.now c.loop-entry.entry-index 0 =
+    c.with-placed.ensures.number (not_placed c.args.bounds.now c.args.count c.args.order.now c.loop-entry.entry-index c.loop-entry.placed c.loop-entry.levels.items c.loop-entry.invariant c.loop-entry-test.true) in
+    omega (arith, moved, c.bits.ensures, c.requires.bounds, next_within c.args.bounds.now c.args.count c.args.order.now c.loop-entry.entry-index c.loop-entry.placed c.loop-entry.levels.items c.loop-entry.invariant c.loop-entry-test.true)
+
+pub overflow_cast-bounds : goal.overflow_cast-bounds
+overflow_cast-bounds c = ?

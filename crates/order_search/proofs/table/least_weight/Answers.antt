@@ -7,13 +7,13 @@ use Rattle.order_search.proofs.table.least_weight.Goals.{then-has, else-has}
 
 pub loop-entry-preserved : goal.loop-entry-preserved
 loop-entry-preserved c = elim c.if-has.branch [
-  | then-has w ↦ (let has : bit_at c.args.left c.loop-entry.entry ≡ 1 = c.has.ensures.0 w.if-has.true in
+  | then-has w ↦ (let has : bit_at c.args.left c.loop-entry.entry ≡ 1 = (c.has.ensures.bit (omega arith)).0 w.if-has.true in
       let more : Tried c.args.weight c.args.bounds.now c.args.table.now (length c.args.bounds.now - 1) c.args.left (c.loop-entry.entry + 1) (min c.loop-entry.least w.weight_through.result) =
       tried_more c.args.weight c.args.bounds.now c.args.table.now (length c.args.bounds.now - 1) c.args.left c.loop-entry.entry c.loop-entry.least w.weight_through.result
       c.loop-entry.invariant has w.weight_through.ensures w.weight_through.type_inv in
       subst (Tried c.args.weight c.args.bounds.now c.args.table.now (length c.args.bounds.now - 1) c.args.left (c.loop-entry.entry + 1)) (sym (w.least-is ∙ w.min-least.ensures)) more)
   | else-has w ↦ subst (Tried c.args.weight c.args.bounds.now c.args.table.now (length c.args.bounds.now - 1) c.args.left (c.loop-entry.entry + 1)) (sym w.least-is)
-      (tried_other c.args.weight c.args.bounds.now c.args.table.now (length c.args.bounds.now - 1) c.args.left c.loop-entry.entry c.loop-entry.least c.loop-entry.invariant (iff_false c.has.ensures w.if-has.false))
+      (tried_other c.args.weight c.args.bounds.now c.args.table.now (length c.args.bounds.now - 1) c.args.left c.loop-entry.entry c.loop-entry.least c.loop-entry.invariant (iff_false (c.has.ensures.bit (omega arith)) w.if-has.false))
 ]
 
 pub returns : goal.returns

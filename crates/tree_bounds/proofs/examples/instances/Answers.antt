@@ -1,5 +1,5 @@
 use Rattle.std.proofs.Common.{◌≢◌, ℕ, zero, suc, ◌<◌, get_or, map, ap, arith, refl}
-use Rattle.berge_tree.specs.Rooted.{entries_of_set}
+use Rattle.entry_sets.specs.Sets.{entries_of_set}
 use Rattle.tree_bounds.proofs.Premises.{left_list, right_list, left_dominates, right_dominates, left_near_list, right_near_list, left_near, right_near}
 use Rattle.berge_tree.specs.Trees.{entries}
 use Rattle.tree_bounds.specs.Examples.{two, two_choices}

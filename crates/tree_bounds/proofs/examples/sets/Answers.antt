@@ -1,5 +1,5 @@
 use Rattle.std.proofs.Common.{refl}
-use Rattle.berge_tree.specs.Rooted.{entries_of_set}
+use Rattle.entry_sets.specs.Sets.{entries_of_set}
 use Rattle.tree_bounds.proofs.examples.sets.Goals as goal
 
 pub returns-clause-single : goal.returns-clause-single

@@ -1,5 +1,6 @@
 use Rattle.std.proofs.Common.{sym, subst}
-use Rattle.berge_tree.specs.Rooted.{AreAllTreesOf, entries_of_set}
+use Rattle.berge_tree.specs.Rooted.{AreAllTreesOf}
+use Rattle.entry_sets.specs.Sets.{entries_of_set}
 use Rattle.join_graph.specs.Kept.{kept_of}
 use Rattle.tree_bounds.proofs.OneForest.{one_forest}
 use Rattle.tree_bounds.proofs.Turns.{trees_there, trees_are}

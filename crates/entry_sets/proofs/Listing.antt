@@ -1,0 +1,152 @@
+-- The list of a set's entries, from a first one on.
+use Rattle.std.proofs.Common.{◌≡◌, ℕ, zero, suc, ◌+◌, ◌-◌, ◌<◌, ◌≤◌, Bool, true, false, eqb, ltb, List, [], ◌∷◌, refl, ap, sym, ◌∙◌, subst, arith, inl, inr}
+use Rattle.std.specs.Prelude.{filter, ◌&&◌, ◌⊎◌, Some}
+use Rattle.std.specs.Iterator.{MakesProgress, item_count}
+use Rattle.std.specs.List.{AllByRecursion, Contains, range_with_len}
+use Rattle.std.specs.List.Sorted.{IsStrictlyIncreasing}
+use Rattle.std.specs.Int.{bit_at}
+use Rattle.std.proofs.lemmas.Bool.{cases_Bool, cases_eq, eq-eqb, eqb-true, lt-ltb, ltb-true}
+use Rattle.entry_sets.specs.Sets.{entries_from, entries_of_set, has_entry}
+
+-- ---- lists
+
+pub in_rest : {X : Type 0} (x : X) (xs : List X) (y : X) → Contains xs y → Contains (x ∷ xs) y
+in_rest x xs y h = (suc h.0, omega (arith, h.1), h.2)
+
+pub in_front : {X : Type 0} (x : X) (xs : List X) (y : X) → y ≡ x → Contains (x ∷ xs) y
+in_front x xs y e = (0, omega arith, sym e)
+
+pub in_none : {X : Type 0} (y : X) → Contains [] y → ⊥
+in_none y h = omega (arith, h.1)
+
+pub one_in : {X : Type 0} (x : X) (xs : List X) (y : X) → Contains (x ∷ xs) y → Contains xs y ⊎ (y ≡ x)
+one_in x xs y (zero, h, e) = inr (sym e)
+one_in x xs y (suc k, h, e) = inl (k, omega (arith, h), e)
+
+pub each : (Q : ℕ → Type 0) (xs : List ℕ) → AllByRecursion Q xs → (x : ℕ) → Contains xs x → Q x
+each Q [] h x k = absurd (in_none x k)
+each Q (y ∷ ys) h x k = elim (one_in y ys x k) [ inl old ↦ each Q ys h.1 x old | inr is ↦ subst Q (sym is) h.0 ]
+
+rising : (x : ℕ) (xs : List ℕ) → AllByRecursion (λ y. x < y) xs → IsStrictlyIncreasing xs → IsStrictlyIncreasing (x ∷ xs)
+rising x [] h r k l = absurd (omega (arith, l))
+rising x (y ∷ ys) h r zero l = h.0
+rising x (y ∷ ys) h r (suc k) l = let e : suc k + 1 ≡ suc (k + 1) = omega arith in rw e (r k (omega (arith, l)))
+
+range_above : (first count : ℕ) (x : ℕ) → x < first → AllByRecursion (λ y. x < y) (range_with_len first count)
+range_above first zero x h = tt
+range_above first (suc count) x h = (h, range_above (first + 1) count x (omega arith))
+
+range_below : (first count n : ℕ) → first + count ≤ n → AllByRecursion (λ y. y < n) (range_with_len first count)
+range_below first zero n h = tt
+range_below first (suc count) n h = (omega arith, range_below (first + 1) count n (omega arith))
+
+kept_all : (Q : ℕ → Type 0) (test : ℕ → Bool) (xs : List ℕ) → AllByRecursion Q xs → AllByRecursion Q (filter test xs)
+kept_all Q test [] h = tt
+kept_all Q test (x ∷ xs) h = elim (cases_Bool (test x)) [
+  | inl t ↦ rw t (h.0, kept_all Q test xs h.1)
+  | inr n ↦ rw n (kept_all Q test xs h.1)
+]
+
+-- ---- the entries of a set
+
+from_increase : (set first count : ℕ) → IsStrictlyIncreasing (entries_from set first count)
+from_increase set first zero = λ k l. absurd (omega (arith, l))
+from_increase set first (suc count) = elim (cases_Bool (eqb (bit_at set first) 1)) [
+  | inl t ↦ rw t (rising first (entries_from set (first + 1) count) (kept_all (λ y. first < y) (λ e. eqb (bit_at set e) 1) (range_with_len (first + 1) count) (range_above (first + 1) count first (omega arith))) (from_increase set (first + 1) count))
+  | inr n ↦ rw n (from_increase set (first + 1) count)
+]
+
+pub set_increases : (set : ℕ) → IsStrictlyIncreasing (entries_of_set set)
+unfolding entries_of_set
+set_increases set = from_increase set 0 16
+
+pub set_low : (set : ℕ) → AllByRecursion (λ x. x < 16) (entries_of_set set)
+unfolding entries_of_set
+set_low set = kept_all (λ y. y < 16) (λ e. eqb (bit_at set e) 1) (range_with_len 0 16) (range_below 0 16 16 (omega arith))
+
+pub set_from : (set : ℕ) → entries_of_set set ≡ entries_from set 0 16
+unfolding entries_of_set
+set_from set = refl
+
+pub from_next : (set first count : ℕ) → eqb (bit_at set first) 1 ≡ true → entries_from set first (suc count) ≡ first ∷ entries_from set (first + 1) count
+from_next set first count t = rw t refl
+
+pub from_skip : (set first count : ℕ) → eqb (bit_at set first) 1 ≡ false → entries_from set first (suc count) ≡ entries_from set (first + 1) count
+from_skip set first count n = rw n refl
+
+from_in : (set first count x : ℕ) → first ≤ x → x < first + count → eqb (bit_at set x) 1 ≡ true → Contains (entries_from set first count) x
+from_in set first zero x low high bit = absurd (omega arith)
+from_in set first (suc count) x low high bit = elim (cases_eq first x) [
+  | inl same ↦ rw (subst (λ (y : ℕ). eqb (bit_at set y) 1 ≡ true) (sym same) bit) (in_front first (entries_from set (first + 1) count) x (sym same))
+  | inr apart ↦ elim (cases_Bool (eqb (bit_at set first) 1)) [
+    | inl t ↦ rw t (in_rest first (entries_from set (first + 1) count) x (from_in set (first + 1) count x (omega arith) (omega arith) bit))
+    | inr n ↦ rw n (from_in set (first + 1) count x (omega arith) (omega arith) bit)
+  ]
+]
+
+pub set_has : (set x : ℕ) → x < 16 → eqb (bit_at set x) 1 ≡ true → Contains (entries_of_set set) x
+set_has set x h bit = subst (λ xs. Contains xs x) (sym (set_from set)) (from_in set 0 16 x (omega arith) (omega arith) bit)
+
+passed : (test : ℕ → Bool) (xs : List ℕ) → AllByRecursion (λ x. test x ≡ true) (filter test xs)
+passed test [] = tt
+passed test (x ∷ xs) = elim (cases_Bool (test x)) [
+  | inl t ↦ rw t (t, passed test xs)
+  | inr n ↦ rw n (passed test xs)
+]
+
+pub set_bits : (set x : ℕ) → Contains (entries_of_set set) x → (x < 16) × (bit_at set x ≡ 1)
+set_bits set x k = (
+  each (λ y. y < 16) (entries_of_set set) (set_low set) x k,
+  eqb-true (bit_at set x) 1 (each (λ y. eqb (bit_at set y) 1 ≡ true) (entries_from set 0 16) (passed (λ e. eqb (bit_at set e) 1) (range_with_len 0 16)) x (subst (λ xs. Contains xs x) (set_from set) k)),
+)
+
+pub set_bits_only : (set x : ℕ) → (x < 16) × (bit_at set x ≡ 1) → Contains (entries_of_set set) x
+set_bits_only set x h = set_has set x h.0 (eq-eqb (bit_at set x) 1 h.1)
+
+-- ---- membership
+
+both_true : (a b : Bool) → (a && b) ≡ true → (a ≡ true) × (b ≡ true)
+both_true true b h = (refl, h)
+both_true false b h = absurd (cc)
+
+pub has_bit : (set x : ℕ) → has_entry set x ≡ true → (x < 16) × (bit_at set x ≡ 1)
+has_bit set x h =
+    let parts : (ltb x 16 ≡ true) × (eqb (bit_at set x) 1 ≡ true) = both_true (ltb x 16) (eqb (bit_at set x) 1) h in
+    (ltb-true x 16 parts.0, eqb-true (bit_at set x) 1 parts.1)
+
+pub bit_has : (set x : ℕ) → (x < 16) × (bit_at set x ≡ 1) → has_entry set x ≡ true
+bit_has set x h = rw (lt-ltb x 16 h.0, eq-eqb (bit_at set x) 1 h.1) refl
+
+pub set_entries : (set x : ℕ) → Contains (entries_of_set set) x → has_entry set x ≡ true
+set_entries set x k = bit_has set x (set_bits set x k)
+
+pub set_entries_only : (set x : ℕ) → has_entry set x ≡ true → Contains (entries_of_set set) x
+set_entries_only set x h = set_bits_only set x (has_bit set x h)
+
+-- ---- an iterator over the entries
+
+not_there : (a b : Bool) → a ≡ true → (a && b) ≡ false → b ≡ false
+not_there true b refl_a h = h
+not_there false b is h = absurd (cc)
+
+pub step_to : (set i : ℕ) → i < 16 → has_entry set i ≡ true → entries_from set i (16 - i) ≡ i ∷ entries_from set (i + 1) (16 - (i + 1))
+step_to set i low has =
+    let more : 16 - i ≡ suc (16 - (i + 1)) = omega arith in
+    ap (entries_from set i) more ∙ from_next set i (16 - (i + 1)) (both_true (ltb i 16) (eqb (bit_at set i) 1) has).1
+
+pub step_over : (set i : ℕ) → i < 16 → has_entry set i ≡ false → entries_from set i (16 - i) ≡ entries_from set (i + 1) (16 - (i + 1))
+step_over set i low out =
+    let more : 16 - i ≡ suc (16 - (i + 1)) = omega arith in
+    ap (entries_from set i) more ∙ from_skip set i (16 - (i + 1)) (not_there (ltb i 16) (eqb (bit_at set i) 1) (lt-ltb i 16 low) out)
+
+-- an iterator that gives the first item of a list leaves fewer
+pub goes_on : (can : List ℕ → Type 0) → ((xs : List ℕ) → can xs) → (xs rest : List ℕ) (i : ℕ) → xs ≡ i ∷ rest → MakesProgress can (item_count (λ (left : List ℕ). left)) xs (Some i) rest
+goes_on can may xs rest i is = rw is (record { on = λ _. (may rest, tt, omega arith); keeps = may rest; rests = λ _. tt })
+
+-- ---- the bit alone
+
+pub bit_told : (set i : ℕ) → has_entry set i ≡ true → eqb (bit_at set i) 1 ≡ true
+bit_told set i has = (both_true (ltb i 16) (eqb (bit_at set i) 1) has).1
+
+pub no_bit_told : (set i : ℕ) → i < 16 → has_entry set i ≡ false → eqb (bit_at set i) 1 ≡ false
+no_bit_told set i low out = not_there (ltb i 16) (eqb (bit_at set i) 1) (lt-ltb i 16 low) out

@@ -1,0 +1,104 @@
+-- The entries of a set with an entry, without one, of two sets together, and of a set within another.
+use Rattle.std.proofs.Common.{◌≡◌, ℕ, zero, suc, ◌+◌, ◌-◌, ◌*◌, ◌%◌, ◌^◌, ◌<◌, ◌≤◌, Bool, true, false, eqb, ltb, max, bit_and, bit_or, refl, ap, sym, ◌∙◌, pow_mono, w16, arith, inl, inr}
+use Rattle.std.specs.Prelude.{◌&&◌, ◌||◌, ◌↔◌, not, IsTrue}
+use Rattle.std.specs.Int.{bit_at, bit_not}
+use Rattle.std.proofs.lemmas.Bool.{cases_Bool, cases_eq, cases_lt, eq-eqb, eqb-true, ne_eqb, lt-ltb, ltb-true}
+use Rattle.std.proofs.lemmas.Nat.{and_le_l, or_disjoint}
+use Rattle.std.proofs.lemmas.Nat.Bits.{bit_at-lt, bit_at_and, bit_at_clear_other, bit_at_clear_same, bit_at_or, bit_at_set_other, bit_at_set_same, and_pow, same_from_bits_below}
+use Rattle.entry_sets.specs.Sets.{IsWithin, has_entry}
+use Rattle.entry_sets.proofs.Bits.{bit_without_other, bit_without_same}
+use Rattle.entry_sets.proofs.Listing.{bit_has, has_bit}
+
+or_true : (b : Bool) → (b || true) ≡ true
+or_true true = refl
+or_true false = refl
+
+or_false : (b : Bool) → (b || false) ≡ b
+or_false true = refl
+or_false false = refl
+
+and_false : (b : Bool) → (b && false) ≡ false
+and_false true = refl
+and_false false = refl
+
+and_true : (b : Bool) → (b && true) ≡ b
+and_true true = refl
+and_true false = refl
+
+-- the number of one entry
+one_bit : (entry : ℕ) → entry < 16 → 1 * 2 ^ entry % 65536 ≡ 2 ^ entry
+one_bit entry low = omega (arith, powers)
+  where
+    powers : 2 ^ entry ≤ 2 ^ 15
+    powers = let low : entry ≤ 15 = omega arith in pow_mono low
+
+pub with_entries : (set entry other : ℕ) → entry < 16 → has_entry (bit_or set (1 * 2 ^ entry % 65536)) other ≡ (has_entry set other || eqb other entry)
+with_entries set entry other low = elim (cases_eq other entry) [
+  | inl same ↦ rw (same, bit_at_set_same w16 set entry low, lt-ltb entry 16 low, eq-eqb entry entry refl) (sym (or_true (true && eqb (bit_at set entry) 1)))
+  | inr apart ↦ rw (bit_at_set_other w16 set entry low other apart, ne_eqb other entry apart) (sym (or_false (has_entry set other)))
+]
+
+pub without_entries : (set entry other : ℕ) → entry < 16 → has_entry (bit_and set (bit_not w16 (1 * 2 ^ entry % 65536))) other ≡ (has_entry set other && not (eqb other entry))
+without_entries set entry other low = elim (cases_lt other 16) [
+  | inl small ↦ elim (cases_eq other entry) [
+    | inl same ↦ rw (same, bit_at_clear_same w16 set entry low, eq-eqb entry entry refl) (and_false (ltb entry 16) ∙ sym (and_false (has_entry set entry)))
+    | inr apart ↦ rw (bit_at_clear_other w16 set entry low other small apart, ne_eqb other entry apart) (sym (and_true (has_entry set other)))
+  ]
+  | inr large ↦ (let none : ltb other 16 ≡ false = elim (cases_Bool (ltb other 16)) [ inl t ↦ absurd (omega (arith, ltb-true other 16 t, large)) | inr n ↦ n ] in rw none refl)
+]
+
+pub with_number : (set entry : ℕ) → entry < 16 → bit_at set entry ≡ 0 → bit_or set (1 * 2 ^ entry % 65536) ≡ set + 2 ^ entry
+with_number set entry low out =
+    ap (bit_or set) (one_bit entry low)
+    ∙ or_disjoint set (2 ^ entry) (and_pow set entry ∙ none)
+  where
+    none : bit_at set entry * 2 ^ entry ≡ 0
+    none = rw out (omega arith)
+
+pub without_number : (set entry : ℕ) → set < 2 ^ 16 → entry < 16 → bit_at set entry ≡ 1 → bit_and set (bit_not w16 (1 * 2 ^ entry % 65536)) ≡ set - 2 ^ entry
+without_number set entry fits low has =
+    same_from_bits_below 16 (bit_and set (bit_not w16 (1 * 2 ^ entry % 65536))) (set - 2 ^ entry) (omega (arith, and_le_l set (bit_not w16 (1 * 2 ^ entry % 65536)), fits)) (omega arith) at
+  where
+    at : (i : ℕ) → i < 16 → bit_at (bit_and set (bit_not w16 (1 * 2 ^ entry % 65536))) i ≡ bit_at (set - 2 ^ entry) i
+    at i small = elim (cases_eq i entry) [
+      | inl same ↦ rw same (bit_at_clear_same w16 set entry low ∙ sym (bit_without_same entry set has))
+      | inr apart ↦ bit_at_clear_other w16 set entry low i small apart ∙ sym (bit_without_other entry set i has apart)
+    ]
+
+either_bit : (x y : ℕ) → x < 2 → y < 2 → eqb (max x y) 1 ≡ (eqb x 1 || eqb y 1)
+either_bit zero zero h k = refl
+either_bit zero (suc zero) h k = refl
+either_bit (suc zero) zero h k = refl
+either_bit (suc zero) (suc zero) h k = refl
+either_bit (suc (suc x)) y h k = absurd (omega arith)
+either_bit x (suc (suc y)) h k = absurd (omega arith)
+
+and_over : (a b c : Bool) → (a && (b || c)) ≡ ((a && b) || (a && c))
+and_over true b c = refl
+and_over false b c = refl
+
+pub union_entries : (set other entry : ℕ) → has_entry (bit_or set other) entry ≡ (has_entry set entry || has_entry other entry)
+union_entries set other entry =
+    ap (λ bit. ltb entry 16 && eqb bit 1) (bit_at_or set other entry)
+    ∙ ap (λ b. ltb entry 16 && b) (either_bit (bit_at set entry) (bit_at other entry) (bit_at-lt set entry) (bit_at-lt other entry))
+    ∙ and_over (ltb entry 16) (eqb (bit_at set entry) 1) (eqb (bit_at other entry) 1)
+
+within_so : (set other : ℕ) → bit_and set other ≡ set → IsWithin set other
+within_so set other is entry has =
+    let bit : (entry < 16) × (bit_at set entry ≡ 1) = has_bit set entry has in
+    bit_has other entry (bit.0, omega (arith, bit.1, ap (λ n. bit_at n entry) is, bit_at_and set other entry, bit_at-lt other entry))
+
+so_within : (set other : ℕ) → set < 2 ^ 16 → IsWithin set other → bit_and set other ≡ set
+so_within set other fits within = same_from_bits_below 16 (bit_and set other) set (omega (arith, and_le_l set other, fits)) fits at
+  where
+    at : (i : ℕ) → i < 16 → bit_at (bit_and set other) i ≡ bit_at set i
+    at i small = elim (cases_eq (bit_at set i) 1) [
+      | inl one ↦ omega (arith, one, bit_at_and set other i, (has_bit other i (within i (bit_has set i (small, one)))).1)
+      | inr none ↦ omega (arith, none, bit_at_and set other i, bit_at-lt set i)
+    ]
+
+pub within_told : (set other : ℕ) → set < 2 ^ 16 → IsTrue (eqb (bit_and set other) set) ↔ IsWithin set other
+within_told set other fits = (
+  λ h. within_so set other (eqb-true (bit_and set other) set h),
+  λ h. eq-eqb (bit_and set other) set (so_within set other fits h),
+)

@@ -1,0 +1,11 @@
+-- Which entries a condition names, each as often as it names it.
+use Rattle.std.specs.Prelude.{ℕ, Bool, not, ◌&&◌, ◌==◌, List, [], ◌∷◌}
+use Rattle.std.specs.List.{list_all, list_any}
+
+-- every entry that is named is one of these
+abbrev pub are_within : List ℕ → List ℕ → Bool
+are_within named placed = list_all (λ entry. list_any (λ e. entry == e) placed) named
+
+-- this entry is named, and no other one
+abbrev pub are_just : List ℕ → ℕ → Bool
+are_just named entry = are_within named (entry ∷ []) && not (are_within named [])

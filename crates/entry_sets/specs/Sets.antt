@@ -1,0 +1,25 @@
+-- Sets of FROM entries as the bits of a number: entry x is in the set where bit x is set. There are at most sixteen entries.
+use Rattle.std.specs.Prelude.{◌≡◌, ℕ, ◌+◌, ◌^◌, Bool, true, ◌&&◌, ◌==◌, nat_lt, List, [], ◌∷◌, filter}
+use Rattle.std.specs.List.{range_with_len}
+use Rattle.std.specs.Int.{bit_at}
+
+-- the entry is in the set
+abbrev pub has_entry : ℕ → ℕ → Bool
+has_entry set entry = nat_lt entry 16 && (bit_at set entry == 1)
+
+-- each entry of the one set is in the other
+abbrev pub IsWithin : ℕ → ℕ → Type 0
+IsWithin set other = (entry : ℕ) → has_entry set entry ≡ true → has_entry other entry ≡ true
+
+-- those of `count` entries from a first one on that are in the set, in FROM order
+abbrev pub entries_from : ℕ → ℕ → ℕ → List ℕ
+entries_from set first count = filter (λ entry. bit_at set entry == 1) (range_with_len first count)
+
+-- the entries of a set
+unfoldable pub entries_of_set : ℕ → List ℕ
+entries_of_set set = entries_from set 0 16
+
+-- the set of different entries
+abbrev pub set_of : List ℕ → ℕ
+set_of [] = 0
+set_of (entry ∷ entries) = 2 ^ entry + set_of entries

@@ -1,0 +1,103 @@
+ghost use Rattle.std.specs.Prelude.{◌≡◌, ◌↔◌, ◌+◌, ◌-◌, ◌^◌, ◌<◌, ◌==◌, ◌&&◌, ◌||◌, ℕ, true, false, not, IsTrue};
+ghost use Rattle.std.specs.Int.{bit_at};
+ghost use Rattle.entry_sets.specs.Sets.{IsWithin, entries_of_set, has_entry};
+
+use crate::iter::Entries;
+use std::marker::Model;
+
+/// A set of FROM entries, which contracts see as the number whose bits are the set: entry x is in it where bit x is set.
+#[derive(Clone, Copy, Debug, PartialEq, Eq)]
+pub struct EntrySet {
+    bits: u16,
+}
+
+impl Model for EntrySet {
+    ghost use Rattle.std.specs.Prelude.{ℕ, ◌^◌, ◌<◌};
+    ghost use Rattle.std.specs.Coded.{coded_ℕ};
+
+    ghost Value = { ℕ };
+
+    ghost coded = { coded_ℕ };
+
+    ghost view = { λ set. set.bits };
+
+    ghost invariant = { λ set. set.bits < 2 ^ 16 };
+
+    ghost inverse = { λ bits. record { bits = bits } };
+}
+
+impl EntrySet {
+    /// The set without entries.
+    pub const fn empty() -> EntrySet
+        ensures { result ≡ 0 }
+    {
+        EntrySet { bits: 0 }
+    }
+
+    /// The set of these bits.
+    pub const fn from_bits(bits: u16) -> EntrySet
+        ensures { result ≡ bits }
+    {
+        EntrySet { bits }
+    }
+
+    /// Its bits.
+    pub const fn bits(self) -> u16
+        ensures { result ≡ self }
+    {
+        self.bits
+    }
+
+    /// Whether the entry is in the set.
+    pub fn has(self, entry: u8) -> bool
+        ensures value { result ≡ has_entry self entry }
+        ensures bit { entry < 16 → IsTrue result ↔ (bit_at self entry ≡ 1) }
+    {
+        entry < 16 && (self.bits >> entry) & 1 == 1
+    }
+
+    /// The set and the entry.
+    pub fn with(self, entry: u8) -> EntrySet
+        requires { entry < 16 }
+        ensures entries { (other : ℕ) → has_entry result other ≡ (has_entry self other || (other == entry)) }
+        ensures number { bit_at self entry ≡ 0 → result ≡ self + 2 ^ entry }
+    {
+        EntrySet {
+            bits: self.bits | (1 << entry),
+        }
+    }
+
+    /// The set but for the entry.
+    pub fn without(self, entry: u8) -> EntrySet
+        requires { entry < 16 }
+        ensures entries { (other : ℕ) → has_entry result other ≡ (has_entry self other && not (other == entry)) }
+        ensures number { bit_at self entry ≡ 1 → result ≡ self - 2 ^ entry }
+    {
+        EntrySet {
+            bits: self.bits & !(1 << entry),
+        }
+    }
+
+    /// All entries of both sets.
+    pub fn union(self, other: EntrySet) -> EntrySet
+        ensures { (entry : ℕ) → has_entry result entry ≡ (has_entry self entry || has_entry other entry) }
+    {
+        EntrySet {
+            bits: self.bits | other.bits,
+        }
+    }
+
+    /// Whether each entry of the set is in the other one.
+    pub fn is_within(self, other: EntrySet) -> bool
+        ensures { IsTrue result ↔ IsWithin self other }
+    {
+        self.bits & other.bits == self.bits
+    }
+
+    /// Its entries in FROM order.
+    pub fn entries(self) -> Entries
+        ensures { result ≡ entries_of_set self }
+    {
+        Entries::of(self)
+    }
+}

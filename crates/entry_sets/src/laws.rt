@@ -1,0 +1,27 @@
+//! What the definitions say, as laws. Each call does nothing.
+ghost use Rattle.std.specs.Prelude.{◌≡◌, ◌==◌, ◌↔◌, ◌<◌, [], ◌∷◌, ℕ, List, true, false};
+ghost use Rattle.std.specs.Int.{bit_at};
+ghost use Rattle.std.specs.List.{Contains};
+ghost use Rattle.std.specs.List.Sorted.{IsStrictlyIncreasing};
+ghost use Rattle.entry_sets.specs.Naming.{are_just, are_within};
+ghost use Rattle.entry_sets.specs.Sets.{entries_of_set, has_entry, set_of};
+
+/// The list of a set has its entries, and they ascend.
+pub fn a_set_has_its_entries()
+    ensures has { (set entry : ℕ) → Contains (entries_of_set set) entry ↔ (has_entry set entry ≡ true) }
+    ensures bits { (set entry : ℕ) → Contains (entries_of_set set) entry ↔ ((entry < 16) × (bit_at set entry ≡ 1)) }
+    ensures ascend { (set : ℕ) → IsStrictlyIncreasing (entries_of_set set) }
+{}
+
+/// What the definitions give for small sets.
+pub fn examples()
+    ensures set { set_of (0 ∷ 2 ∷ []) ≡ 5 }
+    ensures has { has_entry 5 2 ≡ true }
+    ensures has_not { has_entry 5 1 ≡ false }
+    ensures entries { entries_of_set 5 ≡ 0 ∷ 2 ∷ [] }
+    ensures none { entries_of_set 0 ≡ [] }
+    ensures twice { are_just (1 ∷ 1 ∷ []) 1 ≡ true }
+    ensures another { are_just (1 ∷ 2 ∷ []) 1 ≡ false }
+    ensures nothing { are_just [] 1 ≡ false }
+    ensures within { are_within (1 ∷ 2 ∷ []) (2 ∷ 3 ∷ 1 ∷ []) ≡ true }
+{}
