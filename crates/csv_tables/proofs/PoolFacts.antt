@@ -2,13 +2,16 @@
 use Rattle.std.proofs.Common.{◌≡◌, ℕ, zero, suc, ◌+◌, Bool, true, false, ◌||◌, cond, List, [], ◌∷◌, ◌++◌, map, Some, refl, sym, ap, ◌∙◌, if◌then◌else◌, get_or}
 use Rattle.std.specs.Prelude.{String, position, slice_get, not, string_bytes, option_map}
 use Rattle.std.specs.List.{list_any, position_or_len, AllByRecursion, IsDistinct}
-use Rattle.std.specs.Str.{bytes_eq}
+use Rattle.std.specs.Str.{bytes_eq, IsUtf8}
 use Rattle.std.specs.String.{string_eq}
 use Rattle.std.proofs.lemmas.List.Quantifiers.{position-Some}
 use Rattle.std.proofs.lemmas.Option.{slice_get-map, slice_get-get_or}
 use Rattle.std.proofs.lemmas.Map.Made.{AllPairs-from_IsDistinct}
 use Rattle.std.proofs.lemmas.Slice.Eq.{bytes_eq-Decides}
 use Rattle.std.proofs.lemmas.List.{map-append, length-map}
+use Rattle.std.proofs.lemmas.List.Elements.{All-from_recursion}
+use Rattle.std.proofs.lemmas.Str.{IsUtf8-string_bytes}
+use Rattle.std.specs.Prelude.{All}
 use Rattle.indexmap.specs.IndexSet.{insert_key}
 use Rattle.csv_tables.specs.Pools.{with_text, AreDifferent}
 
@@ -82,3 +85,11 @@ distinct_texts (k ∷ keys) d = (apart_texts k keys d.0, distinct_texts keys d.1
 -- a set's keys are different as texts
 pub different_texts : {Z : Type 0} (keys : List (String Z)) → IsDistinct string_eq keys → AreDifferent (map string_bytes keys)
 different_texts keys d = AllPairs-from_IsDistinct bytes_eq-Decides (map string_bytes keys) (distinct_texts keys d)
+
+texts_are_utf8 : {Z : Type 0} (keys : List (String Z)) → AllByRecursion IsUtf8 (map string_bytes keys)
+texts_are_utf8 [] = tt
+texts_are_utf8 (key ∷ keys) = (IsUtf8-string_bytes key, texts_are_utf8 keys)
+
+-- each text of a set of strings is UTF-8
+pub utf8_texts : {Z : Type 0} (keys : List (String Z)) → All IsUtf8 (map string_bytes keys)
+utf8_texts keys = All-from_recursion IsUtf8 (map string_bytes keys) (texts_are_utf8 keys)

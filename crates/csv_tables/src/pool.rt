@@ -1,7 +1,7 @@
 //! The texts of tables, each once.
-ghost use Rattle.std.specs.Prelude.{◌≡◌, ◌<◌, ◌^◌, [], length, position, slice_get, Some, IfOk, OnOk, OnErr, option_map};
+ghost use Rattle.std.specs.Prelude.{◌≡◌, ◌<◌, ◌^◌, [], All, length, position, slice_get, Some, IfOk, OnOk, OnErr, option_map};
 ghost use Rattle.std.specs.List.{position_or_len};
-ghost use Rattle.std.specs.Str.{bytes_eq};
+ghost use Rattle.std.specs.Str.{IsUtf8, bytes_eq};
 ghost use Rattle.csv_tables.specs.Pools.{with_text, AreDifferent};
 
 use base_io::NoMemory;
@@ -36,11 +36,12 @@ impl Pool {
         }
     }
 
-    /// How many texts there are. No two of them are equal.
+    /// How many texts there are. No two of them are equal, and each is UTF-8.
     pub fn len(&self) -> usize
         ensures len { result ≡ length self.now }
         ensures few { result < 2 ^ 32 }
         ensures different { AreDifferent self.now }
+        ensures texts { All IsUtf8 self.now }
     {
         self.texts.len()
     }
