@@ -9,7 +9,7 @@ most_entries = 12
 abbrev pub most_rows : ℕ
 most_rows = 4000000
 
--- rows that all scans and joins may make together, and how many where none is named
+-- rows that the bound of each level of a plan may say, and how many where none is named
 abbrev pub least_budget : ℕ
 least_budget = 1
 
