@@ -1,0 +1,32 @@
+//! Three tables joined in a triangle, with their scans, levels and bounds: theorems by computation.
+ghost use Rattle.std.specs.Prelude.{◌≡◌, ◌∷◌, [], length};
+ghost use Rattle.berge_tree.specs.Rooted.{entries_of_set};
+ghost use Rattle.join_graph.specs.Conjuncts.{equalities_of};
+ghost use Rattle.join_graph.specs.Examples.{triangle as sides};
+ghost use Rattle.tree_bounds.specs.Examples.{triangle_bounds};
+ghost use Rattle.tree_bounds.specs.SetBounds.{bound_of_set};
+ghost use Rattle.sql_meaning.specs.Examples.{triangle, triangle_tables};
+ghost use Rattle.level_bounds.specs.Examples.{three_tables, triangle_level, triangle_scan};
+ghost use Rattle.level_bounds.specs.Keys.{cell_at};
+ghost use Rattle.level_bounds.specs.Orders.{IsOrderOf};
+ghost use Rattle.level_bounds.specs.Scans.{BoundsScans};
+
+/// The order R, S, T has levels of 3, 5 and 4 rows, and bounds of 3, 5 and 9.
+pub fn triangles()
+    ensures joined { equalities_of triangle ≡ sides }
+    ensures first { length (triangle_level (0 ∷ [])) ≡ 3 }
+    ensures second { length (triangle_level (0 ∷ 1 ∷ [])) ≡ 5 }
+    ensures last { length (triangle_level (0 ∷ 1 ∷ 2 ∷ [])) ≡ 4 }
+    ensures turned { length (triangle_level (2 ∷ 0 ∷ 1 ∷ [])) ≡ 4 }
+    ensures first_bound { bound_of_set triangle_bounds (equalities_of triangle) 1 ≡ 3 }
+    ensures second_bound { bound_of_set triangle_bounds (equalities_of triangle) 3 ≡ 5 }
+    ensures last_bound { bound_of_set triangle_bounds (equalities_of triangle) 7 ≡ 9 }
+{}
+
+/// The premises of the laws, all met: the bounds are at least what the scans of the three entries have, each scan is
+/// its whole table, and another order is one of the same set.
+pub fn instances()
+    ensures scans { triangle_scan 1 ≡ 0 ∷ 1 ∷ 2 ∷ [] }
+    ensures bounds { BoundsScans triangle_bounds triangle three_tables (cell_at triangle_tables) 7 }
+    ensures order { IsOrderOf (entries_of_set 7) (2 ∷ 0 ∷ 1 ∷ []) }
+{}

@@ -1,0 +1,126 @@
+//! What holds of scans, levels and bounds: no law computes anything, and the contract is the law.
+ghost use Rattle.std.specs.Prelude.{◌≡◌, ◌↔◌, ◌+◌, ◌*◌, ◌^◌, ◌<◌, ◌≤◌, ◌==◌, ℕ, IsPermutation, IsSomeAnd, IsTrue, List, [], ◌∷◌, All, Some, length, map, slice_get, slice_index_or, take};
+ghost use Rattle.std.specs.List.{AllByRecursion, Contains, IsDistinct, filter, list_all, range_with_len};
+ghost use Rattle.std.specs.Str.{IsUtf8};
+ghost use Rattle.berge_tree.specs.declared.edges.Edge.{Edge};
+ghost use Rattle.berge_tree.specs.Rooted.{entries_of_set};
+ghost use Rattle.query_types.specs.declared.types.Cond.{Cond};
+ghost use Rattle.query_types.specs.declared.types.Query.{Query};
+ghost use Rattle.query_types.specs.Named.{NamesItsEntries, entries_named};
+ghost use Rattle.join_graph.specs.Conjuncts.{equalities_of, equality_of, local_of, names_just};
+ghost use Rattle.join_graph.specs.Kept.{equalities_within};
+ghost use Rattle.tree_bounds.specs.Scans.{SatisfiesScanned, scanned};
+ghost use Rattle.tree_bounds.specs.SetBounds.{SetHasLists, bound_of_set};
+ghost use Rattle.tree_bounds.specs.Tables.{AreDifferent, SetDominates};
+ghost use Rattle.tree_bounds.specs.TreeBounds.{EntryBounds};
+ghost use Rattle.csv_tables.specs.declared.types.Database.{Database};
+ghost use Rattle.csv_tables.specs.Pools.{AreDifferent as AreDifferentTexts};
+ghost use Rattle.sql_meaning.specs.Answers.{answer, conjunct_of, entries_of, selected};
+ghost use Rattle.sql_meaning.specs.Conditions.{cond_holds};
+ghost use Rattle.sql_meaning.specs.Databases.{IsDatabaseOf};
+ghost use Rattle.sql_meaning.specs.Levels.{AsksOnly, Conjunct, level_of, names_just as names_just_it, row_in, scan};
+ghost use Rattle.sql_meaning.specs.Tables.{Tables, row_counts, tables_of};
+ghost use Rattle.level_bounds.specs.Joins.{IsAsked};
+ghost use Rattle.level_bounds.specs.Keys.{HaveDifferentCharacters, JoinsEqualKeys, Keys, are_equal_at, cell_at};
+ghost use Rattle.level_bounds.specs.Orders.{IsOrderOf, reordered, set_of};
+ghost use Rattle.level_bounds.specs.Scans.{BoundsScans, level_over, own_conjuncts, scan_of};
+ghost use Rattle.level_bounds.specs.Whole.{AreCompressed, uncompressed};
+
+/// A conjunct is in the part of just one entry exactly where it counts in the scan of that entry: the scan has the rows
+/// for which all conjuncts hold that name just this entry.
+pub fn scans_ask_local_conjuncts()
+    ensures same { (tables : Tables) (entry : ℕ) (cond : Cond) → names_just_it (conjunct_of tables cond) entry ≡ names_just entry cond }
+    ensures scan { (query : Query) (tables : Tables) (entry : ℕ)
+        → scan_of query tables entry
+        ≡ filter (λ row. list_all (cond_holds tables (λ e. row)) (own_conjuncts query entry)) (range_with_len 0 (row_counts tables entry)) }
+    ensures by_number { (query : Query) (tables : Tables) (entry row : ℕ) → entry < length query.from
+        → Contains (scan_of query tables entry) row
+        ↔ ((row < row_counts tables entry) × ((k : ℕ) → Contains (slice_index_or (local_of query) entry []) k
+        → IsSomeAnd (slice_get query.conjuncts k) (λ cond. IsTrue (cond_holds tables (λ e. row) cond)))) }
+{}
+
+/// Each equality that joins two entries is a conjunct, which names these two and holds exactly where the two values are equal.
+pub fn equalities_are_conjuncts()
+    ensures stand { (query : Query) (e : Edge)
+        → Contains (equalities_of query) e ↔ ((cond : Cond) × Contains query.conjuncts cond × (equality_of cond ≡ Some e)) }
+    ensures name { (cond : Cond) (e : Edge) → equality_of cond ≡ Some e → entries_named cond ≡ e.left.entry ∷ e.right.entry ∷ [] }
+    ensures hold { (tables : Tables) (row_of : ℕ → ℕ) (cond : Cond) (e : Edge) → equality_of cond ≡ Some e
+        → cond_holds tables row_of cond ≡ are_equal_at tables e (row_of e.left.entry) (row_of e.right.entry) }
+{}
+
+/// Where the texts of a database are different, its cells are keys: rows that an equality joins have equal cells.
+pub fn cells_are_keys()
+    ensures cells { (query : Query) (db : Database) → IsDatabaseOf query db → HaveDifferentCharacters db.pool
+        → AllByRecursion (JoinsEqualKeys (tables_of db) (cell_at db)) (equalities_of query) }
+    ensures texts { (texts : List (List ℕ)) → All IsUtf8 texts → AreDifferentTexts texts → HaveDifferentCharacters texts }
+{}
+
+/// Different entries make an order of their set, each prefix too, and all of them an order of all.
+pub fn orders_are_of_their_sets()
+    ensures prefixes { (order : List ℕ) (k : ℕ) → AllByRecursion (λ entry. entry < 16) order → IsDistinct ◌==◌ order
+        → IsOrderOf (entries_of_set (set_of (take k order))) (take k order) }
+    ensures all { (n : ℕ) (order : List ℕ) → AllByRecursion (λ entry. entry < n) order → IsDistinct ◌==◌ order → length order ≡ n
+        → IsOrderOf (range_with_len 0 n) order }
+{}
+
+/// A level over the entries of a set, in any order, is a list of different choices of scanned rows that satisfy all
+/// equalities of the set.
+pub fn levels_are_choices_of_scanned_rows()
+    ensures satisfy { (query : Query) (tables : Tables) (key : Keys) (subset : ℕ) (order : List ℕ)
+        → AllByRecursion (JoinsEqualKeys tables key) (equalities_within subset (equalities_of query)) → IsOrderOf (entries_of_set subset) order
+        → AllByRecursion (SatisfiesScanned (scan_of query tables) key (entries_of_set subset) (equalities_within subset (equalities_of query)))
+        (map (row_in order) (level_over query tables order)) }
+    ensures different { (query : Query) (tables : Tables) (subset : ℕ) (order : List ℕ) → IsOrderOf (entries_of_set subset) order
+        → AreDifferent (entries_of_set subset) (map (row_in order) (level_over query tables order)) }
+{}
+
+/// Never under: a level over the entries of a set, in any order, has at most as many rows as the bound of the set says,
+/// over the least of its turns, where the bounds of the entries are at least what their scans have.
+pub fn levels_are_never_under()
+    ensures database { (query : Query) (db : Database) (b : EntryBounds) (subset : ℕ) (order : List ℕ)
+        → IsDatabaseOf query db → HaveDifferentCharacters db.pool → BoundsScans b query (tables_of db) (cell_at db) subset
+        → IsOrderOf (entries_of_set subset) order → length (level_over query (tables_of db) order) ≤ bound_of_set b (equalities_of query) subset }
+    ensures tables { (query : Query) (tables : Tables) (key : Keys) (b : EntryBounds) (subset : ℕ) (order : List ℕ)
+        → AllByRecursion (JoinsEqualKeys tables key) (equalities_within subset (equalities_of query)) → BoundsScans b query tables key subset
+        → IsOrderOf (entries_of_set subset) order → length (level_over query tables order) ≤ bound_of_set b (equalities_of query) subset }
+    // over any conjuncts
+    ensures conjuncts { (conjuncts : List Conjunct) (rows : ℕ → ℕ) (key : Keys) (es : List Edge) (b : EntryBounds) (subset : ℕ) (order : List ℕ)
+        → AllByRecursion AsksOnly conjuncts → AllByRecursion (IsAsked conjuncts rows key) (equalities_within subset es)
+        → SetHasLists b es subset → SetDominates b (scanned (scan conjuncts rows) key) es subset
+        → IsOrderOf (entries_of_set subset) order → length (level_of conjuncts rows order) ≤ bound_of_set b es subset }
+{}
+
+/// A level depends on its entries as a set, up to the order of its rows: in another order of the same entries it has
+/// the same choices.
+pub fn levels_are_of_sets()
+    ensures rearranged { (conjuncts : List Conjunct) (rows : ℕ → ℕ) (set order other : List ℕ) → IsOrderOf set order → IsOrderOf set other
+        → IsPermutation (map (reordered order other) (level_of conjuncts rows order)) (level_of conjuncts rows other) }
+    ensures as_many { (conjuncts : List Conjunct) (rows : ℕ → ℕ) (set order other : List ℕ) → IsOrderOf set order → IsOrderOf set other
+        → length (level_of conjuncts rows order) ≡ length (level_of conjuncts rows other) }
+{}
+
+/// The last level of any order of all entries, each choice as the values of the outputs, is the answer of the query,
+/// each row as often as there.
+pub fn last_levels_are_the_answer()
+    ensures { (query : Query) (tables : Tables) (order : List ℕ) → NamesItsEntries query → IsOrderOf (entries_of query) order
+        → IsPermutation (map (λ choice. selected query tables (row_in order choice)) (level_over query tables order)) (answer query tables) }
+{}
+
+/// Where no conjunct names just one entry, its scan is its whole table. Bounds from compressed degree lists of whole tables
+/// are at least what such scans have.
+pub fn unfiltered_scans_are_whole_tables()
+    ensures whole { (query : Query) (tables : Tables) (entry : ℕ) → own_conjuncts query entry ≡ []
+        → scan_of query tables entry ≡ range_with_len 0 (row_counts tables entry) }
+    ensures bounded { (query : Query) (tables : Tables) (key : Keys) (accuracy : ℕ) (b : EntryBounds) (subset : ℕ)
+        → AllByRecursion (λ entry. own_conjuncts query entry ≡ []) (entries_of_set subset)
+        → AreCompressed accuracy b tables key (equalities_of query) subset → BoundsScans b query tables key subset }
+{}
+
+/// Near: at accuracy K, K^n times the bound of a set of n entries from compressed lists is at most (K + 1)^n times the
+/// bound of the same set from the degree lists themselves.
+pub fn compressed_bounds_are_near()
+    ensures { (query : Query) (tables : Tables) (key : Keys) (accuracy : ℕ) (b : EntryBounds) (subset : ℕ)
+        → AreCompressed accuracy b tables key (equalities_of query) subset
+        → accuracy ^ length (entries_of_set subset) * bound_of_set b (equalities_of query) subset
+        ≤ (accuracy + 1) ^ length (entries_of_set subset) * bound_of_set (uncompressed tables key) (equalities_of query) subset }
+{}
