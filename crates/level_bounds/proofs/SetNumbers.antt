@@ -1,0 +1,144 @@
+-- Different entries as orders of their set.
+use Rattle.std.proofs.Common.{◌≡◌, ◌≢◌, ℕ, zero, suc, ◌+◌, ◌-◌, ◌*◌, ◌/◌, ◌%◌, ◌^◌, ◌<◌, ◌≤◌, Bool, true, false, eqb, nat_eq, List, [], ◌∷◌, length, take, refl, ap, sym, ◌∙◌, subst, arith, inl, inr}
+use Rattle.std.specs.Int.{bit_at}
+use Rattle.std.specs.List.{AllByRecursion, Contains, IsDistinct, range_with_len}
+use Rattle.std.specs.Set.{is_member}
+use Rattle.std.proofs.Math.Nat.{pow-suc}
+use Rattle.std.proofs.lemmas.Bool.{cases_Bool, cases_eq, cases_lt, eqb-true, eq-eqb, false≢true, ne_eqb}
+use Rattle.std.proofs.lemmas.Cmp.{nat_eq_equiv}
+use Rattle.std.proofs.lemmas.List.FromFn.{length-range_with_len}
+use Rattle.std.proofs.lemmas.Map.Keys.{IsDistinct-head, IsDistinct-tail, IsDistinct-cons}
+use Rattle.std.proofs.lemmas.Map.Made.{length-le_from_is_member}
+use Rattle.std.proofs.lemmas.Nat.{pow_pos}
+use Rattle.std.proofs.lemmas.Nat.Bits.{bit_at_lowest, bit_at-suc, bit_at-zero, bit_at-lt}
+use Rattle.berge_tree.specs.Rooted.{entries_of_set}
+use Rattle.berge_tree.proofs.Planting.{set_bits, set_bits_only}
+use Rattle.berge_tree.proofs.Steps.{one_in, in_front, in_rest, in_none}
+use Rattle.level_bounds.specs.Orders.{IsOrderOf, set_of}
+use Rattle.level_bounds.proofs.Lists.{each_of, all_from, is_in, in_true, true_in, in_range, range_within}
+
+-- ---- ranges
+
+none_distinct : IsDistinct nat_eq []
+unfolding IsDistinct
+none_distinct = tt
+
+pub range_distinct : (a n : ℕ) → IsDistinct nat_eq (range_with_len a n)
+range_distinct a zero = none_distinct
+range_distinct a (suc n) =
+    IsDistinct-cons nat_eq a (range_with_len (a + 1) n)
+    (all_from (λ y. nat_eq a y ≡ false) (range_with_len (a + 1) n) (λ y k. ne_eqb a y (λ e. absurd (omega (arith, (range_within (a + 1) n y k).0, e)))))
+    (range_distinct (a + 1) n)
+
+pub range_is_order : (n : ℕ) → IsOrderOf (range_with_len 0 n) (range_with_len 0 n)
+range_is_order n = record {
+  once = range_distinct 0 n;
+  within = all_from (Contains (range_with_len 0 n)) (range_with_len 0 n) (λ x k. k);
+  covers = all_from (Contains (range_with_len 0 n)) (range_with_len 0 n) (λ x k. k);
+}
+
+-- n different numbers below n are all of them
+pub order_of_all : (n : ℕ) (order : List ℕ) → AllByRecursion (λ entry. entry < n) order → IsDistinct nat_eq order → length order ≡ n → IsOrderOf (range_with_len 0 n) order
+order_of_all n order low once long = record {
+  once = once;
+  within = all_from (Contains (range_with_len 0 n)) order (λ x k. in_range 0 n x (omega arith) (omega (arith, each_of (λ entry. entry < n) order low x k)));
+  covers = all_from (Contains order) (range_with_len 0 n) (λ x k. elim (cases_Bool (is_in order x)) [
+    | inl here ↦ true_in order x here
+    | inr gone ↦ absurd (omega (arith, one_more x gone (range_within 0 n x k).1, long, length-range_with_len 0 n))
+  ]);
+}
+  where
+    apart : (x : ℕ) → is_in order x ≡ false → (y : ℕ) → Contains order y → nat_eq x y ≡ false
+    apart x gone y k = ne_eqb x y (λ e. false≢true (sym gone ∙ in_true order x (subst (Contains order) (sym e) k)))
+
+    members : (x : ℕ) → x < 0 + n → (q : ℕ) → is_member nat_eq (x ∷ order) q ≡ true → is_member nat_eq (range_with_len 0 n) q ≡ true
+    members x below q h = in_true (range_with_len 0 n) q (elim (one_in x order q (true_in (x ∷ order) q h)) [
+      | inl later ↦ in_range 0 n q (omega arith) (omega (arith, each_of (λ entry. entry < n) order low q later))
+      | inr is ↦ in_range 0 n q (omega arith) (omega (arith, below, is))
+    ])
+
+    one_more : (x : ℕ) → is_in order x ≡ false → x < 0 + n → suc (length order) ≤ length (range_with_len 0 n)
+    one_more x gone below =
+        length-le_from_is_member nat_eq_equiv (x ∷ order) (range_with_len 0 n)
+        (IsDistinct-cons nat_eq x order (all_from (λ y. nat_eq x y ≡ false) order (apart x gone)) once) (members x below)
+
+-- ---- the number of a set
+
+twice : (x : ℕ) → 2 ^ suc x ≡ 2 * 2 ^ x
+twice x = omega (arith, pow-suc 2 x)
+
+-- where the bit is 0, the power sets it, and no other one
+pub bit_added : (entry set : ℕ) → bit_at set entry ≡ 0 → bit_at (2 ^ entry + set) entry ≡ 1
+bit_added zero set out =
+    let even : set % 2 ≡ 0 = sym (bit_at_lowest set) ∙ out in
+    let odd : (1 + set) % 2 ≡ 1 = omega arith in
+    bit_at_lowest (1 + set) ∙ odd
+bit_added (suc entry) set out =
+    let half : (2 ^ suc entry + set) / 2 ≡ 2 ^ entry + set / 2 = omega (arith, twice entry) in
+    bit_at-suc (2 ^ suc entry + set) entry ∙ ap (λ n. bit_at n entry) half ∙ bit_added entry (set / 2) (sym (bit_at-suc set entry) ∙ out)
+
+pub bit_kept : (entry set other : ℕ) → bit_at set entry ≡ 0 → other ≢ entry → bit_at (2 ^ entry + set) other ≡ bit_at set other
+bit_kept zero set zero out apart = absurd (apart refl)
+bit_kept zero set (suc other) out apart =
+    let even : set % 2 ≡ 0 = sym (bit_at_lowest set) ∙ out in
+    let half : (1 + set) / 2 ≡ set / 2 = omega arith in
+    bit_at-suc (1 + set) other ∙ ap (λ n. bit_at n other) half ∙ sym (bit_at-suc set other)
+bit_kept (suc entry) set zero out apart =
+    let lowest : (2 ^ suc entry + set) % 2 ≡ set % 2 = omega (arith, twice entry) in
+    bit_at_lowest (2 ^ suc entry + set) ∙ lowest ∙ sym (bit_at_lowest set)
+bit_kept (suc entry) set (suc other) out apart =
+    let half : (2 ^ suc entry + set) / 2 ≡ 2 ^ entry + set / 2 = omega (arith, twice entry) in
+    bit_at-suc (2 ^ suc entry + set) other
+    ∙ ap (λ n. bit_at n other) half
+    ∙ bit_kept entry (set / 2) other (sym (bit_at-suc set entry) ∙ out) (λ same. apart (ap suc same))
+    ∙ sym (bit_at-suc set other)
+
+-- the bits of the number of a set are its entries
+pub bits_are_entries : (entries : List ℕ) → IsDistinct nat_eq entries → (x : ℕ) → (bit_at (set_of entries) x ≡ 1 → Contains entries x) × (Contains entries x → bit_at (set_of entries) x ≡ 1)
+bits_are_entries [] d x = ((λ h. absurd (omega (arith, h, bit_at-zero x))), (λ k. absurd (in_none x k)))
+bits_are_entries (e ∷ entries) d x =
+    let rest : (y : ℕ) → (bit_at (set_of entries) y ≡ 1 → Contains entries y) × (Contains entries y → bit_at (set_of entries) y ≡ 1) = bits_are_entries entries (IsDistinct-tail nat_eq e entries d) in
+    let out : bit_at (set_of entries) e ≡ 0 = free (λ h. (rest e).0 h) in
+    elim (cases_eq x e) [
+      | inl same ↦ (
+        (λ h. in_front e entries x same),
+        (λ k. ap (bit_at (2 ^ e + set_of entries)) same ∙ bit_added e (set_of entries) out),
+      )
+      | inr apart ↦ (
+        (λ h. in_rest e entries x ((rest x).0 (sym (bit_kept e (set_of entries) x out apart) ∙ h))),
+        (λ k. bit_kept e (set_of entries) x out apart ∙ (rest x).1 (elim (one_in e entries x k) [ inl later ↦ later | inr is ↦ absurd (apart is) ])),
+      )
+    ]
+  where
+    not_again : Contains entries e → ⊥
+    not_again k = false≢true (sym (each_of (λ y. nat_eq e y ≡ false) entries (IsDistinct-head nat_eq e entries d) e k) ∙ eq-eqb e e refl)
+
+    free : (bit_at (set_of entries) e ≡ 1 → Contains entries e) → bit_at (set_of entries) e ≡ 0
+    free there = elim (cases_eq (bit_at (set_of entries) e) 0) [
+      | inl none ↦ none
+      | inr some ↦ absurd (not_again (there (omega (arith, bit_at-lt (set_of entries) e))))
+    ]
+
+pub order_of_set : (entries : List ℕ) → AllByRecursion (λ entry. entry < 16) entries → IsDistinct nat_eq entries → IsOrderOf (entries_of_set (set_of entries)) entries
+order_of_set entries low once = record {
+  once = once;
+  within = all_from (Contains (entries_of_set (set_of entries))) entries
+      (λ x k. set_bits_only (set_of entries) x (each_of (λ entry. entry < 16) entries low x k, (bits_are_entries entries once x).1 k));
+  covers = all_from (Contains entries) (entries_of_set (set_of entries)) (λ x k. (bits_are_entries entries once x).0 (set_bits (set_of entries) x k).1);
+}
+
+-- ---- prefixes
+
+all_taken : (P : ℕ → Type 0) (k : ℕ) (xs : List ℕ) → AllByRecursion P xs → AllByRecursion P (take k xs)
+all_taken P zero xs h = tt
+all_taken P (suc k) [] h = tt
+all_taken P (suc k) (x ∷ xs) h = (h.0, all_taken P k xs h.1)
+
+distinct_taken : (k : ℕ) (xs : List ℕ) → IsDistinct nat_eq xs → IsDistinct nat_eq (take k xs)
+distinct_taken zero xs d = none_distinct
+distinct_taken (suc k) [] d = none_distinct
+distinct_taken (suc k) (x ∷ xs) d =
+    IsDistinct-cons nat_eq x (take k xs) (all_taken (λ y. nat_eq x y ≡ false) k xs (IsDistinct-head nat_eq x xs d)) (distinct_taken k xs (IsDistinct-tail nat_eq x xs d))
+
+pub prefix_of_order : (order : List ℕ) (k : ℕ) → AllByRecursion (λ entry. entry < 16) order → IsDistinct nat_eq order → IsOrderOf (entries_of_set (set_of (take k order))) (take k order)
+prefix_of_order order k low once = order_of_set (take k order) (all_taken (λ entry. entry < 16) k order low) (distinct_taken k order once)
