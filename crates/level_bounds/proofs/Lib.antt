@@ -4,3 +4,7 @@ pub mod Choosing
 pub mod Reordering
 pub mod SetNumbers
 pub mod LastLevel
+pub mod Scanning
+pub mod OwnConjuncts
+pub mod EqualityFacts
+pub mod NeverUnder

@@ -1,0 +1,60 @@
+-- Never under, for the levels of a query.
+use Rattle.std.proofs.Common.{◌≡◌, ℕ, ◌≤◌, List, length, map, refl, arith}
+use Rattle.std.specs.List.{AllByRecursion, Contains}
+use Rattle.std.proofs.lemmas.List.{length-map}
+use Rattle.degree_sequences.specs.Domination.{DominatesKeys}
+use Rattle.berge_tree.specs.declared.edges.Edge.{Edge}
+use Rattle.berge_tree.specs.declared.edges.Place.{Place}
+use Rattle.berge_tree.specs.Equalities.{places_of}
+use Rattle.berge_tree.specs.Rooted.{entries_of_set}
+use Rattle.csv_tables.specs.declared.types.Database.{Database}
+use Rattle.query_types.specs.declared.types.Query.{Query}
+use Rattle.join_graph.specs.Conjuncts.{equalities_of}
+use Rattle.join_graph.specs.Kept.{equalities_within, joins_within}
+use Rattle.tree_bounds.specs.Scans.{SatisfiesScanned, scanned}
+use Rattle.tree_bounds.specs.SetBounds.{bound_of_set}
+use Rattle.tree_bounds.specs.Tables.{AreDifferent, Dominates, SetDominates}
+use Rattle.tree_bounds.specs.TreeBounds.{EntryBounds}
+use Rattle.sql_meaning.specs.Answers.{conjuncts_of}
+use Rattle.sql_meaning.specs.Levels.{AsksOnly, row_in}
+use Rattle.sql_meaning.specs.Tables.{Tables, row_counts}
+use Rattle.sql_meaning.proofs.AskFacts.{asks_only}
+use Rattle.level_bounds.specs.Joins.{IsAsked}
+use Rattle.level_bounds.specs.Keys.{JoinsEqualKeys, Keys}
+use Rattle.level_bounds.specs.Orders.{IsOrderOf}
+use Rattle.level_bounds.specs.Scans.{BoundsScans, level_over, scan_of}
+use Rattle.level_bounds.proofs.EqualityFacts.{are_asked}
+use Rattle.level_bounds.proofs.Lists.{all_from, each_of, from_filter}
+use Rattle.level_bounds.proofs.Scanning.{choices_differ, level_satisfies, level_within}
+
+module _ (query : Query) (tables : Tables) where
+  asks : AllByRecursion AsksOnly (conjuncts_of query tables)
+  asks = asks_only tables query.conjuncts
+
+  asked : (key : Keys) (subset : ℕ) → AllByRecursion (JoinsEqualKeys tables key) (equalities_within subset (equalities_of query))
+      → AllByRecursion (IsAsked (conjuncts_of query tables) (row_counts tables) key) (equalities_within subset (equalities_of query))
+  asked key subset keys = are_asked query tables key (equalities_within subset (equalities_of query)) (λ e there. (from_filter (joins_within subset) (equalities_of query) e there).0) keys
+
+  -- what bounds know of the scans, as the scans' own tables have it
+  dominates : (key : Keys) (b : EntryBounds) (subset : ℕ) → BoundsScans b query tables key subset → SetDominates b (scanned (scan_of query tables) key) (equalities_of query) subset
+  dominates key b subset known = record {
+    rows = known.rows;
+    columns = all_from (λ (p : Place). Dominates b (scanned (scan_of query tables) key) p.entry p.column) (places_of (equalities_within subset (equalities_of query)))
+        (λ p there. record {
+          keys = each_of (λ (p : Place). DominatesKeys (b.list p.entry p.column) (map (key p.entry p.column) (scan_of query tables p.entry)))
+              (places_of (equalities_within subset (equalities_of query))) known.columns p there;
+          key_per_row = length-map (scan_of query tables p.entry) (key p.entry p.column);
+        });
+  }
+
+  pub satisfies : (key : Keys) (subset : ℕ) (order : List ℕ) → AllByRecursion (JoinsEqualKeys tables key) (equalities_within subset (equalities_of query)) → IsOrderOf (entries_of_set subset) order
+      → AllByRecursion (SatisfiesScanned (scan_of query tables) key (entries_of_set subset) (equalities_within subset (equalities_of query))) (map (row_in order) (level_over query tables order))
+  satisfies key subset order keys o = level_satisfies (conjuncts_of query tables) (row_counts tables) key (equalities_of query) subset order asks (asked key subset keys) o
+
+  pub differ : (subset : ℕ) (order : List ℕ) → IsOrderOf (entries_of_set subset) order → AreDifferent (entries_of_set subset) (map (row_in order) (level_over query tables order))
+  differ subset order o = choices_differ (conjuncts_of query tables) (row_counts tables) (entries_of_set subset) order o
+
+  pub within : (key : Keys) (b : EntryBounds) (subset : ℕ) (order : List ℕ) → AllByRecursion (JoinsEqualKeys tables key) (equalities_within subset (equalities_of query))
+      → BoundsScans b query tables key subset → IsOrderOf (entries_of_set subset) order → length (level_over query tables order) ≤ bound_of_set b (equalities_of query) subset
+  within key b subset order keys known o =
+      level_within (conjuncts_of query tables) (row_counts tables) key (equalities_of query) subset order asks (asked key subset keys) o b known.lists (dominates key b subset known)

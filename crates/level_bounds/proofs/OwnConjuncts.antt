@@ -1,0 +1,116 @@
+-- The conjuncts that name just one entry, and the scan of the entry.
+use Rattle.std.proofs.Common.{◌≡◌, ℕ, zero, suc, ◌+◌, ◌<◌, ◌↔◌, Bool, IsTrue, true, false, not, ◌&&◌, ◌||◌, eqb, List, [], ◌∷◌, length, get_or, map, refl, ap, sym, ◌∙◌, subst, arith, inl, inr, Some}
+use Rattle.std.specs.Prelude.{IsSomeAnd, slice_get, slice_index_or}
+use Rattle.std.specs.List.{Contains, filter, list_all, list_any, range_with_len}
+use Rattle.std.proofs.lemmas.Bool.{cases_Bool, and_from, and_parts}
+use Rattle.std.proofs.lemmas.List.Elements.{filter_agree}
+use Rattle.std.proofs.lemmas.List.FromFn.{get_or-map-range_with_len}
+use Rattle.query_types.specs.declared.types.Cond.{Cond}
+use Rattle.query_types.specs.declared.types.Query.{Query}
+use Rattle.query_types.specs.Named.{entries_named}
+use Rattle.join_graph.specs.Conjuncts.{is_just, local_of, names_just, numbers_where}
+use Rattle.join_graph.proofs.Numbered.{number_passes, passing_is_numbered}
+use Rattle.sql_meaning.specs.Answers.{conjunct_of, conjuncts_of}
+use Rattle.sql_meaning.specs.Conditions.{cond_holds}
+use Rattle.sql_meaning.specs.Levels.{names_just as names_just_it}
+use Rattle.sql_meaning.specs.Tables.{Tables, row_counts}
+use Rattle.level_bounds.specs.Scans.{own_conjuncts, scan_of}
+use Rattle.level_bounds.proofs.Lists.{from_filter, in_filter, in_range, range_within}
+
+-- ---- just one entry
+
+and_never : (b : Bool) → (b && false) ≡ false
+and_never true = refl
+and_never false = refl
+
+all_alike : (entry : ℕ) (entries : List ℕ) → list_all (λ e. eqb e entry || false) entries ≡ list_all (λ e. eqb e entry) entries
+all_alike entry [] = refl
+all_alike entry (e ∷ entries) = elim (cases_Bool (eqb e entry)) [ inl t ↦ rw t (all_alike entry entries) | inr n ↦ rw n refl ]
+
+-- some entry is named, and no other one than this
+just_alike : (entry : ℕ) (entries : List ℕ)
+    → (list_all (λ e. eqb e entry || false) entries && not (list_all (λ e. false) entries)) ≡ (list_any (λ e. eqb e entry) entries && list_all (λ e. eqb e entry) entries)
+just_alike entry [] = refl
+just_alike entry (e ∷ entries) = elim (cases_Bool (eqb e entry)) [
+  | inl t ↦ rw (t, all_alike entry entries) (and_true (list_all (λ e. eqb e entry) entries))
+  | inr n ↦ rw n (sym (and_never (list_any (λ e. eqb e entry) entries)))
+]
+  where
+    and_true : (b : Bool) → (b && true) ≡ b
+    and_true true = refl
+    and_true false = refl
+
+pub names_alike : (tables : Tables) (entry : ℕ) (cond : Cond) → names_just_it (conjunct_of tables cond) entry ≡ names_just entry cond
+names_alike tables entry cond = just_alike entry (entries_named cond)
+
+-- ---- the scan
+
+module _ (tables : Tables) (entry row : ℕ) where
+  own_hold : (conds : List Cond) → list_all (λ c. not (names_just_it c entry) || c.holds (λ e. row)) (map (conjunct_of tables) conds) ≡ list_all (cond_holds tables (λ e. row)) (filter (names_just entry) conds)
+  own_hold [] = refl
+  own_hold (cond ∷ conds) = elim (cases_Bool (names_just entry cond)) [
+    | inl t ↦ rw (names_alike tables entry cond, t) (ap (λ b. cond_holds tables (λ e. row) cond && b) (own_hold conds))
+    | inr n ↦ rw (names_alike tables entry cond, n) (own_hold conds)
+  ]
+
+pub scan_by_own : (query : Query) (tables : Tables) (entry : ℕ)
+    → scan_of query tables entry ≡ filter (λ row. list_all (cond_holds tables (λ e. row)) (own_conjuncts query entry)) (range_with_len 0 (row_counts tables entry))
+scan_by_own query tables entry =
+    filter_agree (λ row. list_all (λ c. not (names_just_it c entry) || c.holds (λ e. row)) (conjuncts_of query tables))
+    (λ row. list_all (cond_holds tables (λ e. row)) (own_conjuncts query entry)) (λ row. own_hold tables entry row query.conjuncts) (range_with_len 0 (row_counts tables entry))
+
+-- ---- by the numbers of the conjuncts
+
+module _ (own passes : Cond → Bool) where
+  -- each condition that is own passes
+  abbrev EachOwn : List Cond → Type 0
+  EachOwn conds = (k : ℕ) → IsSomeAnd (slice_get conds k) (λ cond. IsTrue (own cond)) → IsSomeAnd (slice_get conds k) (λ cond. IsTrue (passes cond))
+
+  each_from_all : (conds : List Cond) → list_all passes (filter own conds) ≡ true → EachOwn conds
+  each_from_all [] h k at = at
+  each_from_all (cond ∷ conds) h zero at =
+      let kept : (passes cond && list_all passes (filter own conds)) ≡ true = rw at at h in
+      (and_parts (passes cond) (list_all passes (filter own conds)) kept).0
+  each_from_all (cond ∷ conds) h (suc k) at = elim (cases_Bool (own cond)) [
+    | inl t ↦ (let kept : (passes cond && list_all passes (filter own conds)) ≡ true = rw t at h in
+        each_from_all conds (and_parts (passes cond) (list_all passes (filter own conds)) kept).1 k at)
+    | inr n ↦ (let left : list_all passes (filter own conds) ≡ true = rw n at h in each_from_all conds left k at)
+  ]
+
+  all_from_each : (conds : List Cond) → EachOwn conds → list_all passes (filter own conds) ≡ true
+  all_from_each [] each = refl
+  all_from_each (cond ∷ conds) each =
+      let rest : list_all passes (filter own conds) ≡ true = all_from_each conds (λ k at. each (suc k) at) in
+      elim (cases_Bool (own cond)) [
+        | inl t ↦ rw t (and_from (passes cond) (list_all passes (filter own conds)) (each 0 t) rest)
+        | inr n ↦ rw n rest
+      ]
+
+-- the numbers of an entry's own conjuncts
+local_at : (query : Query) (entry : ℕ) → entry < length query.from → slice_index_or (local_of query) entry [] ≡ numbers_where (names_just entry) 0 query.conjuncts
+local_at query entry low =
+    let start : 0 + entry ≡ entry = omega arith in
+    get_or-map-range_with_len (λ entry. numbers_where (names_just entry) 0 query.conjuncts) 0 (length query.from) entry entry [] low start
+
+pub scan_by_number : (query : Query) (tables : Tables) (entry row : ℕ) → entry < length query.from
+    → Contains (scan_of query tables entry) row
+    ↔ ((row < row_counts tables entry) × ((k : ℕ) → Contains (slice_index_or (local_of query) entry []) k
+    → IsSomeAnd (slice_get query.conjuncts k) (λ cond. IsTrue (cond_holds tables (λ e. row) cond))))
+scan_by_number query tables entry row low = (
+  λ k. let parts : Contains (range_with_len 0 (row_counts tables entry)) row × (list_all passes (own_conjuncts query entry) ≡ true) =
+      from_filter (λ row. list_all (cond_holds tables (λ e. row)) (own_conjuncts query entry)) (range_with_len 0 (row_counts tables entry)) row
+      (subst (λ (rows : List ℕ). Contains rows row) (scan_by_own query tables entry) k) in
+      (
+        omega (arith, (range_within 0 (row_counts tables entry) row parts.0).1),
+        λ number at. each_from_all (names_just entry) passes query.conjuncts parts.1 number
+            (number_passes (names_just entry) query.conjuncts number (subst (λ (numbers : List ℕ). Contains numbers number) (local_at query entry low) at)),
+      ),
+  λ h. subst (λ (rows : List ℕ). Contains rows row) (sym (scan_by_own query tables entry))
+      (in_filter (λ row. list_all (cond_holds tables (λ e. row)) (own_conjuncts query entry)) (range_with_len 0 (row_counts tables entry)) row
+      (in_range 0 (row_counts tables entry) row (omega arith) (omega (arith, h.0)))
+      (all_from_each (names_just entry) passes query.conjuncts
+      (λ number own. h.1 number (subst (λ (numbers : List ℕ). Contains numbers number) (sym (local_at query entry low)) (passing_is_numbered (names_just entry) query.conjuncts number own))))),
+)
+  where
+    passes : Cond → Bool
+    passes = cond_holds tables (λ e. row)
