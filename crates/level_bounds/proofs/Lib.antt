@@ -8,3 +8,6 @@ pub mod Scanning
 pub mod OwnConjuncts
 pub mod EqualityFacts
 pub mod NeverUnder
+pub mod CellKeys
+pub mod NearWhole
+pub mod SmallTriangle

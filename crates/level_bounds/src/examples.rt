@@ -7,9 +7,10 @@ ghost use Rattle.tree_bounds.specs.Examples.{triangle_bounds};
 ghost use Rattle.tree_bounds.specs.SetBounds.{bound_of_set};
 ghost use Rattle.sql_meaning.specs.Examples.{triangle, triangle_tables};
 ghost use Rattle.level_bounds.specs.Examples.{three_tables, triangle_level, triangle_scan};
-ghost use Rattle.level_bounds.specs.Keys.{cell_at};
+ghost use Rattle.level_bounds.specs.Keys.{HaveDifferentCharacters, cell_at};
 ghost use Rattle.level_bounds.specs.Orders.{IsOrderOf};
 ghost use Rattle.level_bounds.specs.Scans.{BoundsScans};
+ghost use Rattle.level_bounds.specs.Whole.{AreCompressed};
 
 /// The order R, S, T has levels of 3, 5 and 4 rows, and bounds of 3, 5 and 9.
 pub fn triangles()
@@ -23,10 +24,12 @@ pub fn triangles()
     ensures last_bound { bound_of_set triangle_bounds (equalities_of triangle) 7 ≡ 9 }
 {}
 
-/// The premises of the laws, all met: the bounds are at least what the scans of the three entries have, each scan is
-/// its whole table, and another order is one of the same set.
+/// The premises of the laws, all met: each scan is its whole table, the bounds are its compressed degree lists and at
+/// least what the scans of the three entries have, and another order is one of the same set.
 pub fn instances()
     ensures scans { triangle_scan 1 ≡ 0 ∷ 1 ∷ 2 ∷ [] }
+    ensures compressed { AreCompressed 1 triangle_bounds three_tables (cell_at triangle_tables) (equalities_of triangle) 7 }
     ensures bounds { BoundsScans triangle_bounds triangle three_tables (cell_at triangle_tables) 7 }
     ensures order { IsOrderOf (entries_of_set 7) (2 ∷ 0 ∷ 1 ∷ []) }
+    ensures texts { HaveDifferentCharacters triangle_tables.pool }
 {}

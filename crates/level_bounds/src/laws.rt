@@ -4,6 +4,7 @@ ghost use Rattle.std.specs.List.{AllByRecursion, Contains, IsDistinct, filter, l
 ghost use Rattle.std.specs.Str.{IsUtf8};
 ghost use Rattle.berge_tree.specs.declared.edges.Edge.{Edge};
 ghost use Rattle.berge_tree.specs.Rooted.{entries_of_set};
+ghost use Rattle.query_types.specs.declared.types.ColumnRef.{ColumnRef};
 ghost use Rattle.query_types.specs.declared.types.Cond.{Cond};
 ghost use Rattle.query_types.specs.declared.types.Query.{Query};
 ghost use Rattle.query_types.specs.Named.{NamesItsEntries, entries_named};
@@ -17,14 +18,14 @@ ghost use Rattle.csv_tables.specs.declared.types.Database.{Database};
 ghost use Rattle.csv_tables.specs.Pools.{AreDifferent as AreDifferentTexts};
 ghost use Rattle.sql_meaning.specs.Answers.{answer, conjunct_of, entries_of, selected};
 ghost use Rattle.sql_meaning.specs.Conditions.{cond_holds};
-ghost use Rattle.sql_meaning.specs.Databases.{IsDatabaseOf};
+ghost use Rattle.sql_meaning.specs.Databases.{IsColumnOf, IsDatabaseOf};
 ghost use Rattle.sql_meaning.specs.Levels.{AsksOnly, Conjunct, level_of, names_just as names_just_it, row_in, scan};
-ghost use Rattle.sql_meaning.specs.Tables.{Tables, row_counts, tables_of};
+ghost use Rattle.sql_meaning.specs.Tables.{Tables, cells_of, row_counts, tables_of};
 ghost use Rattle.level_bounds.specs.Joins.{IsAsked};
 ghost use Rattle.level_bounds.specs.Keys.{HaveDifferentCharacters, JoinsEqualKeys, Keys, are_equal_at, cell_at};
 ghost use Rattle.level_bounds.specs.Orders.{IsOrderOf, reordered, set_of};
 ghost use Rattle.level_bounds.specs.Scans.{BoundsScans, level_over, own_conjuncts, scan_of};
-ghost use Rattle.level_bounds.specs.Whole.{AreCompressed, uncompressed};
+ghost use Rattle.level_bounds.specs.Whole.{AreCompressed, keys_of, uncompressed};
 
 /// A conjunct is in the part of just one entry exactly where it counts in the scan of that entry: the scan has the rows
 /// for which all conjuncts hold that name just this entry.
@@ -48,10 +49,13 @@ pub fn equalities_are_conjuncts()
         → cond_holds tables row_of cond ≡ are_equal_at tables e (row_of e.left.entry) (row_of e.right.entry) }
 {}
 
-/// Where the texts of a database are different, its cells are keys: rows that an equality joins have equal cells.
+/// Where the texts of a database are different, its cells are keys: rows that an equality joins have equal cells. The keys
+/// of a whole column are its cells.
 pub fn cells_are_keys()
     ensures cells { (query : Query) (db : Database) → IsDatabaseOf query db → HaveDifferentCharacters db.pool
         → AllByRecursion (JoinsEqualKeys (tables_of db) (cell_at db)) (equalities_of query) }
+    ensures columns { (query : Query) (db : Database) (column : ColumnRef) → IsDatabaseOf query db → IsColumnOf db column
+        → keys_of (tables_of db) (cell_at db) column.from column.column ≡ slice_index_or (cells_of db column.from).columns column.column [] }
     ensures texts { (texts : List (List ℕ)) → All IsUtf8 texts → AreDifferentTexts texts → HaveDifferentCharacters texts }
 {}
 
