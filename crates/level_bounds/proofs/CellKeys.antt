@@ -1,7 +1,7 @@
 -- The cells of a database as keys.
-use Rattle.std.proofs.Common.{◌≡◌, ◌≢◌, ℕ, ℤ, zero, suc, ◌<◌, ◌^◌, Bool, true, false, List, [], ◌∷◌, length, get_or, map, pos, refl, ap, sym, ◌∙◌, subst, arith, inl, inr, Some}
-use Rattle.std.specs.Prelude.{All, AllPairs, encode_utf8_all, slice_index, slice_index_or}
-use Rattle.std.specs.List.{AllByRecursion, Contains, range_with_len}
+use Rattle.std.proofs.Common.{◌≡◌, ℕ, ℤ, ◌<◌, ◌^◌, true, List, [], ◌∷◌, length, get_or, pos, refl, ap, sym, ◌∙◌, subst, arith, inl, inr, Some}
+use Rattle.std.specs.Prelude.{All, encode_utf8_all, slice_index, slice_index_or}
+use Rattle.std.specs.List.{AllByRecursion, Contains}
 use Rattle.std.specs.Cmp.Lexicographic.{slice_cmp}
 use Rattle.std.specs.Int.{w64}
 use Rattle.std.specs.Ordering.{int_cmp, is_eq, nat_cmp, ordering_then}
@@ -18,17 +18,15 @@ use Rattle.berge_tree.specs.declared.edges.Edge.{Edge}
 use Rattle.berge_tree.specs.Equalities.{place}
 use Rattle.schema_types.specs.declared.types.Kind.{Kind}
 use Rattle.schema_types.specs.declared.types.Kind.TheVariants as kind
-use Rattle.csv_tables.specs.Cells.{AreColumns, IsCell, IsColumn, value_of_cell}
+use Rattle.csv_tables.specs.Cells.{IsCell, IsColumn, value_of_cell}
 use Rattle.csv_tables.specs.Numbers.{bits_of, number_in}
 use Rattle.csv_tables.specs.Pools.{AreDifferent}
 use Rattle.csv_tables.specs.Values.{Value, Int, value_cmp}
 use Rattle.csv_tables.specs.declared.types.Cells.{Cells}
 use Rattle.csv_tables.specs.declared.types.Database.{Database}
-use Rattle.query_grammar.specs.declared.tree.Op.TheVariants as op
 use Rattle.query_types.specs.declared.types.ColumnRef.{ColumnRef}
 use Rattle.query_types.specs.declared.types.Operand.TheVariants as operand
 use Rattle.query_types.specs.declared.types.Cond.{Cond, every_here-Cond}
-use Rattle.query_types.specs.declared.types.Cond.TheOpen.{Cond-F}
 use Rattle.query_types.specs.declared.types.Cond.TheViews.{out-Cond}
 use Rattle.query_types.specs.declared.types.Query.{Query}
 use Rattle.join_graph.specs.Conjuncts.{equalities_of, equality_of}
@@ -36,7 +34,7 @@ use Rattle.sql_meaning.specs.Databases.{AreCells, AreTables, CanAskLayer, CanCom
 use Rattle.sql_meaning.specs.Tables.{cells_of, no_cells, row_counts, tables_of}
 use Rattle.sql_meaning.proofs.ColumnFacts.{column_at, value_at as cell_value}
 use Rattle.sql_meaning.proofs.LoopFacts.{rows_are}
-use Rattle.level_bounds.specs.Keys.{HaveDifferentCharacters, JoinsEqualKeys, are_equal_at, cell_at, value_at}
+use Rattle.level_bounds.specs.Keys.{HaveDifferentCharacters, JoinsEqualKeys, cell_at, value_at}
 use Rattle.level_bounds.specs.Whole.{keys_of}
 use Rattle.level_bounds.proofs.EqualityFacts.{IsJoin, is_join}
 use Rattle.level_bounds.proofs.Lists.{all_from, from_filter_map}

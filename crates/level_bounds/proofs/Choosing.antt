@@ -1,11 +1,10 @@
 -- The rows of a choice by their entries, and choices for the same entries in another order.
-use Rattle.std.proofs.Common.{◌≡◌, ◌≢◌, ℕ, zero, suc, ◌<◌, Bool, true, false, cond, eqb, nat_eq, List, [], ◌∷◌, length, map, refl, ap, sym, ◌∙◌, subst, arith, inl, inr}
-use Rattle.std.specs.Prelude.{⊤}
-use Rattle.std.specs.List.{AllByRecursion, Contains, IsDistinct}
+use Rattle.std.proofs.Common.{◌≡◌, ℕ, ◌<◌, true, false, eqb, nat_eq, List, [], ◌∷◌, length, map, refl, ap, sym, ◌∙◌, subst, arith, inl, inr}
+use Rattle.std.specs.List.{Contains, IsDistinct}
 use Rattle.std.proofs.Math.Path.{fun_ext}
 use Rattle.std.proofs.lemmas.Bool.{cases_Bool, eqb-true, eq-eqb, false≢true}
 use Rattle.std.proofs.lemmas.Map.Keys.{IsDistinct-head, IsDistinct-tail}
-use Rattle.berge_tree.proofs.Steps.{one_in, in_front, in_rest, in_none}
+use Rattle.berge_tree.proofs.Steps.{in_front, in_rest}
 use Rattle.sql_meaning.specs.Choices.{IsChoiceOf}
 use Rattle.sql_meaning.specs.Levels.{row_in}
 use Rattle.level_bounds.specs.Orders.{IsOrderOf}

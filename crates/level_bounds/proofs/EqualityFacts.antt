@@ -1,5 +1,5 @@
 -- Equalities that join two entries are conjuncts, which hold where the two values are equal.
-use Rattle.std.proofs.Common.{◌≡◌, ℕ, ◌<◌, ◌↔◌, Bool, true, false, ◌&&◌, ◌||◌, eqb, List, [], ◌∷◌, ◌++◌, map, refl, ap, sym, ◌∙◌, subst, inl, inr, Option, Some, None}
+use Rattle.std.proofs.Common.{◌≡◌, ℕ, ◌↔◌, Bool, true, false, ◌&&◌, ◌||◌, eqb, List, [], ◌∷◌, refl, ap, sym, ◌∙◌, inl, inr, Some, None}
 use Rattle.std.specs.List.{AllByRecursion, Contains, list_all}
 use Rattle.std.proofs.lemmas.Bool.{cases_Bool, eq-eqb}
 use Rattle.berge_tree.specs.declared.edges.Edge.{Edge}
@@ -14,11 +14,10 @@ use Rattle.query_types.specs.declared.types.Cond.TheFolds.{fold-roll-Cond}
 use Rattle.query_types.specs.declared.types.Cond.TheOpen.{Cond-F}
 use Rattle.query_types.specs.declared.types.Cond.TheViews.{out-Cond, roll-Cond, roll-out-Cond}
 use Rattle.query_types.specs.declared.types.Query.{Query}
-use Rattle.query_types.specs.Named.{entries_named, entries_of_operand, entries_step}
+use Rattle.query_types.specs.Named.{entries_named, entries_step}
 use Rattle.join_graph.specs.Conjuncts.{column_of, compared, equalities_of, equality_in, equality_of, joining}
 use Rattle.sql_meaning.specs.Answers.{conjunct_of, conjuncts_of}
-use Rattle.sql_meaning.specs.Conditions.{comparison_says, cond_holds, holds_step}
-use Rattle.sql_meaning.specs.Levels.{names_only}
+use Rattle.sql_meaning.specs.Conditions.{cond_holds, holds_step}
 use Rattle.sql_meaning.specs.Tables.{Tables, row_counts}
 use Rattle.level_bounds.specs.Joins.{IsAsked}
 use Rattle.level_bounds.specs.Keys.{JoinsEqualKeys, Keys, are_equal_at}

@@ -10,4 +10,5 @@ pub mod EqualityFacts
 pub mod NeverUnder
 pub mod CellKeys
 pub mod NearWhole
+pub mod EachScan
 pub mod SmallTriangle

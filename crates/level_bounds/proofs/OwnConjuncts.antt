@@ -1,5 +1,5 @@
 -- The conjuncts that name just one entry, and the scan of the entry.
-use Rattle.std.proofs.Common.{◌≡◌, ℕ, zero, suc, ◌+◌, ◌<◌, ◌↔◌, Bool, IsTrue, true, false, not, ◌&&◌, ◌||◌, eqb, List, [], ◌∷◌, length, get_or, map, refl, ap, sym, ◌∙◌, subst, arith, inl, inr, Some}
+use Rattle.std.proofs.Common.{◌≡◌, ℕ, zero, suc, ◌+◌, ◌<◌, ◌↔◌, Bool, IsTrue, true, false, not, ◌&&◌, ◌||◌, eqb, List, [], ◌∷◌, length, map, refl, ap, sym, subst, arith, inl, inr}
 use Rattle.std.specs.Prelude.{IsSomeAnd, slice_get, slice_index_or}
 use Rattle.std.specs.List.{Contains, filter, list_all, list_any, range_with_len}
 use Rattle.std.proofs.lemmas.Bool.{cases_Bool, and_from, and_parts}
@@ -8,7 +8,7 @@ use Rattle.std.proofs.lemmas.List.FromFn.{get_or-map-range_with_len}
 use Rattle.query_types.specs.declared.types.Cond.{Cond}
 use Rattle.query_types.specs.declared.types.Query.{Query}
 use Rattle.query_types.specs.Named.{entries_named}
-use Rattle.join_graph.specs.Conjuncts.{is_just, local_of, names_just, numbers_where}
+use Rattle.join_graph.specs.Conjuncts.{local_of, names_just, numbers_where}
 use Rattle.join_graph.proofs.Numbered.{number_passes, passing_is_numbered}
 use Rattle.sql_meaning.specs.Answers.{conjunct_of, conjuncts_of}
 use Rattle.sql_meaning.specs.Conditions.{cond_holds}
@@ -99,8 +99,7 @@ pub scan_by_number : (query : Query) (tables : Tables) (entry row : ℕ) → ent
 scan_by_number query tables entry row low = (
   λ k. let parts : Contains (range_with_len 0 (row_counts tables entry)) row × (list_all passes (own_conjuncts query entry) ≡ true) =
       from_filter (λ row. list_all (cond_holds tables (λ e. row)) (own_conjuncts query entry)) (range_with_len 0 (row_counts tables entry)) row
-      (subst (λ (rows : List ℕ). Contains rows row) (scan_by_own query tables entry) k) in
-      (
+      (subst (λ (rows : List ℕ). Contains rows row) (scan_by_own query tables entry) k) in (
         omega (arith, (range_within 0 (row_counts tables entry) row parts.0).1),
         λ number at. each_from_all (names_just entry) passes query.conjuncts parts.1 number
             (number_passes (names_just entry) query.conjuncts number (subst (λ (numbers : List ℕ). Contains numbers number) (local_at query entry low) at)),

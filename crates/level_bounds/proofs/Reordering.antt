@@ -1,7 +1,7 @@
 -- A level in another order of its entries.
-use Rattle.std.proofs.Common.{◌≡◌, ◌≢◌, ℕ, Bool, true, not, ◌||◌, List, length, map, refl, ap, sym, ◌∙◌, subst, arith}
+use Rattle.std.proofs.Common.{◌≡◌, ◌≢◌, ℕ, Bool, true, not, ◌||◌, List, length, map, ap, sym, ◌∙◌, subst}
 use Rattle.std.specs.Prelude.{AllPairs, IsPermutation}
-use Rattle.std.specs.List.{Contains, filter, list_all}
+use Rattle.std.specs.List.{Contains, list_all}
 use Rattle.std.proofs.Math.Path.{fun_ext}
 use Rattle.std.proofs.lemmas.List.{length-map}
 use Rattle.std.proofs.lemmas.List.Kept.{AllPairs-filter}

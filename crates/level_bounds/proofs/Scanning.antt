@@ -1,7 +1,7 @@
 -- A level is a list of different choices of scanned rows.
-use Rattle.std.proofs.Common.{◌≡◌, ◌≢◌, ℕ, ◌<◌, ◌≤◌, Bool, true, false, not, ◌&&◌, ◌||◌, eqb, List, [], ◌∷◌, length, get_or, map, refl, ap, sym, ◌∙◌, subst, arith, inl, inr}
-use Rattle.std.specs.List.{AllByRecursion, AllPairs, Contains, list_all, range_with_len}
-use Rattle.std.proofs.lemmas.Bool.{cases_Bool, eqb-true, false≢true, or_cases, and_parts}
+use Rattle.std.proofs.Common.{◌≡◌, ℕ, ◌<◌, ◌≤◌, Bool, true, false, not, ◌||◌, eqb, List, [], ◌∷◌, length, get_or, map, refl, ap, sym, ◌∙◌, subst, arith, inl, inr}
+use Rattle.std.specs.List.{AllByRecursion, Contains, list_all, range_with_len}
+use Rattle.std.proofs.lemmas.Bool.{eqb-true, false≢true, or_cases, and_parts}
 use Rattle.std.proofs.lemmas.List.{get_or-map, length-map}
 use Rattle.std.proofs.lemmas.List.Elements.{Contains-get_or}
 use Rattle.berge_tree.specs.declared.edges.Edge.{Edge}
@@ -13,14 +13,14 @@ use Rattle.tree_bounds.specs.SetBounds.{SetHasLists, bound_of_set}
 use Rattle.tree_bounds.specs.Tables.{AreDifferent, SetDominates}
 use Rattle.tree_bounds.specs.TreeBounds.{EntryBounds}
 use Rattle.tree_bounds.proofs.Scanned.{equalities_inside, scanned_within}
-use Rattle.sql_meaning.specs.Levels.{AsksOnly, Conjunct, all_hold, level_of, names_just, names_only, row_in, scan}
+use Rattle.sql_meaning.specs.Levels.{AsksOnly, Conjunct, level_of, names_just, names_only, row_in, scan}
 use Rattle.sql_meaning.proofs.LevelFacts.{names_at}
 use Rattle.level_bounds.specs.Joins.{IsAsked}
 use Rattle.level_bounds.specs.Keys.{Keys}
 use Rattle.level_bounds.specs.Orders.{IsOrderOf}
 use Rattle.level_bounds.proofs.Lists.{all_from, all_true, each_of, from_map, in_filter, in_range, in_true, is_in, map_alike, same_at, true_for_all, true_in}
 use Rattle.level_bounds.proofs.Choosing.{choice_row, entry_in, entry_of}
-use Rattle.level_bounds.proofs.Reordering.{StandsIn, stands, level_differs, back}
+use Rattle.level_bounds.proofs.Reordering.{stands, level_differs, back}
 
 -- what names only some entries names only more of them
 names_more : (entries few many : List ℕ) → ((x : ℕ) → Contains few x → Contains many x) → list_all (is_in few) entries ≡ true → list_all (is_in many) entries ≡ true

@@ -1,16 +1,15 @@
 -- The triangle of three tables, by computation.
-use Rattle.std.proofs.Common.{◌≡◌, ◌≢◌, ℕ, ◌<◌, Bool, true, not, ◌&&◌, ◌||◌, eqb, nat_eq, List, [], ◌∷◌, ◌++◌, length, refl, ap, sym, ◌∙◌, subst, arith}
-use Rattle.std.specs.List.{Contains, IsDistinct, filter, list_all}
+use Rattle.std.proofs.Common.{◌≡◌, ℕ, Bool, true, not, ◌&&◌, ◌||◌, List, [], ◌∷◌, refl, sym, subst, arith}
+use Rattle.std.specs.List.{IsDistinct, filter, list_all}
 use Rattle.std.proofs.lemmas.List.Elements.{filter_agree}
 use Rattle.berge_tree.specs.Rooted.{entries_of_set}
 use Rattle.query_grammar.specs.declared.tree.Op.TheVariants as op
-use Rattle.query_types.specs.declared.types.Cond.{Cond, Compare}
+use Rattle.query_types.specs.declared.types.Cond.{Compare}
 use Rattle.query_types.specs.Named.{entries_named}
 use Rattle.join_graph.specs.Conjuncts.{equalities_of}
 use Rattle.join_graph.specs.Examples.{triangle as sides}
 use Rattle.join_graph.proofs.Comparing.{equality_two}
 use Rattle.tree_bounds.specs.Examples.{triangle_bounds}
-use Rattle.tree_bounds.specs.SetBounds.{bound_of_set}
 use Rattle.sql_meaning.specs.Answers.{conjuncts_of}
 use Rattle.sql_meaning.specs.Choices.{choices_of}
 use Rattle.sql_meaning.specs.Conditions.{comparison_says, cond_holds}

@@ -1,5 +1,5 @@
 -- Orders of the three entries of a triangle, for worked examples.
-use Rattle.std.specs.Prelude.{ℕ, List, [], ◌∷◌}
+use Rattle.std.specs.Prelude.{ℕ, List}
 use Rattle.sql_meaning.specs.Examples.{triangle, triangle_tables}
 use Rattle.sql_meaning.specs.Tables.{Tables, tables_of}
 use Rattle.level_bounds.specs.Scans.{level_over, scan_of}

@@ -16,15 +16,15 @@ ghost use Rattle.tree_bounds.specs.Tables.{AreDifferent, SetDominates};
 ghost use Rattle.tree_bounds.specs.TreeBounds.{EntryBounds};
 ghost use Rattle.csv_tables.specs.declared.types.Database.{Database};
 ghost use Rattle.csv_tables.specs.Pools.{AreDifferent as AreDifferentTexts};
-ghost use Rattle.sql_meaning.specs.Answers.{answer, conjunct_of, entries_of, selected};
+ghost use Rattle.sql_meaning.specs.Answers.{answer, conjunct_of, conjuncts_of, entries_of, selected};
 ghost use Rattle.sql_meaning.specs.Conditions.{cond_holds};
 ghost use Rattle.sql_meaning.specs.Databases.{IsColumnOf, IsDatabaseOf};
-ghost use Rattle.sql_meaning.specs.Levels.{AsksOnly, Conjunct, level_of, names_just as names_just_it, row_in, scan};
+ghost use Rattle.sql_meaning.specs.Levels.{AsksOnly, Conjunct, level, level_of, names_just as names_just_it, row_in, scan};
 ghost use Rattle.sql_meaning.specs.Tables.{Tables, cells_of, row_counts, tables_of};
 ghost use Rattle.level_bounds.specs.Joins.{IsAsked};
 ghost use Rattle.level_bounds.specs.Keys.{HaveDifferentCharacters, JoinsEqualKeys, Keys, are_equal_at, cell_at};
 ghost use Rattle.level_bounds.specs.Orders.{IsOrderOf, reordered, set_of};
-ghost use Rattle.level_bounds.specs.Scans.{BoundsScans, level_over, own_conjuncts, scan_of};
+ghost use Rattle.level_bounds.specs.Scans.{BoundsEachScan, BoundsScans, level_over, own_conjuncts, scan_of};
 ghost use Rattle.level_bounds.specs.Whole.{AreCompressed, keys_of, uncompressed};
 
 /// A conjunct is in the part of just one entry exactly where it counts in the scan of that entry: the scan has the rows
@@ -84,6 +84,11 @@ pub fn levels_are_never_under()
     ensures database { (query : Query) (db : Database) (b : EntryBounds) (subset : ℕ) (order : List ℕ)
         → IsDatabaseOf query db → HaveDifferentCharacters db.pool → BoundsScans b query (tables_of db) (cell_at db) subset
         → IsOrderOf (entries_of_set subset) order → length (level_over query (tables_of db) order) ≤ bound_of_set b (equalities_of query) subset }
+    // each level of an order of all entries, the first k entries being its set
+    ensures levels { (query : Query) (db : Database) (b : EntryBounds) (order : List ℕ) (k : ℕ)
+        → IsDatabaseOf query db → HaveDifferentCharacters db.pool → BoundsEachScan b query (tables_of db) (cell_at db) → IsOrderOf (entries_of query) order
+        → length (level (conjuncts_of query (tables_of db)) (row_counts (tables_of db)) order k) ≤ bound_of_set b (equalities_of query) (set_of (take k order)) }
+    // over any tables, and any keys that rows share where an equality joins them
     ensures tables { (query : Query) (tables : Tables) (key : Keys) (b : EntryBounds) (subset : ℕ) (order : List ℕ)
         → AllByRecursion (JoinsEqualKeys tables key) (equalities_within subset (equalities_of query)) → BoundsScans b query tables key subset
         → IsOrderOf (entries_of_set subset) order → length (level_over query tables order) ≤ bound_of_set b (equalities_of query) subset }
@@ -108,6 +113,12 @@ pub fn levels_are_of_sets()
 pub fn last_levels_are_the_answer()
     ensures { (query : Query) (tables : Tables) (order : List ℕ) → NamesItsEntries query → IsOrderOf (entries_of query) order
         → IsPermutation (map (λ choice. selected query tables (row_in order choice)) (level_over query tables order)) (answer query tables) }
+{}
+
+/// What bounds know of each scan of a query, they know for every set of its entries.
+pub fn each_scan_is_enough()
+    ensures { (query : Query) (tables : Tables) (key : Keys) (b : EntryBounds) (subset : ℕ) → BoundsEachScan b query tables key
+        → AllByRecursion (λ entry. entry < length query.from) (entries_of_set subset) → BoundsScans b query tables key subset }
 {}
 
 /// Where no conjunct names just one entry, its scan is its whole table. Bounds from compressed degree lists of whole tables

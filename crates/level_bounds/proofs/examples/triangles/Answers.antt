@@ -1,4 +1,4 @@
-use Rattle.std.proofs.Common.{◌≡◌, ℕ, List, [], ◌∷◌, length, refl, ap, ◌∙◌}
+use Rattle.std.proofs.Common.{ℕ, List, [], ◌∷◌, length, ap}
 use Rattle.berge_tree.specs.Rooted.{entries_of_set}
 use Rattle.tree_bounds.specs.Examples.{triangle_bounds}
 use Rattle.tree_bounds.specs.SetBounds.{bound_of_set}
