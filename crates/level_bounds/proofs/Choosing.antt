@@ -7,7 +7,7 @@ use Rattle.std.proofs.lemmas.Map.Keys.{IsDistinct-head, IsDistinct-tail}
 use Rattle.berge_tree.proofs.Steps.{in_front, in_rest}
 use Rattle.sql_meaning.specs.Choices.{IsChoiceOf}
 use Rattle.sql_meaning.specs.Levels.{row_in}
-use Rattle.level_bounds.specs.Orders.{IsOrderOf}
+use Rattle.level_bounds.specs.Orders.{IsOrderOfSet}
 use Rattle.level_bounds.proofs.Lists.{each_of, is_in, in_true, true_in, map_alike}
 
 -- an entry that is not there has row 0
@@ -73,13 +73,13 @@ mapped_choice rows f (e ∷ order) h = (h e (in_front e order e refl), mapped_ch
 
 -- ---- two orders of one set have the same entries
 
-pub entry_in : (set order : List ℕ) → IsOrderOf set order → (x : ℕ) → Contains set x → Contains order x
+pub entry_in : (set order : List ℕ) → IsOrderOfSet set order → (x : ℕ) → Contains set x → Contains order x
 entry_in set order o x k = each_of (Contains order) set o.covers x k
 
-pub entry_of : (set order : List ℕ) → IsOrderOf set order → (x : ℕ) → Contains order x → Contains set x
+pub entry_of : (set order : List ℕ) → IsOrderOfSet set order → (x : ℕ) → Contains order x → Contains set x
 entry_of set order o x k = each_of (Contains set) order o.within x k
 
-pub same_entries : (set order other : List ℕ) → IsOrderOf set order → IsOrderOf set other → (x : ℕ) → is_in order x ≡ is_in other x
+pub same_entries : (set order other : List ℕ) → IsOrderOfSet set order → IsOrderOfSet set other → (x : ℕ) → is_in order x ≡ is_in other x
 same_entries set order other o p x = elim (cases_Bool (is_in order x)) [
   | inl t ↦ t ∙ sym (in_true other x (entry_in set other p x (entry_of set order o x (true_in order x t))))
   | inr n ↦ elim (cases_Bool (is_in other x)) [

@@ -17,8 +17,8 @@ use Rattle.sql_meaning.specs.Databases.{IsDatabaseOf}
 use Rattle.sql_meaning.specs.Levels.{level}
 use Rattle.sql_meaning.specs.Tables.{Tables, row_counts, tables_of}
 use Rattle.level_bounds.specs.Keys.{HaveDifferentCharacters, JoinsEqualKeys, Keys, cell_at}
-use Rattle.level_bounds.specs.Orders.{IsOrderOf, set_of}
-use Rattle.level_bounds.specs.Scans.{BoundsEachScan, BoundsScans, level_over, scan_of}
+use Rattle.level_bounds.specs.Orders.{IsOrderOfSet, set_of}
+use Rattle.level_bounds.specs.Scans.{BoundsEachScan, BoundsScans, query_level, query_scan}
 use Rattle.level_bounds.proofs.CellKeys.{cells_join}
 use Rattle.level_bounds.proofs.Lists.{all_filtered, all_from, each_of, in_range, range_within}
 use Rattle.level_bounds.proofs.NeverUnder.{within}
@@ -36,21 +36,21 @@ pub each_is_enough : (query : Query) (tables : Tables) (key : Keys) (b : EntryBo
     → AllByRecursion (λ entry. entry < length query.from) (entries_of_set subset) → BoundsScans b query tables key subset
 each_is_enough query tables key b subset known low = record {
   lists = named_filtered (HasList b) (joins_within subset) (equalities_of query) known.lists;
-  rows = all_from (λ entry. length (scan_of query tables entry) ≤ b.rows entry) (entries_of_set subset) (λ entry k.
-      each_of (λ entry. length (scan_of query tables entry) ≤ b.rows entry) (entries_of query) known.rows entry
+  rows = all_from (λ entry. length (query_scan query tables entry) ≤ b.rows entry) (entries_of_set subset) (λ entry k.
+      each_of (λ entry. length (query_scan query tables entry) ≤ b.rows entry) (entries_of query) known.rows entry
       (in_range 0 (length query.from) entry (omega arith) (omega (arith, each_of (λ entry. entry < length query.from) (entries_of_set subset) low entry k))));
-  columns = named_filtered (λ entry column. DominatesKeys (b.list entry column) (map (key entry column) (scan_of query tables entry))) (joins_within subset) (equalities_of query) known.columns;
+  columns = named_filtered (λ entry column. DominatesKeys (b.list entry column) (map (key entry column) (query_scan query tables entry))) (joins_within subset) (equalities_of query) known.columns;
 }
 
 pub database_within : (query : Query) (db : Database) (b : EntryBounds) (subset : ℕ) (order : List ℕ) → IsDatabaseOf query db → HaveDifferentCharacters db.pool
-    → BoundsScans b query (tables_of db) (cell_at db) subset → IsOrderOf (entries_of_set subset) order → length (level_over query (tables_of db) order) ≤ bound_of_set b (equalities_of query) subset
+    → BoundsScans b query (tables_of db) (cell_at db) subset → IsOrderOfSet (entries_of_set subset) order → length (query_level query (tables_of db) order) ≤ bound_of_set b (equalities_of query) subset
 database_within query db b subset order of differ known o =
     within query (tables_of db) (cell_at db) b subset order
     (all_filtered (joins_within subset) (JoinsEqualKeys (tables_of db) (cell_at db)) (equalities_of query) (cells_join query db of differ)) known o
 
 -- each level of an order of all entries
 pub levels_within : (query : Query) (db : Database) (b : EntryBounds) (order : List ℕ) (k : ℕ) → IsDatabaseOf query db → HaveDifferentCharacters db.pool
-    → BoundsEachScan b query (tables_of db) (cell_at db) → IsOrderOf (entries_of query) order
+    → BoundsEachScan b query (tables_of db) (cell_at db) → IsOrderOfSet (entries_of query) order
     → length (level (conjuncts_of query (tables_of db)) (row_counts (tables_of db)) order k) ≤ bound_of_set b (equalities_of query) (set_of (take k order))
 levels_within query db b order k of differ known o =
     database_within query db b (set_of (take k order)) (take k order) of differ
@@ -64,6 +64,6 @@ levels_within query db b order k of differ known o =
     low = all_from (λ entry. entry < length query.from) order
         (λ entry here. omega (arith, (range_within 0 (length query.from) entry (each_of (Contains (entries_of query)) order o.within entry here)).1))
 
-    prefix : IsOrderOf (entries_of_set (set_of (take k order))) (take k order)
+    prefix : IsOrderOfSet (entries_of_set (set_of (take k order))) (take k order)
     prefix = prefix_of_order order k
         (all_from (λ entry. entry < 16) order (λ entry here. omega (arith, each_of (λ entry. entry < length query.from) order low entry here, of.few))) o.once

@@ -19,7 +19,7 @@ use Rattle.join_graph.specs.Conjuncts.{column_of, compared, equalities_of, equal
 use Rattle.sql_meaning.specs.Answers.{conjunct_of, conjuncts_of}
 use Rattle.sql_meaning.specs.Conditions.{cond_holds, holds_step}
 use Rattle.sql_meaning.specs.Tables.{Tables, row_counts}
-use Rattle.level_bounds.specs.Joins.{IsAsked}
+use Rattle.level_bounds.specs.Equalities.{IsAsked}
 use Rattle.level_bounds.specs.Keys.{JoinsEqualKeys, Keys, are_equal_at}
 use Rattle.level_bounds.proofs.Lists.{all_from, each_of, from_filter_map, in_filter_map, in_map}
 

@@ -25,7 +25,7 @@ use Rattle.tree_bounds.proofs.Scanned.{equalities_inside}
 use Rattle.sql_meaning.specs.Conditions.{cond_holds}
 use Rattle.sql_meaning.specs.Tables.{Tables, row_counts}
 use Rattle.level_bounds.specs.Keys.{Keys}
-use Rattle.level_bounds.specs.Scans.{BoundsScans, own_conjuncts, scan_of}
+use Rattle.level_bounds.specs.Scans.{BoundsScans, filters_of, query_scan}
 use Rattle.level_bounds.specs.Whole.{AreCompressed, keys_of, uncompressed}
 use Rattle.level_bounds.proofs.Lists.{all_from, each_of}
 use Rattle.level_bounds.proofs.OwnConjuncts.{scan_by_own}
@@ -37,7 +37,7 @@ all_kept : (rows : List ℕ) → filter (λ row. true) rows ≡ rows
 all_kept [] = refl
 all_kept (row ∷ rows) = ap (λ (s : List ℕ). row ∷ s) (all_kept rows)
 
-pub whole_scan : (query : Query) (tables : Tables) (entry : ℕ) → own_conjuncts query entry ≡ [] → scan_of query tables entry ≡ range_with_len 0 (row_counts tables entry)
+pub whole_scan : (query : Query) (tables : Tables) (entry : ℕ) → filters_of query entry ≡ [] → query_scan query tables entry ≡ range_with_len 0 (row_counts tables entry)
 whole_scan query tables entry none =
     scan_by_own query tables entry
     ∙ ap (λ (own : List Cond). filter (λ row. list_all (cond_holds tables (λ e. row)) own) (range_with_len 0 (row_counts tables entry))) none
@@ -106,18 +106,18 @@ module _ (tables : Tables) (key : Keys) where
     pub near : accuracy ^ length (entries_of_set subset) * bound_of_set b es subset ≤ (accuracy + 1) ^ length (entries_of_set subset) * bound_of_set (uncompressed tables key) es subset
     near = set_near accuracy b (uncompressed tables key) es subset lists (exact_lists es subset) is_near
 
-pub whole_bounds : (query : Query) (tables : Tables) (key : Keys) (accuracy : ℕ) (b : EntryBounds) (subset : ℕ) → AllByRecursion (λ entry. own_conjuncts query entry ≡ []) (entries_of_set subset)
+pub whole_bounds : (query : Query) (tables : Tables) (key : Keys) (accuracy : ℕ) (b : EntryBounds) (subset : ℕ) → AllByRecursion (λ entry. filters_of query entry ≡ []) (entries_of_set subset)
     → AreCompressed accuracy b tables key (equalities_of query) subset → BoundsScans b query tables key subset
 whole_bounds query tables key accuracy b subset none are = record {
   lists = lists tables key accuracy b (equalities_of query) subset are;
-  rows = all_from (λ entry. length (scan_of query tables entry) ≤ b.rows entry) (entries_of_set subset) (λ entry k.
+  rows = all_from (λ entry. length (query_scan query tables entry) ≤ b.rows entry) (entries_of_set subset) (λ entry k.
       omega (arith, ap (λ (s : List ℕ). length s) (scan_at entry k), length-range_with_len 0 (row_counts tables entry), rows_at tables key accuracy b (equalities_of query) subset are entry k));
-  columns = all_from (λ (p : Place). DominatesKeys (b.list p.entry p.column) (map (key p.entry p.column) (scan_of query tables p.entry))) (places_of (equalities_within subset (equalities_of query))) (λ p k.
-      subst (λ (s : List ℕ). DominatesKeys s (map (key p.entry p.column) (scan_of query tables p.entry))) (sym (list_at tables key accuracy b (equalities_of query) subset are p k))
+  columns = all_from (λ (p : Place). DominatesKeys (b.list p.entry p.column) (map (key p.entry p.column) (query_scan query tables p.entry))) (places_of (equalities_within subset (equalities_of query))) (λ p k.
+      subst (λ (s : List ℕ). DominatesKeys s (map (key p.entry p.column) (query_scan query tables p.entry))) (sym (list_at tables key accuracy b (equalities_of query) subset are p k))
       (subst (λ (rows : List ℕ). DominatesKeys (compressed accuracy (degree_list (keys_of tables key p.entry p.column))) (map (key p.entry p.column) rows))
       (sym (scan_at p.entry (inside tables key accuracy b (equalities_of query) subset are p k)))
       (compressed_dominates accuracy (keys_of tables key p.entry p.column))));
 }
   where
-    scan_at : (entry : ℕ) → Contains (entries_of_set subset) entry → scan_of query tables entry ≡ range_with_len 0 (row_counts tables entry)
-    scan_at entry k = whole_scan query tables entry (each_of (λ entry. own_conjuncts query entry ≡ []) (entries_of_set subset) none entry k)
+    scan_at : (entry : ℕ) → Contains (entries_of_set subset) entry → query_scan query tables entry ≡ range_with_len 0 (row_counts tables entry)
+    scan_at entry k = whole_scan query tables entry (each_of (λ entry. filters_of query entry ≡ []) (entries_of_set subset) none entry k)

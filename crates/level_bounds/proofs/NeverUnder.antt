@@ -17,10 +17,10 @@ use Rattle.sql_meaning.specs.Answers.{conjuncts_of}
 use Rattle.sql_meaning.specs.Levels.{AsksOnly, row_in}
 use Rattle.sql_meaning.specs.Tables.{Tables, row_counts}
 use Rattle.sql_meaning.proofs.AskFacts.{asks_only}
-use Rattle.level_bounds.specs.Joins.{IsAsked}
+use Rattle.level_bounds.specs.Equalities.{IsAsked}
 use Rattle.level_bounds.specs.Keys.{JoinsEqualKeys, Keys}
-use Rattle.level_bounds.specs.Orders.{IsOrderOf}
-use Rattle.level_bounds.specs.Scans.{BoundsScans, level_over, scan_of}
+use Rattle.level_bounds.specs.Orders.{IsOrderOfSet}
+use Rattle.level_bounds.specs.Scans.{BoundsScans, query_level, query_scan}
 use Rattle.level_bounds.proofs.EqualityFacts.{are_asked}
 use Rattle.level_bounds.proofs.Lists.{all_from, each_of, from_filter}
 use Rattle.level_bounds.proofs.Scanning.{choices_differ, level_satisfies, level_within}
@@ -34,25 +34,25 @@ module _ (query : Query) (tables : Tables) where
   asked key subset keys = are_asked query tables key (equalities_within subset (equalities_of query)) (λ e there. (from_filter (joins_within subset) (equalities_of query) e there).0) keys
 
   -- what bounds know of the scans, as the scans' own tables have it
-  dominates : (key : Keys) (b : EntryBounds) (subset : ℕ) → BoundsScans b query tables key subset → SetDominates b (scanned (scan_of query tables) key) (equalities_of query) subset
+  dominates : (key : Keys) (b : EntryBounds) (subset : ℕ) → BoundsScans b query tables key subset → SetDominates b (scanned (query_scan query tables) key) (equalities_of query) subset
   dominates key b subset known = record {
     rows = known.rows;
-    columns = all_from (λ (p : Place). Dominates b (scanned (scan_of query tables) key) p.entry p.column) (places_of (equalities_within subset (equalities_of query)))
+    columns = all_from (λ (p : Place). Dominates b (scanned (query_scan query tables) key) p.entry p.column) (places_of (equalities_within subset (equalities_of query)))
         (λ p there. record {
-          keys = each_of (λ (p : Place). DominatesKeys (b.list p.entry p.column) (map (key p.entry p.column) (scan_of query tables p.entry)))
+          keys = each_of (λ (p : Place). DominatesKeys (b.list p.entry p.column) (map (key p.entry p.column) (query_scan query tables p.entry)))
               (places_of (equalities_within subset (equalities_of query))) known.columns p there;
-          key_per_row = length-map (scan_of query tables p.entry) (key p.entry p.column);
+          key_per_row = length-map (query_scan query tables p.entry) (key p.entry p.column);
         });
   }
 
-  pub satisfies : (key : Keys) (subset : ℕ) (order : List ℕ) → AllByRecursion (JoinsEqualKeys tables key) (equalities_within subset (equalities_of query)) → IsOrderOf (entries_of_set subset) order
-      → AllByRecursion (SatisfiesScanned (scan_of query tables) key (entries_of_set subset) (equalities_within subset (equalities_of query))) (map (row_in order) (level_over query tables order))
+  pub satisfies : (key : Keys) (subset : ℕ) (order : List ℕ) → AllByRecursion (JoinsEqualKeys tables key) (equalities_within subset (equalities_of query)) → IsOrderOfSet (entries_of_set subset) order
+      → AllByRecursion (SatisfiesScanned (query_scan query tables) key (entries_of_set subset) (equalities_within subset (equalities_of query))) (map (row_in order) (query_level query tables order))
   satisfies key subset order keys o = level_satisfies (conjuncts_of query tables) (row_counts tables) key (equalities_of query) subset order asks (asked key subset keys) o
 
-  pub differ : (subset : ℕ) (order : List ℕ) → IsOrderOf (entries_of_set subset) order → AreDifferent (entries_of_set subset) (map (row_in order) (level_over query tables order))
+  pub differ : (subset : ℕ) (order : List ℕ) → IsOrderOfSet (entries_of_set subset) order → AreDifferent (entries_of_set subset) (map (row_in order) (query_level query tables order))
   differ subset order o = choices_differ (conjuncts_of query tables) (row_counts tables) (entries_of_set subset) order o
 
   pub within : (key : Keys) (b : EntryBounds) (subset : ℕ) (order : List ℕ) → AllByRecursion (JoinsEqualKeys tables key) (equalities_within subset (equalities_of query))
-      → BoundsScans b query tables key subset → IsOrderOf (entries_of_set subset) order → length (level_over query tables order) ≤ bound_of_set b (equalities_of query) subset
+      → BoundsScans b query tables key subset → IsOrderOfSet (entries_of_set subset) order → length (query_level query tables order) ≤ bound_of_set b (equalities_of query) subset
   within key b subset order keys known o =
       level_within (conjuncts_of query tables) (row_counts tables) key (equalities_of query) subset order asks (asked key subset keys) o b known.lists (dominates key b subset known)

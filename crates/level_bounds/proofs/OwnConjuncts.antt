@@ -14,7 +14,7 @@ use Rattle.sql_meaning.specs.Answers.{conjunct_of, conjuncts_of}
 use Rattle.sql_meaning.specs.Conditions.{cond_holds}
 use Rattle.sql_meaning.specs.Levels.{names_just as names_just_it}
 use Rattle.sql_meaning.specs.Tables.{Tables, row_counts}
-use Rattle.level_bounds.specs.Scans.{own_conjuncts, scan_of}
+use Rattle.level_bounds.specs.Scans.{filters_of, query_scan}
 use Rattle.level_bounds.proofs.Lists.{from_filter, in_filter, in_range, range_within}
 
 -- ---- just one entry
@@ -54,10 +54,10 @@ module _ (tables : Tables) (entry row : ℕ) where
   ]
 
 pub scan_by_own : (query : Query) (tables : Tables) (entry : ℕ)
-    → scan_of query tables entry ≡ filter (λ row. list_all (cond_holds tables (λ e. row)) (own_conjuncts query entry)) (range_with_len 0 (row_counts tables entry))
+    → query_scan query tables entry ≡ filter (λ row. list_all (cond_holds tables (λ e. row)) (filters_of query entry)) (range_with_len 0 (row_counts tables entry))
 scan_by_own query tables entry =
     filter_agree (λ row. list_all (λ c. not (names_just_it c entry) || c.holds (λ e. row)) (conjuncts_of query tables))
-    (λ row. list_all (cond_holds tables (λ e. row)) (own_conjuncts query entry)) (λ row. own_hold tables entry row query.conjuncts) (range_with_len 0 (row_counts tables entry))
+    (λ row. list_all (cond_holds tables (λ e. row)) (filters_of query entry)) (λ row. own_hold tables entry row query.conjuncts) (range_with_len 0 (row_counts tables entry))
 
 -- ---- by the numbers of the conjuncts
 
@@ -93,19 +93,19 @@ local_at query entry low =
     get_or-map-range_with_len (λ entry. numbers_where (names_just entry) 0 query.conjuncts) 0 (length query.from) entry entry [] low start
 
 pub scan_by_number : (query : Query) (tables : Tables) (entry row : ℕ) → entry < length query.from
-    → Contains (scan_of query tables entry) row
+    → Contains (query_scan query tables entry) row
     ↔ ((row < row_counts tables entry) × ((k : ℕ) → Contains (slice_index_or (local_of query) entry []) k
     → IsSomeAnd (slice_get query.conjuncts k) (λ cond. IsTrue (cond_holds tables (λ e. row) cond))))
 scan_by_number query tables entry row low = (
-  λ k. let parts : Contains (range_with_len 0 (row_counts tables entry)) row × (list_all passes (own_conjuncts query entry) ≡ true) =
-      from_filter (λ row. list_all (cond_holds tables (λ e. row)) (own_conjuncts query entry)) (range_with_len 0 (row_counts tables entry)) row
+  λ k. let parts : Contains (range_with_len 0 (row_counts tables entry)) row × (list_all passes (filters_of query entry) ≡ true) =
+      from_filter (λ row. list_all (cond_holds tables (λ e. row)) (filters_of query entry)) (range_with_len 0 (row_counts tables entry)) row
       (subst (λ (rows : List ℕ). Contains rows row) (scan_by_own query tables entry) k) in (
         omega (arith, (range_within 0 (row_counts tables entry) row parts.0).1),
         λ number at. each_from_all (names_just entry) passes query.conjuncts parts.1 number
             (number_passes (names_just entry) query.conjuncts number (subst (λ (numbers : List ℕ). Contains numbers number) (local_at query entry low) at)),
       ),
   λ h. subst (λ (rows : List ℕ). Contains rows row) (sym (scan_by_own query tables entry))
-      (in_filter (λ row. list_all (cond_holds tables (λ e. row)) (own_conjuncts query entry)) (range_with_len 0 (row_counts tables entry)) row
+      (in_filter (λ row. list_all (cond_holds tables (λ e. row)) (filters_of query entry)) (range_with_len 0 (row_counts tables entry)) row
       (in_range 0 (row_counts tables entry) row (omega arith) (omega (arith, h.0)))
       (all_from_each (names_just entry) passes query.conjuncts
       (λ number own. h.1 number (subst (λ (numbers : List ℕ). Contains numbers number) (sym (local_at query entry low)) (passing_is_numbered (names_just entry) query.conjuncts number own))))),

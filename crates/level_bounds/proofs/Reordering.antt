@@ -10,7 +10,7 @@ use Rattle.sql_meaning.specs.Choices.{choices_of, IsChoiceOf}
 use Rattle.sql_meaning.specs.Levels.{Conjunct, all_hold, level_of, row_in}
 use Rattle.sql_meaning.proofs.LoopFacts.{choice_length}
 use Rattle.sql_meaning.proofs.Order.{choices_differ, has_choice, is_choice}
-use Rattle.level_bounds.specs.Orders.{IsOrderOf, reordered}
+use Rattle.level_bounds.specs.Orders.{IsOrderOfSet, reordered}
 use Rattle.level_bounds.proofs.Lists.{is_in, in_true, in_filter, from_filter, in_map, from_map}
 use Rattle.level_bounds.proofs.Rearranging.{choices_permuted, differ_mapped}
 use Rattle.level_bounds.proofs.Choosing.{choice_back, choice_row, entry_in, entry_of, mapped_choice, row_out, rows_back, same_entries}
@@ -43,7 +43,7 @@ module _ (conjuncts : List Conjunct) (rows : ℕ → ℕ) where
       let tests : is_in order ≡ is_in other = fun_ext same in
       ap (λ (test : ℕ → Bool). list_all (λ c. not (list_all test c.entries) || c.holds f) conjuncts) tests
 
-  module _ (set order other : List ℕ) (o : IsOrderOf set order) (p : IsOrderOf set other) where
+  module _ (set order other : List ℕ) (o : IsOrderOfSet set order) (p : IsOrderOfSet set other) where
     -- each entry keeps its row
     pub same_rows : (choice : List ℕ) → row_in other (reordered order other choice) ≡ row_in order choice
     same_rows choice = rows_back other (row_in order choice) (λ x out. row_out order choice x (same_entries set order other o p x ∙ out))
@@ -61,7 +61,7 @@ module _ (conjuncts : List Conjunct) (rows : ℕ → ℕ) where
     pub back : (choice : List ℕ) → Contains (level_of conjuncts rows order) choice → map (row_in order choice) order ≡ choice
     back choice k = choice_back order choice o.once (choice_length rows order choice (stands order choice k).chosen)
 
-  module _ (set order other : List ℕ) (o : IsOrderOf set order) (p : IsOrderOf set other) where
+  module _ (set order other : List ℕ) (o : IsOrderOfSet set order) (p : IsOrderOfSet set other) where
     one_source : (c d : List ℕ) → Contains (level_of conjuncts rows order) c → Contains (level_of conjuncts rows order) d
         → reordered order other c ≡ reordered order other d → c ≡ d
     one_source c d k l same =

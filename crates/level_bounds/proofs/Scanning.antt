@@ -15,9 +15,9 @@ use Rattle.tree_bounds.specs.TreeBounds.{EntryBounds}
 use Rattle.tree_bounds.proofs.Scanned.{equalities_inside, scanned_within}
 use Rattle.sql_meaning.specs.Levels.{AsksOnly, Conjunct, level_of, names_just, names_only, row_in, scan}
 use Rattle.sql_meaning.proofs.LevelFacts.{names_at}
-use Rattle.level_bounds.specs.Joins.{IsAsked}
+use Rattle.level_bounds.specs.Equalities.{IsAsked}
 use Rattle.level_bounds.specs.Keys.{Keys}
-use Rattle.level_bounds.specs.Orders.{IsOrderOf}
+use Rattle.level_bounds.specs.Orders.{IsOrderOfSet}
 use Rattle.level_bounds.proofs.Lists.{all_from, all_true, each_of, from_map, in_filter, in_range, in_true, is_in, map_alike, same_at, true_for_all, true_in}
 use Rattle.level_bounds.proofs.Choosing.{choice_row, entry_in, entry_of}
 use Rattle.level_bounds.proofs.Reordering.{stands, level_differs, back}
@@ -34,7 +34,7 @@ implies : (a b : Bool) → (a ≡ true → b ≡ true) → (not a || b) ≡ true
 implies true b h = h refl
 implies false b h = refl
 
-module _ (conjuncts : List Conjunct) (rows : ℕ → ℕ) (set order : List ℕ) (o : IsOrderOf set order) where
+module _ (conjuncts : List Conjunct) (rows : ℕ → ℕ) (set order : List ℕ) (o : IsOrderOfSet set order) where
   -- each conjunct holds that names only entries of the set
   holds_within : (choice : List ℕ) → Contains (level_of conjuncts rows order) choice → (c : Conjunct) → Contains conjuncts c → names_only c order ≡ true → c.holds (row_in order choice) ≡ true
   holds_within choice k c there names =
@@ -110,7 +110,7 @@ module _ (conjuncts : List Conjunct) (rows : ℕ → ℕ) (set order : List ℕ)
           ∙ back conjuncts rows set order order o o y l
 
 module _ (conjuncts : List Conjunct) (rows : ℕ → ℕ) (key : Keys) (es : List Edge) (subset : ℕ) (order : List ℕ)
-    (asks : AllByRecursion AsksOnly conjuncts) (asked : AllByRecursion (IsAsked conjuncts rows key) (equalities_within subset es)) (o : IsOrderOf (entries_of_set subset) order) where
+    (asks : AllByRecursion AsksOnly conjuncts) (asked : AllByRecursion (IsAsked conjuncts rows key) (equalities_within subset es)) (o : IsOrderOfSet (entries_of_set subset) order) where
   all_equal : (choice : List ℕ) → Contains (level_of conjuncts rows order) choice → (edges : List Edge) → AreWithin (entries_of_set subset) edges → AllByRecursion (IsAsked conjuncts rows key) edges
       → AllByRecursion (λ e. key e.left.entry e.left.column (row_in order choice e.left.entry) ≡ key e.right.entry e.right.column (row_in order choice e.right.entry)) edges
   all_equal choice k [] inside asked' = tt

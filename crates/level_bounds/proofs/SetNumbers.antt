@@ -13,7 +13,7 @@ use Rattle.std.proofs.lemmas.Nat.Bits.{bit_at_lowest, bit_at-suc, bit_at-zero, b
 use Rattle.berge_tree.specs.Rooted.{entries_of_set}
 use Rattle.berge_tree.proofs.Planting.{set_bits, set_bits_only}
 use Rattle.berge_tree.proofs.Steps.{one_in, in_front, in_rest, in_none}
-use Rattle.level_bounds.specs.Orders.{IsOrderOf, set_of}
+use Rattle.level_bounds.specs.Orders.{IsOrderOfSet, set_of}
 use Rattle.level_bounds.proofs.Lists.{each_of, all_from, is_in, in_true, true_in, in_range, range_within}
 
 -- ---- ranges
@@ -29,7 +29,7 @@ range_distinct a (suc n) =
     (all_from (λ y. nat_eq a y ≡ false) (range_with_len (a + 1) n) (λ y k. ne_eqb a y (λ e. absurd (omega (arith, (range_within (a + 1) n y k).0, e)))))
     (range_distinct (a + 1) n)
 
-pub range_is_order : (n : ℕ) → IsOrderOf (range_with_len 0 n) (range_with_len 0 n)
+pub range_is_order : (n : ℕ) → IsOrderOfSet (range_with_len 0 n) (range_with_len 0 n)
 range_is_order n = record {
   once = range_distinct 0 n;
   within = all_from (Contains (range_with_len 0 n)) (range_with_len 0 n) (λ x k. k);
@@ -37,7 +37,7 @@ range_is_order n = record {
 }
 
 -- n different numbers below n are all of them
-pub order_of_all : (n : ℕ) (order : List ℕ) → AllByRecursion (λ entry. entry < n) order → IsDistinct nat_eq order → length order ≡ n → IsOrderOf (range_with_len 0 n) order
+pub order_of_all : (n : ℕ) (order : List ℕ) → AllByRecursion (λ entry. entry < n) order → IsDistinct nat_eq order → length order ≡ n → IsOrderOfSet (range_with_len 0 n) order
 order_of_all n order low once long = record {
   once = once;
   within = all_from (Contains (range_with_len 0 n)) order (λ x k. in_range 0 n x (omega arith) (omega (arith, each_of (λ entry. entry < n) order low x k)));
@@ -118,7 +118,7 @@ bits_are_entries (e ∷ entries) d x =
       | inr some ↦ absurd (not_again (there (omega (arith, bit_at-lt (set_of entries) e))))
     ]
 
-pub order_of_set : (entries : List ℕ) → AllByRecursion (λ entry. entry < 16) entries → IsDistinct nat_eq entries → IsOrderOf (entries_of_set (set_of entries)) entries
+pub order_of_set : (entries : List ℕ) → AllByRecursion (λ entry. entry < 16) entries → IsDistinct nat_eq entries → IsOrderOfSet (entries_of_set (set_of entries)) entries
 order_of_set entries low once = record {
   once = once;
   within = all_from (Contains (entries_of_set (set_of entries))) entries
@@ -139,5 +139,5 @@ distinct_taken (suc k) [] d = none_distinct
 distinct_taken (suc k) (x ∷ xs) d =
     IsDistinct-cons nat_eq x (take k xs) (all_taken (λ y. nat_eq x y ≡ false) k xs (IsDistinct-head nat_eq x xs d)) (distinct_taken k xs (IsDistinct-tail nat_eq x xs d))
 
-pub prefix_of_order : (order : List ℕ) (k : ℕ) → AllByRecursion (λ entry. entry < 16) order → IsDistinct nat_eq order → IsOrderOf (entries_of_set (set_of (take k order))) (take k order)
+pub prefix_of_order : (order : List ℕ) (k : ℕ) → AllByRecursion (λ entry. entry < 16) order → IsDistinct nat_eq order → IsOrderOfSet (entries_of_set (set_of (take k order))) (take k order)
 prefix_of_order order k low once = order_of_set (take k order) (all_taken (λ entry. entry < 16) k order low) (distinct_taken k order once)

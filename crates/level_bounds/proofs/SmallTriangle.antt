@@ -19,8 +19,8 @@ use Rattle.sql_meaning.specs.Tables.{row_counts}
 use Rattle.sql_meaning.proofs.ConditionFacts.{entries_compare, holds_compare}
 use Rattle.level_bounds.specs.Examples.{three_tables, triangle_level, triangle_scan}
 use Rattle.level_bounds.specs.Keys.{cell_at}
-use Rattle.level_bounds.specs.Orders.{IsOrderOf}
-use Rattle.level_bounds.specs.Scans.{BoundsScans, own_conjuncts}
+use Rattle.level_bounds.specs.Orders.{IsOrderOfSet}
+use Rattle.level_bounds.specs.Scans.{BoundsScans, filters_of}
 use Rattle.level_bounds.specs.Whole.{AreCompressed}
 use Rattle.level_bounds.proofs.Lists.{is_in}
 use Rattle.level_bounds.proofs.NearWhole.{whole_bounds, whole_scan}
@@ -55,13 +55,13 @@ triangle_level_is order =
 
 -- ---- scans and bounds
 
-pub none_own_0 : own_conjuncts triangle 0 ≡ []
+pub none_own_0 : filters_of triangle 0 ≡ []
 none_own_0 = rw (entries_compare op.Eq (column_at 0 0) (column_at 1 0), entries_compare op.Eq (column_at 1 1) (column_at 2 0), entries_compare op.Eq (column_at 2 1) (column_at 0 1)) refl
 
-pub none_own_1 : own_conjuncts triangle 1 ≡ []
+pub none_own_1 : filters_of triangle 1 ≡ []
 none_own_1 = rw (entries_compare op.Eq (column_at 0 0) (column_at 1 0), entries_compare op.Eq (column_at 1 1) (column_at 2 0), entries_compare op.Eq (column_at 2 1) (column_at 0 1)) refl
 
-pub none_own_2 : own_conjuncts triangle 2 ≡ []
+pub none_own_2 : filters_of triangle 2 ≡ []
 none_own_2 = rw (entries_compare op.Eq (column_at 0 0) (column_at 1 0), entries_compare op.Eq (column_at 1 1) (column_at 2 0), entries_compare op.Eq (column_at 2 1) (column_at 0 1)) refl
 
 pub triangle_scan_1 : triangle_scan 1 ≡ 0 ∷ 1 ∷ 2 ∷ []
@@ -78,7 +78,7 @@ pub triangle_bounded : BoundsScans triangle_bounds triangle three_tables (cell_a
 unfolding entries_of_set
 triangle_bounded = whole_bounds triangle three_tables (cell_at triangle_tables) 1 triangle_bounds 7 (none_own_0, (none_own_1, (none_own_2, tt))) triangle_compressed
 
-pub triangle_order : IsOrderOf (entries_of_set 7) (2 ∷ 0 ∷ 1 ∷ [])
+pub triangle_order : IsOrderOfSet (entries_of_set 7) (2 ∷ 0 ∷ 1 ∷ [])
 unfolding entries_of_set IsDistinct
 triangle_order = record {
   once = ((refl, (refl, tt)), ((refl, tt), (tt, tt)));

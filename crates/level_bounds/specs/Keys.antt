@@ -1,5 +1,6 @@
 -- Keys: a number for each row in each column, that tells which values are equal.
 use Rattle.std.specs.Prelude.{◌≡◌, ◌≢◌, ℕ, ◌<◌, Bool, true, List, [], AllPairs, slice_index, slice_index_or}
+use Rattle.std.specs.List.{AllByRecursion}
 use Rattle.std.specs.Ordering.{is_eq}
 use Rattle.std.specs.Str.{chars}
 use Rattle.berge_tree.specs.declared.edges.Edge.{Edge}
@@ -25,6 +26,10 @@ are_equal_at tables e left right =
 abbrev pub JoinsEqualKeys : Tables → Keys → Edge → Type 0
 JoinsEqualKeys tables key e = (left right : ℕ) → left < row_counts tables e.left.entry → right < row_counts tables e.right.entry
     → are_equal_at tables e left right ≡ true → key e.left.entry e.left.column left ≡ key e.right.entry e.right.column right
+
+-- so it is for each of these equalities
+abbrev pub AreKeys : Tables → Keys → List Edge → Type 0
+AreKeys tables key es = AllByRecursion (JoinsEqualKeys tables key) es
 
 -- the cells of a database as keys
 abbrev pub cell_at : Database → Keys

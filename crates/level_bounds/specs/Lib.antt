@@ -1,6 +1,6 @@
 pub mod Orders
 pub mod Keys
 pub mod Scans
-pub mod Joins
+pub mod Equalities
 pub mod Whole
 pub mod Examples

@@ -4,7 +4,7 @@ use Rattle.std.specs.List.{AllByRecursion, Contains, IsDistinct}
 use Rattle.sql_meaning.specs.Levels.{row_in}
 
 -- the list has each entry of the set, once, and no other
-pub record IsOrderOf (set order : List ℕ) : Type 0 where
+pub record IsOrderOfSet (set order : List ℕ) : Type 0 where
   pub once : IsDistinct ◌==◌ order
   pub within : AllByRecursion (Contains set) order
   pub covers : AllByRecursion (Contains order) set

@@ -2,6 +2,7 @@
 use Rattle.std.specs.Prelude.{ℕ, ◌≤◌, List, length, map}
 use Rattle.std.specs.List.{AllByRecursion, filter}
 use Rattle.degree_sequences.specs.Domination.{DominatesKeys}
+use Rattle.berge_tree.specs.declared.edges.Edge.{Edge}
 use Rattle.berge_tree.specs.Rooted.{entries_of_set}
 use Rattle.query_types.specs.declared.types.Cond.{Cond}
 use Rattle.query_types.specs.declared.types.Query.{Query}
@@ -16,28 +17,39 @@ use Rattle.sql_meaning.specs.Tables.{Tables, row_counts}
 use Rattle.level_bounds.specs.Keys.{Keys}
 
 -- the rows of an entry's scan
-abbrev pub scan_of : Query → Tables → ℕ → List ℕ
-scan_of query tables entry = scan (conjuncts_of query tables) (row_counts tables) entry
+abbrev pub query_scan : Query → Tables → ℕ → List ℕ
+query_scan query tables entry = scan (conjuncts_of query tables) (row_counts tables) entry
 
 -- the choices of the level over these entries, in this order
-abbrev pub level_over : Query → Tables → List ℕ → List (List ℕ)
-level_over query tables order = level_of (conjuncts_of query tables) (row_counts tables) order
+abbrev pub query_level : Query → Tables → List ℕ → List (List ℕ)
+query_level query tables order = level_of (conjuncts_of query tables) (row_counts tables) order
 
 -- the conjuncts that name the entry and no other one
-abbrev pub own_conjuncts : Query → ℕ → List Cond
-own_conjuncts query entry = filter (names_just entry) query.conjuncts
+abbrev pub filters_of : Query → ℕ → List Cond
+filters_of query entry = filter (names_just entry) query.conjuncts
 
--- bounds of entries are at least what the scans have: each scan has at most as many rows as its row bound, and the list of
--- each column that joins entries dominates its keys over the scan
+-- the equalities of the query that join two entries of a set
+abbrev pub equalities_in : Query → ℕ → List Edge
+equalities_in query subset = equalities_within subset (equalities_of query)
+
+-- ---- what bounds of entries know of the scans
+
+-- the scan of an entry has at most as many rows as its row bound
+abbrev pub ScanFits : EntryBounds → Query → Tables → ℕ → Type 0
+ScanFits b query tables entry = length (query_scan query tables entry) ≤ b.rows entry
+
+-- the list of a column dominates its keys over the scan
+abbrev pub DominatesScan : EntryBounds → Query → Tables → Keys → ℕ → ℕ → Type 0
+DominatesScan b query tables key entry column = DominatesKeys (b.list entry column) (map (key entry column) (query_scan query tables entry))
+
+-- every scan of the query fits, and each column that joins two entries has its list, which dominates the scan
 pub record BoundsEachScan (b : EntryBounds) (query : Query) (tables : Tables) (key : Keys) : Type 0 where
+  pub rows : AllByRecursion (ScanFits b query tables) (entries_of query)
   pub lists : EachNamedColumn (HasList b) (equalities_of query)
-  pub rows : AllByRecursion (λ entry. length (scan_of query tables entry) ≤ b.rows entry) (entries_of query)
-  pub columns : EachNamedColumn (λ entry column. DominatesKeys (b.list entry column) (map (key entry column) (scan_of query tables entry)))
-      (equalities_of query)
+  pub columns : EachNamedColumn (DominatesScan b query tables key) (equalities_of query)
 
--- the same for the entries of a set, and the columns that join entries of the set
+-- the same for the entries of a set, and the columns that join two of them
 pub record BoundsScans (b : EntryBounds) (query : Query) (tables : Tables) (key : Keys) (subset : ℕ) : Type 0 where
+  pub rows : AllByRecursion (ScanFits b query tables) (entries_of_set subset)
   pub lists : SetHasLists b (equalities_of query) subset
-  pub rows : AllByRecursion (λ entry. length (scan_of query tables entry) ≤ b.rows entry) (entries_of_set subset)
-  pub columns : EachNamedColumn (λ entry column. DominatesKeys (b.list entry column) (map (key entry column) (scan_of query tables entry)))
-      (equalities_within subset (equalities_of query))
+  pub columns : EachNamedColumn (DominatesScan b query tables key) (equalities_in query subset)

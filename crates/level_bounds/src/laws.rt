@@ -1,5 +1,6 @@
 //! What holds of scans, levels and bounds: no law computes anything, and the contract is the law.
-ghost use Rattle.std.specs.Prelude.{◌≡◌, ◌↔◌, ◌+◌, ◌*◌, ◌^◌, ◌<◌, ◌≤◌, ◌==◌, ℕ, IsPermutation, IsSomeAnd, IsTrue, List, [], ◌∷◌, All, Some, length, map, slice_get, slice_index_or, take};
+ghost use Rattle.std.specs.Prelude.{◌≡◌, ◌↔◌, ◌+◌, ◌*◌, ◌^◌, ◌<◌, ◌≤◌, ◌==◌, ℕ, IsPermutation, IsSomeAnd, IsTrue, List, [], ◌∷◌, All};
+ghost use Rattle.std.specs.Prelude.{Some, length, map, slice_get, slice_index_or, take};
 ghost use Rattle.std.specs.List.{AllByRecursion, Contains, IsDistinct, filter, list_all, range_with_len};
 ghost use Rattle.std.specs.Str.{IsUtf8};
 ghost use Rattle.berge_tree.specs.declared.edges.Edge.{Edge};
@@ -21,10 +22,10 @@ ghost use Rattle.sql_meaning.specs.Conditions.{cond_holds};
 ghost use Rattle.sql_meaning.specs.Databases.{IsColumnOf, IsDatabaseOf};
 ghost use Rattle.sql_meaning.specs.Levels.{AsksOnly, Conjunct, level, level_of, names_just as names_just_it, row_in, scan};
 ghost use Rattle.sql_meaning.specs.Tables.{Tables, cells_of, row_counts, tables_of};
-ghost use Rattle.level_bounds.specs.Joins.{IsAsked};
-ghost use Rattle.level_bounds.specs.Keys.{HaveDifferentCharacters, JoinsEqualKeys, Keys, are_equal_at, cell_at};
-ghost use Rattle.level_bounds.specs.Orders.{IsOrderOf, reordered, set_of};
-ghost use Rattle.level_bounds.specs.Scans.{BoundsEachScan, BoundsScans, level_over, own_conjuncts, scan_of};
+ghost use Rattle.level_bounds.specs.Equalities.{IsAsked};
+ghost use Rattle.level_bounds.specs.Keys.{AreKeys, HaveDifferentCharacters, Keys, are_equal_at, cell_at};
+ghost use Rattle.level_bounds.specs.Orders.{IsOrderOfSet, reordered, set_of};
+ghost use Rattle.level_bounds.specs.Scans.{BoundsEachScan, BoundsScans, equalities_in, filters_of, query_level, query_scan};
 ghost use Rattle.level_bounds.specs.Whole.{AreCompressed, keys_of, uncompressed};
 
 /// A conjunct is in the part of just one entry exactly where it counts in the scan of that entry: the scan has the rows
@@ -32,10 +33,10 @@ ghost use Rattle.level_bounds.specs.Whole.{AreCompressed, keys_of, uncompressed}
 pub fn scans_ask_local_conjuncts()
     ensures same { (tables : Tables) (entry : ℕ) (cond : Cond) → names_just_it (conjunct_of tables cond) entry ≡ names_just entry cond }
     ensures scan { (query : Query) (tables : Tables) (entry : ℕ)
-        → scan_of query tables entry
-        ≡ filter (λ row. list_all (cond_holds tables (λ e. row)) (own_conjuncts query entry)) (range_with_len 0 (row_counts tables entry)) }
+        → query_scan query tables entry
+        ≡ filter (λ row. list_all (cond_holds tables (λ e. row)) (filters_of query entry)) (range_with_len 0 (row_counts tables entry)) }
     ensures by_number { (query : Query) (tables : Tables) (entry row : ℕ) → entry < length query.from
-        → Contains (scan_of query tables entry) row
+        → Contains (query_scan query tables entry) row
         ↔ ((row < row_counts tables entry) × ((k : ℕ) → Contains (slice_index_or (local_of query) entry []) k
         → IsSomeAnd (slice_get query.conjuncts k) (λ cond. IsTrue (cond_holds tables (λ e. row) cond)))) }
 {}
@@ -53,7 +54,7 @@ pub fn equalities_are_conjuncts()
 /// of a whole column are its cells.
 pub fn cells_are_keys()
     ensures cells { (query : Query) (db : Database) → IsDatabaseOf query db → HaveDifferentCharacters db.pool
-        → AllByRecursion (JoinsEqualKeys (tables_of db) (cell_at db)) (equalities_of query) }
+        → AreKeys (tables_of db) (cell_at db) (equalities_of query) }
     ensures columns { (query : Query) (db : Database) (column : ColumnRef) → IsDatabaseOf query db → IsColumnOf db column
         → keys_of (tables_of db) (cell_at db) column.from column.column ≡ slice_index_or (cells_of db column.from).columns column.column [] }
     ensures texts { (texts : List (List ℕ)) → All IsUtf8 texts → AreDifferentTexts texts → HaveDifferentCharacters texts }
@@ -62,20 +63,20 @@ pub fn cells_are_keys()
 /// Different entries make an order of their set, each prefix too, and all of them an order of all.
 pub fn orders_are_of_their_sets()
     ensures prefixes { (order : List ℕ) (k : ℕ) → AllByRecursion (λ entry. entry < 16) order → IsDistinct ◌==◌ order
-        → IsOrderOf (entries_of_set (set_of (take k order))) (take k order) }
+        → IsOrderOfSet (entries_of_set (set_of (take k order))) (take k order) }
     ensures all { (n : ℕ) (order : List ℕ) → AllByRecursion (λ entry. entry < n) order → IsDistinct ◌==◌ order → length order ≡ n
-        → IsOrderOf (range_with_len 0 n) order }
+        → IsOrderOfSet (range_with_len 0 n) order }
 {}
 
 /// A level over the entries of a set, in any order, is a list of different choices of scanned rows that satisfy all
 /// equalities of the set.
 pub fn levels_are_choices_of_scanned_rows()
     ensures satisfy { (query : Query) (tables : Tables) (key : Keys) (subset : ℕ) (order : List ℕ)
-        → AllByRecursion (JoinsEqualKeys tables key) (equalities_within subset (equalities_of query)) → IsOrderOf (entries_of_set subset) order
-        → AllByRecursion (SatisfiesScanned (scan_of query tables) key (entries_of_set subset) (equalities_within subset (equalities_of query)))
-        (map (row_in order) (level_over query tables order)) }
-    ensures different { (query : Query) (tables : Tables) (subset : ℕ) (order : List ℕ) → IsOrderOf (entries_of_set subset) order
-        → AreDifferent (entries_of_set subset) (map (row_in order) (level_over query tables order)) }
+        → AreKeys tables key (equalities_in query subset) → IsOrderOfSet (entries_of_set subset) order
+        → AllByRecursion (SatisfiesScanned (query_scan query tables) key (entries_of_set subset) (equalities_in query subset))
+        (map (row_in order) (query_level query tables order)) }
+    ensures different { (query : Query) (tables : Tables) (subset : ℕ) (order : List ℕ) → IsOrderOfSet (entries_of_set subset) order
+        → AreDifferent (entries_of_set subset) (map (row_in order) (query_level query tables order)) }
 {}
 
 /// Never under: a level over the entries of a set, in any order, has at most as many rows as the bound of the set says,
@@ -83,36 +84,23 @@ pub fn levels_are_choices_of_scanned_rows()
 pub fn levels_are_never_under()
     ensures database { (query : Query) (db : Database) (b : EntryBounds) (subset : ℕ) (order : List ℕ)
         → IsDatabaseOf query db → HaveDifferentCharacters db.pool → BoundsScans b query (tables_of db) (cell_at db) subset
-        → IsOrderOf (entries_of_set subset) order → length (level_over query (tables_of db) order) ≤ bound_of_set b (equalities_of query) subset }
+        → IsOrderOfSet (entries_of_set subset) order
+        → length (query_level query (tables_of db) order) ≤ bound_of_set b (equalities_of query) subset }
     // each level of an order of all entries, the first k entries being its set
     ensures levels { (query : Query) (db : Database) (b : EntryBounds) (order : List ℕ) (k : ℕ)
-        → IsDatabaseOf query db → HaveDifferentCharacters db.pool → BoundsEachScan b query (tables_of db) (cell_at db) → IsOrderOf (entries_of query) order
-        → length (level (conjuncts_of query (tables_of db)) (row_counts (tables_of db)) order k) ≤ bound_of_set b (equalities_of query) (set_of (take k order)) }
+        → IsDatabaseOf query db → HaveDifferentCharacters db.pool → BoundsEachScan b query (tables_of db) (cell_at db)
+        → IsOrderOfSet (entries_of query) order
+        → length (level (conjuncts_of query (tables_of db)) (row_counts (tables_of db)) order k)
+        ≤ bound_of_set b (equalities_of query) (set_of (take k order)) }
     // over any tables, and any keys that rows share where an equality joins them
     ensures tables { (query : Query) (tables : Tables) (key : Keys) (b : EntryBounds) (subset : ℕ) (order : List ℕ)
-        → AllByRecursion (JoinsEqualKeys tables key) (equalities_within subset (equalities_of query)) → BoundsScans b query tables key subset
-        → IsOrderOf (entries_of_set subset) order → length (level_over query tables order) ≤ bound_of_set b (equalities_of query) subset }
+        → AreKeys tables key (equalities_in query subset) → BoundsScans b query tables key subset
+        → IsOrderOfSet (entries_of_set subset) order → length (query_level query tables order) ≤ bound_of_set b (equalities_of query) subset }
     // over any conjuncts
-    ensures conjuncts { (conjuncts : List Conjunct) (rows : ℕ → ℕ) (key : Keys) (es : List Edge) (b : EntryBounds) (subset : ℕ) (order : List ℕ)
-        → AllByRecursion AsksOnly conjuncts → AllByRecursion (IsAsked conjuncts rows key) (equalities_within subset es)
+    ensures conjuncts { (conjuncts : List Conjunct) (rows : ℕ → ℕ) (key : Keys) (es : List Edge) (b : EntryBounds) (subset : ℕ)
+        (order : List ℕ) → AllByRecursion AsksOnly conjuncts → AllByRecursion (IsAsked conjuncts rows key) (equalities_within subset es)
         → SetHasLists b es subset → SetDominates b (scanned (scan conjuncts rows) key) es subset
-        → IsOrderOf (entries_of_set subset) order → length (level_of conjuncts rows order) ≤ bound_of_set b es subset }
-{}
-
-/// A level depends on its entries as a set, up to the order of its rows: in another order of the same entries it has
-/// the same choices.
-pub fn levels_are_of_sets()
-    ensures rearranged { (conjuncts : List Conjunct) (rows : ℕ → ℕ) (set order other : List ℕ) → IsOrderOf set order → IsOrderOf set other
-        → IsPermutation (map (reordered order other) (level_of conjuncts rows order)) (level_of conjuncts rows other) }
-    ensures as_many { (conjuncts : List Conjunct) (rows : ℕ → ℕ) (set order other : List ℕ) → IsOrderOf set order → IsOrderOf set other
-        → length (level_of conjuncts rows order) ≡ length (level_of conjuncts rows other) }
-{}
-
-/// The last level of any order of all entries, each choice as the values of the outputs, is the answer of the query,
-/// each row as often as there.
-pub fn last_levels_are_the_answer()
-    ensures { (query : Query) (tables : Tables) (order : List ℕ) → NamesItsEntries query → IsOrderOf (entries_of query) order
-        → IsPermutation (map (λ choice. selected query tables (row_in order choice)) (level_over query tables order)) (answer query tables) }
+        → IsOrderOfSet (entries_of_set subset) order → length (level_of conjuncts rows order) ≤ bound_of_set b es subset }
 {}
 
 /// What bounds know of each scan of a query, they know for every set of its entries.
@@ -121,18 +109,39 @@ pub fn each_scan_is_enough()
         → AllByRecursion (λ entry. entry < length query.from) (entries_of_set subset) → BoundsScans b query tables key subset }
 {}
 
-/// Where no conjunct names just one entry, its scan is its whole table. Bounds from compressed degree lists of whole tables
+/// A level depends on its entries as a set, up to the order of its rows: in another order of the same entries it has
+/// the same choices.
+pub fn levels_are_of_sets()
+    ensures rearranged { (conjuncts : List Conjunct) (rows : ℕ → ℕ) (set order other : List ℕ)
+        → IsOrderOfSet set order → IsOrderOfSet set other
+        → IsPermutation (map (reordered order other) (level_of conjuncts rows order)) (level_of conjuncts rows other) }
+    ensures as_many { (conjuncts : List Conjunct) (rows : ℕ → ℕ) (set order other : List ℕ)
+        → IsOrderOfSet set order → IsOrderOfSet set other
+        → length (level_of conjuncts rows order) ≡ length (level_of conjuncts rows other) }
+{}
+
+/// The last level of any order of all entries, each choice as the values of the outputs, is the answer of the query,
+/// each row as often as there.
+pub fn last_levels_are_the_answer()
+    ensures tables { (query : Query) (tables : Tables) (order : List ℕ) → NamesItsEntries query → IsOrderOfSet (entries_of query) order
+        → IsPermutation (map (λ choice. selected query tables (row_in order choice)) (query_level query tables order)) (answer query tables) }
+    ensures database { (query : Query) (db : Database) (order : List ℕ) → IsDatabaseOf query db → IsOrderOfSet (entries_of query) order
+        → IsPermutation (map (λ choice. selected query (tables_of db) (row_in order choice)) (query_level query (tables_of db) order))
+        (answer query (tables_of db)) }
+{}
+
+/// Where no conjunct names just an entry, its scan is its whole table. Bounds from compressed degree lists of whole tables
 /// are at least what such scans have.
 pub fn unfiltered_scans_are_whole_tables()
-    ensures whole { (query : Query) (tables : Tables) (entry : ℕ) → own_conjuncts query entry ≡ []
-        → scan_of query tables entry ≡ range_with_len 0 (row_counts tables entry) }
+    ensures whole { (query : Query) (tables : Tables) (entry : ℕ) → filters_of query entry ≡ []
+        → query_scan query tables entry ≡ range_with_len 0 (row_counts tables entry) }
     ensures bounded { (query : Query) (tables : Tables) (key : Keys) (accuracy : ℕ) (b : EntryBounds) (subset : ℕ)
-        → AllByRecursion (λ entry. own_conjuncts query entry ≡ []) (entries_of_set subset)
+        → AllByRecursion (λ entry. filters_of query entry ≡ []) (entries_of_set subset)
         → AreCompressed accuracy b tables key (equalities_of query) subset → BoundsScans b query tables key subset }
 {}
 
 /// Near: at accuracy K, K^n times the bound of a set of n entries from compressed lists is at most (K + 1)^n times the
-/// bound of the same set from the degree lists themselves.
+/// bound of the same set from the degree lists themselves, each over the least of its turns.
 pub fn compressed_bounds_are_near()
     ensures { (query : Query) (tables : Tables) (key : Keys) (accuracy : ℕ) (b : EntryBounds) (subset : ℕ)
         → AreCompressed accuracy b tables key (equalities_of query) subset

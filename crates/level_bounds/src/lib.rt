@@ -1,8 +1,16 @@
 //! Levels and their bounds: the laws that join what a query means with the bounds of its sets of entries.
 //!
-//! In: what a query means over its tables (`sql_meaning`), and the bound of a set of entries (`tree_bounds`). Out: laws, and nothing that runs. No level over the entries of a set has more rows than the set's bound, in whatever order they stand, where the bounds of the entries are at least what their scans have. The last level of any order of all entries is the answer of the query, as a multiset. Without conjuncts on one entry alone, the bound of a set is near that of the whole tables' degree lists (SafeBound, SIGMOD 2023).
+//! In: what a query means over its tables (`sql_meaning`), and the bound of a set of entries (`tree_bounds`). Out: laws,
+//! and nothing that runs.
 //!
-//! Callers cite `scan_of`, `level_over` and `BoundsScans`, `IsOrderOf` for a set in an order, and `AreCompressed` and `uncompressed` for what a bound is near.
+//! - No level over the entries of a set has more rows than the set's bound, in whatever order they stand, where the bounds
+//!   of the entries are at least what their scans have.
+//! - The last level of any order of all entries is the answer of the query, as a multiset.
+//! - Without conjuncts on one entry alone, the bound of a set is near that of the whole tables' degree lists (SafeBound,
+//!   SIGMOD 2023).
+//!
+//! Callers cite `query_scan`, `query_level` and `BoundsEachScan`, `IsOrderOfSet` for a set in an order, and `AreCompressed`
+//! and `uncompressed` for what a bound is near.
 #![tactic(auto)]
 
 pub mod examples;

@@ -10,5 +10,6 @@ pub record IsAsked (conjuncts : List Conjunct) (rows : ℕ → ℕ) (key : Keys)
   pub conjunct : Conjunct
   pub one_of_them : Contains conjuncts conjunct
   pub names : names_only conjunct (e.left.entry ∷ e.right.entry ∷ []) ≡ true
-  pub equal : (row_of : ℕ → ℕ) → row_of e.left.entry < rows e.left.entry → row_of e.right.entry < rows e.right.entry → conjunct.holds row_of ≡ true
+  pub equal : (row_of : ℕ → ℕ) → row_of e.left.entry < rows e.left.entry → row_of e.right.entry < rows e.right.entry
+      → conjunct.holds row_of ≡ true
       → key e.left.entry e.left.column (row_of e.left.entry) ≡ key e.right.entry e.right.column (row_of e.right.entry)
