@@ -8,8 +8,11 @@ use Rattle.query_types.specs.declared.types.Cond.{Compare}
 use Rattle.query_types.specs.Named.{entries_named}
 use Rattle.join_graph.specs.Conjuncts.{equalities_of}
 use Rattle.join_graph.specs.Examples.{triangle as sides}
+use Rattle.join_graph.specs.Kept.{equalities_within}
 use Rattle.join_graph.proofs.Comparing.{equality_two}
+use Rattle.tree_bounds.specs.Columns.{EachNamedColumn}
 use Rattle.tree_bounds.specs.Examples.{triangle_bounds}
+use Rattle.tree_bounds.specs.TreeBounds.{HasList}
 use Rattle.sql_meaning.specs.Answers.{conjuncts_of}
 use Rattle.sql_meaning.specs.Choices.{choices_of}
 use Rattle.sql_meaning.specs.Conditions.{comparison_says, cond_holds}
@@ -20,7 +23,7 @@ use Rattle.sql_meaning.proofs.ConditionFacts.{entries_compare, holds_compare}
 use Rattle.level_bounds.specs.Examples.{three_tables, triangle_level, triangle_scan}
 use Rattle.level_bounds.specs.Keys.{cell_at}
 use Rattle.level_bounds.specs.Orders.{IsOrderOfSet}
-use Rattle.level_bounds.specs.Scans.{BoundsScans, filters_of}
+use Rattle.level_bounds.specs.Scans.{BoundsEachScan, BoundsScans, DominatesScan, filters_of}
 use Rattle.level_bounds.specs.Whole.{AreCompressed}
 use Rattle.level_bounds.proofs.Lists.{is_in}
 use Rattle.level_bounds.proofs.NearWhole.{whole_bounds, whole_scan}
@@ -77,6 +80,18 @@ triangle_compressed = subst (λ es. AreCompressed 1 triangle_bounds three_tables
 pub triangle_bounded : BoundsScans triangle_bounds triangle three_tables (cell_at triangle_tables) 7
 unfolding entries_of_set
 triangle_bounded = whole_bounds triangle three_tables (cell_at triangle_tables) 1 triangle_bounds 7 (none_own_0, (none_own_1, (none_own_2, tt))) triangle_compressed
+
+-- all three entries join by all equalities
+all_within : equalities_within 7 (equalities_of triangle) ≡ equalities_of triangle
+all_within = rw triangle_joined refl
+
+pub triangle_each : BoundsEachScan triangle_bounds triangle three_tables (cell_at triangle_tables)
+unfolding entries_of_set
+triangle_each = record {
+  rows = triangle_bounded.rows;
+  lists = subst (EachNamedColumn (HasList triangle_bounds)) all_within triangle_bounded.lists;
+  columns = subst (EachNamedColumn (DominatesScan triangle_bounds triangle three_tables (cell_at triangle_tables))) all_within triangle_bounded.columns;
+}
 
 pub triangle_order : IsOrderOfSet (entries_of_set 7) (2 ∷ 0 ∷ 1 ∷ [])
 unfolding entries_of_set IsDistinct

@@ -9,7 +9,7 @@ ghost use Rattle.sql_meaning.specs.Examples.{triangle, triangle_tables};
 ghost use Rattle.level_bounds.specs.Examples.{three_tables, triangle_level, triangle_scan};
 ghost use Rattle.level_bounds.specs.Keys.{HaveDifferentCharacters, cell_at};
 ghost use Rattle.level_bounds.specs.Orders.{IsOrderOfSet};
-ghost use Rattle.level_bounds.specs.Scans.{BoundsScans};
+ghost use Rattle.level_bounds.specs.Scans.{BoundsEachScan, BoundsScans};
 ghost use Rattle.level_bounds.specs.Whole.{AreCompressed};
 
 /// The order R, S, T has levels of 3, 5 and 4 rows, and bounds of 3, 5 and 9.
@@ -30,6 +30,7 @@ pub fn instances()
     ensures scans { triangle_scan 1 ≡ 0 ∷ 1 ∷ 2 ∷ [] }
     ensures compressed { AreCompressed 1 triangle_bounds three_tables (cell_at triangle_tables) (equalities_of triangle) 7 }
     ensures bounds { BoundsScans triangle_bounds triangle three_tables (cell_at triangle_tables) 7 }
+    ensures each { BoundsEachScan triangle_bounds triangle three_tables (cell_at triangle_tables) }
     ensures order { IsOrderOfSet (entries_of_set 7) (2 ∷ 0 ∷ 1 ∷ []) }
     ensures texts { HaveDifferentCharacters triangle_tables.pool }
 {}

@@ -1,5 +1,5 @@
 use Rattle.std.proofs.Common.{arith}
-use Rattle.level_bounds.proofs.SmallTriangle.{triangle_bounded, triangle_compressed, triangle_order, triangle_scan_1}
+use Rattle.level_bounds.proofs.SmallTriangle.{triangle_bounded, triangle_compressed, triangle_each, triangle_order, triangle_scan_1}
 use Rattle.level_bounds.proofs.examples.instances.Goals as goal
 
 pub returns-clause-scans : goal.returns-clause-scans
@@ -10,6 +10,9 @@ returns-clause-compressed c = triangle_compressed
 
 pub returns-clause-bounds : goal.returns-clause-bounds
 returns-clause-bounds c = triangle_bounded
+
+pub returns-clause-each : goal.returns-clause-each
+returns-clause-each c = triangle_each
 
 pub returns-clause-order : goal.returns-clause-order
 returns-clause-order c = triangle_order
