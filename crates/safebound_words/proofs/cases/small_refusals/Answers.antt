@@ -1,0 +1,40 @@
+use Rattle.std.proofs.Common.{refl}
+use Rattle.safebound_words.specs.Answer.{command_of, reading_of, parts_from, kind_of}
+use Rattle.safebound_words.specs.Numbers.{number_of}
+use Rattle.safebound_words.proofs.cases.small_refusals.Goals as goal
+
+pub returns-clause-no_words : goal.returns-clause-no_words
+unfolding command_of reading_of parts_from kind_of number_of
+returns-clause-no_words c = refl
+
+pub returns-clause-help : goal.returns-clause-help
+unfolding command_of reading_of parts_from kind_of number_of
+returns-clause-help c = refl
+
+pub returns-clause-no_query : goal.returns-clause-no_query
+unfolding command_of reading_of parts_from kind_of number_of
+returns-clause-no_query c = refl
+
+pub returns-clause-one_too_many : goal.returns-clause-one_too_many
+unfolding command_of reading_of parts_from kind_of number_of
+returns-clause-one_too_many c = refl
+
+pub returns-clause-version : goal.returns-clause-version
+unfolding command_of reading_of parts_from kind_of number_of
+returns-clause-version c = refl
+
+pub returns-clause-short : goal.returns-clause-short
+unfolding command_of reading_of parts_from kind_of number_of
+returns-clause-short c = refl
+
+pub returns-clause-two_numbers : goal.returns-clause-two_numbers
+unfolding command_of reading_of parts_from kind_of number_of
+returns-clause-two_numbers c = refl
+
+pub returns-clause-past_number : goal.returns-clause-past_number
+unfolding command_of reading_of parts_from kind_of number_of
+returns-clause-past_number c = refl
+
+pub returns-clause-no_option : goal.returns-clause-no_option
+unfolding command_of reading_of parts_from kind_of number_of
+returns-clause-no_option c = refl

@@ -1,0 +1,72 @@
+-- The one request that words ask for, computed from the first word to the last.
+use Rattle.std.specs.Prelude.{ℕ, ◌==◌, Bool, cond, if◌then◌else◌, find, List, [], ◌∷◌, ◌++◌, Option, Some, None, codes}
+use Rattle.std.specs.Option.{option_map}
+use Rattle.std.specs.Str.{bytes_eq}
+use Rattle.safebound_words.specs.Lines.{Item, Place, Beside, Joined, Reading, requested}
+use Rattle.safebound_words.specs.Requests.{Request}
+use Rattle.safebound_words.specs.Table.{CommandRow, command_row, OptionRow, option_row, ◌>>=◌}
+use Rattle.safebound_words.specs.Words.{Word, is_dashed}
+use Rattle.safebound_words.specs.declared.table.CommandName.{CommandName}
+use Rattle.safebound_words.specs.declared.table.CommandName.TheVariants as command
+use Rattle.safebound_words.specs.declared.table.OptionName.{OptionName}
+
+abbrev pub command_named : Word → Option CommandName
+command_named word = find (λ name. bytes_eq (command_row name).word word)
+    (command.Run ∷ command.Plan ∷ command.Audit ∷ command.Demo ∷ [])
+
+abbrev pub option_named : CommandName → Word → Option OptionName
+option_named name word = find (λ option. bytes_eq (option_row option).word word) (command_row name).options
+
+-- a word up to its first `=`, and what stands behind that, where it has one
+abbrev pub parts_of : Word → Word × Option Word
+parts_of [] = ([], None)
+parts_of (first ∷ rest) = if first == 61 then ([], Some rest) else (first ∷ (parts_of rest).0, (parts_of rest).1)
+
+-- what a word before `--` is
+pub data Kind : Type 0 where
+  Ends : Kind
+  IsPlace : Kind
+  Wants : OptionName → Kind
+  Gives : OptionName → Word → Kind
+  Unknown : Kind
+
+abbrev pub option_kind : Option OptionName → Option Word → Kind
+option_kind None value = Unknown
+option_kind (Some option) None = Wants option
+option_kind (Some option) (Some value) = Gives option value
+
+unfoldable pub kind_of : CommandName → Word → Kind
+kind_of name word =
+    if bytes_eq word (codes "--") then Ends
+    else if is_dashed word then option_kind (option_named name (parts_of word).0) (parts_of word).1
+    else IsPlace
+
+-- items, and the words behind `--`
+abbrev pub Parts : Type 0
+Parts = List Item × List Word
+
+abbrev pub in_front : Item → Option Parts → Option Parts
+in_front item parts = option_map (λ p. (item ∷ p.0, p.1)) parts
+
+-- what is read from here on, where an option may want its value
+unfoldable pub parts_from : CommandName → Option OptionName → List Word → Option Parts
+parts_from name None [] = Some ([], [])
+parts_from name (Some option) [] = None
+parts_from name (Some option) (word ∷ words) = in_front (Beside option word) (parts_from name None words)
+parts_from name None (word ∷ words) = elim (kind_of name word) [
+  | Ends ↦ Some ([], words)
+  | IsPlace ↦ in_front (Place word) (parts_from name None words)
+  | Wants option ↦ parts_from name (Some option) words
+  | Gives option value ↦ in_front (Joined option value) (parts_from name None words)
+  | Unknown ↦ None
+]
+
+unfoldable pub reading_of : List Word → Option Reading
+reading_of [] = None
+reading_of (first ∷ words) = do
+  name ← command_named first
+  parts ← parts_from name None words
+  Some (record { command = name; items = parts.0; behind = parts.1 })
+
+unfoldable pub command_of : List Word → Option Request
+command_of words = reading_of words >>= requested

@@ -1,0 +1,17 @@
+-- Numbers of the command line: one or more ASCII digits, and the number counts.
+use Rattle.std.specs.Prelude.{ℕ, ◌+◌, ◌-◌, ◌*◌, ◌^◌, ◌&&◌, Bool, nat_lt, nat_le, if◌then◌else◌, List, [], ◌∷◌, length, Option, Some, None}
+use Rattle.std.specs.Str.{all_ascii_digits}
+
+-- each digit has the weight of its place
+unfoldable pub number_of : List ℕ → ℕ
+number_of [] = 0
+number_of (digit ∷ rest) = (digit - 48) * 10 ^ length rest + number_of rest
+
+-- digits, at least one
+abbrev pub is_number : List ℕ → Bool
+is_number word = all_ascii_digits word && nat_lt 0 (length word)
+
+-- the number that a word spells, where it spells one of at least and at most so much
+abbrev pub number_within : ℕ → ℕ → List ℕ → Option ℕ
+number_within least most word =
+    if (is_number word && nat_le least (number_of word) && nat_le (number_of word) most) then Some (number_of word) else None

@@ -1,0 +1,64 @@
+-- The table of commands and options: a new one is one line here.
+use Rattle.std.specs.Prelude.{ℕ, ◌^◌, ◌-◌, Bool, List, [], ◌∷◌, Option, Some, None, codes}
+use Rattle.std.specs.Option.{option_map}
+use Rattle.safebound_words.specs.Numbers.{number_within}
+use Rattle.safebound_words.specs.Requests.{Request, Run, Plan, Audit, Demo}
+use Rattle.safebound_words.specs.Words.{Word}
+use Rattle.safebound_words.specs.declared.table.CommandName.{CommandName}
+use Rattle.safebound_words.specs.declared.table.CommandName.TheVariants as command
+use Rattle.safebound_words.specs.declared.table.OptionName.{OptionName}
+use Rattle.safebound_words.specs.declared.table.OptionName.TheVariants as option
+
+-- an option: its word, its least and its greatest value, and its value where it doesn't stand
+pub record OptionRow : Type 0 where
+  pub word : Word
+  pub least : ℕ
+  pub most : ℕ
+  pub otherwise : ℕ
+
+abbrev pub number_option : Word → ℕ → ℕ → ℕ → OptionRow
+number_option word least most otherwise = record { word = word; least = least; most = most; otherwise = otherwise }
+
+-- one line for each option
+abbrev pub option_row : OptionName → OptionRow
+option_row option.Budget = number_option (codes "--budget") 1 20000000 1000000
+option_row option.Accuracy = number_option (codes "--accuracy") 1 64 1
+
+-- the value of each option, where it has one
+abbrev pub Values : Type 0
+Values = OptionName → Option ℕ
+
+-- a command: its word, its options, and what its place words and the values of its options ask for, if anything
+pub record CommandRow : Type 0 where
+  pub word : Word
+  pub options : List OptionName
+  pub asks : List Word → Values → Option Request
+
+abbrev pub named : Word → List OptionName → (List Word → Values → Option Request) → CommandRow
+named word options asks = record { word = word; options = options; asks = asks }
+
+-- a number's value goes on to the rest
+infixl 10 ◌>>=◌
+abbrev pub ◌>>=◌ : {A B : Type 0} → Option A → (A → Option B) → Option B
+None >>= rest = None
+(Some value) >>= rest = rest value
+
+-- exactly two place words, SCHEMA and QUERY
+abbrev pub over_files : (Word → Word → ℕ → ℕ → Request) → List Word → Values → Option Request
+over_files request (schema ∷ query ∷ []) value = do
+  budget ← value option.Budget
+  accuracy ← value option.Accuracy
+  Some (request schema query budget accuracy)
+over_files request places value = None
+
+-- exactly one place word, NUMBER
+abbrev pub of_number : (ℕ → Request) → List Word → Values → Option Request
+of_number request (number ∷ []) value = option_map request (number_within 0 (2 ^ 32 - 1) number)
+of_number request places value = None
+
+-- one line for each command
+abbrev pub command_row : CommandName → CommandRow
+command_row command.Run = named (codes "run") (option.Budget ∷ option.Accuracy ∷ []) (over_files Run)
+command_row command.Plan = named (codes "plan") (option.Budget ∷ option.Accuracy ∷ []) (over_files Plan)
+command_row command.Audit = named (codes "audit") (option.Budget ∷ option.Accuracy ∷ []) (over_files Audit)
+command_row command.Demo = named (codes "demo") [] (of_number Demo)

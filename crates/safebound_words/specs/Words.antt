@@ -1,0 +1,11 @@
+-- Words of a command line, as their bytes.
+use Rattle.std.specs.Prelude.{ℕ, Bool, false, ◌==◌, List, [], ◌∷◌}
+
+abbrev pub Word : Type 0
+Word = List ℕ
+
+-- a dash and more: no place word before `--`
+abbrev pub is_dashed : Word → Bool
+is_dashed [] = false
+is_dashed (first ∷ []) = false
+is_dashed (first ∷ second ∷ rest) = first == 45

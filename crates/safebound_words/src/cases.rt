@@ -1,0 +1,53 @@
+//! What small command lines ask for.
+ghost use Rattle.std.specs.Prelude.{◌≡◌, Some, None, [], ◌∷◌, codes};
+ghost use Rattle.safebound_words.specs.Answer.{command_of};
+ghost use Rattle.safebound_words.specs.Requests.{Run, Plan, Audit, Demo};
+
+/// Commands and their place words. It does nothing.
+pub fn small_commands()
+    ensures run { command_of (codes "run" ∷ codes "s" ∷ codes "q" ∷ []) ≡ Some (Run (codes "s") (codes "q") 1000000 1) }
+    ensures audit { command_of (codes "audit" ∷ codes "s" ∷ codes "q" ∷ []) ≡ Some (Audit (codes "s") (codes "q") 1000000 1) }
+    ensures dash { command_of (codes "plan" ∷ codes "-" ∷ codes "q" ∷ []) ≡ Some (Plan (codes "-") (codes "q") 1000000 1) }
+    ensures empty { command_of (codes "plan" ∷ [] ∷ codes "q" ∷ []) ≡ Some (Plan [] (codes "q") 1000000 1) }
+    ensures number { command_of (codes "demo" ∷ codes "7" ∷ []) ≡ Some (Demo 7) }
+    ensures zeros { command_of (codes "demo" ∷ codes "007" ∷ []) ≡ Some (Demo 7) }
+    ensures last_number { command_of (codes "demo" ∷ codes "4294967295" ∷ []) ≡ Some (Demo 4294967295) }
+
+    // Behind `--` every word is a place word, a second `--` too.
+    ensures behind { command_of (codes "run" ∷ codes "--" ∷ codes "--budget" ∷ codes "--" ∷ [])
+        ≡ Some (Run (codes "--budget") (codes "--") 1000000 1) }
+    ensures number_behind { command_of (codes "demo" ∷ codes "--" ∷ codes "7" ∷ []) ≡ Some (Demo 7) }
+{}
+
+/// Options and their values. It does nothing.
+pub fn small_options()
+    ensures joined { command_of (codes "run" ∷ codes "--budget=12" ∷ codes "--" ∷ codes "s" ∷ codes "q" ∷ [])
+        ≡ Some (Run (codes "s") (codes "q") 12 1) }
+    ensures beside { command_of (codes "plan" ∷ codes "s" ∷ codes "--accuracy" ∷ codes "64" ∷ codes "q" ∷ codes "--budget" ∷ codes "007" ∷ [])
+        ≡ Some (Plan (codes "s") (codes "q") 7 64) }
+    ensures most { command_of (codes "audit" ∷ codes "s" ∷ codes "q" ∷ codes "--budget" ∷ codes "20000000" ∷ [])
+        ≡ Some (Audit (codes "s") (codes "q") 20000000 1) }
+    ensures past_most { command_of (codes "audit" ∷ codes "s" ∷ codes "q" ∷ codes "--budget" ∷ codes "20000001" ∷ []) ≡ None }
+    ensures least { command_of (codes "run" ∷ codes "s" ∷ codes "q" ∷ codes "--accuracy=0" ∷ []) ≡ None }
+    ensures past_accuracy { command_of (codes "run" ∷ codes "s" ∷ codes "q" ∷ codes "--accuracy" ∷ codes "65" ∷ []) ≡ None }
+    ensures twice { command_of (codes "run" ∷ codes "--budget" ∷ codes "12" ∷ codes "s" ∷ codes "q" ∷ codes "--budget=12" ∷ []) ≡ None }
+
+    // A value is the next word, whatever it is.
+    ensures next_word { command_of (codes "run" ∷ codes "s" ∷ codes "q" ∷ codes "--budget" ∷ codes "--" ∷ []) ≡ None }
+    ensures no_word { command_of (codes "run" ∷ codes "s" ∷ codes "q" ∷ codes "--budget" ∷ []) ≡ None }
+    ensures no_digit { command_of (codes "run" ∷ codes "s" ∷ codes "q" ∷ codes "--budget=" ∷ []) ≡ None }
+    ensures sign { command_of (codes "run" ∷ codes "s" ∷ codes "q" ∷ codes "--budget=+5" ∷ []) ≡ None }
+{}
+
+/// Words that are no command. It does nothing.
+pub fn small_refusals()
+    ensures no_words { command_of [] ≡ None }
+    ensures help { command_of (codes "--help" ∷ []) ≡ None }
+    ensures no_query { command_of (codes "run" ∷ codes "s" ∷ []) ≡ None }
+    ensures one_too_many { command_of (codes "run" ∷ codes "s" ∷ codes "q" ∷ codes "r" ∷ []) ≡ None }
+    ensures version { command_of (codes "run" ∷ codes "s" ∷ codes "q" ∷ codes "--version" ∷ []) ≡ None }
+    ensures short { command_of (codes "run" ∷ codes "-b" ∷ codes "s" ∷ codes "q" ∷ []) ≡ None }
+    ensures two_numbers { command_of (codes "demo" ∷ codes "7" ∷ codes "8" ∷ []) ≡ None }
+    ensures past_number { command_of (codes "demo" ∷ codes "4294967296" ∷ []) ≡ None }
+    ensures no_option { command_of (codes "demo" ∷ codes "7" ∷ codes "--budget" ∷ codes "12" ∷ []) ≡ None }
+{}
