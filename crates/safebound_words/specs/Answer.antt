@@ -11,11 +11,11 @@ use Rattle.safebound_words.specs.declared.table.CommandName.TheVariants as comma
 use Rattle.safebound_words.specs.declared.table.OptionName.{OptionName}
 
 abbrev pub command_named : Word → Option CommandName
-command_named word = find (λ name. bytes_eq (command_row name).word word)
+command_named word = find (λ name. bytes_eq word (command_row name).word)
     (command.Run ∷ command.Plan ∷ command.Audit ∷ command.Demo ∷ [])
 
 abbrev pub option_named : CommandName → Word → Option OptionName
-option_named name word = find (λ option. bytes_eq (option_row option).word word) (command_row name).options
+option_named name word = find (λ option. bytes_eq word (option_row option).word) (command_row name).options
 
 -- a word up to its first `=`, and what stands behind that, where it has one
 abbrev pub parts_of : Word → Word × Option Word
@@ -48,18 +48,20 @@ Parts = List Item × List Word
 abbrev pub in_front : Item → Option Parts → Option Parts
 in_front item parts = option_map (λ p. (item ∷ p.0, p.1)) parts
 
+-- what a word and the words behind it are read as, by what the word is
+abbrev pub read_by : Kind → Word → List Word → (Option OptionName → Option Parts) → Option Parts
+read_by Ends word words read_on = Some ([], words)
+read_by IsPlace word words read_on = in_front (Place word) (read_on None)
+read_by (Wants option) word words read_on = read_on (Some option)
+read_by (Gives option value) word words read_on = in_front (Joined option value) (read_on None)
+read_by Unknown word words read_on = None
+
 -- what is read from here on, where an option may want its value
 unfoldable pub parts_from : CommandName → Option OptionName → List Word → Option Parts
 parts_from name None [] = Some ([], [])
 parts_from name (Some option) [] = None
 parts_from name (Some option) (word ∷ words) = in_front (Beside option word) (parts_from name None words)
-parts_from name None (word ∷ words) = elim (kind_of name word) [
-  | Ends ↦ Some ([], words)
-  | IsPlace ↦ in_front (Place word) (parts_from name None words)
-  | Wants option ↦ parts_from name (Some option) words
-  | Gives option value ↦ in_front (Joined option value) (parts_from name None words)
-  | Unknown ↦ None
-]
+parts_from name None (word ∷ words) = read_by (kind_of name word) word words (λ wanted. parts_from name wanted words)
 
 unfoldable pub reading_of : List Word → Option Reading
 reading_of [] = None

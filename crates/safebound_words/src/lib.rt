@@ -3,8 +3,10 @@
 
 mod cases;
 mod command;
+mod laws;
 mod table;
 
 pub use cases::{small_commands, small_options, small_refusals};
 pub use command::{Command, WordsError};
+pub use laws::{one_command, one_reading};
 pub use table::{CommandName, OptionName};

@@ -1,0 +1,156 @@
+-- Words are read in one way at most, and it is the computed one.
+use Rattle.std.proofs.Common.{◌≡◌, ◌⊎◌, ◌↔◌, ℕ, List, [], ◌∷◌, ◌++◌, Option, Some, None, sym, refl, ap, ◌∙◌, codes, inl, inr, append_assoc}
+use Rattle.std.specs.Bool.{IsTrue}
+use Rattle.std.specs.List.{AllByRecursion, flat_map}
+use Rattle.safebound_words.specs.Answer.{Kind, Ends, IsPlace, Wants, Gives, Unknown, Parts, command_named, command_of, in_front, kind_of, parts_from, read_by, reading_of}
+use Rattle.safebound_words.specs.Lines.{AskFor, Item, Place, Beside, Joined, IsEnd, IsItemOf, Reading, Reads, has_option, requested, spelling}
+use Rattle.safebound_words.specs.Requests.{Request}
+use Rattle.safebound_words.specs.Table.{CommandRow, command_row, OptionRow, option_row, ◌>>=◌}
+use Rattle.safebound_words.specs.Words.{Word}
+use Rattle.safebound_words.specs.declared.table.CommandName.{CommandName}
+use Rattle.safebound_words.specs.declared.table.OptionName.{OptionName}
+use Rattle.safebound_words.proofs.WordKinds.{Told, told, kind-ends, kind-gives, kind-place, kind-wants, named_so, names_itself}
+
+-- What is spelled is read.
+
+spelled_read : (name : CommandName) (items : List Item) (rest behind : List Word)
+    → AllByRecursion (IsItemOf name) items → IsEnd rest behind → parts_from name None (flat_map spelling items ++ rest) ≡ Some (items, behind)
+unfolding parts_from
+spelled_read name [] rest behind all end = elim end [
+  | inl w ↦ rw (w.0, w.1) refl
+  | inr e ↦ rw (e, kind-ends name) refl
+]
+spelled_read name (Place word ∷ items) rest behind all end =
+    rw (kind-place name word all.0, spelled_read name items rest behind all.1 end) refl
+spelled_read name (Beside o value ∷ items) rest behind all end =
+    rw (kind-wants name o all.0, spelled_read name items rest behind all.1 end) refl
+spelled_read name (Joined o value ∷ items) rest behind all end =
+    rw (kind-gives name o value all.0, spelled_read name items rest behind all.1 end) refl
+
+pub reads_computed : (words : List Word) (reading : Reading) → Reads words reading → reading_of words ≡ Some reading
+unfolding reading_of
+reads_computed words reading is =
+    rw (is.spelled, names_itself reading.command, spelled_read reading.command reading.items is.rest reading.behind is.items is.end) refl
+
+-- What is read is spelled.
+
+pub record IsSpelled (name : CommandName) (words : List Word) (parts : Parts) : Type 0 where
+  pub rest : List Word
+  pub spelled : words ≡ flat_map spelling parts.0 ++ rest
+  pub end : IsEnd rest parts.1
+  pub items : AllByRecursion (IsItemOf name) parts.0
+
+-- one item in front
+pub record InFront (item : Item) (from : Option Parts) (parts : Parts) : Type 0 where
+  pub inner : Parts
+  pub from_is : from ≡ Some inner
+  pub parts_are : parts ≡ (item ∷ inner.0, inner.1)
+
+front_so : (item : Item) (from : Option Parts) (parts : Parts) → in_front item from ≡ Some parts → InFront item from parts
+front_so item None parts e = cc
+front_so item (Some inner) parts e = record { inner = inner; from_is = refl; parts_are = cc }
+
+one_more_item : (name : CommandName) (item : Item) (words inner_words : List Word) (from : Option Parts) (parts : Parts)
+    → words ≡ spelling item ++ inner_words → IsItemOf name item
+    → ((inner : Parts) → from ≡ Some inner → IsSpelled name inner_words inner)
+    → in_front item from ≡ Some parts → IsSpelled name words parts
+one_more_item name item words inner_words from parts spelled of read_on e =
+    let front = front_so item from parts e in
+    let inner = read_on front.inner front.from_is in
+    rw front.parts_are record {
+      rest = inner.rest;
+      spelled = spelled ∙ ap (λ ws. spelling item ++ ws) inner.spelled ∙ sym (append_assoc (spelling item) (flat_map spelling front.inner.0) inner.rest);
+      end = inner.end;
+      items = (of, inner.items);
+    }
+
+-- what `--`, an item or an option's word, and the words behind it, are read as
+kind_spelled : (name : CommandName) (word : Word) (words : List Word) (kind : Kind) (parts : Parts) → Told name word kind
+    → ((inner : Parts) → parts_from name None words ≡ Some inner → IsSpelled name words inner)
+    → ((o : OptionName) (inner : Parts) → IsTrue (has_option name o) → parts_from name (Some o) words ≡ Some inner → IsSpelled name ((option_row o).word ∷ words) inner)
+    → read_by kind word words (λ wanted. parts_from name wanted words) ≡ Some parts
+    → IsSpelled name (word ∷ words) parts
+kind_spelled name word words Ends parts is read_on value e =
+    let at_end : Some ([], words) ≡ Some parts = e in
+    let parts_are : parts ≡ ([], words) = cc in
+    rw parts_are record { rest = word ∷ words; spelled = refl; end = inr (ap (λ w. w ∷ words) is); items = tt }
+kind_spelled name word words IsPlace parts is read_on value e =
+    one_more_item name (Place word) (word ∷ words) words (parts_from name None words) parts refl is read_on e
+kind_spelled name word words (Wants o) parts is read_on value e =
+    rw is.0 (value o parts is.1 e)
+kind_spelled name word words (Gives o given) parts is read_on value e =
+    one_more_item name (Joined o given) (word ∷ words) words (parts_from name None words) parts (ap (λ w. w ∷ words) is.0) is.1 read_on e
+kind_spelled name word words Unknown parts is read_on value e = cc
+
+-- what is read of the words behind an option's word
+value_spelled : (name : CommandName) (o : OptionName) (value : Word) (words : List Word) (parts : Parts) → IsTrue (has_option name o)
+    → ((inner : Parts) → parts_from name None words ≡ Some inner → IsSpelled name words inner)
+    → in_front (Beside o value) (parts_from name None words) ≡ Some parts → IsSpelled name ((option_row o).word ∷ value ∷ words) parts
+value_spelled name o value words parts has read_on e =
+    one_more_item name (Beside o value) ((option_row o).word ∷ value ∷ words) words (parts_from name None words) parts refl has read_on e
+
+-- what the words stand for where an option may want its value
+before : Option OptionName → List Word → List Word
+before None words = words
+before (Some o) words = (option_row o).word ∷ words
+
+Has : CommandName → Option OptionName → Type 0
+Has name None = Unit {0}
+Has name (Some o) = IsTrue (has_option name o)
+
+spelled_from : (name : CommandName) (wanting : Option OptionName) (words : List Word) (parts : Parts) → Has name wanting
+    → parts_from name wanting words ≡ Some parts → IsSpelled name (before wanting words) parts
+unfolding parts_from before Has
+spelled_from name None [] parts has e =
+    let at_end : Some ([], []) ≡ Some parts = e in
+    let parts_are : parts ≡ ([], []) = cc in
+    rw parts_are record { rest = []; spelled = refl; end = inl (refl, refl); items = tt }
+spelled_from name (Some o) [] parts has e = cc
+spelled_from name (Some o) (value ∷ words) parts has e =
+    value_spelled name o value words parts has (λ inner is. spelled_from name None words inner tt is) e
+spelled_from name None (word ∷ words) parts has e =
+    kind_spelled name word words (kind_of name word) parts (told name word)
+    (λ inner is. spelled_from name None words inner tt is)
+    (λ o inner h is. spelled_from name (Some o) words inner h is) e
+
+pub read_spelled : (name : CommandName) (words : List Word) (parts : Parts) → parts_from name None words ≡ Some parts → IsSpelled name words parts
+unfolding before Has
+read_spelled name words parts e = spelled_from name None words parts tt e
+
+-- Whole lines.
+
+-- a first value that is there, and the rest
+bind_so : {A B : Type 0} (from : Option A) (rest : A → Option B) (b : B) → from >>= rest ≡ Some b → (a : A) × (from ≡ Some a) × (rest a ≡ Some b)
+bind_so None rest b e = cc
+bind_so (Some a) rest b e = (a, refl, e)
+
+pub computed_reads : (words : List Word) (reading : Reading) → reading_of words ≡ Some reading → Reads words reading
+unfolding reading_of
+computed_reads [] reading e = cc
+computed_reads (first ∷ words) reading e =
+    let name = bind_so (command_named first) _ reading e in
+    let parts = bind_so (parts_from name.0 None words) _ reading name.2 in
+    let is = read_spelled name.0 words parts.0 parts.1 in
+    let made : Some (record { command = name.0; items = parts.0.0; behind = parts.0.1 }) ≡ Some reading = parts.2 in
+    let reading_is : reading ≡ record { command = name.0; items = parts.0.0; behind = parts.0.1 } = cc in
+    rw reading_is record {
+      rest = is.rest;
+      spelled = ap (λ w. w ∷ words) (named_so first name.0 name.1) ∙ ap (λ ws. (command_row name.0).word ∷ ws) is.spelled;
+      end = is.end;
+      items = is.items;
+    }
+
+pub one_reading : (words : List Word) (one other : Reading) → Reads words one → Reads words other → one ≡ other
+one_reading words one other is same =
+    let first = reads_computed words one is in
+    let second = reads_computed words other same in cc
+
+pub asked_computed : (words : List Word) (request : Request) → AskFor words request → command_of words ≡ Some request
+unfolding command_of
+asked_computed words request (reading, is, asks) = rw (reads_computed words reading is) asks
+
+pub computed_asked : (words : List Word) (request : Request) → command_of words ≡ Some request → AskFor words request
+unfolding command_of
+computed_asked words request e =
+    let read = bind_so (reading_of words) requested request e in
+    (read.0, computed_reads words read.0 read.1, read.2)

@@ -1,0 +1,137 @@
+-- What a word is told to be, and the words of items.
+use Rattle.std.proofs.Common.{◌≡◌, ◌⊎◌, ℕ, ◌==◌, Bool, true, false, cond, if◌then◌else◌, List, [], ◌∷◌, ◌++◌, Option, Some, None, MatchOption, sym, refl, ap, ◌∙◌, codes, inl, inr, append_assoc}
+use Rattle.std.proofs.lemmas.Bool.{eqb-true, false≢true, or_left, or_right}
+use Rattle.std.proofs.lemmas.Slice.Eq.{bytes_eq-Decides}
+use Rattle.std.specs.Bool.{IsTrue}
+use Rattle.std.specs.List.{find, list_any}
+use Rattle.std.specs.Str.{bytes_eq}
+use Rattle.safebound_words.specs.Answer.{Kind, Ends, IsPlace, Wants, Gives, Unknown, command_named, kind_of, option_kind, option_named, parts_of}
+use Rattle.safebound_words.specs.Lines.{has_option, same_option}
+use Rattle.safebound_words.specs.Table.{CommandRow, command_row, OptionRow, option_row}
+use Rattle.safebound_words.specs.Words.{Word, is_dashed}
+use Rattle.safebound_words.specs.declared.table.CommandName.{CommandName}
+use Rattle.safebound_words.specs.declared.table.CommandName.TheVariants as command
+use Rattle.safebound_words.specs.declared.table.OptionName.{OptionName}
+use Rattle.safebound_words.specs.declared.table.OptionName.TheVariants as option
+
+-- From the line to the word. A new command or option is a line in each of these.
+
+-- a command's word names it
+pub names_itself : (name : CommandName) → command_named (command_row name).word ≡ Some name
+names_itself command.Run = refl
+names_itself command.Plan = refl
+names_itself command.Audit = refl
+names_itself command.Demo = refl
+
+-- an option's word wants a value
+pub kind-wants : (name : CommandName) (o : OptionName) → IsTrue (has_option name o) → kind_of name (option_row o).word ≡ Wants o
+unfolding kind_of
+kind-wants command.Run option.Budget has = refl
+kind-wants command.Run option.Accuracy has = refl
+kind-wants command.Plan option.Budget has = refl
+kind-wants command.Plan option.Accuracy has = refl
+kind-wants command.Audit option.Budget has = refl
+kind-wants command.Audit option.Accuracy has = refl
+kind-wants command.Demo option.Budget has = absurd (false≢true has)
+kind-wants command.Demo option.Accuracy has = absurd (false≢true has)
+
+-- an option's word, `=` and a value gives the value
+pub kind-gives : (name : CommandName) (o : OptionName) (value : Word) → IsTrue (has_option name o)
+    → kind_of name ((option_row o).word ++ codes "=" ++ value) ≡ Gives o value
+unfolding kind_of
+kind-gives command.Run option.Budget value has = refl
+kind-gives command.Run option.Accuracy value has = refl
+kind-gives command.Plan option.Budget value has = refl
+kind-gives command.Plan option.Accuracy value has = refl
+kind-gives command.Audit option.Budget value has = refl
+kind-gives command.Audit option.Accuracy value has = refl
+kind-gives command.Demo option.Budget value has = absurd (false≢true has)
+kind-gives command.Demo option.Accuracy value has = absurd (false≢true has)
+
+pub kind-ends : (name : CommandName) → kind_of name (codes "--") ≡ Ends
+unfolding kind_of
+kind-ends name = refl
+
+place_of_two : (name : CommandName) (word : Word) (same : Bool) → (same ≡ true → word ≡ codes "--") → is_dashed word ≡ false
+    → cond same Ends (cond (is_dashed word) (option_kind (option_named name (parts_of word).0) (parts_of word).1) IsPlace) ≡ IsPlace
+place_of_two name word true two place = absurd (false≢true (sym place ∙ ap is_dashed (two refl)))
+place_of_two name word false two place = rw place refl
+
+-- a word that isn't dashed is a place word
+pub kind-place : (name : CommandName) (word : Word) → is_dashed word ≡ false → kind_of name word ≡ IsPlace
+unfolding kind_of
+kind-place name word place = place_of_two name word (bytes_eq word (codes "--")) (bytes_eq-Decides word (codes "--")).0 place
+
+-- From the word to the line.
+
+-- what a choice of the first that fits gives
+chosen : {X : Type 0} (b : Bool) (x y : X) (rest : Option X) → cond b (Some x) rest ≡ Some y → ((b ≡ true) × (x ≡ y)) ⊎ ((b ≡ false) × (rest ≡ Some y))
+chosen true x y rest e = inl (refl, cc)
+chosen false x y rest e = inr (refl, e)
+
+-- what is found passes, and stands in the list
+found_so : {X : Type 0} (p q : X → Bool) (xs : List X) (x : X) → find p xs ≡ Some x → (p x ≡ true) × (q x ≡ true → list_any q xs ≡ true)
+found_so p q [] x e = cc
+found_so p q (y ∷ ys) x e = elim (chosen (p y) y x (find p ys) e) [
+  | inl w ↦ (ap p (sym w.1) ∙ w.0, λ passes. or_left (q y) (list_any q ys) (ap q w.1 ∙ passes))
+  | inr w ↦ let rest = found_so p q ys x w.1 in (rest.0, λ passes. or_right (q y) (list_any q ys) (rest.1 passes))
+]
+
+-- the name that a word is found to be
+pub named_so : (word : Word) (name : CommandName) → command_named word ≡ Some name → word ≡ (command_row name).word
+named_so word name found =
+    (bytes_eq-Decides word (command_row name).word).0 (found_so (λ n. bytes_eq word (command_row n).word) (λ n. true) (command.Run ∷ command.Plan ∷ command.Audit ∷ command.Demo ∷ []) name found).0
+
+-- the option that a word is found to be
+option_so : (name : CommandName) (word : Word) (o : OptionName) → option_named name word ≡ Some o → (word ≡ (option_row o).word) × IsTrue (has_option name o)
+option_so name word o found =
+    let so = found_so (λ other. bytes_eq word (option_row other).word) (same_option o) (command_row name).options o found in
+    ((bytes_eq-Decides word (option_row o).word).0 so.0, so.1 ((bytes_eq-Decides (option_row o).word (option_row o).word).1 refl))
+
+-- a word is its parts
+IsOfParts : Word → Word → Option Word → Type 0
+IsOfParts word front value = MatchOption value (word ≡ front) (λ v. word ≡ front ++ 61 ∷ v)
+
+one_more_part : (first : ℕ) (word front : Word) (value : Option Word) → IsOfParts word front value → IsOfParts (first ∷ word) (first ∷ front) value
+unfolding IsOfParts
+one_more_part first word front None is = ap (λ w. first ∷ w) is
+one_more_part first word front (Some v) is = ap (λ w. first ∷ w) is
+
+parts_step : (b : Bool) (first : ℕ) (rest : Word) → (b ≡ true → first ≡ 61) → IsOfParts rest (parts_of rest).0 (parts_of rest).1
+    → let parts : Word × Option Word = (if b then ([], Some rest) else (first ∷ (parts_of rest).0, (parts_of rest).1)) in
+    IsOfParts (first ∷ rest) parts.0 parts.1
+unfolding IsOfParts
+parts_step true first rest sign is = ap (λ c. c ∷ rest) (sign refl)
+parts_step false first rest sign is = one_more_part first rest (parts_of rest).0 (parts_of rest).1 is
+
+are_parts : (word : Word) → IsOfParts word (parts_of word).0 (parts_of word).1
+unfolding IsOfParts
+are_parts [] = refl
+are_parts (first ∷ rest) = parts_step (first == 61) first rest (eqb-true first 61) (are_parts rest)
+
+-- what a word is told to be, it is
+abbrev pub Told : CommandName → Word → Kind → Type 0
+Told name word Ends = word ≡ codes "--"
+Told name word IsPlace = is_dashed word ≡ false
+Told name word (Wants o) = (word ≡ (option_row o).word) × IsTrue (has_option name o)
+Told name word (Gives o value) = (word ≡ (option_row o).word ++ codes "=" ++ value) × IsTrue (has_option name o)
+Told name word Unknown = Unit {0}
+
+told_option : (name : CommandName) (word front : Word) (found : Option OptionName) (value : Option Word)
+    → found ≡ option_named name front → IsOfParts word front value → Told name word (option_kind found value)
+unfolding IsOfParts
+told_option name word front None value found is = tt
+told_option name word front (Some o) None found is = let so = option_so name front o (sym found) in (is ∙ so.0, so.1)
+told_option name word front (Some o) (Some v) found is =
+    let so = option_so name front o (sym found) in
+    (is ∙ ap (λ w. w ++ 61 ∷ v) so.0 ∙ sym (append_assoc (option_row o).word (codes "=") v), so.1)
+
+told_branch : (name : CommandName) (word : Word) (same dashed : Bool) → (same ≡ true → word ≡ codes "--") → dashed ≡ is_dashed word
+    → Told name word (cond same Ends (cond dashed (option_kind (option_named name (parts_of word).0) (parts_of word).1) IsPlace))
+told_branch name word true dashed two is = two refl
+told_branch name word false true two is = told_option name word (parts_of word).0 (option_named name (parts_of word).0) (parts_of word).1 refl (are_parts word)
+told_branch name word false false two is = sym is
+
+pub told : (name : CommandName) (word : Word) → Told name word (kind_of name word)
+unfolding kind_of
+told name word = told_branch name word (bytes_eq word (codes "--")) (is_dashed word) (bytes_eq-Decides word (codes "--")).0 refl

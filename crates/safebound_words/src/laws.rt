@@ -1,0 +1,17 @@
+//! Laws of the definitions. None of them does anything when it runs.
+ghost use Rattle.std.specs.Prelude.{◌≡◌, ◌↔◌, ℕ, List, Some};
+ghost use Rattle.safebound_words.specs.Answer.{command_of};
+ghost use Rattle.safebound_words.specs.Lines.{AskFor, Reading, Reads};
+ghost use Rattle.safebound_words.specs.Requests.{Request};
+ghost use Rattle.safebound_words.specs.Words.{Word};
+
+/// Words are read in one way at most.
+pub fn one_reading()
+    ensures { (words : List Word) (one other : Reading) → Reads words one → Reads words other → one ≡ other }
+{}
+
+/// Words ask for one thing at most, and `command_of` computes it.
+pub fn one_command()
+    ensures one { (words : List Word) (one other : Request) → AskFor words one → AskFor words other → one ≡ other }
+    ensures computed { (words : List Word) (request : Request) → AskFor words request ↔ (command_of words ≡ Some request) }
+{}
