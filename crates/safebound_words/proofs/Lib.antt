@@ -1,2 +1,6 @@
+mod NumberFacts
+mod PartFacts
 mod Readings
+mod Steps
+mod WholeLines
 mod WordKinds

@@ -1,11 +1,11 @@
 -- Words are read in one way at most, and it is the computed one.
-use Rattle.std.proofs.Common.{◌≡◌, ◌⊎◌, ◌↔◌, ℕ, List, [], ◌∷◌, ◌++◌, Option, Some, None, sym, refl, ap, ◌∙◌, codes, inl, inr, append_assoc}
+use Rattle.std.proofs.Common.{◌≡◌, List, [], ◌∷◌, ◌++◌, Option, Some, None, sym, refl, ap, ◌∙◌, inl, inr, append_assoc}
 use Rattle.std.specs.Bool.{IsTrue}
 use Rattle.std.specs.List.{AllByRecursion, flat_map}
 use Rattle.safebound_words.specs.Answer.{Kind, Ends, IsPlace, Wants, Gives, Unknown, Parts, command_named, command_of, in_front, kind_of, parts_from, read_by, reading_of}
 use Rattle.safebound_words.specs.Lines.{AskFor, Item, Place, Beside, Joined, IsEnd, IsItemOf, Reading, Reads, has_option, requested, spelling}
 use Rattle.safebound_words.specs.Requests.{Request}
-use Rattle.safebound_words.specs.Table.{CommandRow, command_row, OptionRow, option_row, ◌>>=◌}
+use Rattle.safebound_words.specs.Table.{command_row, option_row, ◌>>=◌}
 use Rattle.safebound_words.specs.Words.{Word}
 use Rattle.safebound_words.specs.declared.table.CommandName.{CommandName}
 use Rattle.safebound_words.specs.declared.table.OptionName.{OptionName}

@@ -1,10 +1,10 @@
 -- The one request that words ask for, computed from the first word to the last.
-use Rattle.std.specs.Prelude.{ℕ, ◌==◌, Bool, cond, if◌then◌else◌, find, List, [], ◌∷◌, ◌++◌, Option, Some, None, codes}
+use Rattle.std.specs.Prelude.{◌==◌, if◌then◌else◌, find, List, [], ◌∷◌, Option, Some, None, codes}
 use Rattle.std.specs.Option.{option_map}
 use Rattle.std.specs.Str.{bytes_eq}
 use Rattle.safebound_words.specs.Lines.{Item, Place, Beside, Joined, Reading, requested}
 use Rattle.safebound_words.specs.Requests.{Request}
-use Rattle.safebound_words.specs.Table.{CommandRow, command_row, OptionRow, option_row, ◌>>=◌}
+use Rattle.safebound_words.specs.Table.{command_row, option_row, ◌>>=◌}
 use Rattle.safebound_words.specs.Words.{Word, is_dashed}
 use Rattle.safebound_words.specs.declared.table.CommandName.{CommandName}
 use Rattle.safebound_words.specs.declared.table.CommandName.TheVariants as command

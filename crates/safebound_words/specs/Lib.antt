@@ -1,4 +1,6 @@
 pub mod Answer
+pub mod Kinds
+pub mod Line
 pub mod Lines
 pub mod Numbers
 pub mod Requests

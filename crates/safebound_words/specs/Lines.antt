@@ -5,7 +5,7 @@ use Rattle.std.specs.Str.{bytes_eq}
 use Rattle.std.specs.Bool.{IsTrue}
 use Rattle.safebound_words.specs.Numbers.{number_within}
 use Rattle.safebound_words.specs.Requests.{Request}
-use Rattle.safebound_words.specs.Table.{OptionRow, option_row, CommandRow, command_row}
+use Rattle.safebound_words.specs.Table.{option_row, command_row}
 use Rattle.safebound_words.specs.Words.{Word, is_dashed}
 use Rattle.safebound_words.specs.declared.table.CommandName.{CommandName}
 use Rattle.safebound_words.specs.declared.table.OptionName.{OptionName}

@@ -1,6 +1,7 @@
 -- Numbers of the command line: one or more ASCII digits, and the number counts.
 use Rattle.std.specs.Prelude.{ℕ, ◌+◌, ◌-◌, ◌*◌, ◌^◌, ◌&&◌, Bool, nat_lt, nat_le, if◌then◌else◌, List, [], ◌∷◌, length, Option, Some, None}
-use Rattle.std.specs.Str.{all_ascii_digits}
+use Rattle.std.specs.Char.{is_ascii_digit}
+use Rattle.std.specs.List.{list_all}
 
 -- each digit has the weight of its place
 unfoldable pub number_of : List ℕ → ℕ
@@ -9,7 +10,7 @@ number_of (digit ∷ rest) = (digit - 48) * 10 ^ length rest + number_of rest
 
 -- digits, at least one
 abbrev pub is_number : List ℕ → Bool
-is_number word = all_ascii_digits word && nat_lt 0 (length word)
+is_number word = list_all is_ascii_digit word && nat_lt 0 (length word)
 
 -- the number that a word spells, where it spells one of at least and at most so much
 abbrev pub number_within : ℕ → ℕ → List ℕ → Option ℕ

@@ -1,5 +1,5 @@
 -- The table of commands and options: a new one is one line here.
-use Rattle.std.specs.Prelude.{ℕ, ◌^◌, ◌-◌, Bool, List, [], ◌∷◌, Option, Some, None, codes}
+use Rattle.std.specs.Prelude.{ℕ, ◌^◌, ◌-◌, List, [], ◌∷◌, Option, Some, None, codes}
 use Rattle.std.specs.Option.{option_map}
 use Rattle.safebound_words.specs.Numbers.{number_within}
 use Rattle.safebound_words.specs.Requests.{Request, Run, Plan, Audit, Demo}

@@ -1,4 +1,7 @@
-//! The names of commands and options.
+//! The names of commands and options, and the words that name them.
+ghost use Rattle.std.specs.Prelude.{◌≡◌};
+ghost use Rattle.safebound_words.specs.Answer.{command_named as named_command, option_named as named_option};
+ghost use Rattle.safebound_words.specs.Table.{option_row};
 
 /// The name of a command.
 #[derive(Clone, Copy, Debug, PartialEq, Eq)]
@@ -14,4 +17,74 @@ pub enum CommandName {
 pub enum OptionName {
     Budget,
     Accuracy,
+}
+
+/// The least and the greatest value of an option, and its value where it doesn't stand.
+#[derive(Clone, Copy)]
+pub(crate) struct Range {
+    pub least: u64,
+    pub most: u64,
+    pub otherwise: u64,
+}
+
+impl OptionName {
+    /// The values of the option.
+    pub(crate) fn range(self) -> Range
+        ensures least { result.least ≡ (option_row self).least }
+        ensures most { result.most ≡ (option_row self).most }
+        ensures otherwise { result.otherwise ≡ (option_row self).otherwise }
+    {
+        match self {
+            OptionName::Budget => Range {
+                least: 1,
+                most: 20_000_000,
+                otherwise: 1_000_000,
+            },
+            OptionName::Accuracy => Range {
+                least: 1,
+                most: 64,
+                otherwise: 1,
+            },
+        }
+    }
+}
+
+// The command that a word names.
+pub(crate) fn command_named(word: &str) -> Option<CommandName>
+    ensures { result ≡ named_command word.now }
+{
+    if word == "run" {
+        Some(CommandName::Run)
+    } else if word == "plan" {
+        Some(CommandName::Plan)
+    } else if word == "audit" {
+        Some(CommandName::Audit)
+    } else if word == "demo" {
+        Some(CommandName::Demo)
+    } else {
+        None
+    }
+}
+
+// The option that a word names.
+fn any_option_named(word: &str) -> Option<OptionName>
+    ensures { result ≡ named_option CommandName.Run word.now }
+{
+    if word == "--budget" {
+        Some(OptionName::Budget)
+    } else if word == "--accuracy" {
+        Some(OptionName::Accuracy)
+    } else {
+        None
+    }
+}
+
+// The option of a command that a word names.
+pub(crate) fn option_named(name: CommandName, word: &str) -> Option<OptionName>
+    ensures option { result ≡ named_option name word.now }
+{
+    match name {
+        CommandName::Run | CommandName::Plan | CommandName::Audit => any_option_named(word),
+        CommandName::Demo => None,
+    }
 }

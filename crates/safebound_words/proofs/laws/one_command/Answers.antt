@@ -1,6 +1,4 @@
-use Rattle.std.proofs.Common.{Some}
 use Rattle.safebound_words.proofs.Readings.{asked_computed, computed_asked}
-use Rattle.safebound_words.specs.Answer.{command_of}
 use Rattle.safebound_words.proofs.laws.one_command.Goals as goal
 
 pub returns-clause-one : goal.returns-clause-one

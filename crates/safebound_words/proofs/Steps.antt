@@ -1,0 +1,308 @@
+-- One word more: what is asked for by what was collected and what is left stays the same, or nothing can be.
+use Rattle.std.proofs.Common.{◌≡◌, ℕ, ◌+◌, ◌<◌, ◌≤◌, true, if◌then◌else◌, List, [], ◌∷◌, ◌++◌, length, map, drop, get_or, Option, Some, None, Result, Ok, Err, Bor, sym, refl, ap, ◌∙◌, add-one, append_assoc, append-nil, length-append, suc, arith}
+use Rattle.std.proofs.Math.Path.{fun_ext}
+use Rattle.std.proofs.Math.Seq.{drop-cons}
+use Rattle.std.proofs.lemmas.Bool.{false≢true}
+use Rattle.std.proofs.lemmas.List.{drop_all}
+use Rattle.std.proofs.lemmas.Slice.Eq.{bytes_eq-Decides}
+use Rattle.std.specs.Bool.{IsTrue}
+use Rattle.std.specs.List.{flat_map}
+use Rattle.std.specs.Result.{OnErr}
+use Rattle.safebound_words.specs.Answer.{Kind, Ends, IsPlace, Wants, Gives, Unknown, Parts, in_front, kind_of, parts_from, read_by}
+use Rattle.safebound_words.specs.Line.{asked_by, asked_from, asked_with, collected, given_to, words_of}
+use Rattle.safebound_words.specs.Lines.{Item, Place, Beside, Joined, given_by, has_option, place_words, same_option, value_of}
+use Rattle.safebound_words.specs.Requests.{Request}
+use Rattle.safebound_words.specs.Table.{command_row, option_row, Values, over_files, of_number, ◌>>=◌}
+use Rattle.safebound_words.specs.Words.{Word}
+use Rattle.safebound_words.specs.declared.table.CommandName.{CommandName}
+use Rattle.safebound_words.specs.declared.table.CommandName.TheVariants as command
+use Rattle.safebound_words.specs.declared.table.OptionName.{OptionName}
+use Rattle.safebound_words.specs.declared.table.OptionName.TheVariants as option
+use Rattle.safebound_words.specs.declared.line.Line.{Line}
+use Rattle.safebound_words.specs.declared.line.Next.TheVariants as next
+use Rattle.safebound_words.specs.declared.line.Places.TheVariants as places
+use Rattle.safebound_words.proofs.WordKinds.{told}
+
+-- What a command asks for depends on its place words and on what is given to each option.
+
+same_asks : (name : CommandName) (places places' : List Word) (given given' : OptionName → List Word)
+    → places ≡ places' → ((o : OptionName) → given o ≡ given' o)
+    → (command_row name).asks places (λ o. value_of o (given o)) ≡ (command_row name).asks places' (λ o. value_of o (given' o))
+same_asks name places places' given given' same all =
+    ap (λ ws. (command_row name).asks ws (λ o. value_of o (given o))) same
+    ∙ ap (λ (values : Values). (command_row name).asks places' values) (fun_ext (λ (o : OptionName). ap (value_of o) (all o)))
+
+pub one_more_place : (name : CommandName) (new old : Line) (word : Word) (parts : Parts)
+    → words_of new.places ≡ words_of old.places ++ word ∷ [] → ((o : OptionName) → given_to new o ≡ given_to old o)
+    → asked_with name new parts ≡ asked_with name old (Place word ∷ parts.0, parts.1)
+unfolding asked_with
+one_more_place name new old word parts places given =
+    same_asks name
+    (words_of new.places ++ (flat_map place_words parts.0 ++ parts.1))
+    (words_of old.places ++ (word ∷ (flat_map place_words parts.0 ++ parts.1)))
+    (λ o. given_to new o ++ flat_map (given_by o) parts.0)
+    (λ o. given_to old o ++ flat_map (given_by o) parts.0)
+    (ap (λ ws. ws ++ (flat_map place_words parts.0 ++ parts.1)) places ∙ append_assoc (words_of old.places) (word ∷ []) (flat_map place_words parts.0 ++ parts.1))
+    (λ o. ap (λ ws. ws ++ flat_map (given_by o) parts.0) (given o))
+
+pub one_more_behind : (name : CommandName) (new old : Line) (word : Word) (words : List Word)
+    → words_of new.places ≡ words_of old.places ++ word ∷ [] → ((o : OptionName) → given_to new o ≡ given_to old o)
+    → asked_with name new ([], words) ≡ asked_with name old ([], word ∷ words)
+unfolding asked_with
+one_more_behind name new old word words places given =
+    same_asks name
+    (words_of new.places ++ words)
+    (words_of old.places ++ (word ∷ words))
+    (λ o. given_to new o ++ [])
+    (λ o. given_to old o ++ [])
+    (ap (λ ws. ws ++ words) places ∙ append_assoc (words_of old.places) (word ∷ []) words)
+    (λ o. ap (λ ws. ws ++ []) (given o))
+
+-- what a line gives after one value more
+GivesMore : Line → Line → OptionName → Word → Type 0
+GivesMore new old o value = (other : OptionName) → given_to new other ≡ given_to old other ++ (if same_option other o then value ∷ [] else [])
+
+one_more_value : (name : CommandName) (new old : Line) (item : Item) (o : OptionName) (value : Word) (parts : Parts)
+    → place_words item ≡ [] → ((other : OptionName) → given_by other item ≡ (if same_option other o then value ∷ [] else []))
+    → new.places ≡ old.places → GivesMore new old o value
+    → asked_with name new parts ≡ asked_with name old (item ∷ parts.0, parts.1)
+unfolding asked_with GivesMore
+one_more_value name new old item o value parts none by places given =
+    same_asks name
+    (words_of new.places ++ (flat_map place_words parts.0 ++ parts.1))
+    (words_of old.places ++ ((place_words item ++ flat_map place_words parts.0) ++ parts.1))
+    (λ other. given_to new other ++ flat_map (given_by other) parts.0)
+    (λ other. given_to old other ++ (given_by other item ++ flat_map (given_by other) parts.0))
+    (rw (none, places) refl)
+    (λ other. ap (λ ws. ws ++ flat_map (given_by other) parts.0) (given other ∙ ap (λ ws. given_to old other ++ ws) (sym (by other)))
+    ∙ append_assoc (given_to old other) (given_by other item) (flat_map (given_by other) parts.0))
+
+-- Where too much is collected, nothing is asked for.
+
+two_at_most : (request : Word → Word → ℕ → ℕ → Request) (places : List Word) (values : Values) → 2 < length places → over_files request places values ≡ None
+two_at_most request [] values many = absurd (omega arith)
+two_at_most request (a ∷ []) values many = absurd (omega arith)
+two_at_most request (a ∷ b ∷ []) values many = absurd (omega arith)
+two_at_most request (a ∷ b ∷ d ∷ rest) values many = refl
+
+one_at_most : (request : ℕ → Request) (places : List Word) (values : Values) → 2 < length places → of_number request places values ≡ None
+one_at_most request [] values many = absurd (omega arith)
+one_at_most request (a ∷ []) values many = absurd (omega arith)
+one_at_most request (a ∷ b ∷ rest) values many = refl
+
+too_many : (name : CommandName) (places : List Word) (values : Values) → 2 < length places → (command_row name).asks places values ≡ None
+too_many command.Run = two_at_most _
+too_many command.Plan = two_at_most _
+too_many command.Audit = two_at_most _
+too_many command.Demo = one_at_most _
+
+-- nothing comes of a value that isn't there
+none_first : {A B : Type 0} (first : Option A) (rest : A → Option B) → first ≡ None → first >>= rest ≡ None
+none_first first rest is = rw is refl
+
+none_behind : {A B : Type 0} (first : Option A) (rest : A → Option B) → ((a : A) → rest a ≡ None) → first >>= rest ≡ None
+none_behind None rest all = refl
+none_behind (Some a) rest all = all a
+
+no_value : (request : Word → Word → ℕ → ℕ → Request) (places : List Word) (values : Values) (o : OptionName)
+    → values o ≡ None → over_files request places values ≡ None
+no_value request [] values o is = refl
+no_value request (a ∷ []) values o is = refl
+no_value request (a ∷ b ∷ []) values option.Budget is = none_first _ _ is
+no_value request (a ∷ b ∷ []) values option.Accuracy is = none_behind _ _ (λ budget. none_first _ _ is)
+no_value request (a ∷ b ∷ d ∷ rest) values o is = refl
+
+refused : (name : CommandName) (o : OptionName) (places : List Word) (values : Values) → IsTrue (has_option name o) → values o ≡ None
+    → (command_row name).asks places values ≡ None
+refused command.Run o places values has is = no_value _ places values o is
+refused command.Plan o places values has is = no_value _ places values o is
+refused command.Audit o places values has is = no_value _ places values o is
+refused command.Demo o places values has is = absurd (false≢true has)
+
+too_often : (o : OptionName) (words : List Word) → 1 < length words → value_of o words ≡ None
+too_often o [] many = absurd (omega arith)
+too_often o (a ∷ []) many = absurd (omega arith)
+too_often o (a ∷ b ∷ rest) many = refl
+
+full_place : (name : CommandName) (line : Line) (word : Word) (parts : Parts) → length (words_of line.places) ≡ 2
+    → asked_with name line (Place word ∷ parts.0, parts.1) ≡ None
+unfolding asked_with
+full_place name line word parts full =
+    too_many name _ _ (omega (arith, length-append (words_of line.places) (word ∷ (flat_map place_words parts.0 ++ parts.1))))
+
+pub full_behind : (name : CommandName) (line : Line) (word : Word) (words : List Word) → length (words_of line.places) ≡ 2
+    → asked_with name line ([], word ∷ words) ≡ None
+unfolding asked_with
+full_behind name line word words full =
+    too_many name _ _ (omega (arith, length-append (words_of line.places) (word ∷ words)))
+
+same_itself : (o : OptionName) → same_option o o ≡ true
+same_itself o = (bytes_eq-Decides (option_row o).word (option_row o).word).1 refl
+
+twice : (name : CommandName) (line : Line) (item : Item) (o : OptionName) (value : Word) (parts : Parts) → IsTrue (has_option name o)
+    → given_by o item ≡ (if same_option o o then value ∷ [] else [])
+    → length (given_to line o) ≡ 1 → asked_with name line (item ∷ parts.0, parts.1) ≡ None
+unfolding asked_with
+twice name line item o value parts has by again =
+    let gives : given_by o item ≡ value ∷ [] = by ∙ rw (same_itself o) refl in
+    let words : given_by o item ++ flat_map (given_by o) parts.0 ≡ value ∷ flat_map (given_by o) parts.0 = ap (λ ws. ws ++ flat_map (given_by o) parts.0) gives in
+    refused name o _ _ has
+    (too_often o (given_to line o ++ (given_by o item ++ flat_map (given_by o) parts.0))
+    (rw words (omega (arith, length-append (given_to line o) (value ∷ flat_map (given_by o) parts.0)))))
+
+-- Steps of the walk.
+
+-- an item in front
+front_asked : (name : CommandName) (new old : Line) (item : Item) (parts : Option Parts)
+    → ((p : Parts) → asked_with name new p ≡ asked_with name old (item ∷ p.0, p.1))
+    → parts >>= asked_with name new ≡ in_front item parts >>= asked_with name old
+front_asked name new old item None same = refl
+front_asked name new old item (Some p) same = same p
+
+front_refused : (name : CommandName) (line : Line) (item : Item) (parts : Option Parts)
+    → ((p : Parts) → asked_with name line (item ∷ p.0, p.1) ≡ None) → in_front item parts >>= asked_with name line ≡ None
+front_refused name line item None none = refl
+front_refused name line item (Some p) none = none p
+
+-- what is read of a word before `--` and the words behind it
+read_so : (name : CommandName) (word : Word) (words : List Word) (kind : Kind) → kind ≡ kind_of name word
+    → parts_from name None (word ∷ words) ≡ read_by kind word words (λ wanted. parts_from name wanted words)
+unfolding parts_from
+read_so name word words kind is = ap (λ k. read_by k word words (λ wanted. parts_from name wanted words)) (sym is)
+
+pub wanted : (name : CommandName) (word : Word) (o : OptionName) → Wants o ≡ kind_of name word → IsTrue (has_option name o)
+wanted name word o is = let so = told name word in (rw (← is) at so).1
+
+pub gives_own : (name : CommandName) (word : Word) (o : OptionName) (value : Word) → Gives o value ≡ kind_of name word → IsTrue (has_option name o)
+gives_own name word o value is = let so = told name word in (rw (← is) at so).1
+
+pub end_step : (name : CommandName) (line : Line) (word : Word) → Ends ≡ kind_of name word → (words : List Word)
+    → asked_from name line next.Place words ≡ asked_from name line next.Item (word ∷ words)
+unfolding asked_from
+end_step name line word is words = rw (read_so name word words Ends is) refl
+
+pub option_step : (name : CommandName) (line : Line) (word : Word) (o : OptionName) → Wants o ≡ kind_of name word → (words : List Word)
+    → asked_from name line (next.Value o) words ≡ asked_from name line next.Item (word ∷ words)
+unfolding asked_from
+option_step name line word o is words = rw (read_so name word words (Wants o) is) refl
+
+pub unknown_refused : (name : CommandName) (line : Line) (word : Word) → Unknown ≡ kind_of name word → (words : List Word)
+    → asked_from name line next.Item (word ∷ words) ≡ None
+unfolding asked_from
+unknown_refused name line word is words = rw (read_so name word words Unknown is) refl
+
+pub place_step : (name : CommandName) (new old : Line) (word : Word) → IsPlace ≡ kind_of name word
+    → words_of new.places ≡ words_of old.places ++ word ∷ [] → ((o : OptionName) → given_to new o ≡ given_to old o) → (words : List Word)
+    → asked_from name new next.Item words ≡ asked_from name old next.Item (word ∷ words)
+unfolding asked_from
+place_step name new old word is places given words =
+    rw (read_so name word words IsPlace is)
+    (front_asked name new old (Place word) (parts_from name None words) (λ p. one_more_place name new old word p places given))
+
+pub place_refused : (name : CommandName) (line : Line) (word : Word) → IsPlace ≡ kind_of name word → length (words_of line.places) ≡ 2
+    → (words : List Word) → asked_from name line next.Item (word ∷ words) ≡ None
+unfolding asked_from
+place_refused name line word is full words =
+    rw (read_so name word words IsPlace is)
+    (front_refused name line (Place word) (parts_from name None words) (λ p. full_place name line word p full))
+
+pub joined_step : (name : CommandName) (new old : Line) (word : Word) (o : OptionName) (value : Word) → Gives o value ≡ kind_of name word
+    → new.places ≡ old.places → ((other : OptionName) → given_to new other ≡ given_to old other ++ (if same_option other o then value ∷ [] else []))
+    → (words : List Word) → asked_from name new next.Item words ≡ asked_from name old next.Item (word ∷ words)
+unfolding asked_from GivesMore
+joined_step name new old word o value is places given words =
+    rw (read_so name word words (Gives o value) is)
+    (front_asked name new old (Joined o value) (parts_from name None words)
+    (λ p. one_more_value name new old (Joined o value) o value p refl (λ other. refl) places given))
+
+pub joined_refused : (name : CommandName) (line : Line) (word : Word) (o : OptionName) (value : Word) → Gives o value ≡ kind_of name word
+    → length (given_to line o) ≡ 1 → (words : List Word) → asked_from name line next.Item (word ∷ words) ≡ None
+unfolding asked_from
+joined_refused name line word o value is again words =
+    rw (read_so name word words (Gives o value) is)
+    (front_refused name line (Joined o value) (parts_from name None words)
+    (λ p. twice name line (Joined o value) o value p (gives_own name word o value is) refl again))
+
+pub value_step : (name : CommandName) (new old : Line) (o : OptionName) (value : Word)
+    → new.places ≡ old.places → ((other : OptionName) → given_to new other ≡ given_to old other ++ (if same_option other o then value ∷ [] else []))
+    → (words : List Word) → asked_from name new next.Item words ≡ asked_from name old (next.Value o) (value ∷ words)
+unfolding asked_from parts_from GivesMore
+value_step name new old o value places given words =
+    front_asked name new old (Beside o value) (parts_from name None words)
+    (λ p. one_more_value name new old (Beside o value) o value p refl (λ other. refl) places given)
+
+pub value_refused : (name : CommandName) (line : Line) (o : OptionName) (value : Word) → IsTrue (has_option name o)
+    → length (given_to line o) ≡ 1 → (words : List Word) → asked_from name line (next.Value o) (value ∷ words) ≡ None
+unfolding asked_from parts_from
+value_refused name line o value has again words =
+    front_refused name line (Beside o value) (parts_from name None words)
+    (λ p. twice name line (Beside o value) o value p has refl again)
+
+pub behind_step : (name : CommandName) (new old : Line) (word : Word)
+    → words_of new.places ≡ words_of old.places ++ word ∷ [] → ((o : OptionName) → given_to new o ≡ given_to old o) → (words : List Word)
+    → asked_from name new next.Place words ≡ asked_from name old next.Place (word ∷ words)
+unfolding asked_from
+behind_step name new old word places given words = one_more_behind name new old word words places given
+
+pub behind_refused : (name : CommandName) (line : Line) (word : Word) → length (words_of line.places) ≡ 2
+    → (words : List Word) → asked_from name line next.Place (word ∷ words) ≡ None
+unfolding asked_from
+behind_refused name line word full words = full_behind name line word words full
+
+-- what holds anyway holds after an error
+pub anyway : {T E P : Type 0} (r : Result T E) → P → OnErr r P
+anyway (Ok value) holds = tt
+anyway (Err error) holds = holds
+
+-- The loop.
+
+pub next_word : (words : List (Bor (List ℕ))) (i : ℕ) (word : Bor (List ℕ)) → i < length words → word ≡ get_or words i word
+    → map (λ w. w.now) (drop i words) ≡ word.now ∷ map (λ w. w.now) (drop (i + 1) words)
+next_word words i word within is = rw (add-one, drop-cons words i word within) (ap (λ (w : Bor (List ℕ)). w.now ∷ map (λ (v : Bor (List ℕ)). v.now) (drop (suc i) words)) (sym is))
+
+pub nothing_given : (line : Line) → line.budget ≡ None → line.accuracy ≡ None → (o : OptionName) → given_to line o ≡ []
+nothing_given line budget accuracy option.Budget = rw budget refl
+nothing_given line budget accuracy option.Accuracy = rw accuracy refl
+
+-- nothing collected yet
+pub start_asked : (name : CommandName) (line : Line) (words : List Word) → words_of line.places ≡ [] → ((o : OptionName) → given_to line o ≡ [])
+    → asked_from name line next.Item words ≡ asked_by name words
+unfolding asked_from asked_by asked_with
+start_asked name line words places given =
+    ap (λ (f : Parts → Option Request). parts_from name None words >>= f) (fun_ext (λ (parts : Parts).
+    same_asks name
+    (words_of line.places ++ (flat_map place_words parts.0 ++ parts.1))
+    (flat_map place_words parts.0 ++ parts.1)
+    (λ o. given_to line o ++ flat_map (given_by o) parts.0)
+    (λ o. flat_map (given_by o) parts.0)
+    (ap (λ ws. ws ++ (flat_map place_words parts.0 ++ parts.1)) places)
+    (λ o. ap (λ ws. ws ++ flat_map (given_by o) parts.0) (given o))))
+
+pub first_asked : (name : CommandName) (words : List Word)
+    → asked_from name (record { places = places.Nothing; budget = None; accuracy = None }) next.Item words ≡ asked_by name words
+first_asked name words = start_asked name (record { places = places.Nothing; budget = None; accuracy = None }) words refl (nothing_given (record { places = places.Nothing; budget = None; accuracy = None }) refl refl)
+
+-- no word is left
+none_left : (words : List (Bor (List ℕ))) (i : ℕ) → length words ≤ i → map (λ w. w.now) (drop i words) ≡ []
+none_left words i past = rw (drop_all i words past) refl
+
+nothing_more : (name : CommandName) (line : Line) → collected name line ≡ asked_with name line ([], [])
+unfolding asked_with
+nothing_more name line =
+    same_asks name (words_of line.places) (words_of line.places ++ []) (given_to line) (λ o. given_to line o ++ [])
+    (sym (append-nil (words_of line.places))) (λ o. sym (append-nil (given_to line o)))
+
+pub line_ended : (name : CommandName) (line : Line) (words : List (Bor (List ℕ))) (i : ℕ) (all : Option Request) → length words ≤ i
+    → asked_from name line next.Item (map (λ w. w.now) (drop i words)) ≡ all → collected name line ≡ all
+unfolding asked_from parts_from
+line_ended name line words i all past is = let none = none_left words i past in nothing_more name line ∙ rw none at is
+
+pub behind_ended : (name : CommandName) (line : Line) (words : List (Bor (List ℕ))) (i : ℕ) (all : Option Request) → length words ≤ i
+    → asked_from name line next.Place (map (λ w. w.now) (drop i words)) ≡ all → collected name line ≡ all
+unfolding asked_from parts_from
+behind_ended name line words i all past is = let none = none_left words i past in nothing_more name line ∙ rw none at is
+
+pub value_missing : (name : CommandName) (line : Line) (o : OptionName) (words : List (Bor (List ℕ))) (i : ℕ) (all : Option Request) → length words ≤ i
+    → asked_from name line (next.Value o) (map (λ w. w.now) (drop i words)) ≡ all → all ≡ None
+unfolding asked_from parts_from
+value_missing name line o words i all past is = let none = none_left words i past in sym (rw none at is)

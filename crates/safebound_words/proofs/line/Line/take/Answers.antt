@@ -1,0 +1,26 @@
+use Rattle.safebound_words.proofs.Steps.{anyway, behind_refused, behind_step, value_refused, value_step}
+use Rattle.safebound_words.proofs.line.Line.take.Goals as goal
+
+pub returns-in_ok-add_place-in-Place-clause-ok : goal.returns-in_ok-add_place-in-Place-clause-ok
+returns-in_ok-add_place-in-Place-clause-ok c =
+    let next = c.in-Place.is in
+    rw next (behind_step c.args.name c.add_place.new.self c.args.self.now c.args.word.now
+    c.in_ok-add_place-in-Place.ensures.ok c.in_ok-add_place-in-Place.ensures.given)
+
+pub returns-in_err-add_place-in-Place-clause-err : goal.returns-in_err-add_place-in-Place-clause-err
+returns-in_err-add_place-in-Place-clause-err c =
+    anyway c.from_residual.result
+    (let next = c.in-Place.is in rw next (behind_refused c.args.name c.args.self.now c.args.word.now c.in_err-add_place-in-Place.ensures.full))
+
+pub returns-in_ok-add_value-in-Value-clause-ok : goal.returns-in_ok-add_value-in-Value-clause-ok
+returns-in_ok-add_value-in-Value-clause-ok c =
+    let next = c.in-Value.is in
+    rw next (value_step c.args.name c.add_value.new.self c.args.self.now c.in-Value.option c.args.word.now
+    c.in_ok-add_value-in-Value.ensures.places c.in_ok-add_value-in-Value.ensures.ok)
+
+pub returns-in_err-add_value-in-Value-clause-err : goal.returns-in_err-add_value-in-Value-clause-err
+returns-in_err-add_value-in-Value-clause-err c =
+    anyway c.from_residual-in_err-add_value-in-Value.result
+    (let next = c.in-Value.is in
+    let fits = c.requires in
+    rw next (value_refused c.args.name c.args.self.now c.in-Value.option c.args.word.now (rw next at fits) c.in_err-add_value-in-Value.ensures.again))

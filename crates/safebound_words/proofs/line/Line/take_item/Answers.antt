@@ -1,0 +1,35 @@
+use Rattle.safebound_words.proofs.Steps.{anyway, end_step, joined_refused, joined_step, option_step, place_refused, place_step, unknown_refused, wanted}
+use Rattle.safebound_words.proofs.line.Line.take_item.Goals as goal
+
+pub returns-in-End-clause-ok : goal.returns-in-End-clause-ok
+returns-in-End-clause-ok c = end_step c.args.name c.args.self.now c.args.word.now c.in-End.ensures
+
+pub returns-in_ok-add_place-in-Place-clause-ok : goal.returns-in_ok-add_place-in-Place-clause-ok
+returns-in_ok-add_place-in-Place-clause-ok c =
+    place_step c.args.name c.add_place.new.self c.args.self.now c.args.word.now c.in-Place.ensures
+    c.in_ok-add_place-in-Place.ensures.ok c.in_ok-add_place-in-Place.ensures.given
+
+pub returns-in_err-add_place-in-Place-clause-err : goal.returns-in_err-add_place-in-Place-clause-err
+returns-in_err-add_place-in-Place-clause-err c =
+    anyway c.from_residual.result
+    (place_refused c.args.name c.args.self.now c.args.word.now c.in-Place.ensures c.in_err-add_place-in-Place.ensures.full)
+
+pub returns-in-Option-clause-ok : goal.returns-in-Option-clause-ok
+returns-in-Option-clause-ok c = option_step c.args.name c.args.self.now c.args.word.now c.in-Option.option c.in-Option.ensures
+
+pub returns-in-Option-clause-fits : goal.returns-in-Option-clause-fits
+returns-in-Option-clause-fits c = wanted c.args.name c.args.word.now c.in-Option.option c.in-Option.ensures
+
+pub returns-in_ok-add_value-in-Value-clause-ok : goal.returns-in_ok-add_value-in-Value-clause-ok
+returns-in_ok-add_value-in-Value-clause-ok c =
+    joined_step c.args.name c.add_value.new.self c.args.self.now c.args.word.now c.in-Value.option c.in-Value.value.now c.in-Value.ensures
+    c.in_ok-add_value-in-Value.ensures.places c.in_ok-add_value-in-Value.ensures.ok
+
+pub returns-in_err-add_value-in-Value-clause-err : goal.returns-in_err-add_value-in-Value-clause-err
+returns-in_err-add_value-in-Value-clause-err c =
+    anyway c.from_residual-in_err-add_value-in-Value.result
+    (joined_refused c.args.name c.args.self.now c.args.word.now c.in-Value.option c.in-Value.value.now c.in-Value.ensures
+    c.in_err-add_value-in-Value.ensures.again)
+
+pub returns-in-Unknown-clause-err : goal.returns-in-Unknown-clause-err
+returns-in-Unknown-clause-err c = unknown_refused c.args.name c.args.self.now c.args.word.now c.in-Unknown.ensures

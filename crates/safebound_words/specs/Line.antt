@@ -1,0 +1,62 @@
+-- What the code has collected of a line, and what is asked for by that and by what is still to be read.
+use Rattle.std.specs.Prelude.{ℕ, List, [], ◌∷◌, ◌++◌, Option, Some, None}
+use Rattle.std.specs.Borrow.{Bor}
+use Rattle.std.specs.Bool.{IsTrue}
+use Rattle.std.specs.List.{flat_map}
+use Rattle.std.specs.Option.{option_map, option_to_list}
+use Rattle.safebound_words.specs.Answer.{Parts, parts_from}
+use Rattle.safebound_words.specs.Lines.{given_by, has_option, place_words, requested, value_of}
+use Rattle.safebound_words.specs.Requests.{Request}
+use Rattle.safebound_words.specs.Table.{command_row, ◌>>=◌}
+use Rattle.safebound_words.specs.Words.{Word}
+use Rattle.safebound_words.specs.declared.table.CommandName.{CommandName}
+use Rattle.safebound_words.specs.declared.table.OptionName.{OptionName}
+use Rattle.safebound_words.specs.declared.table.OptionName.TheVariants as option
+use Rattle.safebound_words.specs.declared.line.Places.{Places}
+use Rattle.safebound_words.specs.declared.line.Places.TheVariants as places
+use Rattle.safebound_words.specs.declared.line.Next.{Next}
+use Rattle.safebound_words.specs.declared.line.Next.TheVariants as next
+use Rattle.safebound_words.specs.declared.line.Line.{Line}
+
+abbrev pub words_of : Places → List Word
+words_of places.Nothing = []
+words_of (places.One first) = first.now ∷ []
+words_of (places.Two first second) = first.now ∷ second.now ∷ []
+
+-- the word that was given to an option, if any
+abbrev pub option_words : Option (Bor (List ℕ)) → List Word
+option_words given = option_to_list (option_map (λ word. word.now) given)
+
+abbrev pub given_to : Line → OptionName → List Word
+given_to line option.Budget = option_words line.budget
+given_to line option.Accuracy = option_words line.accuracy
+
+-- what is read from here on, by what comes next
+abbrev pub parts_next : CommandName → Next → List Word → Option Parts
+parts_next name next.Item words = parts_from name None words
+parts_next name (next.Value option) words = parts_from name (Some option) words
+parts_next name next.Place words = Some ([], words)
+
+-- what is asked for by a line alone
+abbrev pub collected : CommandName → Line → Option Request
+collected name line = (command_row name).asks (words_of line.places) (λ option. value_of option (given_to line option))
+
+-- what is asked for by a line and further parts
+unfoldable pub asked_with : CommandName → Line → Parts → Option Request
+asked_with name line parts = (command_row name).asks
+    (words_of line.places ++ (flat_map place_words parts.0 ++ parts.1))
+    (λ option. value_of option (given_to line option ++ flat_map (given_by option) parts.0))
+
+-- what is asked for by a line and the words that are left
+unfoldable pub asked_from : CommandName → Line → Next → List Word → Option Request
+asked_from name line next words = parts_next name next words >>= asked_with name line
+
+-- what is asked for by a command's word and all words behind it
+unfoldable pub asked_by : CommandName → List Word → Option Request
+asked_by name words = parts_from name None words >>= λ parts. requested (record { command = name; items = parts.0; behind = parts.1 })
+
+-- an option that wants its value is one of the command
+abbrev pub FitsNext : CommandName → Next → Type 0
+FitsNext name next.Item = Unit {0}
+FitsNext name (next.Value option) = IsTrue (has_option name option)
+FitsNext name next.Place = Unit {0}

@@ -1,0 +1,61 @@
+//! What a word before `--` is.
+ghost use Rattle.std.specs.Prelude.{◌≡◌};
+ghost use Rattle.std.specs.Option.{option_map};
+ghost use Rattle.safebound_words.specs.Answer.{kind_of as told_kind, parts_of as word_parts};
+ghost use Rattle.safebound_words.specs.Kinds.{kind_seen};
+ghost use Rattle.safebound_words.specs.Words.{is_dashed as dashed};
+
+use crate::table::{CommandName, OptionName, option_named};
+
+/// What a word before `--` is.
+#[derive(Clone, Copy)]
+pub(crate) enum Kind<'a> {
+    /// `--` itself.
+    End,
+    Place,
+    /// An option, whose value is the next word.
+    Option(OptionName),
+    /// An option and its value.
+    Value(OptionName, &'a str),
+    /// A dash and more that is no option of the command.
+    Unknown,
+}
+
+// A dash and more.
+fn is_dashed(word: &str) -> bool
+    ensures { result ≡ dashed word.now }
+{
+    matches!(word.as_bytes(), [b'-', _, ..])
+}
+
+// A word up to its first `=`, and what stands behind that, where it has one.
+fn parts_of(word: &str) -> (&str, Option<&str>)
+    ensures front { result.0.now ≡ (word_parts word.now).0 }
+    ensures value { option_map (λ v. v.now) result.1 ≡ (word_parts word.now).1 }
+{
+    match word.split_once('=') {
+        None => (word, None),
+        Some((front, value)) => (front, Some(value)),
+    }
+}
+
+/// What a word is to a command.
+#[tactic(auto, unfolding(crate::specs::Answer::kind_of))]
+pub(crate) fn kind_of(name: CommandName, word: &str) -> Kind<'_>
+    ensures { kind_seen result ≡ told_kind name word.now }
+{
+    if word == "--" {
+        return Kind::End;
+    }
+    if !is_dashed(word) {
+        return Kind::Place;
+    }
+    let (front, value) = parts_of(word);
+    match option_named(name, front) {
+        None => Kind::Unknown,
+        Some(option) => match value {
+            None => Kind::Option(option),
+            Some(value) => Kind::Value(option, value),
+        },
+    }
+}

@@ -1,0 +1,137 @@
+//! The words behind a command's word, on their way from left to right.
+ghost use Rattle.std.specs.Prelude.{◌≡◌, ◌∷◌, ◌++◌, ℕ, [], length, List, map, if◌then◌else◌, IfOk, IfErr, IsTrue, None, OnErr, OnOk};
+ghost use Rattle.safebound_words.specs.Line.{asked_by, asked_from, collected, FitsNext, given_to, option_words, words_of};
+ghost use Rattle.safebound_words.specs.Lines.{has_option, same_option};
+ghost use Rattle.safebound_words.specs.Words.{Word};
+
+use crate::command::WordsError;
+use crate::kind::{Kind, kind_of};
+use crate::table::{CommandName, OptionName};
+
+/// The place words so far. No command has more than two.
+#[derive(Clone, Copy)]
+pub(crate) enum Places<'a> {
+    Nothing,
+    One(&'a str),
+    Two(&'a str, &'a str),
+}
+
+/// What the next word is: an item, an option's value, or, behind `--`, a place word.
+#[derive(Clone, Copy)]
+pub(crate) enum Next {
+    Item,
+    Value(OptionName),
+    Place,
+}
+
+/// The place words so far, and the word that was given to each option.
+#[derive(Clone, Copy)]
+pub(crate) struct Line<'a> {
+    pub places: Places<'a>,
+    pub budget: Option<&'a str>,
+    pub accuracy: Option<&'a str>,
+}
+
+// Puts a word where there is none.
+fn put<'a>(given: &mut Option<&'a str>, word: &'a str) -> Result<(), WordsError>
+    ensures ok { OnOk result (option_words given.new ≡ option_words given.old ++ word.now ∷ []) }
+    ensures again { OnErr result (length (option_words given.old) ≡ 1) }
+{
+    if given.is_some() {
+        return Err(WordsError::Usage);
+    }
+    *given = Some(word);
+    Ok(())
+}
+
+impl<'a> Line<'a> {
+    // One place word more, where there are fewer than two.
+    fn add_place(&mut self, word: &'a str) -> Result<(), WordsError>
+        ensures ok { OnOk result (words_of self.new.places ≡ words_of self.old.places ++ word.now ∷ []) }
+        ensures given { (option : OptionName) → given_to self.new option ≡ given_to self.old option }
+        ensures full { OnErr result (length (words_of self.old.places) ≡ 2) }
+    {
+        self.places = match self.places {
+            Places::Nothing => Places::One(word),
+            Places::One(first) => Places::Two(first, word),
+            Places::Two(_, _) => return Err(WordsError::Usage),
+        };
+        Ok(())
+    }
+
+    // A word for an option that has none.
+    fn add_value(&mut self, option: OptionName, word: &'a str) -> Result<(), WordsError>
+        ensures ok { OnOk result ((other : OptionName) → given_to self.new other
+            ≡ given_to self.old other ++ (if same_option other option then word.now ∷ [] else [])) }
+        ensures places { self.new.places ≡ self.old.places }
+        ensures again { OnErr result (length (given_to self.old option) ≡ 1) }
+    {
+        match option {
+            OptionName::Budget => put(&mut self.budget, word),
+            OptionName::Accuracy => put(&mut self.accuracy, word),
+        }
+    }
+
+    // Takes the next word, and says what comes behind it.
+    fn take(&mut self, name: CommandName, next: Next, word: &'a str) -> Result<Next, WordsError>
+        requires { FitsNext name next }
+        ensures ok { IfOk result (λ after. (words : List Word) →
+            asked_from name self.new after words ≡ asked_from name self.old next (word.now ∷ words)) }
+        ensures fits { IfOk result (FitsNext name) }
+        ensures err { OnErr result ((words : List Word) → asked_from name self.old next (word.now ∷ words) ≡ None) }
+    {
+        match next {
+            Next::Place => {
+                self.add_place(word)?;
+                Ok(Next::Place)
+            }
+            Next::Value(option) => {
+                self.add_value(option, word)?;
+                Ok(Next::Item)
+            }
+            Next::Item => self.take_item(name, word),
+        }
+    }
+
+    // Takes the next word before `--`, where no option wants its value.
+    fn take_item(&mut self, name: CommandName, word: &'a str) -> Result<Next, WordsError>
+        ensures ok { IfOk result (λ after. (words : List Word) →
+            asked_from name self.new after words ≡ asked_from name self.old Next.Item (word.now ∷ words)) }
+        ensures fits { IfOk result (FitsNext name) }
+        ensures err { OnErr result ((words : List Word) → asked_from name self.old Next.Item (word.now ∷ words) ≡ None) }
+    {
+        match kind_of(name, word) {
+            Kind::End => Ok(Next::Place),
+            Kind::Place => {
+                self.add_place(word)?;
+                Ok(Next::Item)
+            }
+            Kind::Option(option) => Ok(Next::Value(option)),
+            Kind::Value(option, value) => {
+                self.add_value(option, value)?;
+                Ok(Next::Item)
+            }
+            Kind::Unknown => Err(WordsError::Usage),
+        }
+    }
+}
+
+/// Reads the words behind a command's word.
+pub(crate) fn read_line<'a>(name: CommandName, words: &[&'a str]) -> Result<Line<'a>, WordsError>
+    ensures ok { IfOk result (λ line. collected name line ≡ asked_by name (map (λ w. w.now) words.now)) }
+    ensures err { OnErr result (asked_by name (map (λ w. w.now) words.now) ≡ None) }
+{
+    let mut line = Line {
+        places: Places::Nothing,
+        budget: None,
+        accuracy: None,
+    };
+    let mut next = Next::Item;
+    'words: for word in words {
+        next = line.take(name, next, word)?;
+    }
+    match next {
+        Next::Value(_) => Err(WordsError::Usage),
+        Next::Item | Next::Place => Ok(line),
+    }
+}

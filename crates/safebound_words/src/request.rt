@@ -1,0 +1,102 @@
+//! What a whole line asks for.
+ghost use Rattle.std.specs.Prelude.{◌≡◌, ◌≤◌, ℕ, IfSome};
+ghost use Rattle.std.specs.Option.{option_map};
+ghost use Rattle.safebound_words.specs.Line.{collected, given_to, option_words, words_of};
+ghost use Rattle.safebound_words.specs.Lines.{value_of as option_value};
+ghost use Rattle.safebound_words.specs.Requests.{Request, request_of};
+ghost use Rattle.safebound_words.specs.Table.{of_number as asked_of_number, option_row, over_files as asked_over_files};
+ghost use Rattle.safebound_words.specs.Words.{Word};
+
+use crate::command::Command;
+use crate::line::{Line, Places};
+use crate::number::number_within;
+use crate::table::{CommandName, OptionName};
+
+// Two files, and the values of the options.
+#[derive(Clone, Copy)]
+struct OverFiles<'a> {
+    schema: &'a str,
+    query: &'a str,
+    budget: u64,
+    accuracy: u8,
+}
+
+// The value of an option that was given this word, or none.
+fn value_of(option: OptionName, given: Option<&str>) -> Option<u64>
+    ensures value { result ≡ option_value option (option_words given.entry) }
+    ensures most { IfSome result (λ value. value ≤ (option_row option).most) }
+{
+    let range = option.range();
+    match given {
+        None => Some(range.otherwise),
+        Some(word) => number_within(range.least, range.most, word),
+    }
+}
+
+// SCHEMA and QUERY, where these are the place words, and where each option has a value.
+fn over_files<'a>(line: &Line<'a>) -> Option<OverFiles<'a>>
+    ensures { (request : Word → Word → ℕ → ℕ → Request) →
+        option_map (λ files. request files.schema.now files.query.now files.budget files.accuracy) result
+        ≡ asked_over_files request (words_of line.now.places) (λ option. option_value option (given_to line.now option)) }
+{
+    let Places::Two(schema, query) = line.places else {
+        return None;
+    };
+    let budget = value_of(OptionName::Budget, line.budget)?;
+    let accuracy = value_of(OptionName::Accuracy, line.accuracy)?;
+    Some(OverFiles {
+        schema,
+        query,
+        budget,
+        accuracy: accuracy as u8,
+    })
+}
+
+// NUMBER, where it is the one place word.
+fn of_number(line: &Line) -> Option<u32>
+    ensures { (request : ℕ → Request) → option_map request result
+        ≡ asked_of_number request (words_of line.now.places) (λ option. option_value option (given_to line.now option)) }
+{
+    let Places::One(word) = line.places else {
+        return None;
+    };
+    let number = number_within(0, u32::MAX as u64, word)?;
+    Some(number as u32)
+}
+
+/// The command of this name over a line, if it is one.
+pub(crate) fn command_of<'a>(name: CommandName, line: &Line<'a>) -> Option<Command<'a>>
+    ensures { option_map request_of result ≡ collected name line.now }
+{
+    if name == CommandName::Demo {
+        let number = of_number(line)?;
+        return Some(Command::Demo { number });
+    }
+    let OverFiles {
+        schema,
+        query,
+        budget,
+        accuracy,
+    } = over_files(line)?;
+    Some(match name {
+        CommandName::Run => Command::Run {
+            schema,
+            query,
+            budget,
+            accuracy,
+        },
+        CommandName::Plan => Command::Plan {
+            schema,
+            query,
+            budget,
+            accuracy,
+        },
+        CommandName::Audit => Command::Audit {
+            schema,
+            query,
+            budget,
+            accuracy,
+        },
+        CommandName::Demo => return None,
+    })
+}
