@@ -3,7 +3,7 @@ use Rattle.std.proofs.Common.{◌≡◌, List, [], ◌∷◌, ◌++◌, Option, 
 use Rattle.std.specs.Bool.{IsTrue}
 use Rattle.std.specs.List.{AllByRecursion, flat_map}
 use Rattle.safebound_words.specs.Answer.{Kind, Ends, IsPlace, Wants, Gives, Unknown, Parts, command_named, command_of, in_front, kind_of, parts_from, read_by, reading_of}
-use Rattle.safebound_words.specs.Lines.{AskFor, Item, Place, Beside, Joined, IsEnd, IsItemOf, Reading, Reads, has_option, requested, spelling}
+use Rattle.safebound_words.specs.CommandLines.{AskFor, Item, Place, Beside, Joined, IsEnd, IsItemOf, Reading, Reads, has_option, requested, spelling}
 use Rattle.safebound_words.specs.Requests.{Request}
 use Rattle.safebound_words.specs.Table.{command_row, option_row, ◌>>=◌}
 use Rattle.safebound_words.specs.Words.{Word}

@@ -9,8 +9,8 @@ use Rattle.std.specs.Bool.{IsTrue}
 use Rattle.std.specs.List.{flat_map}
 use Rattle.std.specs.Result.{OnErr}
 use Rattle.safebound_words.specs.Answer.{Kind, Ends, IsPlace, Wants, Gives, Unknown, Parts, in_front, kind_of, parts_from, read_by}
-use Rattle.safebound_words.specs.Line.{asked_by, asked_from, asked_with, collected, given_to, words_of}
-use Rattle.safebound_words.specs.Lines.{Item, Place, Beside, Joined, given_by, has_option, place_words, same_option, value_of}
+use Rattle.safebound_words.specs.Collected.{asked_by, asked_from, asked_with, collected, given_to, words_of}
+use Rattle.safebound_words.specs.CommandLines.{Item, Place, Beside, Joined, given_by, has_option, place_words, same_option, value_of}
 use Rattle.safebound_words.specs.Requests.{Request}
 use Rattle.safebound_words.specs.Table.{command_row, option_row, Values, over_files, of_number, ◌>>=◌}
 use Rattle.safebound_words.specs.Words.{Word}

@@ -1,8 +1,8 @@
 -- What a whole line asks for.
 use Rattle.std.proofs.Common.{◌≡◌, ℕ, List, [], ◌∷◌, Bor, Option, Some, None, arith, length, map, refl, sym}
 use Rattle.safebound_words.specs.Answer.{Parts, command_named, command_of, parts_from, reading_of}
-use Rattle.safebound_words.specs.Line.{asked_by}
-use Rattle.safebound_words.specs.Lines.{AskFor, requested}
+use Rattle.safebound_words.specs.Collected.{asked_by}
+use Rattle.safebound_words.specs.CommandLines.{AskFor, requested}
 use Rattle.safebound_words.specs.Requests.{Request}
 use Rattle.safebound_words.specs.Table.{◌>>=◌}
 use Rattle.safebound_words.specs.Words.{Word}

@@ -6,7 +6,7 @@ use Rattle.std.specs.Bool.{IsTrue}
 use Rattle.std.specs.List.{find, list_any}
 use Rattle.std.specs.Str.{bytes_eq}
 use Rattle.safebound_words.specs.Answer.{Kind, Ends, IsPlace, Wants, Gives, Unknown, command_named, kind_of, option_kind, option_named, parts_of}
-use Rattle.safebound_words.specs.Lines.{has_option, same_option}
+use Rattle.safebound_words.specs.CommandLines.{has_option, same_option}
 use Rattle.safebound_words.specs.Table.{command_row, option_row}
 use Rattle.safebound_words.specs.Words.{Word, is_dashed}
 use Rattle.safebound_words.specs.declared.table.CommandName.{CommandName}

@@ -1,7 +1,7 @@
 pub mod Answer
+pub mod Collected
+pub mod CommandLines
 pub mod Kinds
-pub mod Line
-pub mod Lines
 pub mod Numbers
 pub mod Requests
 pub mod Table

@@ -1,7 +1,7 @@
 //! Laws of the definitions. None of them does anything when it runs.
 ghost use Rattle.std.specs.Prelude.{◌≡◌, ◌↔◌, ℕ, List, Some};
 ghost use Rattle.safebound_words.specs.Answer.{command_of};
-ghost use Rattle.safebound_words.specs.Lines.{AskFor, Reading, Reads};
+ghost use Rattle.safebound_words.specs.CommandLines.{AskFor, Reading, Reads};
 ghost use Rattle.safebound_words.specs.Requests.{Request};
 ghost use Rattle.safebound_words.specs.Words.{Word};
 

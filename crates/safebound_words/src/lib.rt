@@ -16,3 +16,6 @@ pub use command::{Command, WordsError};
 pub use laws::{one_command, one_reading};
 pub use table::{CommandName, OptionName};
 pub use words::read_words;
+
+#[cfg(test)]
+mod tests;

@@ -1,7 +1,7 @@
 //! The words behind a command's word, on their way from left to right.
 ghost use Rattle.std.specs.Prelude.{◌≡◌, ◌∷◌, ◌++◌, ℕ, [], length, List, map, if◌then◌else◌, IfOk, IfErr, IsTrue, None, OnErr, OnOk};
-ghost use Rattle.safebound_words.specs.Line.{asked_by, asked_from, collected, FitsNext, given_to, option_words, words_of};
-ghost use Rattle.safebound_words.specs.Lines.{has_option, same_option};
+ghost use Rattle.safebound_words.specs.Collected.{asked_by, asked_from, collected, FitsNext, given_to, option_words, words_of};
+ghost use Rattle.safebound_words.specs.CommandLines.{has_option, same_option};
 ghost use Rattle.safebound_words.specs.Words.{Word};
 
 use crate::command::WordsError;

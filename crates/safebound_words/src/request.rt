@@ -1,8 +1,8 @@
 //! What a whole line asks for.
 ghost use Rattle.std.specs.Prelude.{◌≡◌, ◌≤◌, ℕ, IfSome};
 ghost use Rattle.std.specs.Option.{option_map};
-ghost use Rattle.safebound_words.specs.Line.{collected, given_to, option_words, words_of};
-ghost use Rattle.safebound_words.specs.Lines.{value_of as option_value};
+ghost use Rattle.safebound_words.specs.Collected.{collected, given_to, option_words, words_of};
+ghost use Rattle.safebound_words.specs.CommandLines.{value_of as option_value};
 ghost use Rattle.safebound_words.specs.Requests.{Request, request_of};
 ghost use Rattle.safebound_words.specs.Table.{of_number as asked_of_number, option_row, over_files as asked_over_files};
 ghost use Rattle.safebound_words.specs.Words.{Word};
@@ -68,35 +68,52 @@ fn of_number(line: &Line) -> Option<u32>
 pub(crate) fn command_of<'a>(name: CommandName, line: &Line<'a>) -> Option<Command<'a>>
     ensures { option_map request_of result ≡ collected name line.now }
 {
-    if name == CommandName::Demo {
-        let number = of_number(line)?;
-        return Some(Command::Demo { number });
+    match name {
+        CommandName::Run => {
+            let OverFiles {
+                schema,
+                query,
+                budget,
+                accuracy,
+            } = over_files(line)?;
+            Some(Command::Run {
+                schema,
+                query,
+                budget,
+                accuracy,
+            })
+        }
+        CommandName::Plan => {
+            let OverFiles {
+                schema,
+                query,
+                budget,
+                accuracy,
+            } = over_files(line)?;
+            Some(Command::Plan {
+                schema,
+                query,
+                budget,
+                accuracy,
+            })
+        }
+        CommandName::Audit => {
+            let OverFiles {
+                schema,
+                query,
+                budget,
+                accuracy,
+            } = over_files(line)?;
+            Some(Command::Audit {
+                schema,
+                query,
+                budget,
+                accuracy,
+            })
+        }
+        CommandName::Demo => {
+            let number = of_number(line)?;
+            Some(Command::Demo { number })
+        }
     }
-    let OverFiles {
-        schema,
-        query,
-        budget,
-        accuracy,
-    } = over_files(line)?;
-    Some(match name {
-        CommandName::Run => Command::Run {
-            schema,
-            query,
-            budget,
-            accuracy,
-        },
-        CommandName::Plan => Command::Plan {
-            schema,
-            query,
-            budget,
-            accuracy,
-        },
-        CommandName::Audit => Command::Audit {
-            schema,
-            query,
-            budget,
-            accuracy,
-        },
-        CommandName::Demo => return None,
-    })
 }

@@ -3,7 +3,7 @@ ghost use Rattle.std.specs.Prelude.{◌≡◌, IfOk, map, OnErr};
 ghost use Rattle.std.specs.Option.{option_map};
 ghost use Rattle.std.specs.Result.{result_ok};
 ghost use Rattle.safebound_words.specs.Answer.{command_of as request_in};
-ghost use Rattle.safebound_words.specs.Lines.{AskFor};
+ghost use Rattle.safebound_words.specs.CommandLines.{AskFor};
 ghost use Rattle.safebound_words.specs.Requests.{Request, request_of};
 
 use crate::command::{Command, WordsError};

@@ -1,5 +1,5 @@
 use Rattle.std.proofs.Common.{◌≡◌, map, drop}
-use Rattle.safebound_words.specs.Line.{asked_by, asked_from, FitsNext}
+use Rattle.safebound_words.specs.Collected.{asked_by, asked_from, FitsNext}
 use Rattle.safebound_words.proofs.line.read_line.Given as goal
 
 abbrev pub invariant-words : goal.invariant-words

@@ -5,7 +5,7 @@ use Rattle.std.specs.Bool.{IsTrue}
 use Rattle.std.specs.List.{flat_map}
 use Rattle.std.specs.Option.{option_map, option_to_list}
 use Rattle.safebound_words.specs.Answer.{Parts, parts_from}
-use Rattle.safebound_words.specs.Lines.{given_by, has_option, place_words, requested, value_of}
+use Rattle.safebound_words.specs.CommandLines.{given_by, has_option, place_words, requested, value_of}
 use Rattle.safebound_words.specs.Requests.{Request}
 use Rattle.safebound_words.specs.Table.{command_row, ◌>>=◌}
 use Rattle.safebound_words.specs.Words.{Word}

@@ -1,0 +1,59 @@
+use crate::{Command, CommandName, WordsError, read_words};
+use std::alloc::{AllocError, Global};
+use std::test::Fail;
+
+// A budget that is given in digits, and the name of the command.
+fn read_run(words: &[&str]) -> (u64, u8, CommandName) {
+    match read_words(words) {
+        Ok(command) => {
+            let name = command.name();
+            match command {
+                Command::Run {
+                    budget,
+                    accuracy,
+                    ..
+                } => (budget, accuracy, name),
+                Command::Plan {
+                    budget,
+                    accuracy,
+                    ..
+                } => (budget, accuracy, name),
+                Command::Audit {
+                    budget,
+                    accuracy,
+                    ..
+                } => (budget, accuracy, name),
+                Command::Demo { number } => (number as u64, 0, name),
+            }
+        }
+        Err(WordsError::Usage) => (0, 0, CommandName::Demo),
+    }
+}
+
+#[test]
+fn commands_and_options(rt: HostRuntime) -> Result<(), Fail> {
+    assert!(rt; read_run(&["run", "--budget=12", "--", "s", "q"]) == (12, 1, CommandName::Run));
+    assert!(rt;
+        read_run(&["plan", "-", "", "--accuracy", "064"]) == (1_000_000, 64, CommandName::Plan)
+    );
+    assert!(rt; read_run(&["demo", "4294967295"]) == (4_294_967_295, 0, CommandName::Demo));
+    assert!(rt; read_run(&["run", "s", "q", "--budget", "--"]) == (0, 0, CommandName::Demo));
+    Ok(())
+}
+
+// `run`, and then this word so often.
+fn many(alloc: Global, word: &'static str, count: u32) -> Result<bool, AllocError> {
+    let mut words = Vec::new(alloc);
+    words.push("run")?;
+    for _ in 0..count {
+        words.push(word)?;
+    }
+    Ok(read_words(words.as_slice()).is_err())
+}
+
+#[test]
+fn a_million_words(rt: HostRuntime) -> Result<(), Fail> {
+    assert!(rt; many(rt.alloc(), "s", 1 << 20)?);
+    assert!(rt; !many(rt.alloc(), "s", 2)?);
+    Ok(())
+}
