@@ -10,9 +10,9 @@ use Rattle.std.specs.List.{flat_map}
 use Rattle.std.specs.Result.{OnErr}
 use Rattle.safebound_words.specs.Answer.{Kind, Ends, IsPlace, Wants, Gives, Unknown, Parts, in_front, kind_of, parts_from, read_by}
 use Rattle.safebound_words.specs.Collected.{asked_by, asked_from, asked_with, collected, given_to, words_of}
-use Rattle.safebound_words.specs.CommandLines.{Item, Place, Beside, Joined, given_by, has_option, place_words, same_option, value_of}
+use Rattle.safebound_words.specs.CommandLines.{Item, Place, Beside, Joined, given_by, has_option, place_words, same_option}
 use Rattle.safebound_words.specs.Requests.{Request}
-use Rattle.safebound_words.specs.Table.{command_row, option_row, Values, over_files, of_number, ◌>>=◌}
+use Rattle.safebound_words.specs.Table.{Given, command_row, option_row, over_files, of_number, value_of, ◌>>=◌}
 use Rattle.safebound_words.specs.Words.{Word}
 use Rattle.safebound_words.specs.declared.table.CommandName.{CommandName}
 use Rattle.safebound_words.specs.declared.table.CommandName.TheVariants as command
@@ -25,12 +25,11 @@ use Rattle.safebound_words.proofs.WordKinds.{told}
 
 -- What a command asks for depends on its place words and on what is given to each option.
 
-same_asks : (name : CommandName) (places places' : List Word) (given given' : OptionName → List Word)
+same_asks : (name : CommandName) (places places' : List Word) (given given' : Given)
     → places ≡ places' → ((o : OptionName) → given o ≡ given' o)
-    → (command_row name).asks places (λ o. value_of o (given o)) ≡ (command_row name).asks places' (λ o. value_of o (given' o))
+    → (command_row name).asks places given ≡ (command_row name).asks places' given'
 same_asks name places places' given given' same all =
-    ap (λ ws. (command_row name).asks ws (λ o. value_of o (given o))) same
-    ∙ ap (λ (values : Values). (command_row name).asks places' values) (fun_ext (λ (o : OptionName). ap (value_of o) (all o)))
+    ap (λ ws. (command_row name).asks ws given) same ∙ ap (λ (g : Given). (command_row name).asks places' g) (fun_ext all)
 
 pub one_more_place : (name : CommandName) (new old : Line) (word : Word) (parts : Parts)
     → words_of new.places ≡ words_of old.places ++ word ∷ [] → ((o : OptionName) → given_to new o ≡ given_to old o)
@@ -79,18 +78,18 @@ one_more_value name new old item o value parts none by places given =
 
 -- Where too much is collected, nothing is asked for.
 
-two_at_most : (request : Word → Word → ℕ → ℕ → Request) (places : List Word) (values : Values) → 2 < length places → over_files request places values ≡ None
-two_at_most request [] values many = absurd (omega arith)
-two_at_most request (a ∷ []) values many = absurd (omega arith)
-two_at_most request (a ∷ b ∷ []) values many = absurd (omega arith)
-two_at_most request (a ∷ b ∷ d ∷ rest) values many = refl
+two_at_most : (request : Word → Word → ℕ → ℕ → Request) (places : List Word) (given : Given) → 2 < length places → over_files request places given ≡ None
+two_at_most request [] given many = absurd (omega arith)
+two_at_most request (a ∷ []) given many = absurd (omega arith)
+two_at_most request (a ∷ b ∷ []) given many = absurd (omega arith)
+two_at_most request (a ∷ b ∷ d ∷ rest) given many = refl
 
-one_at_most : (request : ℕ → Request) (places : List Word) (values : Values) → 2 < length places → of_number request places values ≡ None
-one_at_most request [] values many = absurd (omega arith)
-one_at_most request (a ∷ []) values many = absurd (omega arith)
-one_at_most request (a ∷ b ∷ rest) values many = refl
+one_at_most : (request : ℕ → Request) (places : List Word) (given : Given) → 2 < length places → of_number request places given ≡ None
+one_at_most request [] given many = absurd (omega arith)
+one_at_most request (a ∷ []) given many = absurd (omega arith)
+one_at_most request (a ∷ b ∷ rest) given many = refl
 
-too_many : (name : CommandName) (places : List Word) (values : Values) → 2 < length places → (command_row name).asks places values ≡ None
+too_many : (name : CommandName) (places : List Word) (given : Given) → 2 < length places → (command_row name).asks places given ≡ None
 too_many command.Run = two_at_most _
 too_many command.Plan = two_at_most _
 too_many command.Audit = two_at_most _
@@ -104,25 +103,26 @@ none_behind : {A B : Type 0} (first : Option A) (rest : A → Option B) → ((a 
 none_behind None rest all = refl
 none_behind (Some a) rest all = all a
 
-no_value : (request : Word → Word → ℕ → ℕ → Request) (places : List Word) (values : Values) (o : OptionName)
-    → values o ≡ None → over_files request places values ≡ None
-no_value request [] values o is = refl
-no_value request (a ∷ []) values o is = refl
-no_value request (a ∷ b ∷ []) values option.Budget is = none_first _ _ is
-no_value request (a ∷ b ∷ []) values option.Accuracy is = none_behind _ _ (λ budget. none_first _ _ is)
-no_value request (a ∷ b ∷ d ∷ rest) values o is = refl
-
-refused : (name : CommandName) (o : OptionName) (places : List Word) (values : Values) → IsTrue (has_option name o) → values o ≡ None
-    → (command_row name).asks places values ≡ None
-refused command.Run o places values has is = no_value _ places values o is
-refused command.Plan o places values has is = no_value _ places values o is
-refused command.Audit o places values has is = no_value _ places values o is
-refused command.Demo o places values has is = absurd (false≢true has)
-
+-- an option to which two words are given has no value
 too_often : (o : OptionName) (words : List Word) → 1 < length words → value_of o words ≡ None
 too_often o [] many = absurd (omega arith)
 too_often o (a ∷ []) many = absurd (omega arith)
 too_often o (a ∷ b ∷ rest) many = refl
+
+no_value : (request : Word → Word → ℕ → ℕ → Request) (places : List Word) (given : Given) (o : OptionName)
+    → 1 < length (given o) → over_files request places given ≡ None
+no_value request [] given o many = refl
+no_value request (a ∷ []) given o many = refl
+no_value request (a ∷ b ∷ []) given option.Budget many = none_first _ _ (too_often option.Budget _ many)
+no_value request (a ∷ b ∷ []) given option.Accuracy many = none_behind _ _ (λ budget. none_first _ _ (too_often option.Accuracy _ many))
+no_value request (a ∷ b ∷ d ∷ rest) given o many = refl
+
+refused : (name : CommandName) (o : OptionName) (places : List Word) (given : Given) → IsTrue (has_option name o) → 1 < length (given o)
+    → (command_row name).asks places given ≡ None
+refused command.Run o places given has many = no_value _ places given o many
+refused command.Plan o places given has many = no_value _ places given o many
+refused command.Audit o places given has many = no_value _ places given o many
+refused command.Demo o places given has many = absurd (false≢true has)
 
 full_place : (name : CommandName) (line : Line) (word : Word) (parts : Parts) → length (words_of line.places) ≡ 2
     → asked_with name line (Place word ∷ parts.0, parts.1) ≡ None
@@ -146,9 +146,8 @@ unfolding asked_with
 twice name line item o value parts has by again =
     let gives : given_by o item ≡ value ∷ [] = by ∙ rw (same_itself o) refl in
     let words : given_by o item ++ flat_map (given_by o) parts.0 ≡ value ∷ flat_map (given_by o) parts.0 = ap (λ ws. ws ++ flat_map (given_by o) parts.0) gives in
-    refused name o _ _ has
-    (too_often o (given_to line o ++ (given_by o item ++ flat_map (given_by o) parts.0))
-    (rw words (omega (arith, length-append (given_to line o) (value ∷ flat_map (given_by o) parts.0)))))
+    refused name o _ (λ other. given_to line other ++ (given_by other item ++ flat_map (given_by other) parts.0)) has
+    (rw words (omega (arith, length-append (given_to line o) (value ∷ flat_map (given_by o) parts.0))))
 
 -- Steps of the walk.
 

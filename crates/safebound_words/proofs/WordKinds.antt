@@ -5,7 +5,7 @@ use Rattle.std.proofs.lemmas.Slice.Eq.{bytes_eq-Decides}
 use Rattle.std.specs.Bool.{IsTrue}
 use Rattle.std.specs.List.{find, list_any}
 use Rattle.std.specs.Str.{bytes_eq}
-use Rattle.safebound_words.specs.Answer.{Kind, Ends, IsPlace, Wants, Gives, Unknown, command_named, kind_of, option_kind, option_named, parts_of}
+use Rattle.safebound_words.specs.Answer.{Kind, Ends, IsPlace, Wants, Gives, Unknown, command_named, kind_of, option_kind, option_named, split_value}
 use Rattle.safebound_words.specs.CommandLines.{has_option, same_option}
 use Rattle.safebound_words.specs.Table.{command_row, option_row}
 use Rattle.safebound_words.specs.Words.{Word, is_dashed}
@@ -53,7 +53,7 @@ unfolding kind_of
 kind-ends name = refl
 
 place_of_two : (name : CommandName) (word : Word) (same : Bool) → (same ≡ true → word ≡ codes "--") → is_dashed word ≡ false
-    → cond same Ends (cond (is_dashed word) (option_kind (option_named name (parts_of word).0) (parts_of word).1) IsPlace) ≡ IsPlace
+    → cond same Ends (cond (is_dashed word) (option_kind (option_named name (split_value word).0) (split_value word).1) IsPlace) ≡ IsPlace
 place_of_two name word true two place = absurd (false≢true (sym place ∙ ap is_dashed (two refl)))
 place_of_two name word false two place = rw place refl
 
@@ -97,14 +97,14 @@ unfolding IsOfParts
 one_more_part first word front None is = ap (λ w. first ∷ w) is
 one_more_part first word front (Some v) is = ap (λ w. first ∷ w) is
 
-parts_step : (b : Bool) (first : ℕ) (rest : Word) → (b ≡ true → first ≡ 61) → IsOfParts rest (parts_of rest).0 (parts_of rest).1
-    → let parts : Word × Option Word = (if b then ([], Some rest) else (first ∷ (parts_of rest).0, (parts_of rest).1)) in
+parts_step : (b : Bool) (first : ℕ) (rest : Word) → (b ≡ true → first ≡ 61) → IsOfParts rest (split_value rest).0 (split_value rest).1
+    → let parts : Word × Option Word = (if b then ([], Some rest) else (first ∷ (split_value rest).0, (split_value rest).1)) in
     IsOfParts (first ∷ rest) parts.0 parts.1
 unfolding IsOfParts
 parts_step true first rest sign is = ap (λ c. c ∷ rest) (sign refl)
-parts_step false first rest sign is = one_more_part first rest (parts_of rest).0 (parts_of rest).1 is
+parts_step false first rest sign is = one_more_part first rest (split_value rest).0 (split_value rest).1 is
 
-are_parts : (word : Word) → IsOfParts word (parts_of word).0 (parts_of word).1
+are_parts : (word : Word) → IsOfParts word (split_value word).0 (split_value word).1
 unfolding IsOfParts
 are_parts [] = refl
 are_parts (first ∷ rest) = parts_step (first == 61) first rest (eqb-true first 61) (are_parts rest)
@@ -127,9 +127,9 @@ told_option name word front (Some o) (Some v) found is =
     (is ∙ ap (λ w. w ++ 61 ∷ v) so.0 ∙ sym (append_assoc (option_row o).word (codes "=") v), so.1)
 
 told_branch : (name : CommandName) (word : Word) (same dashed : Bool) → (same ≡ true → word ≡ codes "--") → dashed ≡ is_dashed word
-    → Told name word (cond same Ends (cond dashed (option_kind (option_named name (parts_of word).0) (parts_of word).1) IsPlace))
+    → Told name word (cond same Ends (cond dashed (option_kind (option_named name (split_value word).0) (split_value word).1) IsPlace))
 told_branch name word true dashed two is = two refl
-told_branch name word false true two is = told_option name word (parts_of word).0 (option_named name (parts_of word).0) (parts_of word).1 refl (are_parts word)
+told_branch name word false true two is = told_option name word (split_value word).0 (option_named name (split_value word).0) (split_value word).1 refl (are_parts word)
 told_branch name word false false two is = sym is
 
 pub told : (name : CommandName) (word : Word) → Told name word (kind_of name word)

@@ -18,9 +18,9 @@ abbrev pub option_named : CommandName → Word → Option OptionName
 option_named name word = find (λ option. bytes_eq word (option_row option).word) (command_row name).options
 
 -- a word up to its first `=`, and what stands behind that, where it has one
-abbrev pub parts_of : Word → Word × Option Word
-parts_of [] = ([], None)
-parts_of (first ∷ rest) = if first == 61 then ([], Some rest) else (first ∷ (parts_of rest).0, (parts_of rest).1)
+abbrev pub split_value : Word → Word × Option Word
+split_value [] = ([], None)
+split_value (first ∷ rest) = if first == 61 then ([], Some rest) else (first ∷ (split_value rest).0, (split_value rest).1)
 
 -- what a word before `--` is
 pub data Kind : Type 0 where
@@ -38,7 +38,7 @@ option_kind (Some option) (Some value) = Gives option value
 unfoldable pub kind_of : CommandName → Word → Kind
 kind_of name word =
     if bytes_eq word (codes "--") then Ends
-    else if is_dashed word then option_kind (option_named name (parts_of word).0) (parts_of word).1
+    else if is_dashed word then option_kind (option_named name (split_value word).0) (split_value word).1
     else IsPlace
 
 -- items, and the words behind `--`

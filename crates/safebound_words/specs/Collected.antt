@@ -5,7 +5,7 @@ use Rattle.std.specs.Bool.{IsTrue}
 use Rattle.std.specs.List.{flat_map}
 use Rattle.std.specs.Option.{option_map, option_to_list}
 use Rattle.safebound_words.specs.Answer.{Parts, parts_from}
-use Rattle.safebound_words.specs.CommandLines.{given_by, has_option, place_words, requested, value_of}
+use Rattle.safebound_words.specs.CommandLines.{given_by, has_option, place_words, requested}
 use Rattle.safebound_words.specs.Requests.{Request}
 use Rattle.safebound_words.specs.Table.{command_row, ◌>>=◌}
 use Rattle.safebound_words.specs.Words.{Word}
@@ -39,13 +39,13 @@ parts_next name next.Place words = Some ([], words)
 
 -- what is asked for by a line alone
 abbrev pub collected : CommandName → Line → Option Request
-collected name line = (command_row name).asks (words_of line.places) (λ option. value_of option (given_to line option))
+collected name line = (command_row name).asks (words_of line.places) (given_to line)
 
 -- what is asked for by a line and further parts
 unfoldable pub asked_with : CommandName → Line → Parts → Option Request
 asked_with name line parts = (command_row name).asks
     (words_of line.places ++ (flat_map place_words parts.0 ++ parts.1))
-    (λ option. value_of option (given_to line option ++ flat_map (given_by option) parts.0))
+    (λ option. given_to line option ++ flat_map (given_by option) parts.0)
 
 -- what is asked for by a line and the words that are left
 unfoldable pub asked_from : CommandName → Line → Next → List Word → Option Request

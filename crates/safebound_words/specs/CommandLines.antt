@@ -3,7 +3,6 @@ use Rattle.std.specs.Prelude.{ℕ, ◌≡◌, ◌⊎◌, Bool, false, if◌then�
 use Rattle.std.specs.List.{AllByRecursion, flat_map, list_any}
 use Rattle.std.specs.Str.{bytes_eq}
 use Rattle.std.specs.Bool.{IsTrue}
-use Rattle.safebound_words.specs.Numbers.{number_within}
 use Rattle.safebound_words.specs.Requests.{Request}
 use Rattle.safebound_words.specs.Table.{option_row, command_row}
 use Rattle.safebound_words.specs.Words.{Word, is_dashed}
@@ -64,17 +63,11 @@ given_by option (Place word) = []
 given_by option (Beside other value) = if same_option option other then value ∷ [] else []
 given_by option (Joined other value) = if same_option option other then value ∷ [] else []
 
--- an option has one value at most: that of its word, which is in its range, or its value where it doesn't stand
-abbrev pub value_of : OptionName → List Word → Option ℕ
-value_of option [] = Some (option_row option).otherwise
-value_of option (word ∷ []) = number_within (option_row option).least (option_row option).most word
-value_of option (word ∷ another ∷ words) = None
-
 -- what a reading asks for, if anything
 abbrev pub requested : Reading → Option Request
 requested reading = (command_row reading.command).asks
     (flat_map place_words reading.items ++ reading.behind)
-    (λ option. value_of option (flat_map (given_by option) reading.items))
+    (λ option. flat_map (given_by option) reading.items)
 
 -- The words ask for this: they are read in a way that does.
 abbrev pub AskFor : List Word → Request → Type 0

@@ -24,37 +24,43 @@ abbrev pub option_row : OptionName → OptionRow
 option_row option.Budget = number_option (codes "--budget") 1 20000000 1000000
 option_row option.Accuracy = number_option (codes "--accuracy") 1 64 1
 
--- the value of each option, where it has one
-abbrev pub Values : Type 0
-Values = OptionName → Option ℕ
+-- the words that a line gives to each option, in order
+abbrev pub Given : Type 0
+Given = OptionName → List Word
 
--- a command: its word, its options, and what its place words and the values of its options ask for, if anything
+-- an option has one value at most: the number of its word, which is in its range, or its number where it doesn't stand
+abbrev pub value_of : OptionName → List Word → Option ℕ
+value_of option [] = Some (option_row option).otherwise
+value_of option (word ∷ []) = number_within (option_row option).least (option_row option).most word
+value_of option (word ∷ another ∷ words) = None
+
+-- a command: its word, its options, and what its place words and what is given to its options ask for, if anything
 pub record CommandRow : Type 0 where
   pub word : Word
   pub options : List OptionName
-  pub asks : List Word → Values → Option Request
+  pub asks : List Word → Given → Option Request
 
-abbrev pub named : Word → List OptionName → (List Word → Values → Option Request) → CommandRow
+abbrev pub named : Word → List OptionName → (List Word → Given → Option Request) → CommandRow
 named word options asks = record { word = word; options = options; asks = asks }
 
--- a number's value goes on to the rest
+-- what is there goes on to the rest
 infixl 10 ◌>>=◌
 abbrev pub ◌>>=◌ : {A B : Type 0} → Option A → (A → Option B) → Option B
 None >>= rest = None
 (Some value) >>= rest = rest value
 
 -- exactly two place words, SCHEMA and QUERY
-abbrev pub over_files : (Word → Word → ℕ → ℕ → Request) → List Word → Values → Option Request
-over_files request (schema ∷ query ∷ []) value = do
-  budget ← value option.Budget
-  accuracy ← value option.Accuracy
+abbrev pub over_files : (Word → Word → ℕ → ℕ → Request) → List Word → Given → Option Request
+over_files request (schema ∷ query ∷ []) given = do
+  budget ← value_of option.Budget (given option.Budget)
+  accuracy ← value_of option.Accuracy (given option.Accuracy)
   Some (request schema query budget accuracy)
-over_files request places value = None
+over_files request places given = None
 
 -- exactly one place word, NUMBER
-abbrev pub of_number : (ℕ → Request) → List Word → Values → Option Request
-of_number request (number ∷ []) value = option_map request (number_within 0 (2 ^ 32 - 1) number)
-of_number request places value = None
+abbrev pub of_number : (ℕ → Request) → List Word → Given → Option Request
+of_number request (number ∷ []) given = option_map request (number_within 0 (2 ^ 32 - 1) number)
+of_number request places given = None
 
 -- one line for each command
 abbrev pub command_row : CommandName → CommandRow

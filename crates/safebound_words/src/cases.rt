@@ -16,6 +16,8 @@ pub fn small_commands()
     // Behind `--` every word is a place word, a second `--` too.
     ensures behind { command_of (codes "run" ∷ codes "--" ∷ codes "--budget" ∷ codes "--" ∷ [])
         ≡ Some (Run (codes "--budget") (codes "--") 1000000 1) }
+    ensures value_behind { command_of (codes "run" ∷ codes "--budget" ∷ codes "5" ∷ codes "--" ∷ codes "--budget" ∷ codes "6" ∷ [])
+        ≡ Some (Run (codes "--budget") (codes "6") 5 1) }
     ensures number_behind { command_of (codes "demo" ∷ codes "--" ∷ codes "7" ∷ []) ≡ Some (Demo 7) }
 {}
 
@@ -36,6 +38,7 @@ pub fn small_options()
     ensures next_word { command_of (codes "run" ∷ codes "s" ∷ codes "q" ∷ codes "--budget" ∷ codes "--" ∷ []) ≡ None }
     ensures no_word { command_of (codes "run" ∷ codes "s" ∷ codes "q" ∷ codes "--budget" ∷ []) ≡ None }
     ensures no_digit { command_of (codes "run" ∷ codes "s" ∷ codes "q" ∷ codes "--budget=" ∷ []) ≡ None }
+    ensures wide { command_of (codes "run" ∷ codes "s" ∷ codes "q" ∷ codes "--budget=99999999999999999999" ∷ []) ≡ None }
     ensures sign { command_of (codes "run" ∷ codes "s" ∷ codes "q" ∷ codes "--budget=+5" ∷ []) ≡ None }
 {}
 
@@ -46,6 +49,7 @@ pub fn small_refusals()
     ensures no_query { command_of (codes "run" ∷ codes "s" ∷ []) ≡ None }
     ensures one_too_many { command_of (codes "run" ∷ codes "s" ∷ codes "q" ∷ codes "r" ∷ []) ≡ None }
     ensures version { command_of (codes "run" ∷ codes "s" ∷ codes "q" ∷ codes "--version" ∷ []) ≡ None }
+    ensures letter_case { command_of (codes "run" ∷ codes "s" ∷ codes "q" ∷ codes "--Budget=5" ∷ []) ≡ None }
     ensures short { command_of (codes "run" ∷ codes "-b" ∷ codes "s" ∷ codes "q" ∷ []) ≡ None }
     ensures two_numbers { command_of (codes "demo" ∷ codes "7" ∷ codes "8" ∷ []) ≡ None }
     ensures past_number { command_of (codes "demo" ∷ codes "4294967296" ∷ []) ≡ None }

@@ -1,7 +1,7 @@
 //! What a word before `--` is.
 ghost use Rattle.std.specs.Prelude.{◌≡◌};
 ghost use Rattle.std.specs.Option.{option_map};
-ghost use Rattle.safebound_words.specs.Answer.{kind_of as told_kind, parts_of as word_parts};
+ghost use Rattle.safebound_words.specs.Answer.{kind_of as told_kind, split_value as told_parts};
 ghost use Rattle.safebound_words.specs.Kinds.{kind_seen};
 ghost use Rattle.safebound_words.specs.Words.{is_dashed as dashed};
 
@@ -29,9 +29,9 @@ fn is_dashed(word: &str) -> bool
 }
 
 // A word up to its first `=`, and what stands behind that, where it has one.
-fn parts_of(word: &str) -> (&str, Option<&str>)
-    ensures front { result.0.now ≡ (word_parts word.now).0 }
-    ensures value { option_map (λ v. v.now) result.1 ≡ (word_parts word.now).1 }
+fn split_value(word: &str) -> (&str, Option<&str>)
+    ensures front { result.0.now ≡ (told_parts word.now).0 }
+    ensures value { option_map (λ v. v.now) result.1 ≡ (told_parts word.now).1 }
 {
     match word.split_once('=') {
         None => (word, None),
@@ -50,7 +50,7 @@ pub(crate) fn kind_of(name: CommandName, word: &str) -> Kind<'_>
     if !is_dashed(word) {
         return Kind::Place;
     }
-    let (front, value) = parts_of(word);
+    let (front, value) = split_value(word);
     match option_named(name, front) {
         None => Kind::Unknown,
         Some(option) => match value {

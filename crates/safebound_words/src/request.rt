@@ -2,9 +2,8 @@
 ghost use Rattle.std.specs.Prelude.{◌≡◌, ◌≤◌, ℕ, IfSome};
 ghost use Rattle.std.specs.Option.{option_map};
 ghost use Rattle.safebound_words.specs.Collected.{collected, given_to, option_words, words_of};
-ghost use Rattle.safebound_words.specs.CommandLines.{value_of as option_value};
 ghost use Rattle.safebound_words.specs.Requests.{Request, request_of};
-ghost use Rattle.safebound_words.specs.Table.{of_number as asked_of_number, option_row, over_files as asked_over_files};
+ghost use Rattle.safebound_words.specs.Table.{of_number as asked_of_number, option_row, over_files as asked_over_files, value_of as option_value};
 ghost use Rattle.safebound_words.specs.Words.{Word};
 
 use crate::command::Command;
@@ -37,7 +36,7 @@ fn value_of(option: OptionName, given: Option<&str>) -> Option<u64>
 fn over_files<'a>(line: &Line<'a>) -> Option<OverFiles<'a>>
     ensures { (request : Word → Word → ℕ → ℕ → Request) →
         option_map (λ files. request files.schema.now files.query.now files.budget files.accuracy) result
-        ≡ asked_over_files request (words_of line.now.places) (λ option. option_value option (given_to line.now option)) }
+        ≡ asked_over_files request (words_of line.now.places) (given_to line.now) }
 {
     let Places::Two(schema, query) = line.places else {
         return None;
@@ -55,7 +54,7 @@ fn over_files<'a>(line: &Line<'a>) -> Option<OverFiles<'a>>
 // NUMBER, where it is the one place word.
 fn of_number(line: &Line) -> Option<u32>
     ensures { (request : ℕ → Request) → option_map request result
-        ≡ asked_of_number request (words_of line.now.places) (λ option. option_value option (given_to line.now option)) }
+        ≡ asked_of_number request (words_of line.now.places) (given_to line.now) }
 {
     let Places::One(word) = line.places else {
         return None;

@@ -35,6 +35,10 @@ pub returns-clause-behind : goal.returns-clause-behind
 unfolding command_of reading_of parts_from kind_of number_of
 returns-clause-behind c = refl
 
+pub returns-clause-value_behind : goal.returns-clause-value_behind
+unfolding command_of reading_of parts_from kind_of number_of
+returns-clause-value_behind c = refl
+
 pub returns-clause-number_behind : goal.returns-clause-number_behind
 unfolding command_of reading_of parts_from kind_of number_of
 returns-clause-number_behind c = refl

@@ -43,6 +43,10 @@ pub returns-clause-no_digit : goal.returns-clause-no_digit
 unfolding command_of reading_of parts_from kind_of number_of
 returns-clause-no_digit c = refl
 
+pub returns-clause-wide : goal.returns-clause-wide
+unfolding command_of reading_of parts_from kind_of number_of
+returns-clause-wide c = refl
+
 pub returns-clause-sign : goal.returns-clause-sign
 unfolding command_of reading_of parts_from kind_of number_of
 returns-clause-sign c = refl

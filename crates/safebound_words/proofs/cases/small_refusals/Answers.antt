@@ -23,6 +23,10 @@ pub returns-clause-version : goal.returns-clause-version
 unfolding command_of reading_of parts_from kind_of number_of
 returns-clause-version c = refl
 
+pub returns-clause-letter_case : goal.returns-clause-letter_case
+unfolding command_of reading_of parts_from kind_of number_of
+returns-clause-letter_case c = refl
+
 pub returns-clause-short : goal.returns-clause-short
 unfolding command_of reading_of parts_from kind_of number_of
 returns-clause-short c = refl

@@ -1,7 +1,7 @@
 use Rattle.std.proofs.Common.{Some, None, lit<, refl}
 use Rattle.std.proofs.lemmas.Str.Pattern.{split_parts}
 use Rattle.safebound_words.proofs.PartFacts.{no_value, first_value}
-use Rattle.safebound_words.proofs.kind.parts_of.Goals as goal
+use Rattle.safebound_words.proofs.kind.split_value.Goals as goal
 
 pub returns-in-None-clause-front : goal.returns-in-None-clause-front
 returns-in-None-clause-front c =
