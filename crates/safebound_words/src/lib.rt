@@ -1,4 +1,11 @@
-//! The words of a command line.
+//! The words of a command line: the first stage of a run.
+//!
+//! `read_words` takes the words behind the program's own name and gives a `Command`, or `Usage`. It takes no
+//! memory. Callers cite `AskFor` (in `specs/CommandLines.antt`: what words ask for), `request_of` (what a
+//! command asks for, its words as texts) and, where they need a value, `command_of` (the same as a function of the
+//! words). The commands and options stand in one table, `specs/Table.antt`.
+//!
+//! A program that has built only some of the commands asks `Command::name` and refuses the others.
 #![tactic(auto)]
 
 mod cases;
