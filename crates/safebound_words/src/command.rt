@@ -21,7 +21,7 @@ pub enum Command<'a> {
         budget: u64,
         accuracy: u8,
     },
-    /// Lists the rows, and prints how many each level has.
+    /// Lists the rows, and prints beside each level's bound how many it has, in the place of the rows.
     Audit {
         schema: &'a str,
         query: &'a str,
@@ -51,5 +51,6 @@ impl Command<'_> {
 /// Why words are no command.
 #[derive(Clone, Copy, Debug, PartialEq, Eq)]
 pub enum WordsError {
+    /// They ask for nothing that the table of commands has.
     Usage,
 }

@@ -2,7 +2,7 @@ use crate::{Command, CommandName, WordsError, read_words};
 use std::alloc::{AllocError, Global};
 use std::test::Fail;
 
-// A budget that is given in digits, and the name of the command.
+// The budget or the number, the accuracy, and the name of what words ask for; zeros where they ask for nothing.
 fn read_run(words: &[&str]) -> (u64, u8, CommandName) {
     match read_words(words) {
         Ok(command) => {
