@@ -4,7 +4,7 @@ use Rattle.std.specs.List.{Contains, IsDistinct}
 use Rattle.std.proofs.Math.Path.{fun_ext}
 use Rattle.std.proofs.lemmas.Bool.{cases_Bool, eqb-true, eq-eqb, false≢true}
 use Rattle.std.proofs.lemmas.Map.Keys.{IsDistinct-head, IsDistinct-tail}
-use Rattle.berge_tree.proofs.Steps.{in_front, in_rest}
+use Rattle.entry_sets.proofs.Listing.{in_front, in_rest}
 use Rattle.sql_meaning.specs.Choices.{IsChoiceOf}
 use Rattle.sql_meaning.specs.Levels.{row_in}
 use Rattle.level_bounds.specs.Orders.{IsOrderOfSet}

@@ -4,7 +4,7 @@ use Rattle.std.specs.List.{AllByRecursion, Contains, filter}
 use Rattle.std.proofs.lemmas.Bool.{cases_Bool}
 use Rattle.degree_sequences.specs.Domination.{DominatesKeys}
 use Rattle.berge_tree.specs.declared.edges.Edge.{Edge}
-use Rattle.berge_tree.specs.Rooted.{entries_of_set}
+use Rattle.entry_sets.specs.Sets.{entries_of_set, set_of}
 use Rattle.csv_tables.specs.declared.types.Database.{Database}
 use Rattle.query_types.specs.declared.types.Query.{Query}
 use Rattle.join_graph.specs.Conjuncts.{equalities_of}
@@ -17,7 +17,7 @@ use Rattle.sql_meaning.specs.Databases.{IsDatabaseOf}
 use Rattle.sql_meaning.specs.Levels.{level}
 use Rattle.sql_meaning.specs.Tables.{Tables, row_counts, tables_of}
 use Rattle.level_bounds.specs.Keys.{HaveDifferentCharacters, JoinsEqualKeys, Keys, cell_at}
-use Rattle.level_bounds.specs.Orders.{IsOrderOfSet, set_of}
+use Rattle.level_bounds.specs.Orders.{IsOrderOfSet}
 use Rattle.level_bounds.specs.Scans.{BoundsEachScan, BoundsScans, query_level, query_scan}
 use Rattle.level_bounds.proofs.CellKeys.{cells_join}
 use Rattle.level_bounds.proofs.Lists.{all_filtered, all_from, each_of, in_range, range_within}

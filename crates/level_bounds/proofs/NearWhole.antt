@@ -11,7 +11,7 @@ use Rattle.degree_sequences.proofs.DegreeLists.{IsFalling-degree_list, sum-degre
 use Rattle.berge_tree.specs.declared.edges.Edge.{Edge}
 use Rattle.berge_tree.specs.declared.edges.Place.{Place}
 use Rattle.berge_tree.specs.Equalities.{AreWithin, places_of}
-use Rattle.berge_tree.specs.Rooted.{entries_of_set}
+use Rattle.entry_sets.specs.Sets.{entries_of_set}
 use Rattle.query_types.specs.declared.types.Cond.{Cond}
 use Rattle.query_types.specs.declared.types.Query.{Query}
 use Rattle.join_graph.specs.Conjuncts.{equalities_of}
@@ -29,7 +29,7 @@ use Rattle.level_bounds.specs.Scans.{BoundsScans, filters_of, query_scan}
 use Rattle.level_bounds.specs.Whole.{AreCompressed, keys_of, uncompressed}
 use Rattle.level_bounds.proofs.Lists.{all_from, each_of}
 use Rattle.level_bounds.proofs.OwnConjuncts.{scan_by_own}
-use Rattle.berge_tree.proofs.Steps.{one_in, in_none}
+use Rattle.entry_sets.proofs.Listing.{one_in, in_none}
 
 -- ---- scans without conjuncts of their own
 

@@ -1,13 +1,12 @@
 -- The conjuncts that name just one entry, and the scan of the entry.
-use Rattle.std.proofs.Common.{◌≡◌, ℕ, zero, suc, ◌+◌, ◌<◌, ◌↔◌, Bool, IsTrue, true, false, not, ◌&&◌, ◌||◌, eqb, List, [], ◌∷◌, length, map, refl, ap, sym, subst, arith, inl, inr}
+use Rattle.std.proofs.Common.{◌≡◌, ℕ, zero, suc, ◌+◌, ◌<◌, ◌↔◌, Bool, IsTrue, true, not, ◌&&◌, ◌||◌, List, [], ◌∷◌, length, map, refl, ap, sym, subst, arith, inl, inr}
 use Rattle.std.specs.Prelude.{IsSomeAnd, slice_get, slice_index_or}
-use Rattle.std.specs.List.{Contains, filter, list_all, list_any, range_with_len}
+use Rattle.std.specs.List.{Contains, filter, list_all, range_with_len}
 use Rattle.std.proofs.lemmas.Bool.{cases_Bool, and_from, and_parts}
 use Rattle.std.proofs.lemmas.List.Elements.{filter_agree}
 use Rattle.std.proofs.lemmas.List.FromFn.{get_or-map-range_with_len}
 use Rattle.query_types.specs.declared.types.Cond.{Cond}
 use Rattle.query_types.specs.declared.types.Query.{Query}
-use Rattle.query_types.specs.Named.{entries_named}
 use Rattle.join_graph.specs.Conjuncts.{local_of, names_just, numbers_where}
 use Rattle.join_graph.proofs.Numbered.{number_passes, passing_is_numbered}
 use Rattle.sql_meaning.specs.Answers.{conjunct_of, conjuncts_of}
@@ -17,31 +16,9 @@ use Rattle.sql_meaning.specs.Tables.{Tables, row_counts}
 use Rattle.level_bounds.specs.Scans.{filters_of, query_scan}
 use Rattle.level_bounds.proofs.Lists.{from_filter, in_filter, in_range, range_within}
 
--- ---- just one entry
-
-and_never : (b : Bool) → (b && false) ≡ false
-and_never true = refl
-and_never false = refl
-
-all_alike : (entry : ℕ) (entries : List ℕ) → list_all (λ e. eqb e entry || false) entries ≡ list_all (λ e. eqb e entry) entries
-all_alike entry [] = refl
-all_alike entry (e ∷ entries) = elim (cases_Bool (eqb e entry)) [ inl t ↦ rw t (all_alike entry entries) | inr n ↦ rw n refl ]
-
--- some entry is named, and no other one than this
-just_alike : (entry : ℕ) (entries : List ℕ)
-    → (list_all (λ e. eqb e entry || false) entries && not (list_all (λ e. false) entries)) ≡ (list_any (λ e. eqb e entry) entries && list_all (λ e. eqb e entry) entries)
-just_alike entry [] = refl
-just_alike entry (e ∷ entries) = elim (cases_Bool (eqb e entry)) [
-  | inl t ↦ rw (t, all_alike entry entries) (and_true (list_all (λ e. eqb e entry) entries))
-  | inr n ↦ rw n (sym (and_never (list_any (λ e. eqb e entry) entries)))
-]
-  where
-    and_true : (b : Bool) → (b && true) ≡ b
-    and_true true = refl
-    and_true false = refl
-
+-- one definition says so for both
 pub names_alike : (tables : Tables) (entry : ℕ) (cond : Cond) → names_just_it (conjunct_of tables cond) entry ≡ names_just entry cond
-names_alike tables entry cond = just_alike entry (entries_named cond)
+names_alike tables entry cond = refl
 
 -- ---- the scan
 

@@ -6,7 +6,7 @@ use Rattle.std.proofs.lemmas.List.{get_or-map, length-map}
 use Rattle.std.proofs.lemmas.List.Elements.{Contains-get_or}
 use Rattle.berge_tree.specs.declared.edges.Edge.{Edge}
 use Rattle.berge_tree.specs.Equalities.{AreWithin}
-use Rattle.berge_tree.specs.Rooted.{entries_of_set}
+use Rattle.entry_sets.specs.Sets.{entries_of_set}
 use Rattle.join_graph.specs.Kept.{equalities_within}
 use Rattle.tree_bounds.specs.Scans.{SatisfiesScanned, scanned}
 use Rattle.tree_bounds.specs.SetBounds.{SetHasLists, bound_of_set}

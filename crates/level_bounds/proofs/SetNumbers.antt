@@ -1,19 +1,19 @@
 -- Different entries as orders of their set.
-use Rattle.std.proofs.Common.{◌≡◌, ◌≢◌, ℕ, zero, suc, ◌+◌, ◌*◌, ◌/◌, ◌%◌, ◌^◌, ◌<◌, ◌≤◌, true, false, nat_eq, List, [], ◌∷◌, length, take, refl, ap, sym, ◌∙◌, subst, arith, inl, inr}
+use Rattle.std.proofs.Common.{◌≡◌, ◌≢◌, ℕ, zero, suc, ◌+◌, ◌/◌, ◌%◌, ◌^◌, ◌<◌, ◌≤◌, true, false, nat_eq, List, [], ◌∷◌, length, take, refl, ap, sym, ◌∙◌, subst, arith, inl, inr}
 use Rattle.std.specs.Int.{bit_at}
 use Rattle.std.specs.List.{AllByRecursion, Contains, IsDistinct, range_with_len}
 use Rattle.std.specs.Set.{is_member}
-use Rattle.std.proofs.Math.Nat.{pow-suc}
 use Rattle.std.proofs.lemmas.Bool.{cases_Bool, cases_eq, eq-eqb, false≢true, ne_eqb}
 use Rattle.std.proofs.lemmas.Cmp.{nat_eq_equiv}
 use Rattle.std.proofs.lemmas.List.FromFn.{length-range_with_len}
 use Rattle.std.proofs.lemmas.Map.Keys.{IsDistinct-head, IsDistinct-tail, IsDistinct-cons}
 use Rattle.std.proofs.lemmas.Map.Made.{length-le_from_is_member}
 use Rattle.std.proofs.lemmas.Nat.Bits.{bit_at_lowest, bit_at-suc, bit_at-zero, bit_at-lt}
-use Rattle.berge_tree.specs.Rooted.{entries_of_set}
-use Rattle.berge_tree.proofs.Planting.{set_bits, set_bits_only}
-use Rattle.berge_tree.proofs.Steps.{one_in, in_front, in_rest, in_none}
-use Rattle.level_bounds.specs.Orders.{IsOrderOfSet, set_of}
+use Rattle.entry_sets.specs.Sets.{entries_of_set, set_of}
+use Rattle.entry_sets.proofs.Bits.{twice}
+use Rattle.entry_sets.proofs.Listing.{set_bits, set_bits_only}
+use Rattle.entry_sets.proofs.Listing.{one_in, in_front, in_rest, in_none}
+use Rattle.level_bounds.specs.Orders.{IsOrderOfSet}
 use Rattle.level_bounds.proofs.Lists.{each_of, all_from, is_in, in_true, true_in, in_range, range_within}
 
 -- ---- ranges
@@ -62,9 +62,6 @@ order_of_all n order low once long = record {
         (IsDistinct-cons nat_eq x order (all_from (λ y. nat_eq x y ≡ false) order (apart x gone)) once) (members x below)
 
 -- ---- the number of a set
-
-twice : (x : ℕ) → 2 ^ suc x ≡ 2 * 2 ^ x
-twice x = omega (arith, pow-suc 2 x)
 
 -- where the bit is 0, the power sets it, and no other one
 pub bit_added : (entry set : ℕ) → bit_at set entry ≡ 0 → bit_at (2 ^ entry + set) entry ≡ 1

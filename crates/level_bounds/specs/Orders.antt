@@ -1,5 +1,5 @@
 -- Orders of a set of entries.
-use Rattle.std.specs.Prelude.{ℕ, ◌+◌, ◌^◌, ◌==◌, List, [], ◌∷◌, map}
+use Rattle.std.specs.Prelude.{ℕ, ◌==◌, List, map}
 use Rattle.std.specs.List.{AllByRecursion, Contains, IsDistinct}
 use Rattle.sql_meaning.specs.Levels.{row_in}
 
@@ -8,11 +8,6 @@ pub record IsOrderOfSet (set order : List ℕ) : Type 0 where
   pub once : IsDistinct ◌==◌ order
   pub within : AllByRecursion (Contains set) order
   pub covers : AllByRecursion (Contains order) set
-
--- the number of a set of entries, in which entry x is bit x
-abbrev pub set_of : List ℕ → ℕ
-set_of [] = 0
-set_of (entry ∷ entries) = 2 ^ entry + set_of entries
 
 -- a choice for the entries of one order, as a choice for those of another
 abbrev pub reordered : List ℕ → List ℕ → List ℕ → List ℕ

@@ -3,7 +3,7 @@ use Rattle.std.specs.Prelude.{◌≡◌, ℕ, List, map}
 use Rattle.std.specs.List.{AllByRecursion, range_with_len}
 use Rattle.degree_sequences.specs.Compression.{compressed}
 use Rattle.degree_sequences.specs.Degrees.{degree_list}
-use Rattle.berge_tree.specs.Rooted.{entries_of_set}
+use Rattle.entry_sets.specs.Sets.{entries_of_set}
 use Rattle.berge_tree.specs.declared.edges.Edge.{Edge}
 use Rattle.join_graph.specs.Kept.{equalities_within}
 use Rattle.tree_bounds.specs.Columns.{EachNamedColumn}

@@ -1,6 +1,6 @@
 //! Three tables joined in a triangle, with their scans, levels and bounds: theorems by computation.
 ghost use Rattle.std.specs.Prelude.{◌≡◌, ◌∷◌, [], length};
-ghost use Rattle.berge_tree.specs.Rooted.{entries_of_set};
+ghost use Rattle.entry_sets.specs.Sets.{entries_of_set};
 ghost use Rattle.join_graph.specs.Conjuncts.{equalities_of};
 ghost use Rattle.join_graph.specs.Examples.{triangle as sides};
 ghost use Rattle.tree_bounds.specs.Examples.{triangle_bounds};

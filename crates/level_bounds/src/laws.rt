@@ -4,7 +4,7 @@ ghost use Rattle.std.specs.Prelude.{Some, length, map, slice_get, slice_index_or
 ghost use Rattle.std.specs.List.{AllByRecursion, Contains, IsDistinct, filter, list_all, range_with_len};
 ghost use Rattle.std.specs.Str.{IsUtf8};
 ghost use Rattle.berge_tree.specs.declared.edges.Edge.{Edge};
-ghost use Rattle.berge_tree.specs.Rooted.{entries_of_set};
+ghost use Rattle.entry_sets.specs.Sets.{entries_of_set, set_of};
 ghost use Rattle.query_types.specs.declared.types.ColumnRef.{ColumnRef};
 ghost use Rattle.query_types.specs.declared.types.Cond.{Cond};
 ghost use Rattle.query_types.specs.declared.types.Query.{Query};
@@ -24,7 +24,7 @@ ghost use Rattle.sql_meaning.specs.Levels.{AsksOnly, Conjunct, level, level_of, 
 ghost use Rattle.sql_meaning.specs.Tables.{Tables, cells_of, row_counts, tables_of};
 ghost use Rattle.level_bounds.specs.Equalities.{IsAsked};
 ghost use Rattle.level_bounds.specs.Keys.{AreKeys, HaveDifferentCharacters, Keys, are_equal_at, cell_at};
-ghost use Rattle.level_bounds.specs.Orders.{IsOrderOfSet, reordered, set_of};
+ghost use Rattle.level_bounds.specs.Orders.{IsOrderOfSet, reordered};
 ghost use Rattle.level_bounds.specs.Scans.{BoundsEachScan, BoundsScans, equalities_in, filters_of, query_level, query_scan};
 ghost use Rattle.level_bounds.specs.Whole.{AreCompressed, keys_of, uncompressed};
 

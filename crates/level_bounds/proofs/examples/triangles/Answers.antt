@@ -1,5 +1,5 @@
 use Rattle.std.proofs.Common.{ℕ, List, [], ◌∷◌, length, ap}
-use Rattle.berge_tree.specs.Rooted.{entries_of_set}
+use Rattle.entry_sets.specs.Sets.{entries_of_set}
 use Rattle.tree_bounds.specs.Examples.{triangle_bounds}
 use Rattle.tree_bounds.specs.SetBounds.{bound_of_set}
 use Rattle.level_bounds.proofs.SmallTriangle.{triangle_joined, triangle_level_is}
