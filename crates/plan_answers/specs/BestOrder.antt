@@ -1,0 +1,24 @@
+-- The best order, by computation: of all orders the first that is no worse than any.
+use Rattle.std.specs.Prelude.{ℕ, zero, suc, Bool, not, ◌&&◌, ◌||◌, ◌==◌, nat_lt, nat_le, List, [], ◌∷◌, map, filter, find, flat_map, unwrap_or}
+use Rattle.std.specs.List.{list_all, range_with_len}
+use Rattle.order_search.specs.Orders.{cost, total}
+
+-- the orders of so many entries: each of them in turn, and behind it each order of the others
+abbrev pub orders_of : ℕ → List ℕ → List (List ℕ)
+orders_of zero entries = [] ∷ []
+orders_of (suc count) entries =
+    flat_map (λ first. map (λ rest. first ∷ rest) (orders_of count (filter (λ entry. not (first == entry)) entries))) entries
+
+-- all orders of the entries 0 to n - 1, in lexicographic order
+abbrev pub all_orders : ℕ → List (List ℕ)
+all_orders n = orders_of n (range_with_len 0 n)
+
+-- the order costs less than the other, or costs the same and its total is no greater
+abbrev pub is_no_worse : List ℕ → List ℕ → List ℕ → Bool
+is_no_worse bounds order other =
+    nat_lt (cost bounds order) (cost bounds other)
+    || ((cost bounds order == cost bounds other) && nat_le (total bounds order) (total bounds other))
+
+-- the first order that is no worse than any
+unfoldable pub best_order : List ℕ → ℕ → List ℕ
+best_order bounds n = unwrap_or (find (λ order. list_all (λ other. is_no_worse bounds order other) (all_orders n)) (all_orders n)) []

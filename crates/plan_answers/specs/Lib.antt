@@ -1,0 +1,4 @@
+pub mod BestOrder
+pub mod Bounds
+pub mod PlanAnswer
+pub mod Promised

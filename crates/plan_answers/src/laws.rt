@@ -1,0 +1,42 @@
+//! Laws of the answers of choices. None of them does anything when it runs.
+ghost use Rattle.std.specs.Prelude.{◌≡◌, ◌≢◌, ◌≤◌, ◌<◌, ◌^◌, ◌⊎◌, ℕ, List, length, min, slice_index, Result, Ok, Err};
+ghost use Rattle.limits.specs.Profile.{most_budget, top_bound};
+ghost use Rattle.plans.specs.declared.left_deep.Plan.{Plan};
+ghost use Rattle.order_search.specs.Causes.{IsCause};
+ghost use Rattle.order_search.specs.Orders.{IsBest, cost, levels};
+ghost use Rattle.order_search.specs.declared.refusal.PlanError.{PlanError};
+ghost use Rattle.order_search.specs.declared.refusal.PlanError.TheVariants as error;
+ghost use Rattle.plan_answers.specs.BestOrder.{best_order};
+ghost use Rattle.plan_answers.specs.Bounds.{bounds_of_sets};
+ghost use Rattle.plan_answers.specs.PlanAnswer.{plan_answer};
+ghost use Rattle.plan_answers.specs.Promised.{IsPromised};
+
+/// The order that is computed is the best one.
+pub fn best_orders()
+    ensures best { (bounds : List ℕ) (n : ℕ) → IsBest bounds n (best_order bounds n) }
+    ensures only { (bounds : List ℕ) (n : ℕ) (order : List ℕ) → IsBest bounds n order → order ≡ best_order bounds n }
+{}
+
+/// What `choose` promises is true of one answer, `plan_answer`, besides that memory is wanting. At each of
+/// its exits: a best order within the budget, with its levels, is the plan, and a refusal with a cause is
+/// the refusal.
+pub fn choices()
+    ensures allowed { (bounds scans : List ℕ) (budget : ℕ) → IsPromised bounds scans budget (plan_answer bounds scans budget) }
+    ensures only { (bounds scans : List ℕ) (budget : ℕ) (answer : Result Plan PlanError) → budget ≤ most_budget
+        → IsPromised bounds scans budget answer → (answer ≡ Err error.NoMemory) ⊎ (answer ≡ plan_answer bounds scans budget) }
+    ensures never_memory { (bounds scans : List ℕ) (budget : ℕ) → plan_answer bounds scans budget ≢ Err error.NoMemory }
+    ensures chosen { (bounds scans : List ℕ) (budget : ℕ) (plan : Plan) → budget ≤ most_budget
+        → IsBest bounds (length scans) plan.order → cost bounds plan.order ≤ budget
+        → plan.levels ≡ levels bounds plan.order → plan.scans ≡ scans → Ok plan ≡ plan_answer bounds scans budget }
+    ensures refused { (bounds scans : List ℕ) (budget : ℕ) (e : PlanError) → e ≢ error.NoMemory
+        → IsCause bounds (length scans) budget e → Err e ≡ plan_answer bounds scans budget }
+{}
+
+/// A list with the bound of each set, through the top bound, is the one that is made from the function.
+pub fn bounds_of_all_sets()
+    ensures one { (n : ℕ) (bound : ℕ → ℕ) (bounds : List ℕ) → length bounds ≡ 2 ^ n
+        → ((set : ℕ) → set < 2 ^ n → slice_index bounds set ≡ min (bound set) top_bound) → bounds ≡ bounds_of_sets n bound }
+    ensures length { (n : ℕ) (bound : ℕ → ℕ) → length (bounds_of_sets n bound) ≡ 2 ^ n }
+    ensures at_set { (n : ℕ) (bound : ℕ → ℕ) (set : ℕ) → set < 2 ^ n
+        → slice_index (bounds_of_sets n bound) set ≡ min (bound set) top_bound }
+{}
