@@ -1,0 +1,212 @@
+-- The list of all orders has each order of the entries and nothing else, and is in lexicographic order.
+use Rattle.std.proofs.Common.{◌≡◌, ℕ, zero, suc, ◌+◌, ◌<◌, ◌≤◌, Bool, true, false, eqb, List, [], ◌∷◌, ◌++◌, length, map, refl, ap, sym, subst, arith, inl, inr}
+use Rattle.std.specs.Prelude.{◌⊎◌, filter, flat_map, not, ⊤}
+use Rattle.std.specs.List.{AllByRecursion as Each, Contains, IsDistinct, range_with_len}
+use Rattle.std.proofs.lemmas.Bool.{cases_Bool, cases_eq, not-true, not_from_false}
+use Rattle.std.proofs.lemmas.Map.Keys.{IsDistinct-head, IsDistinct-tail, IsDistinct-cons}
+use Rattle.plans.specs.LeftDeep.{IsOrder}
+use Rattle.entry_sets.proofs.Listing.{each, in_front, in_none, in_rest, one_in}
+use Rattle.order_search.specs.Orders.{IsNotAfter}
+use Rattle.plan_answers.specs.BestOrder.{orders_of, all_orders}
+
+-- ---- each element of a list
+
+pub each_so : {X : Type 0} (P Q : X → Type 0) → ((x : X) → P x → Q x) → (xs : List X) → Each P xs → Each Q xs
+each_so P Q so [] h = tt
+each_so P Q so (x ∷ xs) h = (so x h.0, each_so P Q so xs h.1)
+
+each_any : {X : Type 0} (P : X → Type 0) → ((x : X) → P x) → (xs : List X) → Each P xs
+each_any P so [] = tt
+each_any P so (x ∷ xs) = (so x, each_any P so xs)
+
+each_both : {X : Type 0} (P Q : X → Type 0) (xs : List X) → Each P xs → Each Q xs → Each (λ x. P x × Q x) xs
+each_both P Q [] p q = tt
+each_both P Q (x ∷ xs) p q = ((p.0, q.0), each_both P Q xs p.1 q.1)
+
+each_append : {X : Type 0} (P : X → Type 0) (xs ys : List X) → Each P xs → Each P ys → Each P (xs ++ ys)
+each_append P [] ys p q = q
+each_append P (x ∷ xs) ys p q = (p.0, each_append P xs ys p.1 q)
+
+each_of_two : {X : Type 0} (P : X → Type 0) (xs ys : List X) → Each P (xs ++ ys) → Each P xs × Each P ys
+each_of_two P [] ys h = (tt, h)
+each_of_two P (x ∷ xs) ys h = let rest : Each P xs × Each P ys = each_of_two P xs ys h.1 in ((h.0, rest.0), rest.1)
+
+each_map : {X Y : Type 0} (P : Y → Type 0) (f : X → Y) (xs : List X) → Each (λ x. P (f x)) xs → Each P (map f xs)
+each_map P f [] h = tt
+each_map P f (x ∷ xs) h = (h.0, each_map P f xs h.1)
+
+each_of_map : {X Y : Type 0} (P : Y → Type 0) (f : X → Y) (xs : List X) → Each P (map f xs) → Each (λ x. P (f x)) xs
+each_of_map P f [] h = tt
+each_of_map P f (x ∷ xs) h = (h.0, each_of_map P f xs h.1)
+
+each_flat : {X Y : Type 0} (P : Y → Type 0) (f : X → List Y) (xs : List X) → Each (λ x. Each P (f x)) xs → Each P (flat_map f xs)
+each_flat P f [] h = tt
+each_flat P f (x ∷ xs) h = each_append P (f x) (flat_map f xs) h.0 (each_flat P f xs h.1)
+
+each_of_flat : {X Y : Type 0} (P : Y → Type 0) (f : X → List Y) (xs : List X) → Each P (flat_map f xs) → Each (λ x. Each P (f x)) xs
+each_of_flat P f [] h = tt
+each_of_flat P f (x ∷ xs) h =
+    let parts : Each P (f x) × Each P (flat_map f xs) = each_of_two P (f x) (flat_map f xs) h in (parts.0, each_of_flat P f xs parts.1)
+
+-- ---- the other entries
+
+abbrev others : ℕ → List ℕ → List ℕ
+others first entries = filter (λ entry. not (eqb first entry)) entries
+
+kept : (P : ℕ → Type 0) (first : ℕ) (entries : List ℕ) → Each P entries → Each (λ entry. P entry × (eqb first entry ≡ false)) (others first entries)
+kept P first [] h = tt
+kept P first (entry ∷ entries) h = elim (cases_Bool (not (eqb first entry))) [
+  | inl t ↦ rw t ((h.0, not-true (eqb first entry) t), kept P first entries h.1)
+  | inr n ↦ rw n (kept P first entries h.1)
+]
+
+still_in : (test : ℕ → Bool) (xs : List ℕ) (y : ℕ) → Contains xs y → test y ≡ true → Contains (filter test xs) y
+still_in test [] y k t = absurd (in_none y k)
+still_in test (x ∷ xs) y k t = elim (one_in x xs y k) [
+  | inl old ↦ elim (cases_Bool (test x)) [
+    | inl keeps ↦ rw keeps (in_rest x (filter test xs) y (still_in test xs y old t))
+    | inr drops ↦ rw drops (still_in test xs y old t)
+  ]
+  | inr same ↦ rw (subst (λ (z : ℕ). test z ≡ true) same t) (in_front x (filter test xs) y same)
+]
+
+-- ---- orders of some entries
+
+-- different entries of a kind, so many
+record AreArranged (P : ℕ → Type 0) (count : ℕ) (order : List ℕ) : Type 0 where
+  entries : Each P order
+  once : IsDistinct eqb order
+  all : length order ≡ count
+
+none_distinct : IsDistinct eqb []
+unfolding IsDistinct
+none_distinct = tt
+
+begun : (P : ℕ → Type 0) (count first : ℕ) → P first → (rest : List ℕ) → AreArranged (λ entry. P entry × (eqb first entry ≡ false)) count rest → AreArranged P (suc count) (first ∷ rest)
+begun P count first p rest so = record {
+  entries = (p, each_so (λ entry. P entry × (eqb first entry ≡ false)) P (λ entry both. both.0) rest so.entries);
+  once = IsDistinct-cons eqb first rest (each_so (λ entry. P entry × (eqb first entry ≡ false)) (λ entry. eqb first entry ≡ false) (λ entry both. both.1) rest so.entries) so.once;
+  all = ap suc so.all;
+}
+
+arranged : (P : ℕ → Type 0) (count : ℕ) (entries : List ℕ) → Each P entries → Each (AreArranged P count) (orders_of count entries)
+arranged P zero entries h = (record { entries = tt; once = none_distinct; all = refl }, tt)
+arranged P (suc count) entries h =
+    each_flat (AreArranged P (suc count)) (λ first. map (λ rest. first ∷ rest) (orders_of count (others first entries))) entries
+    (each_so P (λ first. Each (AreArranged P (suc count)) (map (λ rest. first ∷ rest) (orders_of count (others first entries))))
+    (λ first p. each_map (AreArranged P (suc count)) (λ rest. first ∷ rest) (orders_of count (others first entries))
+        (each_so (AreArranged (λ entry. P entry × (eqb first entry ≡ false)) count) (λ rest. AreArranged P (suc count) (first ∷ rest)) (begun P count first p)
+        (orders_of count (others first entries))
+        (arranged (λ entry. P entry × (eqb first entry ≡ false)) count (others first entries) (kept P first entries h))))
+    entries h)
+
+-- what is true of each that is listed is true of each that there is
+at_arranged : (Q : List ℕ → Type 0) (count : ℕ) (entries order : List ℕ) → Each Q (orders_of count entries) → AreArranged (Contains entries) count order → Q order
+at_arranged Q zero entries [] h is = h.0
+at_arranged Q zero entries (x ∷ xs) h is = absurd (omega (arith, is.all))
+at_arranged Q (suc count) entries [] h is = absurd (omega (arith, is.all))
+at_arranged Q (suc count) entries (x ∷ xs) h is =
+    at_arranged (λ rest. Q (x ∷ rest)) count (others x entries) xs
+    (each_of_map Q (λ rest. x ∷ rest) (orders_of count (others x entries))
+    (each (λ first. Each Q (map (λ rest. first ∷ rest) (orders_of count (others first entries)))) entries
+    (each_of_flat Q (λ first. map (λ rest. first ∷ rest) (orders_of count (others first entries))) entries h) x is.entries.0))
+    (record {
+      entries = each_so (λ y. Contains entries y × (eqb x y ≡ false)) (Contains (others x entries))
+          (λ y both. still_in (λ entry. not (eqb x entry)) entries y both.0 (not_from_false (eqb x y) both.1)) xs
+          (each_both (Contains entries) (λ y. eqb x y ≡ false) xs is.entries.1 (IsDistinct-head eqb x xs is.once));
+      once = IsDistinct-tail eqb x xs is.once;
+      all = omega (arith, is.all);
+    })
+
+-- ---- lexicographic order
+
+abbrev pub InOrder : List (List ℕ) → Type 0
+InOrder [] = ⊤
+InOrder (x ∷ xs) = Each (IsNotAfter x) xs × InOrder xs
+
+in_order-append : (xs ys : List (List ℕ)) → InOrder xs → InOrder ys → Each (λ x. Each (IsNotAfter x) ys) xs → InOrder (xs ++ ys)
+in_order-append [] ys p q before = q
+in_order-append (x ∷ xs) ys p q before = (each_append (IsNotAfter x) xs ys p.0 before.0, in_order-append xs ys p.1 q before.1)
+
+in_order-begun : (first : ℕ) (xs : List (List ℕ)) → InOrder xs → InOrder (map (λ rest. first ∷ rest) xs)
+in_order-begun first [] p = tt
+in_order-begun first (x ∷ xs) p = (
+  each_map (IsNotAfter (first ∷ x)) (λ rest. first ∷ rest) xs (each_so (IsNotAfter x) (λ rest. IsNotAfter (first ∷ x) (first ∷ rest)) (λ rest q. inr (refl, q)) xs p.0),
+  in_order-begun first xs p.1,
+)
+
+abbrev Ascend : List ℕ → Type 0
+Ascend [] = ⊤
+Ascend (x ∷ xs) = Each (λ y. x < y) xs × Ascend xs
+
+kept_of : (P : ℕ → Type 0) (test : ℕ → Bool) (xs : List ℕ) → Each P xs → Each P (filter test xs)
+kept_of P test [] h = tt
+kept_of P test (x ∷ xs) h = elim (cases_Bool (test x)) [
+  | inl t ↦ rw t (h.0, kept_of P test xs h.1)
+  | inr n ↦ rw n (kept_of P test xs h.1)
+]
+
+ascend-kept : (test : ℕ → Bool) (xs : List ℕ) → Ascend xs → Ascend (filter test xs)
+ascend-kept test [] h = tt
+ascend-kept test (x ∷ xs) h = elim (cases_Bool (test x)) [
+  | inl t ↦ rw t (kept_of (λ y. x < y) test xs h.0, ascend-kept test xs h.1)
+  | inr n ↦ rw n (ascend-kept test xs h.1)
+]
+
+-- lists that begin with an entry come before those that begin with a greater one
+in_order-firsts : (behind : ℕ → List (List ℕ)) → ((first : ℕ) → InOrder (behind first)) → (firsts : List ℕ) → Ascend firsts → InOrder (flat_map (λ first. map (λ rest. first ∷ rest) (behind first)) firsts)
+in_order-firsts behind h [] a = tt
+in_order-firsts behind h (x ∷ xs) a =
+    in_order-append (map (λ rest. x ∷ rest) (behind x)) (flat_map (λ first. map (λ rest. first ∷ rest) (behind first)) xs)
+    (in_order-begun x (behind x) (h x))
+    (in_order-firsts behind h xs a.1)
+    (each_map (λ order. Each (IsNotAfter order) (flat_map (λ first. map (λ rest. first ∷ rest) (behind first)) xs)) (λ rest. x ∷ rest) (behind x)
+    (each_any (λ rest. Each (IsNotAfter (x ∷ rest)) (flat_map (λ first. map (λ rest. first ∷ rest) (behind first)) xs)) before (behind x)))
+  where
+    before : (rest : List ℕ) → Each (IsNotAfter (x ∷ rest)) (flat_map (λ first. map (λ rest. first ∷ rest) (behind first)) xs)
+    before rest =
+        each_flat (IsNotAfter (x ∷ rest)) (λ first. map (λ rest. first ∷ rest) (behind first)) xs
+        (each_so (λ y. x < y) (λ y. Each (IsNotAfter (x ∷ rest)) (map (λ rest. y ∷ rest) (behind y)))
+        (λ y below. each_map (IsNotAfter (x ∷ rest)) (λ rest. y ∷ rest) (behind y) (each_any (λ other. IsNotAfter (x ∷ rest) (y ∷ other)) (λ other. inl below) (behind y)))
+        xs a.0)
+
+in_order : (count : ℕ) (entries : List ℕ) → Ascend entries → InOrder (orders_of count entries)
+in_order zero entries h = (tt, tt)
+in_order (suc count) entries h =
+    in_order-firsts (λ first. orders_of count (others first entries))
+    (λ first. in_order count (others first entries) (ascend-kept (λ entry. not (eqb first entry)) entries h))
+    entries h
+
+-- ---- the entries 0 to n - 1
+
+range_above : (first count x : ℕ) → x < first → Each (λ y. x < y) (range_with_len first count)
+range_above first zero x h = tt
+range_above first (suc count) x h = (h, range_above (first + 1) count x (omega arith))
+
+range_below : (first count n : ℕ) → first + count ≤ n → Each (λ y. y < n) (range_with_len first count)
+range_below first zero n h = tt
+range_below first (suc count) n h = (omega arith, range_below (first + 1) count n (omega arith))
+
+range_ascends : (first count : ℕ) → Ascend (range_with_len first count)
+range_ascends first zero = tt
+range_ascends first (suc count) = (range_above (first + 1) count first (omega arith), range_ascends (first + 1) count)
+
+in_range : (first count x : ℕ) → first ≤ x → x < first + count → Contains (range_with_len first count) x
+in_range first zero x low high = absurd (omega arith)
+in_range first (suc count) x low high = elim (cases_eq first x) [
+  | inl same ↦ in_front first (range_with_len (first + 1) count) x (sym same)
+  | inr apart ↦ in_rest first (range_with_len (first + 1) count) x (in_range (first + 1) count x (omega arith) (omega arith))
+]
+
+pub listed_are_orders : (n : ℕ) → Each (IsOrder n) (all_orders n)
+listed_are_orders n =
+    each_so (AreArranged (λ x. x < n) n) (IsOrder n) (λ order so. record { entries = so.entries; once = so.once; all = so.all }) (all_orders n)
+    (arranged (λ x. x < n) n (range_with_len 0 n) (range_below 0 n n (omega arith)))
+
+pub at_order : (Q : List ℕ → Type 0) (n : ℕ) → Each Q (all_orders n) → (order : List ℕ) → IsOrder n order → Q order
+at_order Q n h order is =
+    at_arranged Q n (range_with_len 0 n) order h
+    (record { entries = each_so (λ x. x < n) (Contains (range_with_len 0 n)) (λ x below. in_range 0 n x (omega arith) (omega arith)) order is.entries; once = is.once; all = is.all })
+
+pub all_in_order : (n : ℕ) → InOrder (all_orders n)
+all_in_order n = in_order n (range_with_len 0 n) (range_ascends 0 n)
