@@ -1,1 +1,5 @@
+pub mod AllOrders
+pub mod BestComputed
+pub mod BoundsListed
+pub mod OneChoice
 pub mod SmallChoices

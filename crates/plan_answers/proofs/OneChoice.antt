@@ -1,0 +1,101 @@
+-- A choice has one answer besides that memory is wanting, and it is the one that is computed.
+use Rattle.std.proofs.Common.{◌≡◌, ℕ, ◌+◌, ◌-◌, ◌^◌, ◌<◌, ◌≤◌, Bool, true, false, ltb, cond, List, length, Ok, Err, Result, refl, ap, sym, ◌∙◌, subst, arith, inl, inr}
+use Rattle.std.specs.Prelude.{◌⊎◌, ◌≢◌, IfOk, IfErr}
+use Rattle.std.proofs.lemmas.Bool.{cases_lt, le-ltb, lt-ltb}
+use Rattle.plans.specs.declared.left_deep.Plan.{Plan}
+use Rattle.plans.specs.LeftDeep.{IsPlan}
+use Rattle.order_search.specs.Causes.{IsCause}
+use Rattle.order_search.specs.Orders.{IsBest, IsLeastCost, cost, levels}
+use Rattle.order_search.specs.declared.refusal.PlanError.{PlanError}
+use Rattle.order_search.specs.declared.refusal.PlanError.TheVariants as error
+use Rattle.order_search.proofs.NoWorse.{least_of_best}
+use Rattle.order_search.proofs.OneBest.{one_best}
+use Rattle.order_search.proofs.Prefixes.{plan_from}
+use Rattle.plan_answers.specs.BestOrder.{best_order}
+use Rattle.plan_answers.specs.PlanAnswer.{answer_along, plan_along, plan_answer}
+use Rattle.plan_answers.specs.Promised.{IsPromised}
+use Rattle.plan_answers.proofs.BestComputed.{best_computed}
+
+pub only_best : (bounds : List ℕ) (n : ℕ) (order : List ℕ) → IsBest bounds n order → order ≡ best_order bounds n
+only_best bounds n order is = one_best bounds n order (best_order bounds n) is (best_computed bounds n)
+
+module _ (bounds scans : List ℕ) (budget : ℕ) where
+  -- ---- the three cases
+
+  past : (order : List ℕ) → 2 ^ 128 - 2 < cost bounds order → answer_along bounds scans budget order ≡ Err error.PastBits
+  past order above = rw (lt-ltb (2 ^ 128 - 2) (cost bounds order) above) refl
+
+  over : (order : List ℕ) → cost bounds order ≤ 2 ^ 128 - 2 → budget < cost bounds order → answer_along bounds scans budget order ≡ Err (error.Budget (cost bounds order))
+  over order is_told above = rw (le-ltb (2 ^ 128 - 2) (cost bounds order) is_told, lt-ltb budget (cost bounds order) above) refl
+
+  fits : (order : List ℕ) → cost bounds order ≤ 2 ^ 128 - 2 → cost bounds order ≤ budget → answer_along bounds scans budget order ≡ Ok (plan_along bounds scans order)
+  fits order is_told within = rw (le-ltb (2 ^ 128 - 2) (cost bounds order) is_told, le-ltb budget (cost bounds order) within) refl
+
+  -- ---- the answer is promised
+
+  along : (order : List ℕ) → IsBest bounds (length scans) order → IsPromised bounds scans budget (answer_along bounds scans budget order)
+  along order is = elim (cases_lt (2 ^ 128 - 2) (cost bounds order)) [
+    | inl above ↦ rw (past order above) (record { plan = tt; best = tt; within = tt; levels = tt; scans_kept = tt; refused = (cost bounds order, least_of_best bounds (length scans) order is, above) })
+    | inr is_told ↦ elim (cases_lt budget (cost bounds order)) [
+      | inl above ↦ rw (over order is_told above) (record { plan = tt; best = tt; within = tt; levels = tt; scans_kept = tt; refused = (least_of_best bounds (length scans) order is, above, is_told) })
+      | inr within ↦ rw (fits order is_told within) (record {
+        plan = plan_from bounds scans (plan_along bounds scans order) is.is_order refl refl;
+        best = is;
+        within = within;
+        levels = refl;
+        scans_kept = refl;
+        refused = tt;
+      })
+    ]
+  ]
+
+  pub allowed : IsPromised bounds scans budget (plan_answer bounds scans budget)
+  unfolding plan_answer
+  allowed = along (best_order bounds (length scans)) (best_computed bounds (length scans))
+
+  -- ---- and no other
+
+  same_plan : (plan : Plan) → plan.levels ≡ levels bounds plan.order → plan.scans ≡ scans → plan ≡ plan_along bounds scans plan.order
+  same_plan plan has_levels has_scans = rw (sym has_levels, sym has_scans) refl
+
+  pub chosen : (plan : Plan) → budget ≤ 20000000 → IsBest bounds (length scans) plan.order → cost bounds plan.order ≤ budget
+      → plan.levels ≡ levels bounds plan.order → plan.scans ≡ scans → Ok plan ≡ plan_answer bounds scans budget
+  unfolding plan_answer
+  chosen plan few is within has_levels has_scans =
+      ap Ok (same_plan plan has_levels has_scans)
+      ∙ sym (fits plan.order (omega arith) within)
+      ∙ ap (answer_along bounds scans budget) (only_best bounds (length scans) plan.order is)
+
+  least_is : (least : ℕ) → IsLeastCost bounds (length scans) least → least ≡ cost bounds (best_order bounds (length scans))
+  least_is least is =
+      let best : IsBest bounds (length scans) (best_order bounds (length scans)) = best_computed bounds (length scans) in
+      omega (arith, is.costs, is.none_cheaper (best_order bounds (length scans)) best.is_order, best.none_cheaper is.order is.is_order)
+
+  pub refused : (e : PlanError) → e ≢ error.NoMemory → IsCause bounds (length scans) budget e → Err e ≡ plan_answer bounds scans budget
+  unfolding plan_answer
+  refused (error.Budget least) other cause =
+      let is : least ≡ cost bounds (best_order bounds (length scans)) = least_is least cause.0 in
+      ap (λ n. Err (error.Budget n)) is ∙ sym (over (best_order bounds (length scans)) (omega arith) (omega arith))
+  refused error.PastBits other cause =
+      let is : cause.0 ≡ cost bounds (best_order bounds (length scans)) = least_is cause.0 cause.1 in
+      sym (past (best_order bounds (length scans)) (omega arith))
+  refused error.NoMemory other cause = absurd (other refl)
+
+  pub only : (answer : Result Plan PlanError) → budget ≤ 20000000 → IsPromised bounds scans budget answer → (answer ≡ Err error.NoMemory) ⊎ (answer ≡ plan_answer bounds scans budget)
+  only (Ok plan) few is = inr (chosen plan few is.best is.within is.levels is.scans_kept)
+  only (Err error.NoMemory) few is = inl refl
+  only (Err error.PastBits) few is = inr (refused error.PastBits (λ same. elim same [ ]) is.refused)
+  only (Err (error.Budget least)) few is = inr (refused (error.Budget least) (λ same. elim same [ ]) is.refused)
+
+  never_along : (order : List ℕ) → answer_along bounds scans budget order ≢ Err error.NoMemory
+  never_along order same = elim (cases_lt (2 ^ 128 - 2) (cost bounds order)) [
+    | inl above ↦ absurd (cc (same, past order above))
+    | inr is_told ↦ elim (cases_lt budget (cost bounds order)) [
+      | inl above ↦ absurd (cc (same, over order is_told above))
+      | inr within ↦ absurd (cc (same, fits order is_told within))
+    ]
+  ]
+
+  pub never_memory : plan_answer bounds scans budget ≢ Err error.NoMemory
+  unfolding plan_answer
+  never_memory = never_along (best_order bounds (length scans))
