@@ -84,8 +84,8 @@ module _ (bounds scans : List ℕ) (budget : ℕ) where
   pub only : (answer : Result Plan PlanError) → budget ≤ 20000000 → IsPromised bounds scans budget answer → (answer ≡ Err error.NoMemory) ⊎ (answer ≡ plan_answer bounds scans budget)
   only (Ok plan) few is = inr (chosen plan few is.best is.within is.levels is.scans_kept)
   only (Err error.NoMemory) few is = inl refl
-  only (Err error.PastBits) few is = inr (refused error.PastBits (λ same. elim same [ ]) is.refused)
-  only (Err (error.Budget least)) few is = inr (refused (error.Budget least) (λ same. elim same [ ]) is.refused)
+  only (Err error.PastBits) few is = inr (refused error.PastBits (λ same. absurd (cc)) is.refused)
+  only (Err (error.Budget least)) few is = inr (refused (error.Budget least) (λ same. absurd (cc)) is.refused)
 
   never_along : (order : List ℕ) → answer_along bounds scans budget order ≢ Err error.NoMemory
   never_along order same = elim (cases_lt (2 ^ 128 - 2) (cost bounds order)) [
