@@ -1,6 +1,6 @@
 -- The list of all orders has each order of the entries and nothing else, and is in lexicographic order.
 use Rattle.std.proofs.Common.{◌≡◌, ℕ, zero, suc, ◌+◌, ◌<◌, ◌≤◌, Bool, true, false, eqb, List, [], ◌∷◌, ◌++◌, length, map, refl, ap, sym, subst, arith, inl, inr}
-use Rattle.std.specs.Prelude.{◌⊎◌, filter, flat_map, not, ⊤}
+use Rattle.std.specs.Prelude.{filter, flat_map, not, ⊤}
 use Rattle.std.specs.List.{AllByRecursion as Each, Contains, IsDistinct, range_with_len}
 use Rattle.std.proofs.lemmas.Bool.{cases_Bool, cases_eq, not-true, not_from_false}
 use Rattle.std.proofs.lemmas.Map.Keys.{IsDistinct-head, IsDistinct-tail, IsDistinct-cons}
@@ -95,9 +95,9 @@ arranged P (suc count) entries h =
     each_flat (AreArranged P (suc count)) (λ first. map (λ rest. first ∷ rest) (orders_of count (others first entries))) entries
     (each_so P (λ first. Each (AreArranged P (suc count)) (map (λ rest. first ∷ rest) (orders_of count (others first entries))))
     (λ first p. each_map (AreArranged P (suc count)) (λ rest. first ∷ rest) (orders_of count (others first entries))
-        (each_so (AreArranged (λ entry. P entry × (eqb first entry ≡ false)) count) (λ rest. AreArranged P (suc count) (first ∷ rest)) (begun P count first p)
-        (orders_of count (others first entries))
-        (arranged (λ entry. P entry × (eqb first entry ≡ false)) count (others first entries) (kept P first entries h))))
+    (each_so (AreArranged (λ entry. P entry × (eqb first entry ≡ false)) count) (λ rest. AreArranged P (suc count) (first ∷ rest)) (begun P count first p)
+    (orders_of count (others first entries))
+    (arranged (λ entry. P entry × (eqb first entry ≡ false)) count (others first entries) (kept P first entries h))))
     entries h)
 
 -- what is true of each that is listed is true of each that there is

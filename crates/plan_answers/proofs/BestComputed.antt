@@ -1,5 +1,5 @@
 -- The order that is computed is the best one.
-use Rattle.std.proofs.Common.{◌≡◌, ℕ, ◌<◌, ◌≤◌, Bool, true, false, eqb, ltb, leb, List, [], ◌∷◌, Some, refl, ap, sym, ◌∙◌, subst, arith, inl, inr}
+use Rattle.std.proofs.Common.{◌≡◌, ℕ, ◌<◌, ◌≤◌, Bool, true, false, eqb, ltb, leb, List, [], ◌∷◌, Some, refl, ap, sym, subst, arith, inl, inr}
 use Rattle.std.specs.Prelude.{◌⊎◌, ◌&&◌, ◌||◌, find, unwrap_or}
 use Rattle.std.specs.List.{AllByRecursion as Each, list_all}
 use Rattle.std.proofs.lemmas.Bool.{and_from, and_parts, both_ways, cases_Bool, cases_lt, eq-eqb, eqb-true, le-leb, leb-true, lt-ltb, ltb-true, or_cases, or_left, or_right}
@@ -32,12 +32,15 @@ first_behind P test x xs y fails first = record {
 first_of : (P : List ℕ → Type 0) (test : List ℕ → Bool) (xs : List (List ℕ)) → Each P xs → InOrder xs → (Each (λ x. test x ≡ false) xs → ⊥) → (x : List ℕ) × IsFirst P test xs x
 first_of P test [] each in_order some = absurd (some tt)
 first_of P test (x ∷ xs) each in_order some = elim (cases_Bool (test x)) [
-  | inl passes ↦ (x, record {
-    found = rw passes refl;
-    is = each.0;
-    passes = passes;
-    before = ((λ same. not_after_itself x), each_so (IsNotAfter x) (λ y. test y ≡ true → IsNotAfter x y) (λ y after also. after) xs in_order.0);
-  })
+  | inl passes ↦ (
+    x,
+    record {
+      found = rw passes refl;
+      is = each.0;
+      passes = passes;
+      before = ((λ same. not_after_itself x), each_so (IsNotAfter x) (λ y. test y ≡ true → IsNotAfter x y) (λ y after also. after) xs in_order.0);
+    },
+  )
   | inr fails ↦ (let first : (y : List ℕ) × IsFirst P test xs y = first_of P test xs each.1 in_order.1 (λ none. some (fails, none)) in
       (first.0, first_behind P test x xs first.0 fails first.1))
 ]

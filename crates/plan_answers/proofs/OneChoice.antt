@@ -1,9 +1,8 @@
 -- A choice has one answer besides that memory is wanting, and it is the one that is computed.
-use Rattle.std.proofs.Common.{◌≡◌, ℕ, ◌+◌, ◌-◌, ◌^◌, ◌<◌, ◌≤◌, Bool, true, false, ltb, cond, List, length, Ok, Err, Result, refl, ap, sym, ◌∙◌, subst, arith, inl, inr}
-use Rattle.std.specs.Prelude.{◌⊎◌, ◌≢◌, IfOk, IfErr}
+use Rattle.std.proofs.Common.{◌≡◌, ℕ, ◌-◌, ◌^◌, ◌<◌, ◌≤◌, List, length, Ok, Err, Result, refl, ap, sym, ◌∙◌, arith, inl, inr}
+use Rattle.std.specs.Prelude.{◌⊎◌, ◌≢◌}
 use Rattle.std.proofs.lemmas.Bool.{cases_lt, le-ltb, lt-ltb}
 use Rattle.plans.specs.declared.left_deep.Plan.{Plan}
-use Rattle.plans.specs.LeftDeep.{IsPlan}
 use Rattle.order_search.specs.Causes.{IsCause}
 use Rattle.order_search.specs.Orders.{IsBest, IsLeastCost, cost, levels}
 use Rattle.order_search.specs.declared.refusal.PlanError.{PlanError}

@@ -1,6 +1,5 @@
 -- The one answer of a choice, by computation: the plan of the best order, or why there is none.
 use Rattle.std.specs.Prelude.{ℕ, ◌-◌, ◌^◌, nat_lt, if◌then◌else◌, List, length, Result, Ok, Err}
-use Rattle.limits.specs.Profile.{top_bound}
 use Rattle.plans.specs.declared.left_deep.Plan.{Plan}
 use Rattle.order_search.specs.declared.refusal.PlanError.{PlanError}
 use Rattle.order_search.specs.declared.refusal.PlanError.TheVariants as error

@@ -8,16 +8,20 @@ ghost use Rattle.plan_answers.specs.BestOrder.{all_orders, best_order};
 ghost use Rattle.plan_answers.specs.Bounds.{bounds_of_sets};
 ghost use Rattle.plan_answers.specs.PlanAnswer.{plan_answer};
 
-/// What choices among one, three and four entries answer.
+/// What choices among one, three and four entries answer. A pair that is past the bits is avoided, and the
+/// greatest cost that 128 bits tell is told.
 pub fn small_choices()
-    ensures orders { all_orders 3 ≡ (0 ∷ 1 ∷ 2 ∷ []) ∷ (0 ∷ 2 ∷ 1 ∷ []) ∷ (1 ∷ 0 ∷ 2 ∷ []) ∷ (1 ∷ 2 ∷ 0 ∷ []) ∷ (2 ∷ 0 ∷ 1 ∷ []) ∷ (2 ∷ 1 ∷ 0 ∷ []) ∷ [] }
+    ensures orders { all_orders 3 ≡
+        (0 ∷ 1 ∷ 2 ∷ []) ∷ (0 ∷ 2 ∷ 1 ∷ []) ∷ (1 ∷ 0 ∷ 2 ∷ []) ∷ (1 ∷ 2 ∷ 0 ∷ []) ∷ (2 ∷ 0 ∷ 1 ∷ []) ∷ (2 ∷ 1 ∷ 0 ∷ []) ∷ [] }
     ensures best { best_order three_entries 3 ≡ 0 ∷ 2 ∷ 1 ∷ [] }
     ensures from_order { best_order equal_bounds 3 ≡ 0 ∷ 1 ∷ 2 ∷ [] }
     ensures dearer { best_order dearer_prefix 4 ≡ 2 ∷ 1 ∷ 0 ∷ 3 ∷ [] }
-    ensures plan { plan_answer three_entries (2 ∷ 2 ∷ 2 ∷ []) 6 ≡ Ok (plan_of (0 ∷ 2 ∷ 1 ∷ []) (2 ∷ 2 ∷ 2 ∷ []) (2 ∷ 5 ∷ 6 ∷ [])) }
+    ensures plan { plan_answer three_entries (2 ∷ 2 ∷ 2 ∷ []) 6
+        ≡ Ok (plan_of (0 ∷ 2 ∷ 1 ∷ []) (2 ∷ 2 ∷ 2 ∷ []) (2 ∷ 5 ∷ 6 ∷ [])) }
     ensures budget { plan_answer three_entries (2 ∷ 2 ∷ 2 ∷ []) 5 ≡ Err (error.Budget 6) }
     ensures past_bits { plan_answer past_bits (2 ∷ 2 ∷ 2 ∷ []) 6 ≡ Err error.PastBits }
-    ensures avoided { plan_answer one_pair_past_bits (2 ∷ 2 ∷ 2 ∷ []) 6 ≡ Ok (plan_of (0 ∷ 2 ∷ 1 ∷ []) (2 ∷ 2 ∷ 2 ∷ []) (2 ∷ 5 ∷ 6 ∷ [])) }
+    ensures avoided { plan_answer one_pair_past_bits (2 ∷ 2 ∷ 2 ∷ []) 6
+        ≡ Ok (plan_of (0 ∷ 2 ∷ 1 ∷ []) (2 ∷ 2 ∷ 2 ∷ []) (2 ∷ 5 ∷ 6 ∷ [])) }
     ensures greatest_told { plan_answer (1 ∷ (2 ^ 128 - 2) ∷ []) (2 ∷ []) 6 ≡ Err (error.Budget (2 ^ 128 - 2)) }
     ensures through_the_top { bounds_of_sets 1 (λ set. 2 ^ 129) ≡ top_bound ∷ top_bound ∷ [] }
 {}
