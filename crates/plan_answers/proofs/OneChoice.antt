@@ -58,33 +58,33 @@ module _ (bounds scans : List ℕ) (budget : ℕ) where
   same_plan plan has_levels has_scans = rw (sym has_levels, sym has_scans) refl
 
   pub chosen : (plan : Plan) → budget ≤ 20000000 → IsBest bounds (length scans) plan.order → cost bounds plan.order ≤ budget
-      → plan.levels ≡ levels bounds plan.order → plan.scans ≡ scans → Ok plan ≡ plan_answer bounds scans budget
+      → plan.levels ≡ levels bounds plan.order → plan.scans ≡ scans → plan_answer bounds scans budget ≡ Ok plan
   unfolding plan_answer
   chosen plan few is within has_levels has_scans =
-      ap Ok (same_plan plan has_levels has_scans)
-      ∙ sym (fits plan.order (omega arith) within)
-      ∙ ap (answer_along bounds scans budget) (only_best bounds (length scans) plan.order is)
+      ap (answer_along bounds scans budget) (sym (only_best bounds (length scans) plan.order is))
+      ∙ fits plan.order (omega arith) within
+      ∙ ap Ok (sym (same_plan plan has_levels has_scans))
 
   least_is : (least : ℕ) → IsLeastCost bounds (length scans) least → least ≡ cost bounds (best_order bounds (length scans))
   least_is least is =
       let best : IsBest bounds (length scans) (best_order bounds (length scans)) = best_computed bounds (length scans) in
       omega (arith, is.costs, is.none_cheaper (best_order bounds (length scans)) best.is_order, best.none_cheaper is.order is.is_order)
 
-  pub refused : (e : PlanError) → e ≢ error.NoMemory → IsCause bounds (length scans) budget e → Err e ≡ plan_answer bounds scans budget
+  pub refused : (e : PlanError) → e ≢ error.NoMemory → IsCause bounds (length scans) budget e → plan_answer bounds scans budget ≡ Err e
   unfolding plan_answer
   refused (error.Budget least) other cause =
       let is : least ≡ cost bounds (best_order bounds (length scans)) = least_is least cause.0 in
-      ap (λ n. Err (error.Budget n)) is ∙ sym (over (best_order bounds (length scans)) (omega arith) (omega arith))
+      over (best_order bounds (length scans)) (omega arith) (omega arith) ∙ ap (λ n. Err (error.Budget n)) (sym is)
   refused error.PastBits other cause =
       let is : cause.0 ≡ cost bounds (best_order bounds (length scans)) = least_is cause.0 cause.1 in
-      sym (past (best_order bounds (length scans)) (omega arith))
+      past (best_order bounds (length scans)) (omega arith)
   refused error.NoMemory other cause = absurd (other refl)
 
   pub only : (answer : Result Plan PlanError) → budget ≤ 20000000 → IsPromised bounds scans budget answer → (answer ≡ Err error.NoMemory) ⊎ (answer ≡ plan_answer bounds scans budget)
-  only (Ok plan) few is = inr (chosen plan few is.best is.within is.levels is.scans_kept)
+  only (Ok plan) few is = inr (sym (chosen plan few is.best is.within is.levels is.scans_kept))
   only (Err error.NoMemory) few is = inl refl
-  only (Err error.PastBits) few is = inr (refused error.PastBits (λ same. absurd (cc)) is.refused)
-  only (Err (error.Budget least)) few is = inr (refused (error.Budget least) (λ same. absurd (cc)) is.refused)
+  only (Err error.PastBits) few is = inr (sym (refused error.PastBits (λ same. absurd (cc)) is.refused))
+  only (Err (error.Budget least)) few is = inr (sym (refused (error.Budget least) (λ same. absurd (cc)) is.refused))
 
   never_along : (order : List ℕ) → answer_along bounds scans budget order ≢ Err error.NoMemory
   never_along order same = elim (cases_lt (2 ^ 128 - 2) (cost bounds order)) [

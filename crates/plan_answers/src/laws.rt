@@ -27,9 +27,9 @@ pub fn choices()
     ensures never_memory { (bounds scans : List ℕ) (budget : ℕ) → plan_answer bounds scans budget ≢ Err error.NoMemory }
     ensures chosen { (bounds scans : List ℕ) (budget : ℕ) (plan : Plan) → budget ≤ most_budget
         → IsBest bounds (length scans) plan.order → cost bounds plan.order ≤ budget
-        → plan.levels ≡ levels bounds plan.order → plan.scans ≡ scans → Ok plan ≡ plan_answer bounds scans budget }
+        → plan.levels ≡ levels bounds plan.order → plan.scans ≡ scans → plan_answer bounds scans budget ≡ Ok plan }
     ensures refused { (bounds scans : List ℕ) (budget : ℕ) (e : PlanError) → e ≢ error.NoMemory
-        → IsCause bounds (length scans) budget e → Err e ≡ plan_answer bounds scans budget }
+        → IsCause bounds (length scans) budget e → plan_answer bounds scans budget ≡ Err e }
 {}
 
 /// A list with the bound of each set, through the top bound, is the one that is made from the function.
