@@ -1,0 +1,64 @@
+ghost use Rattle.std.specs.Prelude.{◌≡◌, ◌<◌, ◌≤◌, ◌-◌, min, if◌then◌else◌, length, drop, IfOk, List, Some, ℕ, IsErrOf};
+ghost use Rattle.base_io.specs.Causes.{Rose, one_more};
+ghost use Rattle.base_io.specs.Files.{file_of, ReadsAt, told};
+ghost use Rattle.base_io.specs.Planned.{has_failed, is_listed};
+ghost use Rattle.slow_devices.specs.Cuts.{most_bytes};
+
+use base_io::{MemStore, Store, StoreError};
+
+/// Files in memory, of which each call gives at most `most` bytes; 0 counts as 1. Files, counts and failures are
+/// those of the inner store.
+#[derive(Drop)]
+pub struct SlowStore {
+    pub inner: MemStore,
+    pub most: u32,
+}
+
+impl SlowStore {
+    /// A store that gives at most `most` bytes of the inner one's in each call.
+    pub fn new(inner: MemStore, most: u32) -> SlowStore
+        requires { 0 < most }
+        ensures inner { result.inner ≡ inner }
+        ensures most { result.most ≡ most }
+    {
+        SlowStore { inner, most }
+    }
+}
+
+impl Store for SlowStore {
+    ghost files = { λ s. Some s.inner.files };
+
+    ghost faults = { λ s. s.inner.faults };
+
+    ghost misses = { λ s. s.inner.misses };
+
+    /// As every store's, and the bytes that are handed on are read as the inner store reads them.
+    fn read_at(&mut self, name: &str, at: u64, into: &mut [u8]) -> Result<usize, StoreError>
+        requires place { at ≤ 67108864 }
+        requires room { 0 < length into.old }
+        ensures read { ReadsAt (told (Some self.old.inner.files) name.now) at result into.new }
+        ensures files { Some self.new.inner.files ≡ Some self.old.inner.files }
+        ensures later { self.old.inner.faults ≤ self.new.inner.faults }
+        ensures later_misses { self.old.inner.misses ≤ self.new.inner.misses }
+        ensures failed { IsErrOf result StoreError.Failed → Rose self.old.inner.faults self.new.inner.faults }
+        ensures missing { IsErrOf result StoreError.Missing
+            → (self.new.inner.faults ≡ self.old.inner.faults) × (self.new.inner.misses ≡ one_more self.old.inner.misses) }
+        ensures misses { (IsErrOf result StoreError.Missing → ⊥) → self.new.inner.misses ≡ self.old.inner.misses }
+
+        // A read gives as many bytes as there are, as fit and as are handed on.
+        ensures most { IfOk result (λ n. (bytes : List ℕ) → file_of self.old.inner.files name.now ≡ Some bytes
+            → n ≡ min (length bytes - at) (most_bytes self.old.most (length into.new))) }
+        ensures behind { drop (most_bytes self.old.most (length into.old)) into.new ≡ drop (most_bytes self.old.most (length into.old)) into.old }
+        ensures same_most { self.new.most ≡ self.old.most }
+
+        // Exactly the calls fail that the inner store lists.
+        ensures calls { self.new.inner.calls ≡ one_more self.old.inner.calls }
+        ensures fail_at { self.new.inner.fail_at ≡ self.old.inner.fail_at }
+        ensures fails { has_failed result ≡ is_listed self.new.inner.calls self.old.inner.fail_at }
+        ensures faults { self.new.inner.faults
+            ≡ (if is_listed self.new.inner.calls self.old.inner.fail_at then one_more self.old.inner.faults else self.old.inner.faults) }
+    {
+        let count = (self.most.max(1) as usize).min(into.len());
+        self.inner.read_at(name, at, &mut into[..count])
+    }
+}
