@@ -1,0 +1,314 @@
+-- A join has at most so many rows for each row of the left table as the right one has each key.
+use Rattle.std.proofs.Common.{◌≡◌, ℕ, zero, suc, ◌+◌, ◌-◌, ◌*◌, ◌/◌, ◌%◌, ◌<◌, ◌≤◌, ◌^◌, Bool, true, false, cond, not, eqb, ◌&&◌, ◌||◌, Some, None, option_map, lit<, List, [], ◌∷◌, ◌++◌, length, map, take, get_or, slice_index, refl, ap, sym, ◌∙◌, subst, arith, inl, inr}
+use Rattle.std.specs.Prelude.{All, IsUtf8}
+use Rattle.std.specs.List.{filter, flat_map, list_all, range_with_len, slice_get, AllByRecursion, AllZip, IsDistinct}
+use Rattle.std.proofs.lemmas.Bool.{and_parts, cases_Bool, cases_lt, eqb-true, false≢true}
+use Rattle.std.proofs.lemmas.List.{get_or-map, length-append, length-map}
+use Rattle.std.proofs.lemmas.List.Elements.{All-from_recursion, All-map, filter-append, recursion_from_All}
+use Rattle.std.proofs.lemmas.List.FromFn.{get_or-range_with_len, length-range_with_len}
+use Rattle.std.proofs.lemmas.Nat.{div-add-mod'}
+use Rattle.std.proofs.Math.Nat.{mul-suc, suc-mul}
+use Rattle.csv_tables.specs.declared.types.Cells.{Cells}
+use Rattle.csv_tables.specs.declared.types.Database.{Database}
+use Rattle.query_grammar.specs.declared.tree.Op.{Op}
+use Rattle.query_grammar.specs.declared.tree.Op.TheVariants as op
+use Rattle.query_types.specs.Validity.{is_text}
+use Rattle.query_types.specs.declared.types.ColumnRef.{ColumnRef}
+use Rattle.query_types.specs.declared.types.Operand.TheVariants as operand
+use Rattle.query_types.specs.declared.types.Cond.{Cond, And}
+use Rattle.query_types.specs.declared.types.Query.{Query}
+use Rattle.reserve_plan.specs.declared.reserved.Reserved.{Reserved}
+use Rattle.reserve_plan.specs.Rooms.{rooms, HasRooms}
+use Rattle.reserve_plan.proofs.Roomy.{less_room}
+use Rattle.sql_meaning.specs.Answers.{conjunct_of, conjuncts_of}
+use Rattle.sql_meaning.specs.Choices.{extended, IsChoiceOf}
+use Rattle.sql_meaning.specs.Conditions.{cond_holds}
+use Rattle.sql_meaning.specs.Databases.{AreCells, IsAskable, IsColumnOf, IsColumnOfKind, IsDatabaseOf}
+use Rattle.sql_meaning.specs.Levels.{completed_hold, completes, row_in}
+use Rattle.sql_meaning.specs.Tables.{cells_of, row_counts, tables_of}
+use Rattle.sql_meaning.proofs.LoopFacts.{rows_are}
+use Rattle.sql_meaning.proofs.NamedFacts.{can_ask}
+use Rattle.join_steps.specs.declared.keys.Key.{Key}
+use Rattle.join_steps.specs.Columns.{column_cells}
+use Rattle.join_steps.specs.Lists.{passes_own, scan_of, IsOrderOf}
+use Rattle.join_steps.specs.Sides.{is_between, is_in}
+use Rattle.join_steps.proofs.KeyFacts.{key_holds, sides_between, IsKeyOf}
+use Rattle.hash_join.specs.Levels.{joined, level_sizes, query_level, scan_sizes}
+use Rattle.hash_join.proofs.AllLevels.{next_joined, placed_joined, scan_below}
+use Rattle.hash_join.proofs.PlanRooms.{are_of_scans, joined_scans}
+use Rattle.bench_joins.specs.Tables.{compared, join_of, repeated, table_of, tables_of_two, AreNumbers, AreTwo, HasRepeated, IsTable}
+
+-- ---- how many rows have a key
+
+-- of the numbers from s on, at most m lie from a to below a + m
+in_stretch : (p : ℕ → Bool) (a m : ℕ) → ((x : ℕ) → p x ≡ true → (a ≤ x) × (x < a + m)) → (n s : ℕ) → a ≤ s → length (filter p (range_with_len s n)) ≤ a + m - s
+in_stretch p a m near zero s low = omega arith
+in_stretch p a m near (suc n) s low =
+    let rest : length (filter p (range_with_len (s + 1) n)) ≤ a + m - (s + 1) = in_stretch p a m near n (s + 1) (omega arith) in
+    elim (cases_Bool (p s)) [
+      | inl hit ↦ (let there = near s hit in
+          let is : length (filter p (range_with_len s (suc n))) ≡ suc (length (filter p (range_with_len (s + 1) n))) = rw hit refl in
+          omega (arith, is, rest, there.1))
+      | inr miss ↦ (let is : length (filter p (range_with_len s (suc n))) ≡ length (filter p (range_with_len (s + 1) n)) = rw miss refl in omega (arith, is, rest))
+    ]
+
+before_stretch : (p : ℕ → Bool) (a m : ℕ) → ((x : ℕ) → p x ≡ true → (a ≤ x) × (x < a + m)) → (n s : ℕ) → length (filter p (range_with_len s n)) ≤ m
+before_stretch p a m near zero s = omega arith
+before_stretch p a m near (suc n) s = elim (cases_lt s a) [
+  | inl low ↦ elim (cases_Bool (p s)) [
+    | inl hit ↦ (let there = near s hit in absurd (omega (arith, there.0)))
+    | inr miss ↦ (let is : length (filter p (range_with_len s (suc n))) ≡ length (filter p (range_with_len (s + 1) n)) = rw miss refl in
+        let rest : length (filter p (range_with_len (s + 1) n)) ≤ m = before_stretch p a m near n (s + 1) in omega (arith, is, rest))
+  ]
+  | inr high ↦ (let rest : length (filter p (range_with_len s (suc n))) ≤ a + m - s = in_stretch p a m near (suc n) s high in omega (arith, rest))
+]
+
+-- a row of the repeated numbers has the key where it lies in the key's stretch
+in_key : (key times row : ℕ) → 0 < times → eqb (row / times) key ≡ true → (key * times ≤ row) × (row < key * times + times)
+in_key key times row some hit =
+    let same : row / times ≡ key = eqb-true (row / times) key hit in
+    let whole : row / times * times + row % times ≡ row = div-add-mod' row times in
+    let at : key * times + row % times ≡ row = ap (λ (q : ℕ). q * times + row % times) (sym same) ∙ whole in
+    let less : row % times < times = omega arith in
+    (omega (arith, at), omega (arith, at, less))
+
+filter_agree_on : (p q : ℕ → Bool) (xs : List ℕ) → AllByRecursion (λ x. p x ≡ q x) xs → filter p xs ≡ filter q xs
+filter_agree_on p q [] same = refl
+filter_agree_on p q (x ∷ xs) same = rw (same.0, filter_agree_on p q xs same.1) refl
+
+below : (a n end : ℕ) → a + n ≤ end → AllByRecursion (λ x. x < end) (range_with_len a n)
+below a zero end fits = tt
+below a (suc n) end fits = (omega arith, below (a + 1) n end (omega arith))
+
+weaker : (P Q : ℕ → Type 0) → ((x : ℕ) → P x → Q x) → (xs : List ℕ) → AllByRecursion P xs → AllByRecursion Q xs
+weaker P Q more [] all = tt
+weaker P Q more (x ∷ xs) all = (more x all.0, weaker P Q more xs all.1)
+
+repeated_at : (rows times row : ℕ) → row < rows → get_or (repeated rows times) row 0 ≡ row / times
+repeated_at rows times row low =
+    get_or-map (λ r. r / times) (range_with_len 0 rows) row 0 0 (omega (arith, length-range_with_len 0 rows))
+    ∙ ap (λ (r : ℕ). r / times) (get_or-range_with_len 0 rows row 0 low ∙ omega arith)
+
+filtered_twice : (p q : ℕ → Bool) (xs : List ℕ) → length (filter p (filter q xs)) ≤ length (filter p xs)
+filtered_twice p q [] = omega arith
+filtered_twice p q (x ∷ xs) =
+    let rest : length (filter p (filter q xs)) ≤ length (filter p xs) = filtered_twice p q xs in
+    elim (cases_Bool (q x)) [
+      | inl good ↦ elim (cases_Bool (p x)) [
+        | inl hit ↦ rw (good, hit, hit) (omega (arith, rest))
+        | inr miss ↦ rw (good, miss, miss) rest
+      ]
+      | inr bad ↦ elim (cases_Bool (p x)) [
+        | inl hit ↦ rw (bad, hit) (omega (arith, rest))
+        | inr miss ↦ rw (bad, miss) rest
+      ]
+    ]
+
+-- of any part of the rows, at most so many have the key
+few_keys : (rows times key : ℕ) (own : ℕ → Bool) → 0 < times → length (filter (λ row. eqb (get_or (repeated rows times) row 0) key) (filter own (range_with_len 0 rows))) ≤ times
+few_keys rows times key own some =
+    let p : ℕ → Bool = λ row. eqb (get_or (repeated rows times) row 0) key in
+    let q : ℕ → Bool = λ row. eqb (row / times) key in
+    let same : filter p (range_with_len 0 rows) ≡ filter q (range_with_len 0 rows) =
+    filter_agree_on p q (range_with_len 0 rows) (weaker (λ x. x < rows) (λ x. p x ≡ q x) (λ x low. ap (λ (n : ℕ). eqb n key) (repeated_at rows times x low)) (range_with_len 0 rows) (below 0 rows rows (omega arith))) in
+    let few : length (filter q (range_with_len 0 rows)) ≤ times = before_stretch q (key * times) times (λ x hit. in_key key times x some hit) rows 0 in
+    omega (arith, filtered_twice p own (range_with_len 0 rows), ap (λ (s : List ℕ). length s) same, few)
+
+-- ---- a level
+
+-- where all that passes below a choice has the choice's key
+few_below : (p : List ℕ → Bool) (q : ℕ → Bool) (Q : ℕ → Type 0) (choice : List ℕ) → ((row : ℕ) → Q row → p (choice ++ row ∷ []) ≡ true → q row ≡ true) → (list : List ℕ) → AllByRecursion Q list
+    → length (filter p (map (λ row. choice ++ row ∷ []) list)) ≤ length (filter q list)
+few_below p q Q choice only [] all = omega arith
+few_below p q Q choice only (row ∷ list) all =
+    let rest : length (filter p (map (λ row. choice ++ row ∷ []) list)) ≤ length (filter q list) = few_below p q Q choice only list all.1 in
+    elim (cases_Bool (p (choice ++ row ∷ []))) [
+      | inl hit ↦ rw (hit, only row all.0 hit) (omega (arith, rest))
+      | inr miss ↦ elim (cases_Bool (q row)) [
+        | inl good ↦ rw (miss, good) (omega (arith, rest))
+        | inr bad ↦ rw (miss, bad) rest
+      ]
+    ]
+
+few_each : (p : List ℕ → Bool) (list : List ℕ) (times : ℕ) (P : List ℕ → Type 0) → ((choice : List ℕ) → P choice → length (filter p (map (λ row. choice ++ row ∷ []) list)) ≤ times) → (above : List (List ℕ)) → AllByRecursion P above
+    → length (filter p (extended above list)) ≤ times * length above
+few_each p list times P each [] all = omega arith
+few_each p list times P each (choice ∷ above) all =
+    let rest : length (filter p (extended above list)) ≤ times * length above = few_each p list times P each above all.1 in
+    let splits : length (filter p (extended (choice ∷ above) list)) ≡ length (filter p (map (λ row. choice ++ row ∷ []) list)) + length (filter p (extended above list)) =
+    ap (λ (s : List (List ℕ)). length s) (filter-append p (map (λ row. choice ++ row ∷ []) list) (extended above list)) ∙ length-append (filter p (map (λ row. choice ++ row ∷ []) list)) (filter p (extended above list)) in
+    let product : times * suc (length above) ≡ times * length above + times = mul-suc times (length above) in
+    omega (arith, splits, rest, each choice all.0, product)
+
+fewer : {X : Type 0} (p : X → Bool) (xs : List X) → length (filter p xs) ≤ length xs
+fewer p [] = omega arith
+fewer p (x ∷ xs) =
+    let rest : length (filter p xs) ≤ length xs = fewer p xs in
+    elim (cases_Bool (p x)) [
+      | inl hit ↦ rw hit (omega (arith, rest))
+      | inr miss ↦ rw miss (omega (arith, rest))
+    ]
+
+at_most_one : (n x : ℕ) → x ≤ 1 → n * x ≤ n
+at_most_one n zero low = omega arith
+at_most_one n (suc zero) low = omega arith
+at_most_one n (suc (suc x)) low = absurd (omega arith)
+
+le_product : (a n : ℕ) → 0 < n → a ≤ a * n
+le_product a zero some = absurd (omega arith)
+le_product a (suc n) some = let is : a * suc n ≡ a * n + a = mul-suc a n in omega (arith, is)
+
+more_times : (n a b : ℕ) → a ≤ b → n * a ≤ n * b
+more_times zero a b low = omega arith
+more_times (suc n) a b low =
+    let rest : n * a ≤ n * b = more_times n a b low in
+    let one : suc n * a ≡ n * a + a = suc-mul n a in
+    let other : suc n * b ≡ n * b + b = suc-mul n b in
+    omega (arith, rest, one, other, low)
+
+nothing_asked : (xs : List (List ℕ)) → AllByRecursion (λ x. Unit {0}) xs
+nothing_asked [] = tt
+nothing_asked (x ∷ xs) = (tt, nothing_asked xs)
+
+-- ---- the two tables
+
+module _ (left right times : ℕ) (rest : Bool) (lk lv rv : List ℕ) (are_lk : AreNumbers left lk) (are_lv : AreNumbers left lv) (are_rv : AreNumbers right rv) (some : 0 < times) (few_right : right ≤ 4000000) where
+  abbrev db : Database
+  db = tables_of_two (table_of left lk lv) (table_of right (repeated right times) rv)
+
+  abbrev q : Query
+  q = join_of rest
+
+  abbrev order : List ℕ
+  order = 0 ∷ 1 ∷ []
+
+  abbrev conjuncts : _
+  conjuncts = conjuncts_of q (tables_of db)
+
+  abbrev col : ℕ → ℕ → ColumnRef
+  col from column = record { from = from; column = column }
+
+  is_column : (from column : ℕ) → from < 2 → column < 2 → IsColumnOf db (col from column)
+  is_column zero column low within = record { entry = omega arith; exists = within }
+  is_column (suc zero) column low within = record { entry = omega arith; exists = within }
+  is_column (suc (suc from)) column low within = absurd (omega arith)
+
+  is_number : (from column : ℕ) → from < 2 → column < 2 → IsColumnOfKind db (col from column) false
+  is_number zero zero low within = record { exists = is_column 0 0 low within; kind = refl }
+  is_number zero (suc zero) low within = record { exists = is_column 0 1 low within; kind = refl }
+  is_number (suc zero) zero low within = record { exists = is_column 1 0 low within; kind = refl }
+  is_number (suc zero) (suc zero) low within = record { exists = is_column 1 1 low within; kind = refl }
+  is_number from (suc (suc column)) low within = absurd (omega arith)
+  is_number (suc (suc from)) column low within = absurd (omega arith)
+
+  askable : (o : Op) (column : ℕ) → column < 2 → IsAskable db (compared o column)
+  askable o column within = can_ask db o (operand.Column (col 0 column)) (operand.Column (col 1 column)) (record { text = false; left_kind = is_number 0 column (omega arith) within; right_kind = is_number 1 column (omega arith) within })
+
+  all_askable : (rest : Bool) → AllByRecursion (IsAskable db) (join_of rest).conjuncts
+  all_askable true = (askable op.Eq 0 (omega arith), (askable op.Ne 1 (omega arith), tt))
+  all_askable false = (askable op.Eq 0 (omega arith), tt)
+
+  few_conjuncts : (rest : Bool) → length (join_of rest).conjuncts ≤ 2
+  few_conjuncts true = omega arith
+  few_conjuncts false = omega arith
+
+  pub few : length q.conjuncts ≤ 256
+  few = omega (arith, few_conjuncts rest)
+
+  quotient_low : (x : ℕ) → x < right → x / times < 2 ^ 64
+  quotient_low x low = let whole : x / times * times + x % times ≡ x = div-add-mod' x times in let at_least : x / times ≤ x / times * times = le_product (x / times) times some in omega (arith, whole, at_least)
+
+  are_rk : AreNumbers right (repeated right times)
+  are_rk = record {
+    long = length-map (range_with_len 0 right) (λ row. row / times) ∙ length-range_with_len 0 right;
+    small = All-map (λ cell. cell < 2 ^ 64) (λ row. row / times) (range_with_len 0 right) (All-from_recursion (λ row. row / times < 2 ^ 64) (range_with_len 0 right) (weaker (λ x. x < right) (λ x. x / times < 2 ^ 64) quotient_low (range_with_len 0 right) (below 0 right right (omega arith))));
+  }
+
+  pub fits : IsDatabaseOf q db
+  fits = record {
+    some = omega arith;
+    few = omega arith;
+    few_conjuncts = omega (arith, few_conjuncts rest);
+    entries = refl;
+    tables = record {
+      cells = All-from_recursion (AreCells []) db.cells (
+        (record { height = are_lk.long; cells = are_lk.small }, (record { height = are_lv.long; cells = are_lv.small }, tt)),
+        ((record { height = are_rk.long; cells = are_rk.small }, (record { height = are_rv.long; cells = are_rv.small }, tt)), tt),
+      );
+      slots = All-from_recursion (λ slot. slot < 2) (0 ∷ 1 ∷ []) (omega arith, (omega arith, tt));
+    };
+    one_place = λ i j low high same. same;
+    conjuncts = All-from_recursion (IsAskable db) q.conjuncts (all_askable rest);
+    outputs = All-from_recursion (λ out. IsColumnOf db out.column) q.select tt;
+  }
+
+  pub is_order : IsOrderOf q order
+  unfolding IsDistinct
+  is_order = record { entries = (omega arith, (omega arith, tt)); once = ((refl, tt), (tt, tt)); all = refl }
+
+  -- ---- how many rows there are
+
+  scan_few : (entry : ℕ) → length (scan_of q db entry) ≤ row_counts (tables_of db) entry
+  scan_few entry = omega (arith, fewer (passes_own conjuncts entry) (range_with_len 0 (row_counts (tables_of db) entry)), length-range_with_len 0 (row_counts (tables_of db) entry))
+
+  pub first_scan : length (scan_of q db 0) ≤ left
+  first_scan = omega (arith, scan_few 0, rows_are db 0)
+
+  pub second_scan : length (scan_of q db 1) ≤ right
+  second_scan = omega (arith, scan_few 1, rows_are db 1)
+
+  of_scans : _
+  of_scans = are_of_scans q db (scan_of q db) order is_order (λ e low. refl)
+
+  joined_is : (k : ℕ) → joined q db (scan_of q db) order k ≡ query_level q db order k
+  joined_is k = joined_scans q db (scan_of q db) order k is_order (λ e low. refl)
+
+  pub first_level : length (query_level q db order 1) ≤ left
+  first_level =
+      let above : List (List ℕ) = joined q db (scan_of q db) order 0 in
+      let next = next_joined q db (scan_of q db) order is_order 0 (omega arith) (of_scans 0 0 (omega arith)) in
+      let some_above : length above ≤ 1 = fewer _ ([] ∷ []) in
+      let few_all = few_each (completed_hold conjuncts [] 0) (scan_of q db 0) (length (scan_of q db 0)) (λ choice. Unit {0})
+          (λ choice p. omega (arith, fewer (completed_hold conjuncts [] 0) (map (λ row. choice ++ row ∷ []) (scan_of q db 0)), length-map (scan_of q db 0) (λ row. choice ++ row ∷ []))) above (nothing_asked above) in
+      omega (arith, ap (λ (s : List (List ℕ)). length s) (sym (joined_is 1) ∙ next), few_all, at_most_one (length (scan_of q db 0)) (length above) some_above, first_scan)
+
+  -- a row that is joined has the key of the left row
+  has_key : (x row : ℕ) → x < row_counts (tables_of db) 0 → row < row_counts (tables_of db) 1 → completed_hold conjuncts (0 ∷ []) 1 (x ∷ row ∷ []) ≡ true → eqb (get_or (repeated right times) row 0) (get_or lk x 0) ≡ true
+  has_key x row low_x low_row hit =
+      let row_of : ℕ → ℕ = row_in (0 ∷ 1 ∷ []) (x ∷ row ∷ []) in
+      let a : ColumnRef = col 0 0 in
+      let b : ColumnRef = col 1 0 in
+      let key : Key = record { conjunct = 0; left = a; right = b } in
+      let is_key : IsKeyOf (0 ∷ []) (1 ∷ []) 0 (compared op.Eq 0) key = record { conjunct = refl; on_left = refl; on_right = refl; shape = inl refl } in
+      let between : is_between (0 ∷ []) (1 ∷ []) (compared op.Eq 0) ≡ true = (sides_between (0 ∷ []) (1 ∷ []) a b refl refl refl refl).0 in
+      let first : (not (is_between (0 ∷ []) (1 ∷ []) (compared op.Eq 0)) || cond_holds (tables_of db) row_of (compared op.Eq 0)) ≡ true = (and_parts _ _ hit).0 in
+      let holds : cond_holds (tables_of db) row_of (compared op.Eq 0) ≡ true = ap (λ b. not b || cond_holds (tables_of db) row_of (compared op.Eq 0)) (sym between) ∙ first in
+      let none : All IsUtf8 [] = All-from_recursion IsUtf8 [] tt in
+      sym (key_holds db row_of (0 ∷ []) (1 ∷ []) 0 (compared op.Eq 0) key is_key fits.tables (λ i j d low high same. absurd (omega arith)) none (askable op.Eq 0 (omega arith)) (omega (arith, low_x, rows_are db 0)) (omega (arith, low_row, rows_are db 1))) ∙ holds
+
+  -- below one choice
+  below_choice : (choice : List ℕ) → IsChoiceOf (row_counts (tables_of db)) (0 ∷ []) choice → length (filter (completed_hold conjuncts (0 ∷ []) 1) (map (λ row. choice ++ row ∷ []) (scan_of q db 1))) ≤ times
+  below_choice [] p = absurd p
+  below_choice (x ∷ y ∷ choice) p = absurd p.1
+  below_choice (x ∷ []) p =
+      omega (arith, few_below (completed_hold conjuncts (0 ∷ []) 1) (λ row. eqb (get_or (repeated right times) row 0) (get_or lk x 0)) (λ row. row < row_counts (tables_of db) 1) (x ∷ []) (λ row low hit. has_key x row p.0 low hit)
+      (scan_of q db 1) (recursion_from_All (λ row. row < row_counts (tables_of db) 1) (scan_of q db 1) (scan_below conjuncts (row_counts (tables_of db)) 1 (scan_of q db 1) (of_scans 1 0 (omega arith)))),
+      few_keys right times (get_or lk x 0) (passes_own conjuncts 1) some, rows_are db 1)
+
+  pub second_level : length (query_level q db order 2) ≤ times * left
+  second_level =
+      let above : List (List ℕ) = joined q db (scan_of q db) order 1 in
+      let next = next_joined q db (scan_of q db) order is_order 1 (omega arith) (of_scans 1 0 (omega arith)) in
+      let few_all = few_each (completed_hold conjuncts (0 ∷ []) 1) (scan_of q db 1) times (IsChoiceOf (row_counts (tables_of db)) (0 ∷ [])) below_choice above
+          (recursion_from_All (IsChoiceOf (row_counts (tables_of db)) (0 ∷ [])) above (placed_joined q db (scan_of q db) order is_order 1 (omega arith) of_scans)) in
+      let few_above : length above ≤ left = omega (arith, ap (λ (s : List (List ℕ)). length s) (joined_is 1), first_level) in
+      omega (arith, ap (λ (s : List (List ℕ)). length s) (sym (joined_is 2) ∙ next), few_all, more_times times (length above) left few_above)
+
+  -- ---- the rooms
+
+  pub small : times * left ≤ 20000000 → left ≤ 4000000 → All (λ rows. rows ≤ 20000000) (level_sizes q db order)
+  small most few_left = All-from_recursion (λ rows. rows ≤ 20000000) (level_sizes q db order) (omega (arith, first_level, few_left), (omega (arith, second_level, most), tt))
+
+  pub has_rooms : (reserved : Reserved) → HasRooms (rooms order (left ∷ right ∷ []) (left ∷ times * left ∷ [])) reserved → HasRooms (rooms order (scan_sizes q db) (level_sizes q db order)) reserved
+  has_rooms reserved has =
+      less_room order (scan_sizes q db) (level_sizes q db order) (left ∷ right ∷ []) (left ∷ times * left ∷ []) reserved (first_scan, (second_scan, tt)) (first_level, (second_level, tt)) has

@@ -1,0 +1,2 @@
+pub mod FewRows
+pub mod TwoTables

@@ -1,0 +1,114 @@
+//! The proved side of the benchmark of hash_join; bench/joins.rs is the plain one.
+//!
+//! It joins pairs of tables, and writes for each pair how many rows the join has and the sum of their row numbers. Without a word the tables are small; with one, as `time`, they have up to 1,000,000 rows, and it writes to standard error the nanoseconds of an execution, the least of three.
+#![tactic(auto)]
+
+ghost use Rattle.std.specs.Prelude.{◌≡◌, ◌*◌, ◌<◌, ◌≤◌, length};
+ghost use Rattle.bench_joins.specs.Tables.{join_of, AreTwo};
+
+mod tables;
+
+use base_io::NoMemory;
+use csv_tables::Database;
+use hash_join::{Executed, execute};
+use query_types::Query;
+use reserve_plan::reserve;
+use std::rt::Runtime;
+use std::time::Instant;
+use std::{env, io};
+use tables::{Sizes, database, query};
+
+const ROUNDS: u32 = 3;
+
+fn out_of_memory(_: NoMemory) -> io::Error {
+    io::Error::from(io::ErrorKind::OutOfMemory)
+}
+
+// The least time of an execution, in nanoseconds, the rows of the join and the sum of their row numbers.
+#[derive(Clone, Copy, Debug)]
+struct Joined {
+    nanos: u128,
+    rows: u32,
+    sum: u64,
+}
+
+fn summed(executed: &Executed) -> Joined
+    requires { length executed.now ≡ 2 }
+{
+    let rows = executed.len(1);
+    let mut sum: u64 = 0;
+    for i in 0..rows {
+        let mut choice = [0, 0];
+        executed.rows_of(1, i, &mut choice);
+        sum = sum.wrapping_add(u64::from(choice[0]) ^ u64::from(choice[1]));
+    }
+    Joined {
+        nanos: u128::MAX,
+        rows,
+        sum,
+    }
+}
+
+// One execution: the time of the join alone, without the reservation before it.
+fn timed<R: Runtime>(rt: &R, sizes: Sizes, rest: bool, query: &Query, db: &Database) -> io::Result<Joined>
+    requires query { query.now ≡ join_of rest }
+    requires db { AreTwo sizes.left sizes.right sizes.times db.now }
+    requires some { 0 < sizes.times }
+    requires left { sizes.left ≤ 4000000 }
+    requires right { sizes.right ≤ 4000000 }
+    requires joined { sizes.times * sizes.left ≤ 20000000 }
+{
+    let most = u64::from(sizes.times) * u64::from(sizes.left);
+    let scans = [u64::from(sizes.left), u64::from(sizes.right)];
+    let levels = [u64::from(sizes.left), most];
+    let reserved = reserve(rt.alloc(), &[0, 1], &scans, &levels).map_err(out_of_memory)?;
+    let start = Instant::now(rt)?;
+    let executed = execute(reserved, &[0, 1], query, db);
+    let nanos = start.elapsed(rt)?.as_nanos();
+    let Joined { rows, sum, .. } = summed(&executed);
+    Ok(Joined { nanos, rows, sum })
+}
+
+// Joins two tables of these sizes, and writes what came. The right one has each key so many times, so the join has at most so many rows for each row of the left one.
+fn show(rt: &HostRuntime, name: &str, sizes: Sizes, rest: bool, rounds: u32) -> io::Result<()>
+    requires some { 0 < sizes.times }
+    requires left { sizes.left ≤ 4000000 }
+    requires right { sizes.right ≤ 4000000 }
+    requires joined { sizes.times * sizes.left ≤ 20000000 }
+{
+    let alloc = rt.alloc();
+    let db = database(alloc, sizes).map_err(out_of_memory)?;
+    let query = query(alloc, rest).map_err(out_of_memory)?;
+    let mut least = timed(rt, sizes, rest, &query, &db)?;
+    for _ in 1..rounds {
+        let next = timed(rt, sizes, rest, &query, &db)?;
+        if next.nanos < least.nanos {
+            least = next;
+        }
+    }
+    println!(rt; "{name} {} {}", least.rows, least.sum)?;
+    if rounds > 1 {
+        eprintln!(rt; "{}", least.nanos)?;
+    }
+    Ok(())
+}
+
+fn pair(left: u32, right: u32, times: u32) -> Sizes
+    ensures { result ≡ record { left = left; right = right; times = times } }
+{
+    Sizes { left, right, times }
+}
+
+fn main(rt: HostRuntime) -> io::Result<()> {
+    if env::args(&rt)?.count() <= 1 {
+        show(&rt, "equal", pair(10, 10, 2), false, 1)?;
+        return show(&rt, "different", pair(10, 10, 2), true, 1);
+    }
+    show(&rt, "orders", pair(50_000, 200_000, 4), false, ROUNDS)?;
+    show(&rt, "items", pair(200_000, 400_000, 2), false, ROUNDS)?;
+    show(&rt, "products", pair(400_000, 20_000, 1), false, ROUNDS)?;
+    show(&rt, "unique", pair(1_000_000, 1_000_000, 1), false, ROUNDS)?;
+    show(&rt, "heavy", pair(10_000, 10_000, 1_000), false, ROUNDS)?;
+    show(&rt, "unique-tested", pair(1_000_000, 1_000_000, 1), true, ROUNDS)?;
+    show(&rt, "heavy-tested", pair(10_000, 10_000, 1_000), true, ROUNDS)
+}

@@ -1,0 +1,101 @@
+-- Buffers one by one.
+use Rattle.std.proofs.Common.{◌≡◌, ℕ, zero, suc, ◌+◌, ◌<◌, ◌≤◌, max, List, [], ◌∷◌, ◌++◌, length, map, take, drop, get_or, refl, ap, sym, subst, arith}
+use Rattle.std.specs.List.{AllZip}
+use Rattle.std.proofs.lemmas.List.{take_more, take_all, drop_more, drop_all}
+use Rattle.row_buf.specs.Rows.{Rows}
+use Rattle.link_index.specs.Places.{Loaded}
+use Rattle.link_index.specs.Forest.{Level, empty_levels}
+use Rattle.reserve_plan.specs.declared.reserved.Reserved.{Reserved}
+use Rattle.reserve_plan.specs.Rooms.{greatest, rooms, HasRooms, IsRoomFor, IsRoomForKeys, IsRoomForLevel}
+
+-- ---- lists one by one
+
+zip_push : {A B : Type 0} (R : A → B → Type 0) (xs : List A) (ys : List B) (x : A) (y : B) → AllZip R xs ys → R x y → AllZip R (xs ++ x ∷ []) (ys ++ y ∷ [])
+zip_push R [] [] x y all one = (one, tt)
+zip_push R [] (b ∷ ys) x y all one = absurd all
+zip_push R (a ∷ xs) [] x y all one = absurd all
+zip_push R (a ∷ xs) (b ∷ ys) x y all one = (all.0, zip_push R xs ys x y all.1 one)
+
+-- one more of them
+pub zip_more : {A B : Type 0} (R : A → B → Type 0) (xs : List A) (i : ℕ) (d : A) (ys new : List B) (y : B) → AllZip R (take i xs) ys → i < length xs → R (get_or xs i d) y → new ≡ ys ++ y ∷ [] → AllZip R (take (i + 1) xs) new
+zip_more R xs i d ys new y so_far low one pushed =
+    subst (λ s. AllZip R s new) (sym (take_more xs i d low))
+    (subst (λ s. AllZip R (take i xs ++ get_or xs i d ∷ []) s) (sym pushed) (zip_push R (take i xs) ys (get_or xs i d) y so_far one))
+
+pub zip_all : {A B : Type 0} (R : A → B → Type 0) (xs : List A) (i : ℕ) (ys : List B) → AllZip R (take i xs) ys → length xs ≤ i → AllZip R xs ys
+zip_all R xs i ys so_far end = subst (λ s. AllZip R s ys) (take_all i xs end) so_far
+
+-- the items of a mapped list
+pub zip_mapped : {A B C : Type 0} (R : A → B → Type 0) (f : C → A) (xs : List C) (ys : List B) → AllZip (λ x y. R (f x) y) xs ys → AllZip R (map f xs) ys
+zip_mapped R f [] [] all = tt
+zip_mapped R f [] (y ∷ ys) all = absurd all
+zip_mapped R f (x ∷ xs) [] all = absurd all
+zip_mapped R f (x ∷ xs) (y ∷ ys) all = (all.0, zip_mapped R f xs ys all.1)
+
+-- where the relation holds of a lower number, too
+zip_less : {B : Type 0} (R : ℕ → B → Type 0) → ((n m : ℕ) (y : B) → n ≤ m → R m y → R n y) → (ns ms : List ℕ) (ys : List B) → AllZip ◌≤◌ ns ms → AllZip R ms ys → AllZip R ns ys
+zip_less R less [] [] ys low all = all
+zip_less R less [] (m ∷ ms) ys low all = absurd low
+zip_less R less (n ∷ ns) [] ys low all = absurd low
+zip_less R less (n ∷ ns) (m ∷ ms) [] low all = absurd all
+zip_less R less (n ∷ ns) (m ∷ ms) (y ∷ ys) low all = (less n m y low.0 all.0, zip_less R less ns ms ys low.1 all.1)
+
+-- ---- the greatest number
+
+pub greatest_more : (ns : List ℕ) (i now new : ℕ) → i < length ns → new ≡ max now (get_or ns i 0) → max now (greatest (drop i ns)) ≡ greatest ns → max new (greatest (drop (i + 1) ns)) ≡ greatest ns
+greatest_more ns i now new low is so_far =
+    let next : greatest (drop i ns) ≡ max (get_or ns i 0) (greatest (drop (i + 1) ns)) = ap greatest (drop_more ns i 0 low) in
+    omega (arith, next, is, so_far)
+
+pub greatest_all : (ns : List ℕ) (i now : ℕ) → length ns ≤ i → max now (greatest (drop i ns)) ≡ greatest ns → now ≡ greatest ns
+greatest_all ns i now end so_far =
+    let none : greatest (drop i ns) ≡ 0 = ap greatest (drop_all i ns end) in
+    omega (arith, none, so_far)
+
+-- ---- what was reserved
+
+pub levels_have_room : (sizes : List ℕ) (levels : List Level) → levels ≡ empty_levels sizes → AllZip IsRoomForLevel sizes levels
+levels_have_room sizes levels is = subst (AllZip IsRoomForLevel sizes) (sym is) (each sizes)
+  where
+    each : (sizes : List ℕ) → AllZip IsRoomForLevel sizes (empty_levels sizes)
+    each [] = tt
+    each (size ∷ sizes) = (record { empty = refl; room = omega arith }, each sizes)
+
+-- ---- less
+
+less_greatest : (ns ms : List ℕ) → AllZip ◌≤◌ ns ms → greatest ns ≤ greatest ms
+less_greatest [] [] low = omega arith
+less_greatest [] (m ∷ ms) low = absurd low
+less_greatest (n ∷ ns) [] low = absurd low
+less_greatest (n ∷ ns) (m ∷ ms) low = let rest : greatest ns ≤ greatest ms = less_greatest ns ms low.1 in omega (arith, low.0)
+
+less_at : (ns ms : List ℕ) (i : ℕ) → AllZip ◌≤◌ ns ms → get_or ns i 0 ≤ get_or ms i 0
+less_at [] [] i low = omega arith
+less_at [] (m ∷ ms) i low = absurd low
+less_at (n ∷ ns) [] i low = absurd low
+less_at (n ∷ ns) (m ∷ ms) zero low = low.0
+less_at (n ∷ ns) (m ∷ ms) (suc i) low = less_at ns ms i low.1
+
+less_mapped : (ns ms entries : List ℕ) → AllZip ◌≤◌ ns ms → AllZip ◌≤◌ (map (λ entry. get_or ns entry 0) entries) (map (λ entry. get_or ms entry 0) entries)
+less_mapped ns ms [] low = tt
+less_mapped ns ms (entry ∷ entries) low = (less_at ns ms entry low, less_mapped ns ms entries low)
+
+room_less : {T : Type 0} (n m : ℕ) (buffer : Rows T) → n ≤ m → IsRoomFor m buffer → IsRoomFor n buffer
+room_less n m buffer low has = record { empty = has.empty; room = omega (arith, low, has.room) }
+
+keys_less : (n m : ℕ) (chains : Loaded) → n ≤ m → IsRoomForKeys m chains → IsRoomForKeys n chains
+keys_less n m chains low has = record { empty = has.empty; room = omega (arith, low, has.room); buckets = omega (arith, low, has.buckets) }
+
+level_less : (n m : ℕ) (level : Level) → n ≤ m → IsRoomForLevel m level → IsRoomForLevel n level
+level_less n m level low has = record { empty = has.empty; room = omega (arith, low, has.room) }
+
+pub less_room : (order scans levels more_scans more_levels : List ℕ) (reserved : Reserved) → AllZip ◌≤◌ scans more_scans → AllZip ◌≤◌ levels more_levels
+    → HasRooms (rooms order more_scans more_levels) reserved → HasRooms (rooms order scans levels) reserved
+less_room order scans levels more_scans more_levels reserved low_scans low_levels has = record {
+  scans = zip_less IsRoomFor room_less scans more_scans reserved.scans.items low_scans has.scans;
+  chains = zip_less IsRoomForKeys keys_less (map (λ entry. get_or scans entry 0) (drop 1 order)) (map (λ entry. get_or more_scans entry 0) (drop 1 order)) reserved.chains.items
+      (less_mapped scans more_scans (drop 1 order) low_scans) has.chains;
+  levels = zip_less IsRoomForLevel level_less levels more_levels reserved.levels low_levels has.levels;
+  row = has.row;
+  keys = room_less (greatest scans) (greatest more_scans) reserved.keys (less_greatest scans more_scans low_scans) has.keys;
+}

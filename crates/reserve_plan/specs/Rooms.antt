@@ -1,0 +1,58 @@
+-- The rooms of a plan: how many items each of its buffers has to take.
+use Rattle.std.specs.Prelude.{◌≡◌, ℕ, ◌≤◌, max, List, [], ◌∷◌, length, map, drop, slice_index}
+use Rattle.std.specs.List.{AllZip}
+use Rattle.row_buf.specs.Rows.{Rows}
+use Rattle.link_index.specs.Places.{Loaded}
+use Rattle.link_index.specs.Forest.{Level}
+use Rattle.reserve_plan.specs.declared.reserved.Reserved.{Reserved}
+
+-- entries are numbered in FROM order, levels in the order of the plan
+pub record Rooms : Type 0 where
+  -- for each entry, the rows of its scan
+  pub scans : List ℕ
+  -- for each level after the first, the rows in its chains
+  pub chains : List ℕ
+  -- for each level, its rows
+  pub levels : List ℕ
+  -- one row number of each entry
+  pub row : ℕ
+  -- the keys of one level's chains
+  pub keys : ℕ
+
+abbrev pub greatest : List ℕ → ℕ
+greatest [] = 0
+greatest (n ∷ ns) = max n (greatest ns)
+
+-- the rooms of an order, where each entry's scan has at most so many rows, and each level
+abbrev pub rooms : List ℕ → List ℕ → List ℕ → Rooms
+rooms order scans levels = record {
+  scans = scans;
+  chains = map (λ entry. slice_index scans entry) (drop 1 order);
+  levels = levels;
+  row = length order;
+  keys = greatest scans;
+}
+
+-- an empty buffer that takes at least so many items
+pub record IsRoomFor {T : Type 0} (count : ℕ) (buffer : Rows T) : Type 0 where
+  pub empty : buffer.items ≡ []
+  pub room : count ≤ buffer.spare
+
+-- empty chains that take at least so many rows and have as many buckets, and at least one
+pub record IsRoomForKeys (count : ℕ) (chains : Loaded) : Type 0 where
+  pub empty : chains.keys ≡ []
+  pub room : count ≤ chains.room
+  pub buckets : max count 1 ≤ chains.buckets
+
+-- an empty level that takes at least so many rows
+pub record IsRoomForLevel (count : ℕ) (level : Level) : Type 0 where
+  pub empty : level.rows ≡ []
+  pub room : count ≤ level.spare
+
+-- every buffer is empty, and takes at least as many items as the rooms say
+pub record HasRooms (rooms : Rooms) (reserved : Reserved) : Type 0 where
+  pub scans : AllZip IsRoomFor rooms.scans reserved.scans.items
+  pub chains : AllZip IsRoomForKeys rooms.chains reserved.chains.items
+  pub levels : AllZip IsRoomForLevel rooms.levels reserved.levels
+  pub row : IsRoomFor rooms.row reserved.row
+  pub keys : IsRoomFor rooms.keys reserved.keys

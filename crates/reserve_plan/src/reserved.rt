@@ -1,0 +1,17 @@
+use link_index::{Chains, RowForest};
+use row_buf::RowBuf;
+
+/// The buffers of a plan.
+#[derive(Drop)]
+pub struct Reserved {
+    /// For each FROM entry, the rows of its scan, by their numbers.
+    pub scans: Vec<RowBuf<u32>>,
+    /// For each level after the first, the chains of its entry's rows.
+    pub chains: Vec<Chains>,
+    /// The levels, in the order of the plan.
+    pub levels: RowForest,
+    /// One row number for each FROM entry.
+    pub row: RowBuf<u32>,
+    /// The keys of one level's chains.
+    pub keys: RowBuf<u64>,
+}
