@@ -28,6 +28,7 @@ bench: build
 	@cd crates/bench_orders && rt run -- time > build.log 2>&1 || { cat build.log; exit 1; }
 	@cd crates/bench_queries && rt run -- time > build.log 2>&1 || { cat build.log; exit 1; }
 	@cd crates/bench_fold && rt run -- time > build.log 2>&1 || { cat build.log; exit 1; }
+	@cd crates/bench_joins && rt run -- time > build.log 2>&1 || { cat build.log; exit 1; }
 	bench/one-table
 	bench/degrees
 	bench/link-index
@@ -35,6 +36,7 @@ bench: build
 	bench/orders
 	bench/queries
 	bench/fold
+	bench/joins
 
 clean:
 	rm -rf crates/*/out
