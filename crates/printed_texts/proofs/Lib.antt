@@ -1,4 +1,3 @@
 pub mod ErrorLines
-pub mod Lines
-pub mod Parts
+pub mod PlanLines
 pub mod Records

@@ -1,32 +1,57 @@
 -- The line of each status but Done: words behind blanks.
-use Rattle.std.specs.Prelude.{ℕ, Bool, true, false, List, [], ◌∷◌, ◌++◌, codes, decimal, slice_index_or, Option, None, Some, slice_get, if◌then◌else◌}
+use Rattle.std.specs.Prelude.{ℕ, Bool, true, false, List, [], ◌∷◌, ◌++◌, map, codes, decimal, Option, None, Some, slice_get, if◌then◌else◌}
+use Rattle.std.specs.Char.{to_ascii_lowercase}
 use Rattle.std.specs.List.{flat_map}
 use Rattle.schema_types.specs.declared.errors.LimitKind.{LimitKind}
 use Rattle.schema_types.specs.declared.errors.LimitKind.TheVariants as limit
 use Rattle.schema_types.specs.declared.types.Column.{Column}
-use Rattle.printed_texts.specs.declared.status.Status.{Status}
-use Rattle.printed_texts.specs.declared.status.Status.TheVariants as status
-use Rattle.printed_texts.specs.declared.status.SinkId.{SinkId}
-use Rattle.printed_texts.specs.declared.status.SinkId.TheVariants as sink
-use Rattle.printed_texts.specs.declared.status.FileId.{FileId}
-use Rattle.printed_texts.specs.declared.status.FileId.TheVariants as file
-use Rattle.printed_texts.specs.declared.status.SchemaCause.{SchemaCause}
-use Rattle.printed_texts.specs.declared.status.SchemaCause.TheVariants as schema
-use Rattle.printed_texts.specs.declared.status.QueryCause.{QueryCause}
-use Rattle.printed_texts.specs.declared.status.QueryCause.TheVariants as query
-use Rattle.printed_texts.specs.declared.status.TableCause.{TableCause}
-use Rattle.printed_texts.specs.declared.status.TableCause.TheVariants as table
+use Rattle.schema_types.specs.declared.types.Schema.{Schema}
+use Rattle.schema_types.specs.declared.types.Table.{Table}
+use Rattle.outcomes.specs.declared.names.FileId.{FileId}
+use Rattle.outcomes.specs.declared.names.FileId.TheVariants as file
+use Rattle.outcomes.specs.declared.names.SinkId.{SinkId}
+use Rattle.outcomes.specs.declared.names.SinkId.TheVariants as sink
+use Rattle.outcomes.specs.declared.refusal.QueryCause.{QueryCause}
+use Rattle.outcomes.specs.declared.refusal.QueryCause.TheVariants as query
+use Rattle.outcomes.specs.declared.refusal.SchemaCause.{SchemaCause}
+use Rattle.outcomes.specs.declared.refusal.SchemaCause.TheVariants as schema
+use Rattle.outcomes.specs.declared.refusal.TableCause.{TableCause}
+use Rattle.outcomes.specs.declared.refusal.TableCause.TheVariants as table
+use Rattle.outcomes.specs.declared.status.Status.{Status}
+use Rattle.outcomes.specs.declared.status.Status.TheVariants as status
 
--- how a line names a table: by its file, and a column of it by its name
-pub record TableNames : Type 0 where
-  pub file : List ℕ
-  pub column : List ℕ
+-- what a line may name: the files of the two texts, as the command names them, and the tables of the schema
+pub record Names : Type 0 where
+  pub schema_file : List ℕ
+  pub query_file : List ℕ
+  pub schema : Option Schema
 
--- a file as the line names it: by its word, or a table by its file's name
-abbrev pub file_name : FileId → List (List ℕ) → List ℕ → List ℕ
-file_name file.Schema words table_file = slice_index_or words 1 []
-file_name file.Query words table_file = slice_index_or words 2 []
-file_name (file.Table number) words table_file = table_file
+-- the name of a table's file: the table's in lower case, and `.csv`
+abbrev pub table_file : Table → List ℕ
+table_file table = map to_ascii_lowercase table.name ++ codes ".csv"
+
+-- the table with this place in the schema, where there is one
+abbrev pub table_in : Option Schema → ℕ → Option Table
+table_in None number = None
+table_in (Some schema) number = slice_get schema.tables number
+
+abbrev pub file_of_table : Option Table → List ℕ
+file_of_table None = []
+file_of_table (Some table) = table_file table
+
+abbrev pub name_of_column : Option Column → List ℕ
+name_of_column None = []
+name_of_column (Some column) = column.name
+
+abbrev pub column_in : Option Table → ℕ → List ℕ
+column_in None number = []
+column_in (Some table) number = name_of_column (slice_get table.columns number)
+
+-- a file as the line names it: by the command's word, or a table by its file's name
+abbrev pub file_name : FileId → Names → List ℕ
+file_name file.Schema names = names.schema_file
+file_name file.Query names = names.query_file
+file_name (file.Table number) names = file_of_table (table_in names.schema number)
 
 abbrev pub schema_cause : SchemaCause → List ℕ
 schema_cause schema.Syntax = codes "syntax"
@@ -38,12 +63,16 @@ query_cause query.Syntax = codes "syntax"
 query_cause query.Name = codes "name"
 query_cause query.Kind = codes "kind"
 
-abbrev pub table_cause : TableCause → List ℕ → List (List ℕ)
-table_cause (table.Utf8 at) column = codes "utf8" ∷ (decimal at ∷ [])
-table_cause (table.Header number) column = codes "header" ∷ (column ∷ [])
-table_cause (table.Width row found) column = codes "width" ∷ (decimal row ∷ (decimal found ∷ []))
-table_cause (table.Field row number) column = codes "field" ∷ (decimal row ∷ (column ∷ []))
-table_cause (table.Key row earlier) column = codes "key" ∷ (decimal row ∷ (decimal earlier ∷ []))
+-- what is wrong with this table's file; a column by its name
+abbrev pub table_cause : TableCause → Option Table → List (List ℕ)
+table_cause (table.Utf8 at) t = codes "utf8" ∷ (decimal at ∷ [])
+table_cause (table.Header number) t = codes "header" ∷ (column_in t number ∷ [])
+table_cause (table.Width row found) t = codes "width" ∷ (decimal row ∷ (decimal found ∷ []))
+table_cause (table.Field row number) t = codes "field" ∷ (decimal row ∷ (column_in t number ∷ []))
+table_cause (table.Key row earlier) t = codes "key" ∷ (decimal row ∷ (decimal earlier ∷ []))
+
+abbrev pub table_words : Option Table → TableCause → List (List ℕ)
+table_words t cause = codes "table" ∷ (file_of_table t ∷ table_cause cause t)
 
 abbrev pub limit_word : LimitKind → List ℕ
 limit_word limit.FileBytes = codes "file-bytes"
@@ -79,18 +108,18 @@ sink_name sink.Out = codes "out"
 sink_name sink.Notes = codes "notes"
 
 -- what is wrong, word by word
-abbrev pub fault : Status → List (List ℕ) → TableNames → List (List ℕ)
-fault status.Done words names = []
-fault status.Usage words names = codes "usage" ∷ []
-fault (status.ReadFault id) words names = codes "read" ∷ (file_name id words names.file ∷ [])
-fault (status.Schema cause at) words names = codes "schema" ∷ (schema_cause cause ∷ (decimal at ∷ []))
-fault (status.Query cause at) words names = codes "query" ∷ (query_cause cause ∷ (decimal at ∷ []))
-fault (status.Table number cause) words names = codes "table" ∷ (names.file ∷ table_cause cause names.column)
-fault (status.Limit which id found) words names = limit_words which (file_name id words names.file) found
-fault (status.Budget least) words names = codes "budget" ∷ (decimal least ∷ [])
-fault (status.Unbuilt id) words names = codes "unbuilt" ∷ (file_name id words names.file ∷ [])
-fault (status.WriteFault cut) words names = codes "write" ∷ (sink_name cut ∷ [])
-fault status.NoMemory words names = codes "memory" ∷ []
+abbrev pub fault : Status → Names → List (List ℕ)
+fault status.Done names = []
+fault status.Usage names = codes "usage" ∷ []
+fault (status.ReadFault id) names = codes "read" ∷ (file_name id names ∷ [])
+fault (status.Schema cause at) names = codes "schema" ∷ (schema_cause cause ∷ (decimal at ∷ []))
+fault (status.Query cause at) names = codes "query" ∷ (query_cause cause ∷ (decimal at ∷ []))
+fault (status.Table number cause) names = table_words (table_in names.schema number) cause
+fault (status.Limit which id found) names = limit_words which (file_name id names) found
+fault (status.Budget least) names = codes "budget" ∷ (decimal least ∷ [])
+fault (status.Unbuilt id) names = codes "unbuilt" ∷ (file_name id names ∷ [])
+fault (status.WriteFault cut) names = codes "write" ∷ (sink_name cut ∷ [])
+fault status.NoMemory names = codes "memory" ∷ []
 
 -- each word behind a blank
 abbrev pub behind_blank : List ℕ → List ℕ
@@ -100,25 +129,5 @@ behind_blank word = 32 ∷ word
 unfoldable pub error_line : List (List ℕ) → List ℕ
 error_line words = codes "error" ++ (flat_map behind_blank words ++ codes "\n")
 
-abbrev pub fault_line : Status → List (List ℕ) → TableNames → List ℕ
-fault_line s words names = error_line (fault s words names)
-
--- the column of a table that a status is about
-abbrev pub column_of_cause : TableCause → Option ℕ
-column_of_cause (table.Utf8 at) = None
-column_of_cause (table.Header column) = Some column
-column_of_cause (table.Width row found) = None
-column_of_cause (table.Field row column) = Some column
-column_of_cause (table.Key row earlier) = None
-
-abbrev pub column_of_status : Status → Option ℕ
-column_of_status (status.Table number cause) = column_of_cause cause
-column_of_status s = None
-
-abbrev pub name_of_column : Option Column → List ℕ
-name_of_column None = []
-name_of_column (Some column) = column.name
-
-abbrev pub column_name : List Column → Option ℕ → List ℕ
-column_name columns None = []
-column_name columns (Some number) = name_of_column (slice_get columns number)
+abbrev pub fault_line : Status → Names → List ℕ
+fault_line s names = error_line (fault s names)

@@ -1,4 +1,5 @@
-pub mod Code
 pub mod Faults
 pub mod Lines
+pub mod Plans
 pub mod Texts
+pub mod Words

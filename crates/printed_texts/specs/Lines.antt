@@ -4,27 +4,30 @@ use Rattle.std.specs.List.{flat_map}
 use Rattle.csv_tables.specs.declared.types.Database.{Database}
 use Rattle.row_printer.specs.Fields.{field_text, fields_text, record_text}
 use Rattle.sql_meaning.specs.Conditions.{column_value}
-use Rattle.sql_meaning.specs.Databases.{AreTables}
 use Rattle.sql_meaning.specs.Tables.{Tables, cells_of}
 use Rattle.query_types.specs.declared.types.Out.{Out}
 use Rattle.printed_texts.specs.Texts.{value_text}
 use Rattle.printed_texts.specs.declared.rows.Line.{Line}
 use Rattle.printed_texts.specs.declared.rows.Line.TheVariants as line
 
--- a database of one FROM entry
-pub record IsOneTable (db : Database) : Type 0 where
-  pub tables : AreTables db
-  pub one : length db.slots ≡ 1
+-- a choice of one row for each FROM entry, each of which its table has
+pub record IsChoice (db : Database) (rows : List ℕ) : Type 0 where
+  pub one_each : length rows ≡ length db.slots
+  pub exists : (entry : ℕ) → entry < length db.slots → slice_index rows entry < (cells_of db entry).rows
 
--- the entry has the line's row
+-- the rows of the line are such a choice
 abbrev pub IsLineOf : Database → Line → Type 0
 IsLineOf db line.Header = ⊤
-IsLineOf db (line.Row row) = row < (cells_of db 0).rows
+IsLineOf db (line.Rows rows) = IsChoice db rows.now
 
--- an output's field: its name, or its value in the row
+-- an output's value where each entry has its row of a choice
+abbrev pub field_of : Tables → List ℕ → Out → List ℕ
+field_of tables rows out = value_text (column_value tables (slice_index rows) out.column)
+
+-- an output's field: its name, or its value
 abbrev pub field_at : Tables → Line → Out → List ℕ
 field_at tables line.Header out = out.name
-field_at tables (line.Row row) out = value_text (column_value tables (slice_index (row ∷ [])) out.column)
+field_at tables (line.Rows rows) out = field_of tables rows.now out
 
 -- a comma and the field
 abbrev pub next_field : Tables → Line → Out → List ℕ
@@ -36,6 +39,10 @@ fields_at outs tables l = fields_text (map (field_at tables l) outs)
 abbrev pub line_at : List Out → Tables → Line → List ℕ
 line_at outs tables l = record_text (map (field_at tables l) outs)
 
--- the header, and then the records of these rows
+-- the record of the outputs where each entry has its row of a choice
+abbrev pub choice_text : List Out → Tables → List ℕ → List ℕ
+choice_text outs tables rows = record_text (map (field_of tables rows) outs)
+
+-- the header, and then the records of these rows of the one entry
 abbrev pub lines_at : List Out → Tables → List ℕ → List ℕ
-lines_at outs tables rows = line_at outs tables line.Header ++ flat_map (λ row. line_at outs tables (line.Row row)) rows
+lines_at outs tables rows = line_at outs tables line.Header ++ flat_map (λ row. choice_text outs tables (row ∷ [])) rows

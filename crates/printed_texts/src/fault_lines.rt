@@ -1,75 +1,68 @@
 //! The line that tells a status. Nothing here takes memory.
-ghost use Rattle.std.specs.Prelude.{◌≡◌, ◌≢◌, ◌≤◌, ◌++◌, ◌∷◌, [], codes, decimal, map, slice_index_or, OnOk, OnErr};
-ghost use Rattle.std.specs.List.{flat_map};
-ghost use Rattle.base_io.specs.Causes.{Rose};
-ghost use Rattle.base_io.specs.Sinks.{appended, GrewByPrefix, TookBut};
-ghost use Rattle.printed_texts.specs.Faults.{behind_blank, error_line, fault_line, file_name, is_of_file as of_file, limit_word as word_of_limit, limit_words, query_cause, schema_cause, sink_name, table_cause};
+ghost use Rattle.std.specs.Prelude.{◌≡◌, ◌≢◌, ◌∷◌, [], codes, decimal, option_copied};
+ghost use Rattle.outcomes.specs.Devices.{growth};
+ghost use Rattle.outcomes.specs.Writes.{Wrote};
+ghost use Rattle.printed_texts.specs.Faults.{column_in, error_line, fault_line, file_name, file_of_table, is_of_file as of_file, limit_word as word_of_limit, limit_words, query_cause, schema_cause, sink_name, table_cause, table_in, table_words};
+ghost use Rattle.printed_texts.specs.Words.{file_text, named};
 
-use crate::{FileId, QueryCause, SchemaCause, SinkId, Status, TableCause};
-use base_io::{Buffer, Failed, Sink};
-use schema_types::LimitKind;
+use crate::lines::{FileWord, write_words, write_words_about};
+use base_io::{Failed, Sink};
+use outcomes::{FileId, QueryCause, SchemaCause, SinkId, Status, TableCause};
+use schema_types::{LimitKind, Schema, Table};
 
-const ERROR: &[u8] = b"error";
-
-const SPACE: &[u8] = b" ";
-
-const LINE_END: &[u8] = b"\n";
-
-// A blank and a word.
-fn put_word<N: Sink>(word: &[u8], buffer: &mut Buffer, sink: &mut N) -> Result<(), Failed>
-    ensures ok { OnOk result (TookBut (N.taken sink.old) (N.taken sink.new) buffer.new (buffer.old ++ behind_blank word.now)) }
-    ensures prefix { GrewByPrefix (N.taken sink.old) (N.taken sink.new) (buffer.old ++ behind_blank word.now) }
-    ensures later { N.faults sink.old ≤ N.faults sink.new }
-    ensures failed { OnErr result (Rose (N.faults sink.old) (N.faults sink.new)) }
-{
-    buffer.put_parts(sink, &[SPACE, word])
+/// What a line may name: the files of the two texts, as the command names them, and the tables of the schema,
+/// where it was read.
+#[derive(Clone, Copy)]
+pub struct Named<'a> {
+    pub schema_file: &'a str,
+    pub query_file: &'a str,
+    pub schema: Option<&'a Schema>,
 }
 
-fn put_words<N: Sink>(words: &[&[u8]], buffer: &mut Buffer, sink: &mut N) -> Result<(), Failed>
-    ensures ok { OnOk result (TookBut (N.taken sink.old) (N.taken sink.new) buffer.new (buffer.old ++ flat_map (λ w. behind_blank w.now) words.now)) }
-    ensures prefix { GrewByPrefix (N.taken sink.old) (N.taken sink.new) (buffer.old ++ flat_map (λ w. behind_blank w.now) words.now) }
-    ensures later { N.faults sink.old ≤ N.faults sink.new }
-    ensures failed { OnErr result (Rose (N.faults sink.old) (N.faults sink.new)) }
+fn table_at<'a>(schema: Option<&'a Schema>, number: u32) -> Option<&'a Table>
+    ensures { option_copied result ≡ table_in (option_copied schema.entry) number }
 {
-    'words: for word in words {
-        put_word(word, buffer, sink)?;
+    match schema {
+        Some(schema) => schema.tables.as_slice().get(number as usize),
+        None => None,
     }
-    Ok(())
 }
 
-// A line of these words.
-fn write_line<N: Sink>(words: &[&[u8]], sink: &mut N) -> Result<(), Failed>
-    ensures ok { OnOk result (N.taken sink.new ≡ appended (N.taken sink.old) (error_line (map (λ w. w.now) words.now))) }
-    ensures prefix { GrewByPrefix (N.taken sink.old) (N.taken sink.new) (error_line (map (λ w. w.now) words.now)) }
-    ensures later { N.faults sink.old ≤ N.faults sink.new }
-    ensures failed { OnErr result (Rose (N.faults sink.old) (N.faults sink.new)) }
+fn table_word<'a>(table: Option<&'a Table>) -> FileWord<'a>
+    ensures { file_text result ≡ file_of_table (option_copied table.entry) }
 {
-    let mut buffer = Buffer::new();
-    buffer.put(sink, ERROR)?;
-    put_words(words, &mut buffer, sink)?;
-    buffer.put(sink, LINE_END)?;
-    buffer.flush(sink)?;
-    Ok(())
+    match table {
+        Some(table) => FileWord::OfTable(table),
+        None => FileWord::Given(b""),
+    }
 }
 
-/// The word at a place, or the empty word.
-pub fn word_at<'a>(words: &[&'a str], place: u32) -> &'a str
-    ensures { result.now ≡ slice_index_or (map (λ w. w.now) words.now) place [] }
+fn name_of_column(table: &Table, number: u32) -> &[u8]
+    ensures { result.now ≡ column_in (Some table.now) number }
 {
-    match words.get(place as usize) {
-        Some(word) => word,
-        None => "",
+    match table.columns.as_slice().get(number as usize) {
+        Some(column) => column.name.as_str().as_bytes(),
+        None => b"",
+    }
+}
+
+fn column_name<'a>(table: Option<&'a Table>, number: u32) -> &'a [u8]
+    ensures { result.now ≡ column_in (option_copied table.entry) number }
+{
+    match table {
+        Some(table) => name_of_column(table, number),
+        None => b"",
     }
 }
 
 // A file as a line names it.
-fn name_of_file<'a>(file: FileId, words: &[&'a str], table_file: &'a str) -> &'a str
-    ensures { result.now ≡ file_name file (map (λ w. w.now) words.now) table_file.now }
+fn file_word<'a>(file: FileId, names: Named<'a>) -> FileWord<'a>
+    ensures { file_text result ≡ file_name file (named names.entry) }
 {
     match file {
-        FileId::Schema => word_at(words, 1),
-        FileId::Query => word_at(words, 2),
-        FileId::Table(_) => table_file,
+        FileId::Schema => FileWord::Given(names.schema_file.as_bytes()),
+        FileId::Query => FileWord::Given(names.query_file.as_bytes()),
+        FileId::Table(number) => table_word(table_at(names.schema, number)),
     }
 }
 
@@ -157,165 +150,105 @@ const KEY: &[u8] = b"key";
 
 // A cause in a text, and its place.
 fn write_place<N: Sink>(text: &[u8], cause: &[u8], at: u32, sink: &mut N) -> Result<(), Failed>
-    ensures ok { OnOk result (N.taken sink.new ≡ appended (N.taken sink.old) (error_line (text.now ∷ (cause.now ∷ (decimal at ∷ []))))) }
-    ensures prefix { GrewByPrefix (N.taken sink.old) (N.taken sink.new) (error_line (text.now ∷ (cause.now ∷ (decimal at ∷ [])))) }
-    ensures later { N.faults sink.old ≤ N.faults sink.new }
-    ensures failed { OnErr result (Rose (N.faults sink.old) (N.faults sink.new)) }
+    ensures { Wrote (growth N.taken N.faults sink.old sink.new) (error_line (text.now ∷ (cause.now ∷ (decimal at ∷ [])))) result }
 {
     let mut digits = itoa::Buffer::new();
-    write_line(&[text, cause, digits.format(at).as_bytes()], sink)
+    write_words(&[text, cause, digits.format(at).as_bytes()], sink)
 }
 
 // A cause in a table's file, with two numbers.
 fn write_numbers<N: Sink>(
-    file: &[u8],
+    file: FileWord,
     cause: &[u8],
     first: u32,
     second: u32,
     sink: &mut N,
 ) -> Result<(), Failed>
-    ensures ok { OnOk result (N.taken sink.new ≡ appended (N.taken sink.old) (error_line (codes "table" ∷ (file.now ∷ (cause.now ∷ (decimal first ∷ (decimal second ∷ []))))))) }
-    ensures prefix { GrewByPrefix (N.taken sink.old) (N.taken sink.new) (error_line (codes "table" ∷ (file.now ∷ (cause.now ∷ (decimal first ∷ (decimal second ∷ [])))))) }
-    ensures later { N.faults sink.old ≤ N.faults sink.new }
-    ensures failed { OnErr result (Rose (N.faults sink.old) (N.faults sink.new)) }
+    ensures { Wrote (growth N.taken N.faults sink.old sink.new)
+        (error_line (codes "table" ∷ (file_text file.entry ∷ (cause.now ∷ (decimal first ∷ (decimal second ∷ [])))))) result }
 {
     let (mut one, mut other) = (itoa::Buffer::new(), itoa::Buffer::new());
     let one = one.format(first).as_bytes();
     let other = other.format(second).as_bytes();
-    write_line(&[TABLE, file, cause, one, other], sink)
+    write_words_about(&[TABLE], file, &[cause, one, other], sink)
 }
 
 // The line of a table's refusal.
 fn write_table_fault<N: Sink>(
+    table: Option<&Table>,
     cause: TableCause,
-    file: &[u8],
-    column: &[u8],
     sink: &mut N,
 ) -> Result<(), Failed>
-    ensures ok { OnOk result (N.taken sink.new ≡ appended (N.taken sink.old) (error_line (codes "table" ∷ (file.now ∷ table_cause cause column.now)))) }
-    ensures prefix { GrewByPrefix (N.taken sink.old) (N.taken sink.new) (error_line (codes "table" ∷ (file.now ∷ table_cause cause column.now))) }
-    ensures later { N.faults sink.old ≤ N.faults sink.new }
-    ensures failed { OnErr result (Rose (N.faults sink.old) (N.faults sink.new)) }
+    ensures { Wrote (growth N.taken N.faults sink.old sink.new) (error_line (table_words (option_copied table.entry) cause)) result }
 {
+    let file = table_word(table);
     let mut digits = itoa::Buffer::new();
     match cause {
         TableCause::Utf8 { at } => {
-            write_line(&[TABLE, file, UTF8, digits.format(at).as_bytes()], sink)
+            write_words_about(&[TABLE], file, &[UTF8, digits.format(at).as_bytes()], sink)
         }
-        TableCause::Header { .. } => write_line(&[TABLE, file, HEADER, column], sink),
+        TableCause::Header { column } => {
+            write_words_about(&[TABLE], file, &[HEADER, column_name(table, column)], sink)
+        }
         TableCause::Width { row, found } => write_numbers(file, WIDTH, row, found, sink),
-        TableCause::Field { row, .. } => write_line(
-            &[TABLE, file, FIELD, digits.format(row).as_bytes(), column],
-            sink,
-        ),
+        TableCause::Field { row, column } => {
+            let row = digits.format(row).as_bytes();
+            let column = column_name(table, column);
+            write_words_about(&[TABLE], file, &[FIELD, row, column], sink)
+        }
         TableCause::Key { row, earlier } => write_numbers(file, KEY, row, earlier, sink),
     }
-}
-
-// The limit of a whole file.
-fn write_file_limit<N: Sink>(
-    word: &[u8],
-    file: &[u8],
-    found: u64,
-    sink: &mut N,
-) -> Result<(), Failed>
-    ensures ok { OnOk result (N.taken sink.new ≡ appended (N.taken sink.old) (error_line (codes "limit" ∷ (word.now ∷ (file.now ∷ (decimal found ∷ [])))))) }
-    ensures prefix { GrewByPrefix (N.taken sink.old) (N.taken sink.new) (error_line (codes "limit" ∷ (word.now ∷ (file.now ∷ (decimal found ∷ []))))) }
-    ensures later { N.faults sink.old ≤ N.faults sink.new }
-    ensures failed { OnErr result (Rose (N.faults sink.old) (N.faults sink.new)) }
-{
-    let mut digits = itoa::Buffer::new();
-    write_line(&[LIMIT, word, file, digits.format(found).as_bytes()], sink)
-}
-
-// The limit of a text's part.
-fn write_part_limit<N: Sink>(word: &[u8], found: u64, sink: &mut N) -> Result<(), Failed>
-    ensures ok { OnOk result (N.taken sink.new ≡ appended (N.taken sink.old) (error_line (codes "limit" ∷ (word.now ∷ (decimal found ∷ []))))) }
-    ensures prefix { GrewByPrefix (N.taken sink.old) (N.taken sink.new) (error_line (codes "limit" ∷ (word.now ∷ (decimal found ∷ [])))) }
-    ensures later { N.faults sink.old ≤ N.faults sink.new }
-    ensures failed { OnErr result (Rose (N.faults sink.old) (N.faults sink.new)) }
-{
-    let mut digits = itoa::Buffer::new();
-    write_line(&[LIMIT, word, digits.format(found).as_bytes()], sink)
 }
 
 // The line of a limit.
 fn write_limit<N: Sink>(
     which: LimitKind,
-    file: &[u8],
+    file: FileWord,
     found: u64,
     sink: &mut N,
 ) -> Result<(), Failed>
-    ensures ok { OnOk result (N.taken sink.new ≡ appended (N.taken sink.old) (error_line (limit_words which file.now found))) }
-    ensures prefix { GrewByPrefix (N.taken sink.old) (N.taken sink.new) (error_line (limit_words which file.now found)) }
-    ensures later { N.faults sink.old ≤ N.faults sink.new }
-    ensures failed { OnErr result (Rose (N.faults sink.old) (N.faults sink.new)) }
+    ensures { Wrote (growth N.taken N.faults sink.old sink.new) (error_line (limit_words which (file_text file.entry) found)) result }
 {
+    let mut digits = itoa::Buffer::new();
+    let found = digits.format(found).as_bytes();
     if is_of_file(which) {
-        write_file_limit(limit_word(which), file, found, sink)
+        write_words_about(&[LIMIT, limit_word(which)], file, &[found], sink)
     } else {
-        write_part_limit(limit_word(which), found, sink)
+        write_words(&[LIMIT, limit_word(which), found], sink)
     }
 }
 
-// Two words.
-fn write_two<N: Sink>(what: &[u8], which: &[u8], sink: &mut N) -> Result<(), Failed>
-    ensures ok { OnOk result (N.taken sink.new ≡ appended (N.taken sink.old) (error_line (what.now ∷ (which.now ∷ [])))) }
-    ensures prefix { GrewByPrefix (N.taken sink.old) (N.taken sink.new) (error_line (what.now ∷ (which.now ∷ []))) }
-    ensures later { N.faults sink.old ≤ N.faults sink.new }
-    ensures failed { OnErr result (Rose (N.faults sink.old) (N.faults sink.new)) }
-{
-    write_line(&[what, which], sink)
-}
-
-fn write_budget<N: Sink>(least: u64, sink: &mut N) -> Result<(), Failed>
-    ensures ok { OnOk result (N.taken sink.new ≡ appended (N.taken sink.old) (error_line (codes "budget" ∷ (decimal least ∷ [])))) }
-    ensures prefix { GrewByPrefix (N.taken sink.old) (N.taken sink.new) (error_line (codes "budget" ∷ (decimal least ∷ []))) }
-    ensures later { N.faults sink.old ≤ N.faults sink.new }
-    ensures failed { OnErr result (Rose (N.faults sink.old) (N.faults sink.new)) }
+fn write_budget<N: Sink>(least: u128, sink: &mut N) -> Result<(), Failed>
+    ensures { Wrote (growth N.taken N.faults sink.old sink.new) (error_line (codes "budget" ∷ (decimal least ∷ []))) result }
 {
     let mut digits = itoa::Buffer::new();
-    write_line(&[BUDGET, digits.format(least).as_bytes()], sink)
+    write_words(&[BUDGET, digits.format(least).as_bytes()], sink)
 }
 
 /// Writes the line of a status that is not `Done`. A table is named by its file, a column by its name.
-pub fn write_fault<N: Sink>(
-    status: Status,
-    words: &[&str],
-    table_file: &str,
-    column: &str,
-    sink: &mut N,
-) -> Result<(), Failed>
+pub fn write_line<N: Sink>(status: Status, names: Named, sink: &mut N) -> Result<(), Failed>
     requires { status ≢ Status.Done }
-    ensures ok { OnOk result (N.taken sink.new ≡ appended (N.taken sink.old)
-        (fault_line status (map (λ w. w.now) words.now) (record { file = table_file.now; column = column.now }))) }
-    ensures prefix { GrewByPrefix (N.taken sink.old) (N.taken sink.new)
-        (fault_line status (map (λ w. w.now) words.now) (record { file = table_file.now; column = column.now })) }
-    ensures later { N.faults sink.old ≤ N.faults sink.new }
-    ensures failed { OnErr result (Rose (N.faults sink.old) (N.faults sink.new)) }
+    ensures { Wrote (growth N.taken N.faults sink.old sink.new) (fault_line status (named names.entry)) result }
 {
     match status {
         Status::Done => Ok(()),
-        Status::Usage => write_line(&[USAGE], sink),
+        Status::Usage => write_words(&[USAGE], sink),
         Status::ReadFault { file } => {
-            let name = name_of_file(file, words, table_file);
-            write_two(READ, name.as_bytes(), sink)
+            write_words_about(&[READ], file_word(file, names), &[], sink)
         }
         Status::Schema { cause, at } => write_place(SCHEMA, schema_word(cause), at, sink),
         Status::Query { cause, at } => write_place(QUERY, query_word(cause), at, sink),
-        Status::Table { cause, .. } => {
-            write_table_fault(cause, table_file.as_bytes(), column.as_bytes(), sink)
+        Status::Table { table, cause } => {
+            write_table_fault(table_at(names.schema, table), cause, sink)
         }
         Status::Limit { which, file, found } => {
-            let name = name_of_file(file, words, table_file);
-            write_limit(which, name.as_bytes(), found, sink)
+            write_limit(which, file_word(file, names), found, sink)
         }
         Status::Budget { least } => write_budget(least, sink),
         Status::Unbuilt { file } => {
-            let name = name_of_file(file, words, table_file);
-            write_two(UNBUILT, name.as_bytes(), sink)
+            write_words_about(&[UNBUILT], file_word(file, names), &[], sink)
         }
-        Status::WriteFault { sink: cut } => write_two(WRITE, sink_word(cut), sink),
-        Status::NoMemory => write_line(&[MEMORY], sink),
+        Status::WriteFault { sink: cut } => write_words(&[WRITE, sink_word(cut)], sink),
+        Status::NoMemory => write_words(&[MEMORY], sink),
     }
 }

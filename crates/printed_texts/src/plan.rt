@@ -1,11 +1,13 @@
 //! The plan text. Nothing here takes memory.
-ghost use Rattle.std.specs.Prelude.{ℕ, ◌≡◌, ◌≢◌, ◌≤◌, ◌<◌, ◌+◌, ◌^◌, ◌++◌, ◌∷◌, [], codes, decimal, length, OnOk, OnErr};
-ghost use Rattle.std.specs.List.{flat_map};
-ghost use Rattle.base_io.specs.Causes.{Rose};
-ghost use Rattle.base_io.specs.Sinks.{appended, GrewByPrefix, TookBut};
-ghost use Rattle.printed_texts.specs.Texts.{level_line, level_lines, plan_lines, scan_line};
+ghost use Rattle.std.specs.Prelude.{ℕ, ◌≡◌, ◌≤◌, ◌<◌, ◌+◌, ◌++◌, length, slice_get};
+ghost use Rattle.std.specs.List.{AllByRecursion};
+ghost use Rattle.outcomes.specs.Devices.{growth};
+ghost use Rattle.outcomes.specs.Writes.{Put, Wrote};
+ghost use Rattle.plans.specs.LeftDeep.{IsPlan};
+ghost use Rattle.printed_texts.specs.Plans.{alias_of, level_line, level_lines, plan_lines, scan_line, scan_lines};
 
 use base_io::{Buffer, Failed, Sink};
+use plans::Plan;
 use query_types::Source;
 
 const SCAN: &[u8] = b"scan ";
@@ -16,38 +18,33 @@ const SPACE: &[u8] = b" ";
 
 const LINE_END: &[u8] = b"\n";
 
-// A line for each entry's scan.
-fn write_scans<N: Sink>(
-    sources: &[Source],
-    bound: u64,
-    buffer: &mut Buffer,
-    sink: &mut N,
-) -> Result<(), Failed>
-    ensures ok { OnOk result (TookBut (N.taken sink.old) (N.taken sink.new) buffer.new (buffer.old ++ flat_map (λ s. scan_line s.alias bound) sources.now)) }
-    ensures prefix { GrewByPrefix (N.taken sink.old) (N.taken sink.new) (buffer.old ++ flat_map (λ s. scan_line s.alias bound) sources.now) }
-    ensures later { N.faults sink.old ≤ N.faults sink.new }
-    ensures failed { OnErr result (Rose (N.faults sink.old) (N.faults sink.new)) }
-{
-    'scans: for source in sources {
-        write_scan(source.alias.as_str(), bound, buffer, sink)?;
-    }
-    Ok(())
-}
-
 fn write_scan<N: Sink>(
     alias: &str,
     bound: u64,
     buffer: &mut Buffer,
     sink: &mut N,
 ) -> Result<(), Failed>
-    ensures ok { OnOk result (TookBut (N.taken sink.old) (N.taken sink.new) buffer.new (buffer.old ++ scan_line alias.now bound)) }
-    ensures prefix { GrewByPrefix (N.taken sink.old) (N.taken sink.new) (buffer.old ++ scan_line alias.now bound) }
-    ensures later { N.faults sink.old ≤ N.faults sink.new }
-    ensures failed { OnErr result (Rose (N.faults sink.old) (N.faults sink.new)) }
+    ensures { Put (growth N.taken N.faults sink.old sink.new) buffer.old buffer.new (scan_line alias.now bound) result }
 {
     let mut digits = itoa::Buffer::new();
     let bound = digits.format(bound).as_bytes();
     buffer.put_parts(sink, &[SCAN, alias.as_bytes(), SPACE, bound, LINE_END])
+}
+
+// A line for each entry's scan.
+fn write_scans<N: Sink>(
+    sources: &[Source],
+    bounds: &[u64],
+    buffer: &mut Buffer,
+    sink: &mut N,
+) -> Result<(), Failed>
+    requires { length bounds.now ≡ length sources.now }
+    ensures { Put (growth N.taken N.faults sink.old sink.new) buffer.old buffer.new (scan_lines sources.now bounds.now) result }
+{
+    'scans: for (i, source) in sources.iter().enumerate() {
+        write_scan(source.alias.as_str(), bounds[i], buffer, sink)?;
+    }
+    Ok(())
 }
 
 fn write_level<N: Sink>(
@@ -57,10 +54,7 @@ fn write_level<N: Sink>(
     buffer: &mut Buffer,
     sink: &mut N,
 ) -> Result<(), Failed>
-    ensures ok { OnOk result (TookBut (N.taken sink.old) (N.taken sink.new) buffer.new (buffer.old ++ level_line k alias.now bound)) }
-    ensures prefix { GrewByPrefix (N.taken sink.old) (N.taken sink.new) (buffer.old ++ level_line k alias.now bound) }
-    ensures later { N.faults sink.old ≤ N.faults sink.new }
-    ensures failed { OnErr result (Rose (N.faults sink.old) (N.faults sink.new)) }
+    ensures { Put (growth N.taken N.faults sink.old sink.new) buffer.old buffer.new (level_line k alias.now bound) result }
 {
     let (mut place, mut digits) = (itoa::Buffer::new(), itoa::Buffer::new());
     let place = place.format(k).as_bytes();
@@ -79,34 +73,41 @@ fn write_level<N: Sink>(
     )
 }
 
-// A line for each level, in the order of the entries.
+fn alias_at(sources: &[Source], entry: u8) -> &str
+    requires { entry < length sources.now }
+    ensures { result.now ≡ alias_of (slice_get sources.now entry) }
+{
+    sources[entry as usize].alias.as_str()
+}
+
+// A line for each level, along the order.
 fn write_levels<N: Sink>(
     sources: &[Source],
-    bound: u64,
+    order: &[u8],
+    bounds: &[u64],
     buffer: &mut Buffer,
     sink: &mut N,
 ) -> Result<(), Failed>
-    ensures ok { OnOk result (TookBut (N.taken sink.old) (N.taken sink.new) buffer.new (buffer.old ++ level_lines 1 sources.now bound)) }
-    ensures prefix { GrewByPrefix (N.taken sink.old) (N.taken sink.new) (buffer.old ++ level_lines 1 sources.now bound) }
-    ensures later { N.faults sink.old ≤ N.faults sink.new }
-    ensures failed { OnErr result (Rose (N.faults sink.old) (N.faults sink.new)) }
+    requires entries { AllByRecursion (λ entry. entry < length sources.now) order.now }
+    requires bounds { length bounds.now ≡ length order.now }
+    ensures { Put (growth N.taken N.faults sink.old sink.new) buffer.old buffer.new (level_lines 1 sources.now order.now bounds.now) result }
 {
-    'levels: for (i, source) in sources.iter().enumerate() {
-        write_level(i as u64 + 1, source.alias.as_str(), bound, buffer, sink)?;
+    'levels: for i in 0..order.len() {
+        let alias = alias_at(sources, order[i]);
+        write_level(i as u64 + 1, alias, bounds[i], buffer, sink)?;
     }
     Ok(())
 }
 
-/// Writes the plan text of these entries, whose bounds are all the same.
-pub fn write_plan<N: Sink>(sources: &[Source], bound: u64, sink: &mut N) -> Result<(), Failed>
-    ensures ok { OnOk result (N.taken sink.new ≡ appended (N.taken sink.old) (plan_lines sources.now bound bound)) }
-    ensures prefix { GrewByPrefix (N.taken sink.old) (N.taken sink.new) (plan_lines sources.now bound bound) }
-    ensures later { N.faults sink.old ≤ N.faults sink.new }
-    ensures failed { OnErr result (Rose (N.faults sink.old) (N.faults sink.new)) }
+/// Writes the plan text: a line for each entry's scan in FROM order, and then one for each level of the plan's
+/// order, with its bound in rows.
+pub fn write_plan<N: Sink>(plan: &Plan, sources: &[Source], sink: &mut N) -> Result<(), Failed>
+    requires { IsPlan (length sources.now) plan.now }
+    ensures { Wrote (growth N.taken N.faults sink.old sink.new) (plan_lines sources.now plan.now) result }
 {
     let mut buffer = Buffer::new();
-    write_scans(sources, bound, &mut buffer, sink)?;
-    write_levels(sources, bound, &mut buffer, sink)?;
-    buffer.flush(sink)?;
-    Ok(())
+    write_scans(sources, plan.scans.as_slice(), &mut buffer, sink)?;
+    let (order, levels) = (plan.order.as_slice(), plan.levels.as_slice());
+    write_levels(sources, order, levels, &mut buffer, sink)?;
+    buffer.flush(sink)
 }

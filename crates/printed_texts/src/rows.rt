@@ -1,13 +1,13 @@
 //! The rows text. Nothing here takes memory.
-ghost use Rattle.std.specs.Prelude.{◌≡◌, ◌≤◌, ◌<◌, ◌++◌, All, OnOk, OnErr, length};
+ghost use Rattle.std.specs.Prelude.{◌≡◌, ◌≤◌, ◌<◌, ◌∷◌, [], All, length};
 ghost use Rattle.std.specs.List.{flat_map};
-ghost use Rattle.base_io.specs.Causes.{Rose};
-ghost use Rattle.base_io.specs.Sinks.{appended, GrewByPrefix, TookBut};
-ghost use Rattle.row_printer.specs.Fields.{field_text, fields_text, lone_field_text, record_text};
-ghost use Rattle.sql_meaning.specs.Databases.{IsColumnOf};
+ghost use Rattle.outcomes.specs.Devices.{growth};
+ghost use Rattle.outcomes.specs.Writes.{Put, Wrote};
+ghost use Rattle.row_printer.specs.Fields.{field_text, lone_field_text};
+ghost use Rattle.sql_meaning.specs.Databases.{AreTables, IsColumnOf};
 ghost use Rattle.sql_meaning.specs.Seen.{value_seen};
 ghost use Rattle.sql_meaning.specs.Tables.{tables_of};
-ghost use Rattle.printed_texts.specs.Lines.{IsLineOf, IsOneTable, field_at, fields_at, line_at, lines_at, next_field};
+ghost use Rattle.printed_texts.specs.Lines.{IsChoice, IsLineOf, choice_text, field_at, fields_at, line_at, lines_at, next_field};
 ghost use Rattle.printed_texts.specs.Texts.{value_text};
 
 use base_io::{Buffer, Failed, Sink};
@@ -16,31 +16,28 @@ use query_types::Out;
 use row_printer::{put_comma, put_field, put_lone_field, put_record_end};
 use sql_meaning::{ValueRef, value_of_column};
 
-/// A record of the rows text: the header, or that of a row of the one entry.
+/// A record of the rows text: the header, or that of a choice of one row for each FROM entry.
 #[derive(Clone, Copy, Debug)]
-pub enum Line {
+pub enum Line<'a> {
     Header,
-    Row(u32),
+    Rows(&'a [u32]),
 }
 
-// What stands in a line for an output: its name, or its value in the row.
+// What stands in a line for an output: its name, or its value.
 fn field<'a>(out: &'a Out, line: Line, db: &'a Database) -> ValueRef<'a>
-    requires table { IsOneTable db.now }
+    requires tables { AreTables db.now }
     requires column { IsColumnOf db.now out.now.column }
     requires line { IsLineOf db.now line }
-    ensures { value_text (value_seen result) ≡ field_at (tables_of db.now) line out.now }
+    ensures { value_text (value_seen result) ≡ field_at (tables_of db.now) line.entry out.now }
 {
     match line {
         Line::Header => ValueRef::Text(out.name.as_str()),
-        Line::Row(row) => value_of_column(&out.column, db, &[row]),
+        Line::Rows(rows) => value_of_column(&out.column, db, rows),
     }
 }
 
 fn put_value<N: Sink>(value: ValueRef, buffer: &mut Buffer, sink: &mut N) -> Result<(), Failed>
-    ensures ok { OnOk result (TookBut (N.taken sink.old) (N.taken sink.new) buffer.new (buffer.old ++ field_text (value_text (value_seen value.entry)))) }
-    ensures prefix { GrewByPrefix (N.taken sink.old) (N.taken sink.new) (buffer.old ++ field_text (value_text (value_seen value.entry))) }
-    ensures later { N.faults sink.old ≤ N.faults sink.new }
-    ensures failed { OnErr result (Rose (N.faults sink.old) (N.faults sink.new)) }
+    ensures { Put (growth N.taken N.faults sink.old sink.new) buffer.old buffer.new (field_text (value_text (value_seen value.entry))) result }
 {
     match value {
         ValueRef::Int(number) => {
@@ -53,10 +50,7 @@ fn put_value<N: Sink>(value: ValueRef, buffer: &mut Buffer, sink: &mut N) -> Res
 
 // The same of a record's only field.
 fn put_lone_value<N: Sink>(value: ValueRef, buffer: &mut Buffer, sink: &mut N) -> Result<(), Failed>
-    ensures ok { OnOk result (TookBut (N.taken sink.old) (N.taken sink.new) buffer.new (buffer.old ++ lone_field_text (value_text (value_seen value.entry)))) }
-    ensures prefix { GrewByPrefix (N.taken sink.old) (N.taken sink.new) (buffer.old ++ lone_field_text (value_text (value_seen value.entry))) }
-    ensures later { N.faults sink.old ≤ N.faults sink.new }
-    ensures failed { OnErr result (Rose (N.faults sink.old) (N.faults sink.new)) }
+    ensures { Put (growth N.taken N.faults sink.old sink.new) buffer.old buffer.new (lone_field_text (value_text (value_seen value.entry))) result }
 {
     match value {
         ValueRef::Int(number) => {
@@ -75,17 +69,13 @@ fn put_next<N: Sink>(
     buffer: &mut Buffer,
     sink: &mut N,
 ) -> Result<(), Failed>
-    requires table { IsOneTable db.now }
+    requires tables { AreTables db.now }
     requires column { IsColumnOf db.now out.now.column }
     requires line { IsLineOf db.now line }
-    ensures ok { OnOk result (TookBut (N.taken sink.old) (N.taken sink.new) buffer.new (buffer.old ++ next_field (tables_of db.now) line out.now)) }
-    ensures prefix { GrewByPrefix (N.taken sink.old) (N.taken sink.new) (buffer.old ++ next_field (tables_of db.now) line out.now) }
-    ensures later { N.faults sink.old ≤ N.faults sink.new }
-    ensures failed { OnErr result (Rose (N.faults sink.old) (N.faults sink.new)) }
+    ensures { Put (growth N.taken N.faults sink.old sink.new) buffer.old buffer.new (next_field (tables_of db.now) line.entry out.now) result }
 {
     put_comma(buffer, sink)?;
-    put_value(field(out, line, db), buffer, sink)?;
-    Ok(())
+    put_value(field(out, line, db), buffer, sink)
 }
 
 // The fields of further outputs, each behind a comma.
@@ -96,13 +86,10 @@ fn put_others<N: Sink>(
     buffer: &mut Buffer,
     sink: &mut N,
 ) -> Result<(), Failed>
-    requires table { IsOneTable db.now }
+    requires tables { AreTables db.now }
     requires columns { All (λ out. IsColumnOf db.now out.column) outs.now }
     requires line { IsLineOf db.now line }
-    ensures ok { OnOk result (TookBut (N.taken sink.old) (N.taken sink.new) buffer.new (buffer.old ++ flat_map (next_field (tables_of db.now) line) outs.now)) }
-    ensures prefix { GrewByPrefix (N.taken sink.old) (N.taken sink.new) (buffer.old ++ flat_map (next_field (tables_of db.now) line) outs.now) }
-    ensures later { N.faults sink.old ≤ N.faults sink.new }
-    ensures failed { OnErr result (Rose (N.faults sink.old) (N.faults sink.new)) }
+    ensures { Put (growth N.taken N.faults sink.old sink.new) buffer.old buffer.new (flat_map (next_field (tables_of db.now) line.entry) outs.now) result }
 {
     'outs: for out in outs {
         put_next(out, line, db, buffer, sink)?;
@@ -119,18 +106,14 @@ fn put_several<N: Sink>(
     sink: &mut N,
 ) -> Result<(), Failed>
     requires several { 2 ≤ length outs.now }
-    requires table { IsOneTable db.now }
+    requires tables { AreTables db.now }
     requires columns { All (λ out. IsColumnOf db.now out.column) outs.now }
     requires line { IsLineOf db.now line }
-    ensures ok { OnOk result (TookBut (N.taken sink.old) (N.taken sink.new) buffer.new (buffer.old ++ fields_at outs.now (tables_of db.now) line)) }
-    ensures prefix { GrewByPrefix (N.taken sink.old) (N.taken sink.new) (buffer.old ++ fields_at outs.now (tables_of db.now) line) }
-    ensures later { N.faults sink.old ≤ N.faults sink.new }
-    ensures failed { OnErr result (Rose (N.faults sink.old) (N.faults sink.new)) }
+    ensures { Put (growth N.taken N.faults sink.old sink.new) buffer.old buffer.new (fields_at outs.now (tables_of db.now) line.entry) result }
 {
     let first = &outs[0];
     put_value(field(first, line, db), buffer, sink)?;
-    put_others(&outs[1..], line, db, buffer, sink)?;
-    Ok(())
+    put_others(&outs[1..], line, db, buffer, sink)
 }
 
 // The fields of a record.
@@ -141,13 +124,10 @@ fn put_fields<N: Sink>(
     buffer: &mut Buffer,
     sink: &mut N,
 ) -> Result<(), Failed>
-    requires table { IsOneTable db.now }
+    requires tables { AreTables db.now }
     requires columns { All (λ out. IsColumnOf db.now out.column) outs.now }
     requires line { IsLineOf db.now line }
-    ensures ok { OnOk result (TookBut (N.taken sink.old) (N.taken sink.new) buffer.new (buffer.old ++ fields_at outs.now (tables_of db.now) line)) }
-    ensures prefix { GrewByPrefix (N.taken sink.old) (N.taken sink.new) (buffer.old ++ fields_at outs.now (tables_of db.now) line) }
-    ensures later { N.faults sink.old ≤ N.faults sink.new }
-    ensures failed { OnErr result (Rose (N.faults sink.old) (N.faults sink.new)) }
+    ensures { Put (growth N.taken N.faults sink.old sink.new) buffer.old buffer.new (fields_at outs.now (tables_of db.now) line.entry) result }
 {
     match outs.len() {
         0 => buffer.put(sink, b""),
@@ -164,17 +144,29 @@ fn put_line<N: Sink>(
     buffer: &mut Buffer,
     sink: &mut N,
 ) -> Result<(), Failed>
-    requires table { IsOneTable db.now }
+    requires tables { AreTables db.now }
     requires columns { All (λ out. IsColumnOf db.now out.column) outs.now }
     requires line { IsLineOf db.now line }
-    ensures ok { OnOk result (TookBut (N.taken sink.old) (N.taken sink.new) buffer.new (buffer.old ++ line_at outs.now (tables_of db.now) line)) }
-    ensures prefix { GrewByPrefix (N.taken sink.old) (N.taken sink.new) (buffer.old ++ line_at outs.now (tables_of db.now) line) }
-    ensures later { N.faults sink.old ≤ N.faults sink.new }
-    ensures failed { OnErr result (Rose (N.faults sink.old) (N.faults sink.new)) }
+    ensures { Put (growth N.taken N.faults sink.old sink.new) buffer.old buffer.new (line_at outs.now (tables_of db.now) line.entry) result }
 {
     put_fields(outs, line, db, buffer, sink)?;
-    put_record_end(buffer, sink)?;
-    Ok(())
+    put_record_end(buffer, sink)
+}
+
+// The record of a row of the one entry.
+fn put_row<N: Sink>(
+    outs: &[Out],
+    row: u32,
+    db: &Database,
+    buffer: &mut Buffer,
+    sink: &mut N,
+) -> Result<(), Failed>
+    requires tables { AreTables db.now }
+    requires columns { All (λ out. IsColumnOf db.now out.column) outs.now }
+    requires row { IsChoice db.now (row ∷ []) }
+    ensures { Put (growth N.taken N.faults sink.old sink.new) buffer.old buffer.new (choice_text outs.now (tables_of db.now) (row ∷ [])) result }
+{
+    put_line(outs, Line::Rows(&[row]), db, buffer, sink)
 }
 
 // A record for each of these rows.
@@ -185,38 +177,31 @@ fn put_rows<N: Sink>(
     buffer: &mut Buffer,
     sink: &mut N,
 ) -> Result<(), Failed>
-    requires table { IsOneTable db.now }
+    requires tables { AreTables db.now }
     requires columns { All (λ out. IsColumnOf db.now out.column) outs.now }
-    requires rows { All (λ row. IsLineOf db.now (Line.Row row)) rows.now }
-    ensures ok { OnOk result (TookBut (N.taken sink.old) (N.taken sink.new) buffer.new (buffer.old ++ flat_map (λ row. line_at outs.now (tables_of db.now) (Line.Row row)) rows.now)) }
-    ensures prefix { GrewByPrefix (N.taken sink.old) (N.taken sink.new) (buffer.old ++ flat_map (λ row. line_at outs.now (tables_of db.now) (Line.Row row)) rows.now) }
-    ensures later { N.faults sink.old ≤ N.faults sink.new }
-    ensures failed { OnErr result (Rose (N.faults sink.old) (N.faults sink.new)) }
+    requires rows { All (λ row. IsChoice db.now (row ∷ [])) rows.now }
+    ensures { Put (growth N.taken N.faults sink.old sink.new) buffer.old buffer.new (flat_map (λ row. choice_text outs.now (tables_of db.now) (row ∷ [])) rows.now) result }
 {
     'rows: for row in rows {
-        put_line(outs, Line::Row(*row), db, buffer, sink)?;
+        put_row(outs, *row, db, buffer, sink)?;
     }
     Ok(())
 }
 
-/// Writes the rows text: a header of the outputs' names, and a record for each of these rows.
+/// Writes the rows text: a header of the outputs' names, and a record for each of these rows of the one entry.
 pub fn write_rows<N: Sink>(
     outs: &[Out],
     rows: &[u32],
     db: &Database,
     sink: &mut N,
 ) -> Result<(), Failed>
-    requires table { IsOneTable db.now }
+    requires tables { AreTables db.now }
     requires columns { All (λ out. IsColumnOf db.now out.column) outs.now }
-    requires rows { All (λ row. IsLineOf db.now (Line.Row row)) rows.now }
-    ensures ok { OnOk result (N.taken sink.new ≡ appended (N.taken sink.old) (lines_at outs.now (tables_of db.now) rows.now)) }
-    ensures prefix { GrewByPrefix (N.taken sink.old) (N.taken sink.new) (lines_at outs.now (tables_of db.now) rows.now) }
-    ensures later { N.faults sink.old ≤ N.faults sink.new }
-    ensures failed { OnErr result (Rose (N.faults sink.old) (N.faults sink.new)) }
+    requires rows { All (λ row. IsChoice db.now (row ∷ [])) rows.now }
+    ensures { Wrote (growth N.taken N.faults sink.old sink.new) (lines_at outs.now (tables_of db.now) rows.now) result }
 {
     let mut buffer = Buffer::new();
     put_line(outs, Line::Header, db, &mut buffer, sink)?;
     put_rows(outs, rows, db, &mut buffer, sink)?;
-    buffer.flush(sink)?;
-    Ok(())
+    buffer.flush(sink)
 }

@@ -29,7 +29,7 @@ use Rattle.sql_meaning.specs.Tables.{cells_of}
 use Rattle.sql_meaning.proofs.ConditionFacts.{every_and, every_or, every_not, every_compare}
 use Rattle.sql_meaning.proofs.NamedFacts.{all_named, both_parts}
 use Rattle.safebound_top.specs.Verdict.{Placed, only_table, placed_at}
-use Rattle.printed_texts.specs.declared.status.Status.{Status}
+use Rattle.outcomes.specs.declared.refusal.Refusal.{Refusal}
 
 -- ---- what holds of each comparison holds of each condition
 
@@ -80,7 +80,7 @@ found_in schema (s ∷ []) placed ref' column only f =
     let first : ◌≡◌ {A = Option Source} (Some s) (Some f.source) = subst (λ n. slice_get (s ∷ []) n ≡ Some f.source) none f.entry in
     let source : s ≡ f.source = cc in
     let exists : slice_get schema.tables s.table ≡ Some f.table = subst (λ (x : Source). slice_get schema.tables x.table ≡ Some f.table) (sym source) f.exists in
-    let both : ◌≡◌ {A = Result Placed Status} (Ok (record { number = s.table; table = f.table })) (Ok placed) = sym (ap (placed_at s.table) exists) ∙ only in
+    let both : ◌≡◌ {A = Result Placed Refusal} (Ok (record { number = s.table; table = f.table })) (Ok placed) = sym (ap (placed_at s.table) exists) ∙ only in
     let same : ◌≡◌ {A = Placed} (record { number = s.table; table = f.table }) placed = cc in
     let table : f.table ≡ placed.table = ap (λ (p : Placed). p.table) same in
     (none, subst (λ (t : Table). slice_get t.columns ref'.column ≡ Some column) table f.declared)

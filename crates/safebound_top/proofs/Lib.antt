@@ -1,11 +1,13 @@
 pub mod Answered
 pub mod Askable
-pub mod Cuts
-pub mod FaultLines
+pub mod Courses
 pub mod Kept
+pub mod Loads
 pub mod Meanings
 pub mod Printing
 pub mod Ready
-pub mod Causes
+pub mod RunCourses
 pub mod Runs
-pub mod Staged
+pub mod Stages
+pub mod TableErrors
+pub mod TextSteps

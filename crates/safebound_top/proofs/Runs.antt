@@ -3,61 +3,43 @@ use Rattle.std.proofs.Common.{◌≡◌, ℕ, List, [], ◌∷◌, length, Bool,
 use Rattle.std.specs.Prelude.{IfOk, nat_lt, slice_get, if◌then◌else◌}
 use Rattle.base_io.specs.Files.{Files}
 use Rattle.csv_tables.specs.Rows.{Row}
-use Rattle.schema_types.specs.Validity.{IsValid}
 use Rattle.schema_types.specs.declared.types.Schema.{Schema}
 use Rattle.schema_types.specs.declared.types.Table.{Table}
 use Rattle.query_types.specs.Validity.{IsOf}
 use Rattle.query_types.specs.declared.types.Query.{Query}
 use Rattle.query_types.specs.declared.types.Source.{Source}
 use Rattle.query_types.specs.Named.{NamesItsEntries}
-use Rattle.text_answers.specs.SchemaTexts.{schema_answer}
 use Rattle.text_answers.specs.QueryTexts.{query_answer}
 use Rattle.text_answers.proofs.QueryAnswers as queries
-use Rattle.text_answers.proofs.SchemaAnswers as schemas
-use Rattle.printed_texts.specs.declared.status.Status.{Status}
-use Rattle.printed_texts.specs.declared.status.Status.TheVariants as status
-use Rattle.printed_texts.specs.declared.status.FileId.TheVariants as file
+use Rattle.outcomes.specs.Errors.{query_refusal}
+use Rattle.outcomes.specs.Reads.{◌>>=◌, told}
+use Rattle.outcomes.specs.declared.names.FileId.TheVariants as file
+use Rattle.outcomes.specs.declared.refusal.Refusal.{Refusal}
+use Rattle.outcomes.specs.declared.refusal.Refusal.TheVariants as refusal
 use Rattle.safebound_top.specs.Accepted.{Accepted}
-use Rattle.safebound_top.specs.Errors.{query_status, schema_status}
-use Rattle.safebound_top.specs.Verdict.{◌>>=◌, Asked, command_stage, only_table, placed_at, query_stage, query_word, read, rows_in, schema_stage, schema_word, table_file, told, verdict}
+use Rattle.safebound_top.specs.Verdict.{Placed, ask_run, command_stage, only_table, placed_at, query_of_text, query_run, query_stage, read, rows_stage, schema_run, schema_stage, table_run, verdict}
+use Rattle.safebound_top.specs.Words.{Ask, budget_of, query_file, schema_file}
 use Rattle.safebound_top.proofs.Askable.{names_own}
 
 -- what holds of the first step's value, and then of the second's
-then_ok : {A B : Type 0} (P : A → Type 0) (Q : B → Type 0) (r : Result A Status) (f : A → Result B Status) → IfOk r P → ((x : A) → P x → IfOk (f x) Q) → IfOk (r >>= f) Q
+then_ok : {A B : Type 0} (P : A → Type 0) (Q : B → Type 0) (r : Result A Refusal) (f : A → Result B Refusal) → IfOk r P → ((x : A) → P x → IfOk (f x) Q) → IfOk (r >>= f) Q
 then_ok P Q (Ok x) f first next = next x first
 then_ok P Q (Err s) f first next = tt
 
-any_ok : {A : Type 0} (r : Result A Status) → IfOk r (λ x. Unit {0})
-any_ok (Ok x) = tt
-any_ok (Err s) = tt
+any_ok : {A B : Type 0} (Q : B → Type 0) (r : Result A Refusal) (f : A → Result B Refusal) → ((x : A) → IfOk (f x) Q) → IfOk (r >>= f) Q
+any_ok Q (Ok x) f next = next x
+any_ok Q (Err s) f next = tt
 
 -- what holds of each value that an answer may be
-ok_so : {A E : Type 0} (P : A → Type 0) (r : Result A E) → ((x : A) → r ≡ Ok x → P x) → IfOk r P
-ok_so P (Ok x) h = h x refl
-ok_so P (Err e) h = tt
+ok_so : {A E : Type 0} (P : A → Type 0) (f : E → Refusal) (r : Result A E) → ((x : A) → r ≡ Ok x → P x) → IfOk (told f r) P
+ok_so P f (Ok x) h = h x refl
+ok_so P f (Err e) h = tt
 
-told_ok : {A E : Type 0} (P : A → Type 0) (f : E → Status) (r : Result A E) → IfOk r P → IfOk (told f r) P
-told_ok P f (Ok x) h = h
-told_ok P f (Err e) h = tt
-
-schema_ok : (words : List (List ℕ)) (files : Files) → IfOk (schema_stage words files) IsValid
-unfolding schema_stage
-schema_ok words files =
-    then_ok (λ ask. Unit {0}) IsValid (command_stage words) _ (any_ok (command_stage words)) (λ ask _.
-    then_ok (λ text. Unit {0}) IsValid (read files file.Schema 1048576 (schema_word ask words)) _ (any_ok (read files file.Schema 1048576 (schema_word ask words))) (λ text _.
-    told_ok IsValid schema_status (schema_answer text) (ok_so IsValid (schema_answer text) (schemas.valid text))))
-
--- the query is one of its schema
-abbrev IsAsked : Asked → Type 0
-IsAsked asked = IsOf asked.schema asked.query
-
-query_ok : (words : List (List ℕ)) (files : Files) → IfOk (query_stage words files) IsAsked
+query_ok : (name : List ℕ) (schema : Schema) (files : Files) → IfOk (query_stage name schema files) (IsOf schema)
 unfolding query_stage
-query_ok words files =
-    then_ok IsValid IsAsked (schema_stage words files) _ (schema_ok words files) (λ schema valid.
-    then_ok (λ ask. Unit {0}) IsAsked (command_stage words) _ (any_ok (command_stage words)) (λ ask _.
-    then_ok (λ text. Unit {0}) IsAsked (read files file.Query 1048576 (query_word ask words)) _ (any_ok (read files file.Query 1048576 (query_word ask words))) (λ text _.
-    then_ok (IsOf schema) IsAsked (told query_status (query_answer schema text)) _ (told_ok (IsOf schema) query_status (query_answer schema text) (ok_so (IsOf schema) (query_answer schema text) (λ query e. queries.of_schema schema text query e))) (λ query of. of))))
+query_ok name schema files =
+    any_ok (IsOf schema) (read file.Query 1048576 name files) (query_of_text schema)
+    (λ text. ok_so (IsOf schema) query_refusal (query_answer schema text) (λ query e. queries.of_schema schema text query e))
 
 -- a query of one entry, whose conditions name no other
 pub record IsRun (run : Accepted) : Type 0 where
@@ -73,25 +55,41 @@ placed_ok schema (source ∷ []) = found source.table (slice_get schema.tables s
     found number (Some table) = refl
 placed_ok schema (first ∷ second ∷ sources) = tt
 
-abbrev budget_if : Bool → Query → List Row → Result Accepted Status
-budget_if past query rows = if past then Err (status.Budget (length rows)) else Ok (record { query = query; rows = rows })
+abbrev budget_if : Bool → Query → List Row → Result Accepted Refusal
+budget_if past query rows = if past then Err (refusal.Budget (length rows)) else Ok (record { query = query; rows = rows })
 
 budget_ok : (past : Bool) (query : Query) (rows : List Row) → length query.from ≡ 1 → NamesItsEntries query → IfOk (budget_if past query rows) IsRun
 budget_ok true query rows one own = tt
 budget_ok false query rows one own = record { one = one; own = own }
 
+table_ok : (budget : ℕ) (query : Query) (placed : Placed) (files : Files) → length query.from ≡ 1 → NamesItsEntries query → IfOk (table_run budget query placed files) IsRun
+unfolding table_run
+table_ok budget query placed files one own = any_ok IsRun (rows_stage placed files) _ (λ rows. budget_ok (nat_lt budget (length rows)) query rows one own)
+
+query_run_ok : (budget : ℕ) (schema : Schema) (query : Query) (files : Files) → IsOf schema query → IfOk (query_run budget schema query files) IsRun
+unfolding query_run
+query_run_ok budget schema query files of =
+    then_ok (λ placed. length query.from ≡ 1) IsRun (only_table schema query.from) _ (placed_ok schema query.from)
+    (λ placed one. table_ok budget query placed files one (names_own schema query of))
+
+schema_run_ok : (ask : Ask) (schema : Schema) (files : Files) → IfOk (schema_run ask schema files) IsRun
+unfolding schema_run
+schema_run_ok ask schema files =
+    then_ok (IsOf schema) IsRun (query_stage (query_file ask) schema files) _ (query_ok (query_file ask) schema files)
+    (λ query of. query_run_ok (budget_of ask) schema query files of)
+
+ask_run_ok : (ask : Ask) (files : Files) → IfOk (ask_run ask files) IsRun
+unfolding ask_run
+ask_run_ok ask files = any_ok IsRun (schema_stage (schema_file ask) files) _ (λ schema. schema_run_ok ask schema files)
+
 pub verdict_ok : (words : List (List ℕ)) (files : Files) → IfOk (verdict words files) IsRun
 unfolding verdict
-verdict_ok words files =
-    then_ok IsAsked IsRun (query_stage words files) _ (query_ok words files) (λ asked of.
-    then_ok (λ placed. length asked.query.from ≡ 1) IsRun (only_table asked.schema asked.query.from) _ (placed_ok asked.schema asked.query.from) (λ placed one.
-    then_ok (λ rows. Unit {0}) IsRun (rows_in files placed (table_file placed.table)) _ (any_ok (rows_in files placed (table_file placed.table))) (λ rows _.
-    budget_ok (nat_lt 1000000 (length rows)) asked.query rows one (names_own asked.schema asked.query of))))
+verdict_ok words files = any_ok IsRun (command_stage words) _ (λ ask. ask_run_ok ask files)
 
-pub holds_of_run : (r : Result Accepted Status) (P : Accepted → Type 0) → IfOk r IsRun → ((run : Accepted) → length run.query.from ≡ 1 → NamesItsEntries run.query → P run) → IfOk r P
+pub holds_of_run : (r : Result Accepted Refusal) (P : Accepted → Type 0) → IfOk r IsRun → ((run : Accepted) → length run.query.from ≡ 1 → NamesItsEntries run.query → P run) → IfOk r P
 holds_of_run (Ok run) P is holds = holds run is.one is.own
 holds_of_run (Err s) P is holds = tt
 
-pub holds_of_all : (r : Result Accepted Status) (P : Accepted → Type 0) → ((run : Accepted) → P run) → IfOk r P
+pub holds_of_all : (r : Result Accepted Refusal) (P : Accepted → Type 0) → ((run : Accepted) → P run) → IfOk r P
 holds_of_all (Ok run) P holds = holds run
 holds_of_all (Err s) P holds = tt

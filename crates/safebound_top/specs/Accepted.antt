@@ -1,6 +1,7 @@
 -- What a run is over, and what it means.
 use Rattle.std.specs.Prelude.{ℕ, ◌≤◌, List, [], ◌∷◌, map, length, IsPermutation}
 use Rattle.csv_tables.specs.Rows.{Row}
+use Rattle.plans.specs.declared.left_deep.Plan.{Plan}
 use Rattle.query_types.specs.declared.types.Query.{Query}
 use Rattle.sql_meaning.specs.Answers.{answer, conjuncts_of, selected}
 use Rattle.sql_meaning.specs.Levels.{level, row_in, scan}
@@ -31,6 +32,13 @@ scan_bound run = length run.rows
 
 abbrev pub level_bound : Accepted → ℕ
 level_bound run = length run.rows
+
+-- the plan of one entry with so many rows
+abbrev pub plan_of_rows : ℕ → Plan
+plan_of_rows rows = record { order = order; scans = rows ∷ []; levels = rows ∷ [] }
+
+abbrev pub plan_of : Accepted → Plan
+plan_of run = record { order = order; scans = scan_bound run ∷ []; levels = level_bound run ∷ [] }
 
 -- the rows that are printed: the outputs of each choice of the last level, in its order
 abbrev pub printed : Accepted → List Row

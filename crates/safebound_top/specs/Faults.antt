@@ -1,14 +1,30 @@
 -- The line that tells a status of these words over these files.
-use Rattle.std.specs.Prelude.{ℕ, List, [], Result, Ok, Err}
+use Rattle.std.specs.Prelude.{ℕ, List, [], Option, None, Some, Result, Ok, Err, option_map}
+use Rattle.std.proofs.Common.{Bor}
 use Rattle.base_io.specs.Files.{Files}
-use Rattle.printed_texts.specs.Faults.{TableNames, column_name, column_of_status, fault_line}
-use Rattle.printed_texts.specs.declared.status.Status.{Status}
-use Rattle.safebound_top.specs.Verdict.{Placed, table_file, table_stage}
+use Rattle.schema_types.specs.declared.types.Schema.{Schema}
+use Rattle.outcomes.specs.declared.status.Status.{Status}
+use Rattle.printed_texts.specs.Faults.{Names, fault_line}
+use Rattle.safebound_top.specs.Verdict.{command_stage, schema_read}
+use Rattle.safebound_top.specs.Words.{Ask, asked, query_file, schema_file}
+use Rattle.safebound_top.specs.declared.words.Command.{Command}
 
--- the names of the table that the verdict comes to, and of its column that the status is about
-abbrev pub names_in : Result Placed Status → Status → TableNames
-names_in (Ok placed) s = record { file = table_file placed.table; column = column_name placed.table.columns (column_of_status s) }
-names_in (Err _) s = record { file = []; column = [] }
+-- what a line names, where there is a command and a schema: the two files of the command, and the schema's tables
+abbrev pub names_of : Option Ask → Option Schema → Names
+names_of None schema = record { schema_file = []; query_file = []; schema = schema }
+names_of (Some ask) schema = record { schema_file = schema_file ask; query_file = query_file ask; schema = schema }
 
+abbrev pub ask_of : Option (Bor Command) → Option Ask
+ask_of command = option_map (λ c. asked c.now) command
+
+abbrev pub where_ok : {A E : Type 0} → Result A E → Option A
+where_ok (Ok x) = Some x
+where_ok (Err e) = None
+
+-- the line of a status with this command and this schema
+abbrev pub status_line : Status → Option Ask → Option Schema → List ℕ
+status_line s ask schema = fault_line s (names_of ask schema)
+
+-- with the command of these words, and the schema that the verdict reads
 abbrev pub fault_text : Status → List (List ℕ) → Files → List ℕ
-fault_text s words files = fault_line s words (names_in (table_stage words files) s)
+fault_text s words files = status_line s (where_ok (command_stage words)) (where_ok (schema_read words files))

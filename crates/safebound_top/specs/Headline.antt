@@ -3,19 +3,24 @@ use Rattle.std.specs.Prelude.{ℕ, ◌≡◌, ◌↔◌, ◌⊎◌, List, codes,
 use Rattle.base_io.specs.Causes.{Rose}
 use Rattle.base_io.specs.Files.{Files}
 use Rattle.base_io.specs.Sinks.{appended, GrewByPrefix}
+use Rattle.outcomes.specs.Devices.{Growth}
+use Rattle.outcomes.specs.Reads.{IsOfWhatIsThere, MissesNothing}
+use Rattle.outcomes.specs.Statuses.{refused}
+use Rattle.outcomes.specs.declared.names.FileId.{FileId}
+use Rattle.outcomes.specs.declared.names.SinkId.{SinkId}
+use Rattle.outcomes.specs.declared.names.SinkId.TheVariants as sink
+use Rattle.outcomes.specs.declared.refusal.Refusal.{Refusal}
+use Rattle.outcomes.specs.declared.refusal.Refusal.TheVariants as refusal
+use Rattle.outcomes.specs.declared.status.Status.{Status}
+use Rattle.outcomes.specs.declared.status.Status.TheVariants as status
 use Rattle.safebound_top.specs.Accepted.{Accepted, BoundsHold, RowsAreTheAnswer}
-use Rattle.safebound_top.specs.Call.{Call, CutThenTold, Growth, Tells}
+use Rattle.safebound_top.specs.Call.{Call, CutThenTold, Tells}
 use Rattle.safebound_top.specs.Faults.{fault_text}
-use Rattle.safebound_top.specs.Stages.{IsRefusal, IsWriteFault, MissesNothing}
 use Rattle.safebound_top.specs.Texts.{plan_text, rows_text}
 use Rattle.safebound_top.specs.Verdict.{IsReached, command_stage, verdict}
-use Rattle.printed_texts.specs.declared.status.FileId.{FileId}
-use Rattle.printed_texts.specs.declared.status.SinkId.TheVariants as sink
-use Rattle.printed_texts.specs.declared.status.Status.{Status}
-use Rattle.printed_texts.specs.declared.status.Status.TheVariants as status
 
 -- for the files that the store tells, and the verdict of the words over them
-abbrev pub OverFiles : Call → (Files → Result Accepted Status → Type 0) → Type 0
+abbrev pub OverFiles : Call → (Files → Result Accepted Refusal → Type 0) → Type 0
 OverFiles call P = (files : Files) → call.store.files ≡ Some files → P files (verdict call.words files)
 
 abbrev pub Grew : Growth → List ℕ → Type 0
@@ -64,15 +69,15 @@ pub record WriteFaultsHaveTheirCause (call : Call) : Type 0 where
 -- 6. Usage, Schema, Query, Table, Limit, Budget and Unbuilt come only where the verdict is that status with these fields. The notes grew
 --    by its line, and out didn't grow. Usage is a matter of the words alone.
 pub record RefusalsAreTheVerdict (call : Call) : Type 0 where
-  pub usage : (call.status ≡ status.Usage) ↔ (command_stage call.words ≡ Err status.Usage)
-  pub refused : IsRefusal call.status → DidNotGrow call.out
-      × OverFiles call (λ files v. (v ≡ Err call.status) × GrewByLine call.notes (fault_text call.status call.words files))
+  pub usage : (call.status ≡ status.Usage) ↔ (command_stage call.words ≡ Err refusal.Usage)
+  pub told : (r : Refusal) → IsOfWhatIsThere r → call.status ≡ refused r → DidNotGrow call.out
+      × OverFiles call (λ files v. (v ≡ Err r) × GrewByLine call.notes (fault_text call.status call.words files))
 
 -- 7. A read fault comes only where the verdict is that status, or where the store's count rose and the verdict comes to this file. The
 --    notes grew by its line, and out didn't grow.
 pub record ReadFaultsHaveTheirCause (call : Call) : Type 0 where
-  pub told : (file : FileId) → call.status ≡ status.ReadFault file → DidNotGrow call.out × OverFiles call (λ files v. ((v ≡ Err call.status)
-      ⊎ (Rose call.store.faults_before call.store.faults_after × IsReached file call.words files))
+  pub told : (file : FileId) → call.status ≡ status.ReadFault file → DidNotGrow call.out × OverFiles call (λ files v. ((v ≡ Err (refusal.Missing file))
+      ⊎ (Rose call.store.faults_before call.store.faults_after × IsReached call.words files file))
       × GrewByLine call.notes (fault_text call.status call.words files))
   -- a store that doesn't tell its files never answers that one is missing
   pub untold : (file : FileId) → call.status ≡ status.ReadFault file → call.store.files ≡ None
@@ -80,15 +85,15 @@ pub record ReadFaultsHaveTheirCause (call : Call) : Type 0 where
   -- no name is invented: where the verdict is no read fault, the store's count of misses is as before
   pub misses : OverFiles call (λ files v. MissesNothing v → call.store.misses_after ≡ call.store.misses_before)
 
-abbrev pub status_of : Result Accepted Status → Status
+abbrev pub status_of : Result Accepted Refusal → Status
 status_of (Ok run) = status.Done
-status_of (Err s) = s
+status_of (Err r) = refused r
 
 -- 8. Nothing is refused without a cause: where the store's count didn't rise, the status is the verdict's, or a write fault, or want of
 --    memory; where no sink's count rose either, it is the verdict's, or want of memory.
 pub record NothingIsRefusedWithoutCause (call : Call) : Type 0 where
   pub by_the_store : (Rose call.store.faults_before call.store.faults_after → ⊥)
-      → OverFiles call (λ files v. (call.status ≡ status_of v) ⊎ IsWriteFault call.status ⊎ (call.status ≡ status.NoMemory))
+      → OverFiles call (λ files v. (call.status ≡ status_of v) ⊎ ((which : SinkId) × (call.status ≡ status.WriteFault which)) ⊎ (call.status ≡ status.NoMemory))
   pub by_the_sinks : (Rose call.store.faults_before call.store.faults_after → ⊥) → (FaultsRose call.out → ⊥) → (FaultsRose call.notes → ⊥)
       → OverFiles call (λ files v. (call.status ≡ status_of v) ⊎ (call.status ≡ status.NoMemory))
 

@@ -1,11 +1,10 @@
 pub mod Accepted
 pub mod Call
-pub mod Errors
+pub mod Course
 pub mod Faults
 pub mod Headline
+pub mod Places
 pub mod Prepared
-pub mod Stages
 pub mod Texts
-pub mod Told
 pub mod Verdict
 pub mod Words

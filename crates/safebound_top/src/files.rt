@@ -1,19 +1,13 @@
-//! The words, and the two texts that they name.
-ghost use Rattle.std.specs.Prelude.{ℕ, ◌≡◌, ◌↔◌, ◌≤◌, List, length, map, None, Some, Ok, Err, IfOk, IfErr, IsOk, slice_index_or, []};
-ghost use Rattle.base_io.specs.Causes.{Rose};
-ghost use Rattle.base_io.specs.Files.{Files};
-ghost use Rattle.text_answers.specs.SchemaTexts.{schema_answer};
+//! The two texts, from their files.
+ghost use Rattle.std.specs.Prelude.{◌≡◌, ◌≤◌, length, IfOk};
+ghost use Rattle.outcomes.specs.Devices.{reading};
+ghost use Rattle.outcomes.specs.Reads.{AtFile, Reads};
 ghost use Rattle.schema_types.specs.Validity.{IsValid};
-ghost use Rattle.text_answers.specs.QueryTexts.{query_answer};
 ghost use Rattle.query_types.specs.Validity.{IsOf};
-ghost use Rattle.safebound_top.specs.Errors.{query_status, schema_status};
-ghost use Rattle.safebound_top.specs.Stages.{IsFromReading, IsReadFault, IsText, MayFail, MayRefuse, MayTell, MissesNothing, NamesNoTable};
-ghost use Rattle.safebound_top.specs.Verdict.{command_stage, query_stage, read, schema_stage, schema_word as word_of_schema, query_word as word_of_query, told};
+ghost use Rattle.safebound_top.specs.Verdict.{query_stage, read, schema_stage};
 
-use crate::refusals::{query_refusal, schema_refusal};
-use crate::words::{Command, WordsError, read_words};
 use base_io::{ReadError, Seq, Store, read_file};
-use printed_texts::{FileId, Status, word_at};
+use outcomes::{Ending, FileId, Refusal};
 use query_types::Query;
 use schema_types::{LimitKind, Schema, read_schema};
 use sql_parse::read_query;
@@ -22,156 +16,57 @@ use std::alloc::Global;
 /// The most bytes of a schema or query file.
 const TEXT_BYTES: u32 = 1_048_576;
 
-/// Reads a file, with its refusals as statuses.
+/// Reads a file of at most `limit` bytes.
 pub fn load<S: Store>(
     alloc: Global,
     store: &mut S,
     file: FileId,
     name: &str,
     limit: u32,
-) -> Result<Seq<u8>, Status>
+) -> Result<Seq<u8>, Ending>
     requires { limit ≤ 67108864 }
     ensures short { IfOk result (λ bytes. length bytes ≤ limit) }
-    ensures ok { IfOk result (λ bytes. (files : Files) → S.files store.old ≡ Some files → read files file limit name.now ≡ Ok bytes) }
-    ensures refused { IfErr result (λ s. (files : Files) → S.files store.old ≡ Some files
-        → MayFail (S.faults store.old) (S.faults store.new) (read files file limit name.now) file s) }
-    ensures untold { IfErr result (λ s. S.files store.old ≡ None → IsReadFault s → Rose (S.faults store.old) (S.faults store.new)) }
-    ensures misses { (files : Files) → S.files store.old ≡ Some files → MissesNothing (read files file limit name.now) → S.misses store.new ≡ S.misses store.old }
-    ensures names { IfErr result (λ s. IsText file → NamesNoTable s) }
-    ensures from_reading { IfErr result IsFromReading }
-    ensures not_usage { IfErr result (λ s. s ≡ Status.Usage → ⊥) }
-    ensures files { S.files store.new ≡ S.files store.old }
-    ensures later { S.faults store.old ≤ S.faults store.new }
+    ensures reads { Reads (reading S.files S.faults S.misses store.old store.new) (read file limit name.now) (AtFile file) result }
 {
     match read_file(alloc, store, name, limit) {
         Ok(bytes) => Ok(bytes),
-        Err(ReadError::Missing) => Err(Status::ReadFault { file }),
-        Err(ReadError::Fault) => Err(Status::ReadFault { file }),
-        Err(ReadError::TooLong { .. }) => Err(Status::Limit {
+        Err(ReadError::Missing) => Err(Ending::Refused(Refusal::Missing { file })),
+        Err(ReadError::Fault) => Err(Ending::Fault { file }),
+        Err(ReadError::TooLong { .. }) => Err(Ending::Refused(Refusal::Limit {
             which: LimitKind::FileBytes,
             file,
             found: limit as u64 + 1,
-        }),
-        Err(ReadError::NoMemory) => Err(Status::NoMemory),
+        })),
+        Err(ReadError::NoMemory) => Err(Ending::NoMemory),
     }
 }
 
-fn schema_word<'a>(words: &[&'a str], command: Command) -> &'a str
-    ensures { result.now ≡ word_of_schema command (map (λ w. w.now) words.now) }
-{
-    match command {
-        Command::Run { schema, .. } => word_at(words, schema),
-    }
-}
-
-fn query_word<'a>(words: &[&'a str], command: Command) -> &'a str
-    ensures { result.now ≡ word_of_query command (map (λ w. w.now) words.now) }
-{
-    match command {
-        Command::Run { query, .. } => word_at(words, query),
-    }
-}
-
-// The schema of a text.
-fn schema_of(alloc: Global, text: &[u8]) -> Result<Schema, Status>
-    requires { length text.now ≤ 1048576 }
-    ensures ok { IfOk result (λ schema. schema_answer text.now ≡ Ok schema) }
+/// Reads the schema in the file of this name.
+pub fn load_schema<S: Store>(alloc: Global, store: &mut S, name: &str) -> Result<Schema, Ending>
     ensures valid { IfOk result IsValid }
-    ensures refused { IfErr result (MayTell (told schema_status (schema_answer text.now))) }
-    ensures names { IfErr result NamesNoTable }
+    ensures reads { Reads (reading S.files S.faults S.misses store.old store.new) (schema_stage name.now) (AtFile FileId.Schema) result }
 {
-    match read_schema(alloc, text) {
+    let text = load(alloc, store, FileId::Schema, name, TEXT_BYTES)?;
+    match read_schema(alloc, text.as_slice()) {
         Ok(schema) => Ok(schema),
-        Err(error) => Err(schema_refusal(error)),
+        Err(error) => Err(Ending::from(error)),
     }
 }
 
-// The query that a text asks of a schema.
-fn query_of(alloc: Global, schema: &Schema, text: &[u8]) -> Result<Query, Status>
-    requires schema { IsValid schema.now }
-    requires few { length text.now ≤ 1048576 }
-    ensures ok { IfOk result (λ query. query_answer schema.now text.now ≡ Ok query) }
-    ensures valid { IfOk result (IsOf schema.now) }
-    ensures refused { IfErr result (MayTell (told query_status (query_answer schema.now text.now))) }
-    ensures names { IfErr result NamesNoTable }
-{
-    match read_query(alloc, schema, text) {
-        Ok(query) => Ok(query),
-        Err(error) => Err(query_refusal(error)),
-    }
-}
-
-// Reads the words and the schema file.
-fn load_schema<S: Store>(
+/// Reads the query that the file of this name asks of a schema.
+pub fn load_query<S: Store>(
     alloc: Global,
-    words: &[&str],
     store: &mut S,
-) -> Result<(Command, Schema), Status>
-    ensures command { IfOk result (λ read. command_stage (map (λ w. w.now) words.now) ≡ Ok read.0) }
-    ensures ok { IfOk result (λ read. (files : Files) → S.files store.old ≡ Some files → schema_stage (map (λ w. w.now) words.now) files ≡ Ok read.1) }
-    ensures valid { IfOk result (λ read. IsValid read.1) }
-    ensures refused { IfErr result (λ s. (files : Files) → S.files store.old ≡ Some files
-        → MayRefuse (S.faults store.old) (S.faults store.new) (schema_stage (map (λ w. w.now) words.now) files) (map (λ w. w.now) words.now) files s) }
-    ensures untold { IfErr result (λ s. S.files store.old ≡ None → IsReadFault s → Rose (S.faults store.old) (S.faults store.new)) }
-    ensures misses { (files : Files) → S.files store.old ≡ Some files
-        → MissesNothing (schema_stage (map (λ w. w.now) words.now) files) → S.misses store.new ≡ S.misses store.old }
-    ensures usage { IfErr result (λ s. (s ≡ Status.Usage) ↔ (command_stage (map (λ w. w.now) words.now) ≡ Err Status.Usage)) }
-    ensures names { IfErr result NamesNoTable }
-    ensures from_reading { IfErr result IsFromReading }
-    ensures files { S.files store.new ≡ S.files store.old }
-    ensures later { S.faults store.old ≤ S.faults store.new }
+    name: &str,
+    schema: &Schema,
+) -> Result<Query, Ending>
+    requires { IsValid schema.now }
+    ensures of_schema { IfOk result (IsOf schema.now) }
+    ensures reads { Reads (reading S.files S.faults S.misses store.old store.new) (query_stage name.now schema.now) (AtFile FileId.Query) result }
 {
-    let command = match read_words(words) {
-        Ok(command) => command,
-        Err(WordsError::Usage) => return Err(Status::Usage),
-    };
-    let name = schema_word(words, command);
-    let text = match load(alloc, store, FileId::Schema, name, TEXT_BYTES) {
-        Ok(text) => text,
-        Err(status) => return Err(status),
-    };
-    match schema_of(alloc, text.as_slice()) {
-        Ok(schema) => Ok((command, schema)),
-        Err(status) => Err(status),
-    }
-}
-
-/// A schema and a query of it.
-#[derive(Debug, Drop)]
-pub struct Asked {
-    pub schema: Schema,
-    pub query: Query,
-}
-
-/// Reads the words, the schema file and the query file.
-pub fn load_query<S: Store>(alloc: Global, words: &[&str], store: &mut S) -> Result<Asked, Status>
-    ensures ok { IfOk result (λ read. (files : Files) → S.files store.old ≡ Some files
-        → query_stage (map (λ w. w.now) words.now) files ≡ Ok (record { schema = read.schema; query = read.query })) }
-    ensures schema { IfOk result (λ read. IsValid read.schema) }
-    ensures query { IfOk result (λ read. IsOf read.schema read.query) }
-    ensures command { IfOk result (λ _. IsOk (command_stage (map (λ w. w.now) words.now))) }
-    ensures refused { IfErr result (λ s. (files : Files) → S.files store.old ≡ Some files
-        → MayRefuse (S.faults store.old) (S.faults store.new) (query_stage (map (λ w. w.now) words.now) files) (map (λ w. w.now) words.now) files s) }
-    ensures untold { IfErr result (λ s. S.files store.old ≡ None → IsReadFault s → Rose (S.faults store.old) (S.faults store.new)) }
-    ensures misses { (files : Files) → S.files store.old ≡ Some files
-        → MissesNothing (query_stage (map (λ w. w.now) words.now) files) → S.misses store.new ≡ S.misses store.old }
-    ensures usage { IfErr result (λ s. (s ≡ Status.Usage) ↔ (command_stage (map (λ w. w.now) words.now) ≡ Err Status.Usage)) }
-    ensures names { IfErr result NamesNoTable }
-    ensures from_reading { IfErr result IsFromReading }
-    ensures files { S.files store.new ≡ S.files store.old }
-    ensures later { S.faults store.old ≤ S.faults store.new }
-{
-    let (command, schema) = match load_schema(alloc, words, store) {
-        Ok(read) => read,
-        Err(status) => return Err(status),
-    };
-    let name = query_word(words, command);
-    let text = match load(alloc, store, FileId::Query, name, TEXT_BYTES) {
-        Ok(text) => text,
-        Err(status) => return Err(status),
-    };
-    match query_of(alloc, &schema, text.as_slice()) {
-        Ok(query) => Ok(Asked { schema, query }),
-        Err(status) => Err(status),
+    let text = load(alloc, store, FileId::Query, name, TEXT_BYTES)?;
+    match read_query(alloc, schema, text.as_slice()) {
+        Ok(query) => Ok(query),
+        Err(error) => Err(Ending::from(error)),
     }
 }

@@ -1,24 +1,28 @@
 //! The top call: from the words of a command line to the bytes of two streams.
 //!
-//! A run has three acts. `prepare` reads the words and every file and writes nothing. `write_texts` writes
-//! the plan text and then the rows text, and takes no memory. On every status but `Done`, `report` tells the
-//! status in one line.
+//! It only sequences. `read_words` finds the command; `load_schema` and `prepare` read every file, take all memory
+//! of the run and write nothing; `write_texts` writes the plan text and then the rows text, and takes no memory.
+//! On every status but `Done`, `write_fault` tells the status in one line.
 //!
 //! What comes out, and why, is `Headline` (in `specs/Headline.antt`), the one clause of `safebound`. It
-//! stands on `verdict` (in `specs/Verdict.antt`): what the words and the files determine.
+//! stands on `verdict` (in `specs/Verdict.antt`): what the words and the files determine. A step that reads
+//! has the clause `Reads` over its stage of the verdict, and `Ran` and `Course` (in `specs/Course.antt`)
+//! compose them.
 #![tactic(auto)]
 
 mod files;
 mod keep;
 mod laws;
 mod prepare;
-mod refusals;
+mod report;
+mod tables;
 mod texts;
 mod top_call;
 mod words;
 
-pub use laws::{run_law, verdict_refuses};
-pub use printed_texts::{FileId, QueryCause, SchemaCause, SinkId, Status, TableCause};
+pub use laws::{no_reader_wants_memory, run_law};
+pub use outcomes::{FileId, QueryCause, SchemaCause, SinkId, Status, TableCause};
+pub use report::write_fault;
 pub use top_call::safebound;
 pub use words::{Command, WordsError, read_words};
 

@@ -1,17 +1,23 @@
-use Rattle.base_io.proofs.SinkFacts.{prefix_of_all}
-use Rattle.base_io.proofs.BufferFacts.{cut_next, cut_off, took_next, went_on}
+use Rattle.std.proofs.lemmas.Result.{err_from_is_err_and}
+use Rattle.outcomes.proofs.WriteFacts.{flushed, put_cut, put_then, wrote_err}
+use Rattle.printed_texts.specs.Plans.{level_lines}
 use Rattle.printed_texts.proofs.plan.write_plan.Goals as goal
 
-pub returns-in_err-write_levels-clause-prefix : goal.returns-in_err-write_levels-clause-prefix
-returns-in_err-write_levels-clause-prefix g c =
-    cut_next _ _ _ _ _ _ (rw c.new-buffer.ensures at c.in_ok-write_scans.ensures.ok) c.in_err-write_levels.ensures.prefix
+pub returns-in_err-write_scans : goal.returns-in_err-write_scans
+returns-in_err-write_scans g c =
+    let p = err_from_is_err_and c.from_residual.result c.from_residual.ensures.1 in
+    wrote_err c.new-buffer.ensures p.1
+    (put_cut (level_lines 1 c.args.sources.now c.args.plan.now.order c.args.plan.now.levels) (rw c.as_slice.ensures at c.in_err-write_scans.ensures))
 
-pub returns-in_err-flush-clause-prefix : goal.returns-in_err-flush-clause-prefix
-returns-in_err-flush-clause-prefix g c =
-    cut_off _ _ _ _ _ (took_next _ _ _ _ _ _ _ (rw c.new-buffer.ensures at c.in_ok-write_scans.ensures.ok) c.in_ok-write_levels.ensures.ok)
-    c.in_err-flush.ensures.prefix
+pub returns-in_err-write_levels : goal.returns-in_err-write_levels
+returns-in_err-write_levels g c =
+    let p = err_from_is_err_and c.from_residual-in_err-write_levels.result c.from_residual-in_err-write_levels.ensures.1 in
+    wrote_err c.new-buffer.ensures p.1
+    (put_then (rw c.as_slice.ensures at c.in_ok-write_scans.ensures) (rw (c.as_slice-order.ensures, c.as_slice-levels.ensures) at c.in_err-write_levels.ensures))
 
-pub returns-clause-prefix : goal.returns-clause-prefix
-returns-clause-prefix g c =
-    prefix_of_all _ _ _ (went_on _ _ _ _ _
-    (took_next _ _ _ _ _ _ _ (rw c.new-buffer.ensures at c.in_ok-write_scans.ensures.ok) c.in_ok-write_levels.ensures.ok) c.in_ok-flush.ensures.ok)
+pub returns : goal.returns
+returns g c =
+    let f = c.flush.ensures in
+    flushed c.flush.result c.new-buffer.ensures
+    (put_then (rw c.as_slice.ensures at c.in_ok-write_scans.ensures) (rw (c.as_slice-order.ensures, c.as_slice-levels.ensures) at c.in_ok-write_levels.ensures))
+    f.ok f.prefix f.later f.failed

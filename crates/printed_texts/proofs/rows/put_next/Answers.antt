@@ -1,26 +1,24 @@
-use Rattle.std.proofs.Common.{[], ◌∷◌}
-use Rattle.base_io.proofs.BufferFacts.{took_step}
+use Rattle.std.proofs.Common.{[], ◌∷◌, Ok, Err}
+use Rattle.std.proofs.lemmas.Result.{err_from_is_err_and}
+use Rattle.outcomes.specs.Devices.{growth}
+use Rattle.outcomes.specs.Writes.{Put}
 use Rattle.row_printer.specs.Fields.{field_text}
 use Rattle.sql_meaning.specs.Tables.{tables_of}
+use Rattle.outcomes.proofs.WriteFacts.{put_cut, put_err, put_then}
 use Rattle.printed_texts.specs.Lines.{field_at}
-use Rattle.printed_texts.proofs.Parts.{cut_one, cut_two}
 use Rattle.printed_texts.proofs.rows.put_next.Goals as goal
 
-pub returns-in_err-put_comma-clause-prefix : goal.returns-in_err-put_comma-clause-prefix
-returns-in_err-put_comma-clause-prefix g c =
-    cut_one _ _ c.args.buffer.now (44 ∷ []) (field_text (field_at (tables_of c.args.db.now) c.args.line c.args.out.now)) c.put_comma.ensures.prefix
+pub returns-in_err-put_comma : goal.returns-in_err-put_comma
+returns-in_err-put_comma g c =
+    let p = err_from_is_err_and c.from_residual.result c.from_residual.ensures.1 in
+    let k = c.in_err-put_comma.ensures in
+    let comma : Put (growth g.N.Sink.taken g.N.Sink.faults c.args.sink.now c.put_comma.new.sink) c.args.buffer.now c.put_comma.new.buffer (44 ∷ []) (Err c.in_err-put_comma.field-0.0) =
+    record { ok = tt; prefix = k.prefix; later = k.later; failed = k.failed } in
+    put_err p.1 (put_cut (field_text (field_at (tables_of c.args.db.now) c.args.line c.args.out.now)) comma)
 
-pub returns-in_err-put_value-clause-prefix : goal.returns-in_err-put_value-clause-prefix
-returns-in_err-put_value-clause-prefix g c =
-    cut_two _ _ _ _ c.args.buffer.now (44 ∷ []) (field_text (field_at (tables_of c.args.db.now) c.args.line c.args.out.now)) c.in_ok-put_comma.ensures.ok
-    (rw c.field.ensures at c.put_value.ensures.prefix)
-
-pub returns-clause-ok : goal.returns-clause-ok
-returns-clause-ok g c =
-    took_step _ _ _ _ _ c.args.buffer.now (44 ∷ []) (field_text (field_at (tables_of c.args.db.now) c.args.line c.args.out.now)) c.in_ok-put_comma.ensures.ok
-    (rw c.field.ensures at c.in_ok-put_value.ensures.ok)
-
-pub returns-clause-prefix : goal.returns-clause-prefix
-returns-clause-prefix g c =
-    cut_two _ _ _ _ c.args.buffer.now (44 ∷ []) (field_text (field_at (tables_of c.args.db.now) c.args.line c.args.out.now)) c.in_ok-put_comma.ensures.ok
-    (rw c.field.ensures at c.put_value.ensures.prefix)
+pub returns : goal.returns
+returns g c =
+    let k = c.in_ok-put_comma.ensures in
+    let comma : Put (growth g.N.Sink.taken g.N.Sink.faults c.args.sink.now c.put_comma.new.sink) c.args.buffer.now c.put_comma.new.buffer (44 ∷ []) (Ok tt) =
+    record { ok = k.ok; prefix = k.prefix; later = k.later; failed = tt } in
+    put_then comma (rw c.field.ensures at c.put_value.ensures)

@@ -1,43 +1,19 @@
-use Rattle.std.proofs.Common.{List, ℕ, map, ◌∙◌}
-use denote.Bor.{Bor}
-use Rattle.safebound_top.proofs.Staged.{query_failed, query_missed, query_refused, query_spelled, schema_first, schema_missed_first}
+use Rattle.std.proofs.lemmas.Result.{err_from_is_err_and}
+use Rattle.safebound_top.proofs.Answered.{query_read, query_told}
+use Rattle.safebound_top.proofs.Stages.{query_refused, query_spelled, query_stops}
 use Rattle.safebound_top.proofs.files.load_query.Goals as goal
 
-pub returns-in-Err-clause-refused : goal.returns-in-Err-clause-refused
-returns-in-Err-clause-refused g c files told = schema_first _ _ (map (λ (w : Bor (List ℕ)). w.now) c.args.words.now) files _ (c.in-Err.ensures.refused files told)
+pub returns-in_err-text-clause-reads : goal.returns-in_err-text-clause-reads
+returns-in_err-text-clause-reads g c =
+    let p = err_from_is_err_and c.from_residual.result c.from_residual.ensures.1 in
+    rw (p.1, p.2) (query_stops c.args.name.now c.args.schema.now c.in_err-text.field-0.0 c.in_err-text.ensures.reads)
 
-pub returns-in-Err-clause-misses : goal.returns-in-Err-clause-misses
-returns-in-Err-clause-misses g c files told h = c.load_schema.ensures.misses files told (schema_missed_first (map (λ (w : Bor (List ℕ)). w.now) c.args.words.now) files h)
+pub returns-in-Ok-clause-reads : goal.returns-in-Ok-clause-reads
+returns-in-Ok-clause-reads g c =
+    query_spelled c.args.name.now c.args.schema.now _ c.as_slice.result.now c.in-Ok.query c.as_slice.ensures
+    (query_read c.args.schema.now c.as_slice.result.now c.in-Ok.query c.in-Ok.ensures.meaning) c.in_ok-text.ensures.reads
 
-pub returns-in-Err-load-clause-refused : goal.returns-in-Err-load-clause-refused
-returns-in-Err-load-clause-refused g c files told =
-    query_failed (map (λ (w : Bor (List ℕ)). w.now) c.args.words.now) files c.in-Ok.read.0 c.in-Ok.read.1 _ c.in-Ok.ensures.command (c.in-Ok.ensures.ok files told) c.query_word-name.ensures
-    _ _ _ _ c.load_schema.ensures.later (c.in-Err-load.ensures.refused files (c.load_schema.ensures.files ∙ told))
-
-pub returns-in-Err-load-clause-misses : goal.returns-in-Err-load-clause-misses
-returns-in-Err-load-clause-misses g c files told h =
-    c.load.ensures.misses files (c.load_schema.ensures.files ∙ told)
-    (query_missed (map (λ (w : Bor (List ℕ)). w.now) c.args.words.now) files c.in-Ok.read.0 c.in-Ok.read.1 _ c.in-Ok.ensures.command (c.in-Ok.ensures.ok files told) c.query_word-name.ensures h)
-    ∙ c.load_schema.ensures.misses files told (schema_missed_first (map (λ (w : Bor (List ℕ)). w.now) c.args.words.now) files h)
-
-pub returns-in-Ok-query_of-clause-ok : goal.returns-in-Ok-query_of-clause-ok
-returns-in-Ok-query_of-clause-ok g c files told =
-    query_spelled (map (λ (w : Bor (List ℕ)). w.now) c.args.words.now) files c.in-Ok.read.0 c.in-Ok.read.1 _ c.in-Ok.ensures.command (c.in-Ok.ensures.ok files told) c.query_word-name.ensures
-    _ _ _ (c.in-Ok-load.ensures.ok files (c.load_schema.ensures.files ∙ told)) c.as_slice.ensures c.in-Ok-query_of.ensures.ok
-
-pub returns-in-Ok-query_of-clause-misses : goal.returns-in-Ok-query_of-clause-misses
-returns-in-Ok-query_of-clause-misses g c files told h =
-    c.load.ensures.misses files (c.load_schema.ensures.files ∙ told)
-    (query_missed (map (λ (w : Bor (List ℕ)). w.now) c.args.words.now) files c.in-Ok.read.0 c.in-Ok.read.1 _ c.in-Ok.ensures.command (c.in-Ok.ensures.ok files told) c.query_word-name.ensures h)
-    ∙ c.load_schema.ensures.misses files told (schema_missed_first (map (λ (w : Bor (List ℕ)). w.now) c.args.words.now) files h)
-
-pub returns-in-Err-query_of-clause-refused : goal.returns-in-Err-query_of-clause-refused
-returns-in-Err-query_of-clause-refused g c files told =
-    query_refused (map (λ (w : Bor (List ℕ)). w.now) c.args.words.now) files c.in-Ok.read.0 c.in-Ok.read.1 _ c.in-Ok.ensures.command (c.in-Ok.ensures.ok files told) c.query_word-name.ensures
-    _ _ _ _ _ (c.in-Ok-load.ensures.ok files (c.load_schema.ensures.files ∙ told)) c.as_slice.ensures c.in-Err-query_of.ensures.refused
-
-pub returns-in-Err-query_of-clause-misses : goal.returns-in-Err-query_of-clause-misses
-returns-in-Err-query_of-clause-misses g c files told h =
-    c.load.ensures.misses files (c.load_schema.ensures.files ∙ told)
-    (query_missed (map (λ (w : Bor (List ℕ)). w.now) c.args.words.now) files c.in-Ok.read.0 c.in-Ok.read.1 _ c.in-Ok.ensures.command (c.in-Ok.ensures.ok files told) c.query_word-name.ensures h)
-    ∙ c.load_schema.ensures.misses files told (schema_missed_first (map (λ (w : Bor (List ℕ)). w.now) c.args.words.now) files h)
+pub returns-clause-reads : goal.returns-clause-reads
+returns-clause-reads g c =
+    rw c.from.ensures (query_refused c.args.name.now c.args.schema.now _ c.as_slice.result.now _ c.as_slice.ensures
+    (query_told c.args.schema.now c.as_slice.result.now c.in-Err.error c.in-Err.ensures.meaning) c.in_ok-text.ensures.reads)

@@ -1,38 +1,18 @@
-use Rattle.std.proofs.Common.{List, ℕ, map, ap, sym}
-use denote.Bor.{Bor}
-use Rattle.safebound_top.specs.Verdict.{usage_unless}
-use Rattle.safebound_top.proofs.Staged.{schema_failed, schema_missed, schema_refused, schema_spelled, usage_only, usage_refused}
+use Rattle.std.proofs.Common.{◌≡◌}
+use Rattle.std.proofs.lemmas.Result.{err_from_is_err_and}
+use Rattle.safebound_top.proofs.Answered.{schema_read, schema_told}
+use Rattle.safebound_top.proofs.Stages.{schema_refused, schema_spelled, schema_stops}
 use Rattle.safebound_top.proofs.files.load_schema.Goals as goal
 
-pub returns-in-Err-Usage-clause-refused : goal.returns-in-Err-Usage-clause-refused
-returns-in-Err-Usage-clause-refused g c files told = usage_refused (map (λ (w : Bor (List ℕ)). w.now) c.args.words.now) files (usage_only _ _ (sym c.in-Err-Usage.ensures))
+pub returns-in_err-text-clause-reads : goal.returns-in_err-text-clause-reads
+returns-in_err-text-clause-reads g c =
+    let p = err_from_is_err_and c.from_residual.result c.from_residual.ensures.1 in
+    rw (p.1, p.2) (schema_stops c.args.name.now c.in_err-text.field-0.0 c.in_err-text.ensures.reads)
 
-pub returns-in-Err-clause-refused : goal.returns-in-Err-clause-refused
-returns-in-Err-clause-refused g c files told =
-    schema_failed (map (λ (w : Bor (List ℕ)). w.now) c.args.words.now) files c.in-Ok.command _ (ap usage_unless (sym c.in-Ok.ensures)) c.schema_word-name.ensures
-    _ _ _ (c.in-Err.ensures.refused files told)
+pub returns-in-Ok-clause-reads : goal.returns-in-Ok-clause-reads
+returns-in-Ok-clause-reads g c =
+    schema_spelled c.args.name.now _ c.as_slice.result.now c.in-Ok.schema c.as_slice.ensures (schema_read c.as_slice.result.now c.in-Ok.schema c.in-Ok.ensures.meaning) c.in_ok-text.ensures.reads
 
-pub returns-in-Err-clause-misses : goal.returns-in-Err-clause-misses
-returns-in-Err-clause-misses g c files told h =
-    c.load.ensures.misses files told
-    (schema_missed (map (λ (w : Bor (List ℕ)). w.now) c.args.words.now) files c.in-Ok.command _ (ap usage_unless (sym c.in-Ok.ensures)) c.schema_word-name.ensures h)
-
-pub returns-in-Ok-schema_of-clause-ok : goal.returns-in-Ok-schema_of-clause-ok
-returns-in-Ok-schema_of-clause-ok g c files told =
-    schema_spelled (map (λ (w : Bor (List ℕ)). w.now) c.args.words.now) files c.in-Ok.command _ (ap usage_unless (sym c.in-Ok.ensures)) c.schema_word-name.ensures
-    _ _ _ (c.in-Ok-load.ensures.ok files told) c.as_slice.ensures c.in-Ok-schema_of.ensures.ok
-
-pub returns-in-Ok-schema_of-clause-misses : goal.returns-in-Ok-schema_of-clause-misses
-returns-in-Ok-schema_of-clause-misses g c files told h =
-    c.load.ensures.misses files told
-    (schema_missed (map (λ (w : Bor (List ℕ)). w.now) c.args.words.now) files c.in-Ok.command _ (ap usage_unless (sym c.in-Ok.ensures)) c.schema_word-name.ensures h)
-
-pub returns-clause-refused : goal.returns-clause-refused
-returns-clause-refused g c files told =
-    schema_refused (map (λ (w : Bor (List ℕ)). w.now) c.args.words.now) files c.in-Ok.command _ (ap usage_unless (sym c.in-Ok.ensures)) c.schema_word-name.ensures
-    _ _ _ _ _ (c.in-Ok-load.ensures.ok files told) c.as_slice.ensures c.in-Err-schema_of.ensures.refused
-
-pub returns-clause-misses : goal.returns-clause-misses
-returns-clause-misses g c files told h =
-    c.load.ensures.misses files told
-    (schema_missed (map (λ (w : Bor (List ℕ)). w.now) c.args.words.now) files c.in-Ok.command _ (ap usage_unless (sym c.in-Ok.ensures)) c.schema_word-name.ensures h)
+pub returns-clause-reads : goal.returns-clause-reads
+returns-clause-reads g c =
+    rw c.from.ensures (schema_refused c.args.name.now _ c.as_slice.result.now _ c.as_slice.ensures (schema_told c.as_slice.result.now c.in-Err.error c.in-Err.ensures.meaning) c.in_ok-text.ensures.reads)

@@ -1,0 +1,170 @@
+-- Steps that read, one after the other.
+use Rattle.std.proofs.Common.{◌≡◌, ℕ, ◌≤◌, inl, inr, Option, None, Some, Result, Ok, Err, refl, ap, sym, ◌∙◌, subst, arith}
+use Rattle.base_io.specs.Causes.{Rose}
+use Rattle.base_io.specs.Files.{Files}
+use Rattle.outcomes.specs.Devices.{Reading}
+use Rattle.outcomes.specs.Reads.{◌>>=◌, Ends, Gives, IsOfWhatIsThere, MissesNothing, Reads, Tells}
+use Rattle.outcomes.specs.declared.ending.Ending.{Ending}
+use Rattle.outcomes.specs.declared.ending.Ending.TheVariants as ending
+use Rattle.outcomes.specs.declared.names.FileId.{FileId}
+use Rattle.outcomes.specs.declared.refusal.Refusal.{Refusal}
+use Rattle.outcomes.specs.declared.refusal.Refusal.TheVariants as refusal
+
+abbrev OfFiles : Type 0 → Type 0
+OfFiles A = Files → Result A Refusal
+
+abbrev Places : Type 1
+Places = Files → FileId → Type 0
+
+-- two steps as one
+abbrev pub joined : Reading → Reading → Reading
+joined first second = record {
+  files = first.files;
+  files_after = second.files_after;
+  faults_before = first.faults_before;
+  faults_after = second.faults_after;
+  misses_before = first.misses_before;
+  misses_after = second.misses_after;
+}
+
+-- the second step begins where the first ended
+pub record Meets (first second : Reading) : Type 0 where
+  pub files : first.files_after ≡ second.files
+  pub faults : first.faults_after ≡ second.faults_before
+  pub misses : first.misses_after ≡ second.misses_before
+
+rose_earlier : (f0 f1 f2 : ℕ) → f0 ≤ f1 → Rose f1 f2 → Rose f0 f2
+rose_earlier f0 f1 f2 le (inl lt) = inl (omega arith)
+rose_earlier f0 f1 f2 le (inr last) = inr last
+
+-- a value of the first stage leaves what the second gives
+at_ok : {A B : Type 0} (r : Result A Refusal) (f : A → Result B Refusal) (x : A) → r ≡ Ok x → (r >>= f) ≡ f x
+at_ok r f x e = rw e refl
+
+at_err : {A B : Type 0} (r : Result A Refusal) (f : A → Result B Refusal) (s : Refusal) → r ≡ Err s → (r >>= f) ≡ Err s
+at_err r f s e = rw e refl
+
+-- what the first stage misses, both miss
+misses_first : {A B : Type 0} (r : Result A Refusal) (f : A → Result B Refusal) → MissesNothing (r >>= f) → MissesNothing r
+misses_first r f h file e = h file (at_err r f (refusal.Missing file) e)
+
+same_misses : {A : Type 0} (r q : Result A Refusal) → r ≡ q → MissesNothing r → MissesNothing q
+same_misses r q e h = subst MissesNothing e h
+
+module _ {A B : Type 0} (one : OfFiles A) (two : A → OfFiles B) where
+  -- the first stage, and then the second over its value
+  abbrev pub both : OfFiles B
+  both files = one files >>= (λ x. two x files)
+
+  -- the first step ended, so both did
+  pub then_stops : (store : Reading) (C D : Places) (e : Ending) → ((files : Files) (file : FileId) → C files file → D files file)
+      → Reads store one C (Err e) → Reads store both D (Err e)
+  then_stops store C D e more h = record {
+    gives = ends e h.gives;
+    misses = λ files told missed. h.misses files told (misses_first (one files) (λ x. two x files) missed);
+    later = h.later;
+    same = h.same;
+  }
+    where
+      ends : (e : Ending) → Ends store one C e → Ends store both D e
+      ends (ending.Refused r) k = ((λ files told. at_err (one files) (λ x. two x files) r (k.0 files told)), k.1, k.2)
+      ends (ending.Fault file) k = (k.0, λ files told. more files file (k.1 files told))
+      ends ending.NoMemory k = tt
+
+  -- both steps
+  pub then_reads : (first second : Reading) (C D E : Places) (x : A) (answer : Result B Ending) → Meets first second
+      → ((files : Files) (file : FileId) → one files ≡ Ok x → D files file → E files file)
+      → Reads first one C (Ok x) → Reads second (two x) D answer → Reads (joined first second) both E answer
+  then_reads first second C D E x answer meets more h k = record {
+    gives = given answer k.gives;
+    misses = λ files told missed.
+        let next : MissesNothing (two x files) = same_misses (both files) (two x files) (at_ok (one files) (λ y. two y files) x (h.gives files told)) missed in
+        k.misses files (told_again files told) next ∙ sym meets.misses
+        ∙ h.misses files told (misses_first (one files) (λ y. two y files) missed);
+    later = omega (arith, h.later, k.later, meets.faults);
+    same = k.same ∙ sym meets.files ∙ h.same;
+  }
+    where
+      told_again : (files : Files) → first.files ≡ Some files → second.files ≡ Some files
+      told_again files told = sym meets.files ∙ h.same ∙ told
+
+      ends : (e : Ending) → Ends second (two x) D e → Ends (joined first second) both E e
+      ends (ending.Refused r) w =
+          ((λ files told. at_ok (one files) (λ y. two y files) x (h.gives files told) ∙ w.0 files (told_again files told)),
+          (λ none. w.1 (sym meets.files ∙ h.same ∙ none)), w.2)
+      ends (ending.Fault file) w =
+          (rose_earlier first.faults_before second.faults_before second.faults_after (omega (arith, h.later, meets.faults)) w.0,
+          λ files told. more files file (h.gives files told) (w.1 files (told_again files told)))
+      ends ending.NoMemory w = tt
+
+      given : (answer : Result B Ending) → Gives second (two x) D answer → Gives (joined first second) both E answer
+      given (Ok y) w = λ files told. at_ok (one files) (λ z. two z files) x (h.gives files told) ∙ w files (told_again files told)
+      given (Err e) w = ends e w
+
+-- a step that reads, and then one that reads no file
+module _ {A B : Type 0} (store : Reading) (one : OfFiles A) (next : A → Result B Refusal) (C D : Places) (x : A) where
+  abbrev after : OfFiles B
+  after files = one files >>= next
+
+  pub then_gives : (y : B) → next x ≡ Ok y → Reads store one C (Ok x) → Reads store after D (Ok y)
+  then_gives y is h = record {
+    gives = λ files told. at_ok (one files) next x (h.gives files told) ∙ is;
+    misses = λ files told missed. h.misses files told (misses_first (one files) next missed);
+    later = h.later;
+    same = h.same;
+  }
+
+  pub then_tells : (e : Ending) → Tells (next x) e → Reads store one C (Ok x) → Reads store after D (Err e)
+  then_tells e tells h = record {
+    gives = ends e tells;
+    misses = λ files told missed. h.misses files told (misses_first (one files) next missed);
+    later = h.later;
+    same = h.same;
+  }
+    where
+      ends : (e : Ending) → Tells (next x) e → Ends store after D e
+      ends (ending.Refused r) w = ((λ files told. at_ok (one files) next x (h.gives files told) ∙ w.0), (λ none. w.1), w.2)
+      ends (ending.Fault file) w = absurd w
+      ends ending.NoMemory w = tt
+
+-- a step that reads, with another name for its stage
+pub reads_as : {A : Type 0} (store : Reading) (one two : OfFiles A) (C D : Places) (answer : Result A Ending) → ((files : Files) → two files ≡ one files)
+    → ((files : Files) (file : FileId) → C files file → D files file) → Reads store one C answer → Reads store two D answer
+reads_as {A} store one two C D answer same more h = record {
+  gives = given answer h.gives;
+  misses = λ files told missed. h.misses files told (same_misses (two files) (one files) (same files) missed);
+  later = h.later;
+  same = h.same;
+}
+  where
+    ends : (e : Ending) → Ends store one C e → Ends store two D e
+    ends (ending.Refused r) w = ((λ files told. same files ∙ w.0 files told), w.1, w.2)
+    ends (ending.Fault file) w = (w.0, λ files told. more files file (w.1 files told))
+    ends ending.NoMemory w = tt
+
+    given : (answer : Result A Ending) → Gives store one C answer → Gives store two D answer
+    given (Ok y) w = λ files told. same files ∙ w files told
+    given (Err e) w = ends e w
+
+-- a step that reads no file, and then one that reads
+module _ {A B : Type 0} (store : Reading) (one : Result A Refusal) (two : A → OfFiles B) where
+  abbrev pub before : OfFiles B
+  before files = one >>= (λ x. two x files)
+
+  pub tells_first : (D : Places) (e : Ending) → store.misses_after ≡ store.misses_before → store.faults_before ≤ store.faults_after → store.files_after ≡ store.files
+      → Tells one e → Reads store before D (Err e)
+  tells_first D e misses later same tells = record {
+    gives = ends e tells;
+    misses = λ files told missed. misses;
+    later = later;
+    same = same;
+  }
+    where
+      ends : (e : Ending) → Tells one e → Ends store before D e
+      ends (ending.Refused r) w = ((λ files told. at_err one (λ x. two x files) r w.0), (λ none. w.1), w.2)
+      ends (ending.Fault file) w = absurd w
+      ends ending.NoMemory w = tt
+
+  pub gives_first : (C D : Places) (x : A) (answer : Result B Ending) → one ≡ Ok x → ((files : Files) (file : FileId) → C files file → D files file)
+      → Reads store (two x) C answer → Reads store before D answer
+  gives_first C D x answer is more h = reads_as store (two x) before C D answer (λ files. at_ok one (λ y. two y files) x is) more h

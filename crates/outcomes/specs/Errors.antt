@@ -1,0 +1,56 @@
+-- What the readers refuse, as refusals and as endings.
+--
+-- A reader's error may be want of memory, which is no refusal. No text and no table's bytes answer it, so the refusal in its place
+-- stands for nothing.
+use Rattle.std.specs.Prelude.{ℕ}
+use Rattle.schema_types.specs.declared.errors.LimitKind.TheVariants as limit
+use Rattle.schema_types.specs.declared.errors.SchemaError.{SchemaError}
+use Rattle.schema_types.specs.declared.errors.SchemaError.TheVariants as schema
+use Rattle.sql_parse.specs.declared.errors.QueryError.{QueryError}
+use Rattle.sql_parse.specs.declared.errors.QueryError.TheVariants as query
+use Rattle.csv_tables.specs.declared.types.TableError.{TableError}
+use Rattle.csv_tables.specs.declared.types.TableError.TheVariants as table
+use Rattle.outcomes.specs.declared.ending.Ending.{Ending}
+use Rattle.outcomes.specs.declared.ending.Ending.TheVariants as ending
+use Rattle.outcomes.specs.declared.names.FileId.TheVariants as file
+use Rattle.outcomes.specs.declared.refusal.QueryCause.TheVariants as query_cause
+use Rattle.outcomes.specs.declared.refusal.Refusal.{Refusal}
+use Rattle.outcomes.specs.declared.refusal.Refusal.TheVariants as refusal
+use Rattle.outcomes.specs.declared.refusal.SchemaCause.TheVariants as schema_cause
+use Rattle.outcomes.specs.declared.refusal.TableCause.TheVariants as table_cause
+
+abbrev pub schema_refusal : SchemaError → Refusal
+schema_refusal (schema.Syntax at) = refusal.Schema schema_cause.Syntax at
+schema_refusal (schema.Name at) = refusal.Schema schema_cause.Name at
+schema_refusal (schema.Nullable at) = refusal.Schema schema_cause.Nullable at
+schema_refusal (schema.Limit which found) = refusal.Limit which file.Schema found
+schema_refusal schema.NoMemory = refusal.Usage
+
+abbrev pub query_refusal : QueryError → Refusal
+query_refusal (query.Syntax at) = refusal.Query query_cause.Syntax at
+query_refusal (query.Name at) = refusal.Query query_cause.Name at
+query_refusal (query.Kind at) = refusal.Query query_cause.Kind at
+query_refusal (query.Limit which found) = refusal.Limit which file.Query found
+query_refusal query.NoMemory = refusal.Usage
+
+-- of the table with this place in the schema
+abbrev pub table_refusal : ℕ → TableError → Refusal
+table_refusal number (table.Utf8 at) = refusal.Table number (table_cause.Utf8 at)
+table_refusal number (table.Header column) = refusal.Table number (table_cause.Header column)
+table_refusal number (table.Width row found) = refusal.Table number (table_cause.Width row found)
+table_refusal number (table.Field row column) = refusal.Table number (table_cause.Field row column)
+table_refusal number (table.Key row earlier) = refusal.Table number (table_cause.Key row earlier)
+table_refusal number (table.Limit found) = refusal.Limit limit.Rows (file.Table number) found
+table_refusal number table.NoMemory = refusal.Usage
+
+abbrev pub schema_ending : SchemaError → Ending
+schema_ending schema.NoMemory = ending.NoMemory
+schema_ending e = ending.Refused (schema_refusal e)
+
+abbrev pub query_ending : QueryError → Ending
+query_ending query.NoMemory = ending.NoMemory
+query_ending e = ending.Refused (query_refusal e)
+
+abbrev pub table_ending : ℕ → TableError → Ending
+table_ending number table.NoMemory = ending.NoMemory
+table_ending number e = ending.Refused (table_refusal number e)

@@ -1,0 +1,5 @@
+pub mod Devices
+pub mod Errors
+pub mod Reads
+pub mod Statuses
+pub mod Writes

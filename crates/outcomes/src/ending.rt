@@ -1,0 +1,124 @@
+//! How a reading ends before its end.
+ghost use Rattle.std.specs.Prelude.{◌≡◌};
+ghost use Rattle.outcomes.specs.Errors.{query_ending, schema_ending, table_ending as ending_of};
+ghost use Rattle.outcomes.specs.declared.ending.Ending.TheVariants as ending;
+
+use crate::{FileId, QueryCause, Refusal, SchemaCause, TableCause};
+use base_io::NoMemory;
+use csv_tables::TableError;
+use schema_types::{LimitKind, SchemaError};
+use sql_parse::QueryError;
+use std::alloc::AllocFailed;
+
+/// Why a reading stopped.
+#[derive(Clone, Copy, Debug, PartialEq, Eq)]
+pub enum Ending {
+    /// The words or the files are refused.
+    Refused(Refusal),
+    /// A read of this file failed, and the store has counted a fault.
+    Fault { file: FileId },
+    /// Memory was wanting.
+    NoMemory,
+}
+
+impl From<Refusal> for Ending {
+    ghost from_gives = { λ r e. e ≡ ending.Refused r };
+
+    fn from(refusal: Refusal) -> Self {
+        Ending::Refused(refusal)
+    }
+}
+
+impl From<NoMemory> for Ending {
+    ghost from_gives = { λ _ e. e ≡ ending.NoMemory };
+
+    fn from(_: NoMemory) -> Self {
+        Ending::NoMemory
+    }
+}
+
+impl<T: Drop> From<AllocFailed<T>> for Ending {
+    ghost from_gives = { λ _ e. e ≡ ending.NoMemory };
+
+    fn from(_: AllocFailed<T>) -> Self {
+        Ending::NoMemory
+    }
+}
+
+impl From<SchemaError> for Ending {
+    ghost from_gives = { λ error e. e ≡ schema_ending error };
+
+    fn from(error: SchemaError) -> Self {
+        let refusal = match error {
+            SchemaError::Syntax { at } => Refusal::Schema {
+                cause: SchemaCause::Syntax,
+                at,
+            },
+            SchemaError::Name { at } => Refusal::Schema {
+                cause: SchemaCause::Name,
+                at,
+            },
+            SchemaError::Nullable { at } => Refusal::Schema {
+                cause: SchemaCause::Nullable,
+                at,
+            },
+            SchemaError::Limit { which, found } => Refusal::Limit {
+                which,
+                file: FileId::Schema,
+                found,
+            },
+            SchemaError::NoMemory => return Ending::NoMemory,
+        };
+        Ending::Refused(refusal)
+    }
+}
+
+impl From<QueryError> for Ending {
+    ghost from_gives = { λ error e. e ≡ query_ending error };
+
+    fn from(error: QueryError) -> Self {
+        let refusal = match error {
+            QueryError::Syntax { at } => Refusal::Query {
+                cause: QueryCause::Syntax,
+                at,
+            },
+            QueryError::Name { at } => Refusal::Query {
+                cause: QueryCause::Name,
+                at,
+            },
+            QueryError::Kind { at } => Refusal::Query {
+                cause: QueryCause::Kind,
+                at,
+            },
+            QueryError::Limit { which, found } => Refusal::Limit {
+                which,
+                file: FileId::Query,
+                found,
+            },
+            QueryError::NoMemory => return Ending::NoMemory,
+        };
+        Ending::Refused(refusal)
+    }
+}
+
+/// How the reading ends of the file of the table with this place in the schema.
+pub fn table_ending(table: u32, error: TableError) -> Ending
+    ensures { result ≡ ending_of table error }
+{
+    let cause = match error {
+        TableError::Utf8 { at } => TableCause::Utf8 { at },
+        TableError::Header { column } => TableCause::Header { column },
+        TableError::Width { row, found } => TableCause::Width { row, found },
+        TableError::Field { row, column } => TableCause::Field { row, column },
+        TableError::Key { row, earlier } => TableCause::Key { row, earlier },
+        TableError::Limit { found } => {
+            return Ending::Refused(Refusal::Limit {
+                which: LimitKind::Rows,
+                file: FileId::Table(table),
+                found: found as u64,
+            });
+        }
+        TableError::NoMemory => return Ending::NoMemory,
+    };
+    Ending::Refused(Refusal::Table { table, cause })
+}

@@ -1,0 +1,16 @@
+//! The files and the streams of a run.
+
+/// A file that a run reads. A table is named by its place in the schema.
+#[derive(Clone, Copy, Debug, PartialEq, Eq)]
+pub enum FileId {
+    Schema,
+    Query,
+    Table(u32),
+}
+
+/// A stream that a run writes.
+#[derive(Clone, Copy, Debug, PartialEq, Eq)]
+pub enum SinkId {
+    Out,
+    Notes,
+}

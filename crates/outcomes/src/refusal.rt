@@ -1,0 +1,56 @@
+//! Why the words and the files give no run.
+
+use crate::FileId;
+use schema_types::LimitKind;
+
+/// What is wrong with a schema text at a place.
+#[derive(Clone, Copy, Debug, PartialEq, Eq)]
+pub enum SchemaCause {
+    Syntax,
+    Name,
+    Nullable,
+}
+
+/// What is wrong with a query text at a place.
+#[derive(Clone, Copy, Debug, PartialEq, Eq)]
+pub enum QueryCause {
+    Syntax,
+    Name,
+    Kind,
+}
+
+/// What is wrong with a table file. Records are numbered from 0, the header; columns are declared columns,
+/// numbered from 0.
+#[derive(Clone, Copy, Debug, PartialEq, Eq)]
+pub enum TableCause {
+    Utf8 { at: u32 },
+    Header { column: u32 },
+    Width { row: u32, found: u32 },
+    Field { row: u32, column: u32 },
+    Key { row: u32, earlier: u32 },
+}
+
+/// What the words and the files alone refuse. Places are offsets in bytes from 0.
+#[derive(Clone, Copy, Debug, PartialEq, Eq)]
+pub enum Refusal {
+    /// The words are no command.
+    Usage,
+    /// The file isn't there.
+    Missing { file: FileId },
+    /// The schema text is refused at this place.
+    Schema { cause: SchemaCause, at: u32 },
+    /// The query text is refused at this place.
+    Query { cause: QueryCause, at: u32 },
+    /// The file of the table with this place in the schema is refused.
+    Table { table: u32, cause: TableCause },
+    /// The file has this many of a thing, more than its limit.
+    Limit {
+        which: LimitKind,
+        file: FileId,
+        found: u64,
+    },
+    /// The least cost of an order, in rows, is above the budget.
+    Budget { least: u128 },
+    /// The file asks for what isn't built today.
+    Unbuilt { file: FileId },
+}

@@ -1,0 +1,96 @@
+//! What a run answers.
+ghost use Rattle.std.specs.Prelude.{◌≡◌};
+ghost use Rattle.outcomes.specs.Statuses.{code_of, ended, refused};
+ghost use Rattle.outcomes.specs.declared.status.Status.TheVariants as status;
+
+use crate::{Ending, FileId, QueryCause, Refusal, SchemaCause, SinkId, TableCause};
+use schema_types::LimitKind;
+
+/// How a run ended. Places are offsets in bytes from 0.
+#[derive(Clone, Copy, Debug, PartialEq, Eq)]
+pub enum Status {
+    /// Both texts were written whole.
+    Done,
+    /// The words are no command.
+    Usage,
+    /// The file isn't there, or a read of it failed.
+    ReadFault { file: FileId },
+    /// The schema text is refused at this place.
+    Schema { cause: SchemaCause, at: u32 },
+    /// The query text is refused at this place.
+    Query { cause: QueryCause, at: u32 },
+    /// The file of the table with this place in the schema is refused.
+    Table { table: u32, cause: TableCause },
+    /// The file has this many of a thing, more than its limit.
+    Limit {
+        which: LimitKind,
+        file: FileId,
+        found: u64,
+    },
+    /// The least cost of an order, in rows, is above the budget.
+    Budget { least: u128 },
+    /// The file asks for what isn't built today.
+    Unbuilt { file: FileId },
+    /// A write failed.
+    WriteFault { sink: SinkId },
+    /// Memory was wanting before the first byte of the plan text.
+    NoMemory,
+}
+
+impl Status {
+    /// The exit status of a process.
+    pub fn code(&self) -> u8
+        ensures { result ≡ code_of self.now }
+    {
+        match self {
+            Status::Done => 0,
+            Status::Usage => 2,
+            Status::ReadFault { .. } => 3,
+            Status::Schema { .. } => 4,
+            Status::Query { .. } => 5,
+            Status::Table { .. } => 6,
+            Status::Limit { .. } => 7,
+            Status::Budget { .. } => 8,
+            Status::WriteFault { .. } => 10,
+            Status::NoMemory => 11,
+            Status::Unbuilt { .. } => 13,
+        }
+    }
+}
+
+impl From<Refusal> for Status {
+    ghost from_gives = { λ r s. s ≡ refused r };
+
+    fn from(refusal: Refusal) -> Self {
+        match refusal {
+            Refusal::Usage => Status::Usage,
+            Refusal::Missing { file } => Status::ReadFault { file },
+            Refusal::Schema { cause, at } => Status::Schema { cause, at },
+            Refusal::Query { cause, at } => Status::Query { cause, at },
+            Refusal::Table { table, cause } => Status::Table { table, cause },
+            Refusal::Limit { which, file, found } => Status::Limit { which, file, found },
+            Refusal::Budget { least } => Status::Budget { least },
+            Refusal::Unbuilt { file } => Status::Unbuilt { file },
+        }
+    }
+}
+
+impl From<Ending> for Status {
+    ghost from_gives = { λ e s. s ≡ ended e };
+
+    fn from(ending: Ending) -> Self {
+        match ending {
+            Ending::Refused(refusal) => Status::from(refusal),
+            Ending::Fault { file } => Status::ReadFault { file },
+            Ending::NoMemory => Status::NoMemory,
+        }
+    }
+}
+
+impl From<SinkId> for Status {
+    ghost from_gives = { λ sink s. s ≡ status.WriteFault sink };
+
+    fn from(sink: SinkId) -> Self {
+        Status::WriteFault { sink }
+    }
+}

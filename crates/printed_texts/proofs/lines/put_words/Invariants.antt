@@ -1,0 +1,10 @@
+use Rattle.std.proofs.Common.{Ok, take}
+use Rattle.std.specs.List.{flat_map}
+use Rattle.outcomes.specs.Devices.{growth}
+use Rattle.outcomes.specs.Writes.{Put}
+use Rattle.printed_texts.specs.Faults.{behind_blank}
+use Rattle.printed_texts.proofs.lines.put_words.Given as goal
+
+abbrev pub invariant-words : goal.invariant-words
+invariant-words g l =
+    Put (growth g.N.Sink.taken g.N.Sink.faults l.initial.sink l.sink) l.initial.buffer l.buffer (flat_map (λ w. behind_blank w.now) (take l.word-index l.words)) (Ok tt)

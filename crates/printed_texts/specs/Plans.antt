@@ -1,0 +1,33 @@
+-- The plan text, and that a plan is one for these entries.
+use Rattle.std.specs.Prelude.{ℕ, ◌+◌, List, [], ◌∷◌, ◌++◌, Option, None, Some, slice_get, codes, decimal}
+use Rattle.plans.specs.declared.left_deep.Plan.{Plan}
+use Rattle.query_types.specs.declared.types.Source.{Source}
+
+-- scan ALIAS BOUND
+abbrev pub scan_line : List ℕ → ℕ → List ℕ
+scan_line alias bound = codes "scan " ++ (alias ++ (codes " " ++ (decimal bound ++ codes "\n")))
+
+-- level K ALIAS BOUND
+abbrev pub level_line : ℕ → List ℕ → ℕ → List ℕ
+level_line k alias bound = codes "level " ++ (decimal k ++ (codes " " ++ (alias ++ (codes " " ++ (decimal bound ++ codes "\n")))))
+
+-- a line for each entry and the bound of its scan
+abbrev pub scan_lines : List Source → List ℕ → List ℕ
+scan_lines [] bounds = []
+scan_lines (source ∷ sources) [] = []
+scan_lines (source ∷ sources) (bound ∷ bounds) = scan_line source.alias bound ++ scan_lines sources bounds
+
+abbrev pub alias_of : Option Source → List ℕ
+alias_of None = []
+alias_of (Some source) = source.alias
+
+-- a line for each entry of the order and the bound of its level, the levels from the k-th on
+abbrev pub level_lines : ℕ → List Source → List ℕ → List ℕ → List ℕ
+level_lines k sources [] bounds = []
+level_lines k sources (entry ∷ order) [] = []
+level_lines k sources (entry ∷ order) (bound ∷ bounds) =
+    level_line k (alias_of (slice_get sources entry)) bound ++ level_lines (k + 1) sources order bounds
+
+-- a line for each FROM entry's scan, and then one for each level of the order
+abbrev pub plan_lines : List Source → Plan → List ℕ
+plan_lines sources plan = scan_lines sources plan.scans ++ level_lines 1 sources plan.order plan.levels

@@ -1,0 +1,13 @@
+-- The name of a file in a line, and the names that a line is given.
+use Rattle.std.specs.Prelude.{ℕ, List, option_copied}
+use Rattle.printed_texts.specs.Faults.{Names, table_file}
+use Rattle.printed_texts.specs.declared.fault_lines.Named.{Named}
+use Rattle.printed_texts.specs.declared.lines.FileWord.{FileWord}
+use Rattle.printed_texts.specs.declared.lines.FileWord.TheVariants as word
+
+abbrev pub file_text : FileWord → List ℕ
+file_text (word.Given name) = name.now
+file_text (word.OfTable table) = table_file table.now
+
+abbrev pub named : Named → Names
+named names = record { schema_file = names.schema_file.now; query_file = names.query_file.now; schema = option_copied names.schema }

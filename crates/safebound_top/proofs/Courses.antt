@@ -1,0 +1,276 @@
+-- The course of a call has the headline.
+use Rattle.std.proofs.Common.{◌≡◌, ◌≢◌, ◌↔◌, ◌⊎◌, ℕ, inl, inr, List, Option, None, Some, Result, Ok, Err, refl, ap, sym, ◌∙◌, subst}
+use Rattle.std.specs.Prelude.{IfOk, IsOk, IsOkAnd, codes}
+use Rattle.base_io.specs.Causes.{Rose}
+use Rattle.base_io.specs.Files.{Files}
+use Rattle.base_io.specs.Sinks.{GrewByPrefix, appended}
+use Rattle.outcomes.specs.Devices.{Growth, Reading}
+use Rattle.outcomes.specs.Reads.{◌>>=◌, Ends, IsOfWhatIsThere, MissesNothing, Reads}
+use Rattle.outcomes.specs.Statuses.{ended, refused}
+use Rattle.outcomes.specs.declared.ending.Ending.{Ending}
+use Rattle.outcomes.specs.declared.ending.Ending.TheVariants as ending
+use Rattle.outcomes.specs.declared.names.FileId.{FileId}
+use Rattle.outcomes.specs.declared.names.SinkId.{SinkId}
+use Rattle.outcomes.specs.declared.names.SinkId.TheVariants as sink
+use Rattle.outcomes.specs.declared.refusal.Refusal.{Refusal}
+use Rattle.outcomes.specs.declared.refusal.Refusal.TheVariants as refusal
+use Rattle.outcomes.specs.declared.status.Status.{Status}
+use Rattle.outcomes.specs.declared.status.Status.TheVariants as status
+use Rattle.outcomes.proofs.StatusFacts.{ended_fault, ended_memory, ended_not_cut, ended_not_done, ended_refused, refused_not_cut, refused_not_done}
+use Rattle.safebound_top.specs.Accepted.{Accepted, BoundsHold, RowsAreTheAnswer}
+use Rattle.safebound_top.specs.Call.{Call, CutThenTold, Tells}
+use Rattle.safebound_top.specs.Course.{Course, Ended, Done, CutInNotes, CutInOut, How, Unasked, Asked, IsAsked, IsUnasked, Ran, Stopped, Went, Told}
+use Rattle.safebound_top.specs.Faults.{fault_text}
+use Rattle.safebound_top.specs.Headline as say
+use Rattle.safebound_top.specs.Texts.{plan_text, rows_text}
+use Rattle.safebound_top.specs.Verdict.{IsReached, ask_run, command_stage, verdict}
+use Rattle.safebound_top.specs.Words.{Ask}
+use Rattle.safebound_top.proofs.Meanings.{bounds_hold, rows_are_the_answer}
+use Rattle.safebound_top.proofs.Runs.{holds_of_all, holds_of_run, verdict_ok}
+
+-- words that are no command are refused at once
+unasked_verdict : (words : List (List ℕ)) (files : Files) → command_stage words ≡ Err refusal.Usage → verdict words files ≡ Err refusal.Usage
+unfolding verdict
+unasked_verdict words files is = rw is refl
+
+-- the status of words that are no command is no other
+usage_is : (r : Refusal) → status.Usage ≡ refused r → IsOfWhatIsThere r → r ≡ refusal.Usage
+usage_is r e there =
+    let same : ending.Refused refusal.Usage ≡ ending.Refused r = ended_refused (ending.Refused refusal.Usage) r e there in
+    cc
+
+module _ (call : Call) (course : Course call) where
+  -- a line that was told is the fault text, where the store tells its files
+  line_told : Told call.notes course.line → (files : Files) → call.store.files ≡ Some files → say.GrewByLine call.notes (fault_text call.status call.words files)
+  line_told told files is = subst (say.GrewByLine call.notes) (course.is_line files is) told.tells
+
+  -- a reading that ended
+  module _ (e : Ending) (status_is : call.status ≡ ended e) (reads : Reads call.store (verdict call.words) (IsReached call.words) (Err e)) where
+    -- by a refusal of what is there
+    refused_by : (r : Refusal) → IsOfWhatIsThere r → call.status ≡ refused r → e ≡ ending.Refused r
+    refused_by r there is = ended_refused e r (sym status_is ∙ is) there
+
+    ends_as : (f : Ending) → e ≡ f → Ends call.store (verdict call.words) (IsReached call.words) f
+    ends_as f is = subst (Ends call.store (verdict call.words) (IsReached call.words)) is reads.gives
+
+    stopped_verdict : (r : Refusal) → IsOfWhatIsThere r → call.status ≡ refused r → (files : Files) → call.store.files ≡ Some files → verdict call.words files ≡ Err r
+    stopped_verdict r there is = (ends_as (ending.Refused r) (refused_by r there is)).0
+
+    not_usage : call.status ≡ status.Usage → ⊥
+    not_usage is =
+        let there : IsOfWhatIsThere refusal.Usage = λ file h. cc in
+        (ends_as (ending.Refused refusal.Usage) (refused_by refusal.Usage there is)).2 refl
+
+    fault_told : (file : FileId) → call.status ≡ status.ReadFault file → (files : Files) → call.store.files ≡ Some files
+        → (verdict call.words files ≡ Err (refusal.Missing file)) ⊎ (Rose call.store.faults_before call.store.faults_after × IsReached call.words files file)
+    fault_told file is files told = elim (ended_fault e file (sym status_is ∙ is)) [
+      | inl missing ↦ inl ((ends_as (ending.Refused (refusal.Missing file)) missing).0 files told)
+      | inr fault ↦ (let ends = ends_as (ending.Fault file) fault in inr (ends.0, ends.1 files told))
+    ]
+
+    fault_untold : (file : FileId) → call.status ≡ status.ReadFault file → call.store.files ≡ None → Rose call.store.faults_before call.store.faults_after
+    fault_untold file is none = elim (ended_fault e file (sym status_is ∙ is)) [
+      | inl missing ↦ absurd ((ends_as (ending.Refused (refusal.Missing file)) missing).1 none file refl)
+      | inr fault ↦ (ends_as (ending.Fault file) fault).0
+    ]
+
+    -- where no fault was counted
+    stopped_so : (Rose call.store.faults_before call.store.faults_after → ⊥) → (files : Files) → call.store.files ≡ Some files
+        → (call.status ≡ say.status_of (verdict call.words files)) ⊎ (call.status ≡ status.NoMemory)
+    stopped_so calm files told = by e refl
+      where
+        by : (f : Ending) → e ≡ f → (call.status ≡ say.status_of (verdict call.words files)) ⊎ (call.status ≡ status.NoMemory)
+        by (ending.Refused r) is = inl (status_is ∙ ap ended is ∙ sym (ap say.status_of ((ends_as (ending.Refused r) is).0 files told)))
+        by (ending.Fault file) is = absurd (calm ((ends_as (ending.Fault file) is).0))
+        by ending.NoMemory is = inr (status_is ∙ ap ended is)
+
+  -- a run that was read to its end
+  module _ (run : Accepted) (reads : Reads call.store (verdict call.words) (IsReached call.words) (Ok run))
+      (written : Ended call.status call.out call.notes run course.line) where
+    went_verdict : (files : Files) → call.store.files ≡ Some files → verdict call.words files ≡ Ok run
+    went_verdict = reads.gives
+
+    went_not_refused : (r : Refusal) → call.status ≡ refused r → ⊥
+    went_not_refused r is = by written
+      where
+        by : Ended call.status call.out call.notes run course.line → ⊥
+        by (Done e notes out) = refused_not_done r (sym is ∙ e)
+        by (CutInNotes e rose out line) = refused_not_cut r sink.Notes (sym is ∙ e)
+        by (CutInOut e rose out line) = refused_not_cut r sink.Out (sym is ∙ e)
+
+    went_not_fault : (file : FileId) → call.status ≡ status.ReadFault file → ⊥
+    went_not_fault file is = went_not_refused (refusal.Missing file) is
+
+    went_not_memory : call.status ≡ status.NoMemory → ⊥
+    went_not_memory is = by written
+      where
+        by : Ended call.status call.out call.notes run course.line → ⊥
+        by (Done e notes out) = ended_not_done ending.NoMemory (sym is ∙ e)
+        by (CutInNotes e rose out line) = ended_not_cut ending.NoMemory sink.Notes (sym is ∙ e)
+        by (CutInOut e rose out line) = ended_not_cut ending.NoMemory sink.Out (sym is ∙ e)
+
+    went_done : call.status ≡ status.Done → (files : Files) → call.store.files ≡ Some files
+        → IsOkAnd (verdict call.words files) (λ run. say.Grew call.notes (plan_text run) × say.Grew call.out (rows_text run))
+    went_done is files told =
+        subst (λ (v : Result Accepted Refusal). IsOkAnd v (λ run. say.Grew call.notes (plan_text run) × say.Grew call.out (rows_text run))) (sym (went_verdict files told)) (by written)
+      where
+        by : Ended call.status call.out call.notes run course.line → say.Grew call.notes (plan_text run) × say.Grew call.out (rows_text run)
+        by (Done e notes out) = (notes, out)
+        by (CutInNotes e rose out line) = absurd (let no : status.Done ≡ status.WriteFault sink.Notes = sym is ∙ e in cc)
+        by (CutInOut e rose out line) = absurd (let no : status.Done ≡ status.WriteFault sink.Out = sym is ∙ e in cc)
+
+    went_cut_notes : call.status ≡ status.WriteFault sink.Notes → say.FaultsRose call.notes × say.DidNotGrow call.out
+        × say.OverFiles call (λ files v. IsOkAnd v (λ run. CutThenTold call.notes.taken_before call.notes.taken_after (plan_text run) (fault_text call.status call.words files)))
+    went_cut_notes is = by written
+      where
+        by : Ended call.status call.out call.notes run course.line → say.FaultsRose call.notes × say.DidNotGrow call.out
+            × say.OverFiles call (λ files v. IsOkAnd v (λ run. CutThenTold call.notes.taken_before call.notes.taken_after (plan_text run) (fault_text call.status call.words files)))
+        by (Done e notes out) = absurd (let no : status.Done ≡ status.WriteFault sink.Notes = sym e ∙ is in cc)
+        by (CutInNotes e rose out line) = (rose, out, (λ files told.
+            subst (λ (v : Result Accepted Refusal). IsOkAnd v (λ run. CutThenTold call.notes.taken_before call.notes.taken_after (plan_text run) (fault_text call.status call.words files)))
+            (sym (went_verdict files told)) (subst (CutThenTold call.notes.taken_before call.notes.taken_after (plan_text run)) (course.is_line files told) line)))
+        by (CutInOut e rose out line) = absurd (let no : status.WriteFault sink.Out ≡ status.WriteFault sink.Notes = sym e ∙ is in cc)
+
+    went_cut_out : call.status ≡ status.WriteFault sink.Out → say.FaultsRose call.out
+        × say.OverFiles call (λ files v. IsOkAnd v (λ run. GrewByPrefix call.out.taken_before call.out.taken_after (rows_text run)
+        × Tells (appended call.notes.taken_before (plan_text run)) call.notes.taken_after call.notes.faults_before call.notes.faults_after (fault_text call.status call.words files)))
+    went_cut_out is = by written
+      where
+        by : Ended call.status call.out call.notes run course.line → say.FaultsRose call.out
+            × say.OverFiles call (λ files v. IsOkAnd v (λ run. GrewByPrefix call.out.taken_before call.out.taken_after (rows_text run)
+            × Tells (appended call.notes.taken_before (plan_text run)) call.notes.taken_after call.notes.faults_before call.notes.faults_after (fault_text call.status call.words files)))
+        by (Done e notes out) = absurd (let no : status.Done ≡ status.WriteFault sink.Out = sym e ∙ is in cc)
+        by (CutInNotes e rose out line) = absurd (let no : status.WriteFault sink.Notes ≡ status.WriteFault sink.Out = sym e ∙ is in cc)
+        by (CutInOut e rose out line) = (rose, (λ files told.
+            subst (λ (v : Result Accepted Refusal). IsOkAnd v (λ run. GrewByPrefix call.out.taken_before call.out.taken_after (rows_text run)
+            × Tells (appended call.notes.taken_before (plan_text run)) call.notes.taken_after call.notes.faults_before call.notes.faults_after (fault_text call.status call.words files)))
+            (sym (went_verdict files told))
+            (out, subst (Tells (appended call.notes.taken_before (plan_text run)) call.notes.taken_after call.notes.faults_before call.notes.faults_after) (course.is_line files told) line)))
+
+    went_by_the_store : (files : Files) → call.store.files ≡ Some files
+        → (call.status ≡ say.status_of (verdict call.words files)) ⊎ ((which : SinkId) × (call.status ≡ status.WriteFault which)) ⊎ (call.status ≡ status.NoMemory)
+    went_by_the_store files told = by written
+      where
+        by : Ended call.status call.out call.notes run course.line
+            → (call.status ≡ say.status_of (verdict call.words files)) ⊎ ((which : SinkId) × (call.status ≡ status.WriteFault which)) ⊎ (call.status ≡ status.NoMemory)
+        by (Done e notes out) = inl (e ∙ sym (ap say.status_of (went_verdict files told)))
+        by (CutInNotes e rose out line) = inr (inl (sink.Notes, e))
+        by (CutInOut e rose out line) = inr (inl (sink.Out, e))
+
+    went_by_the_sinks : (say.FaultsRose call.out → ⊥) → (say.FaultsRose call.notes → ⊥) → (files : Files) → call.store.files ≡ Some files
+        → (call.status ≡ say.status_of (verdict call.words files)) ⊎ (call.status ≡ status.NoMemory)
+    went_by_the_sinks calm_out calm_notes files told = by written
+      where
+        by : Ended call.status call.out call.notes run course.line → (call.status ≡ say.status_of (verdict call.words files)) ⊎ (call.status ≡ status.NoMemory)
+        by (Done e notes out) = inl (e ∙ sym (ap say.status_of (went_verdict files told)))
+        by (CutInNotes e rose out line) = absurd (calm_notes rose)
+        by (CutInOut e rose out line) = absurd (calm_out rose)
+
+  -- ---- the eight sentences
+
+  abbrev Line : Type 0
+  Line = (files : Files) → call.store.files ≡ Some files → say.GrewByLine call.notes (fault_text call.status call.words files)
+
+  -- 1
+  done : How call course.line → say.DoneIsExact call
+  done (Unasked h) is = absurd (let no : status.Usage ≡ status.Done = sym h.status ∙ is in cc)
+  done (Asked h) is = by h.ran
+    where
+      by : Ran call.status call.store call.out call.notes (verdict call.words) (IsReached call.words) course.line
+          → say.OverFiles call (λ files v. IsOkAnd v (λ run. say.Grew call.notes (plan_text run) × say.Grew call.out (rows_text run)))
+      by (Stopped e s reads out told) = absurd (ended_not_done e (sym s ∙ is))
+      by (Went run reads written) = went_done run reads written is
+
+  -- 4
+  memory : How call course.line → say.WantOfMemoryLeavesItsLine call
+  memory (Unasked h) is = absurd (let no : status.Usage ≡ status.NoMemory = sym h.status ∙ is in cc)
+  memory (Asked h) is = by h.ran
+    where
+      by : Ran call.status call.store call.out call.notes (verdict call.words) (IsReached call.words) course.line → say.GrewByLine call.notes (codes "error memory\n") × say.DidNotGrow call.out
+      by (Stopped e s reads out told) = (subst (say.GrewByLine call.notes) (course.memory is) told.tells, out)
+      by (Went run reads written) = absurd (went_not_memory run reads written is)
+
+  -- 5
+  cuts : How call course.line → say.WriteFaultsHaveTheirCause call
+  cuts (Unasked h) = record {
+    of_notes = λ is. absurd (let no : status.Usage ≡ status.WriteFault sink.Notes = sym h.status ∙ is in cc);
+    of_out = λ is. absurd (let no : status.Usage ≡ status.WriteFault sink.Out = sym h.status ∙ is in cc);
+  }
+  cuts (Asked h) = by h.ran
+    where
+      by : Ran call.status call.store call.out call.notes (verdict call.words) (IsReached call.words) course.line → say.WriteFaultsHaveTheirCause call
+      by (Stopped e s reads out told) = record {
+        of_notes = λ is. absurd (ended_not_cut e sink.Notes (sym s ∙ is));
+        of_out = λ is. absurd (ended_not_cut e sink.Out (sym s ∙ is));
+      }
+      by (Went run reads written) = record { of_notes = went_cut_notes run reads written; of_out = went_cut_out run reads written }
+
+  -- 6
+  refusals : How call course.line → say.RefusalsAreTheVerdict call
+  refusals (Unasked h) = record {
+    usage = ((λ is. h.words), (λ is. h.status));
+    told = λ r there is.
+        let same : r ≡ refusal.Usage = usage_is r (sym h.status ∙ is) there in
+        (h.out, (λ files told. (unasked_verdict call.words files h.words ∙ ap (λ (x : Refusal). Err x) (sym same), line_told h.told files told)));
+  }
+  refusals (Asked h) = by h.ran
+    where
+      by : Ran call.status call.store call.out call.notes (verdict call.words) (IsReached call.words) course.line → say.RefusalsAreTheVerdict call
+      by (Stopped e s reads out told) = record {
+        usage = ((λ is. absurd (not_usage e s reads is)), (λ is. absurd (h.words is)));
+        told = λ r there is. (out, (λ files is_told. (stopped_verdict e s reads r there is files is_told, line_told told files is_told)));
+      }
+      by (Went run reads written) = record {
+        usage = ((λ is. absurd (went_not_refused run reads written refusal.Usage is)), (λ is. absurd (h.words is)));
+        told = λ r there is. absurd (went_not_refused run reads written r is);
+      }
+
+  -- 7
+  faults : How call course.line → say.ReadFaultsHaveTheirCause call
+  faults (Unasked h) = record {
+    told = λ file is. absurd (let no : status.Usage ≡ status.ReadFault file = sym h.status ∙ is in cc);
+    untold = λ file is. absurd (let no : status.Usage ≡ status.ReadFault file = sym h.status ∙ is in cc);
+    misses = λ files told missed. h.misses;
+  }
+  faults (Asked h) = by h.ran
+    where
+      by : Ran call.status call.store call.out call.notes (verdict call.words) (IsReached call.words) course.line → say.ReadFaultsHaveTheirCause call
+      by (Stopped e s reads out told) = record {
+        told = λ file is. (out, (λ files is_told. (fault_told e s reads file is files is_told, line_told told files is_told)));
+        untold = fault_untold e s reads;
+        misses = reads.misses;
+      }
+      by (Went run reads written) = record {
+        told = λ file is. absurd (went_not_fault run reads written file is);
+        untold = λ file is. absurd (went_not_fault run reads written file is);
+        misses = reads.misses;
+      }
+
+  -- 8
+  causes : How call course.line → say.NothingIsRefusedWithoutCause call
+  causes (Unasked h) =
+      let so : (files : Files) → call.status ≡ say.status_of (verdict call.words files) = λ files. h.status ∙ sym (ap say.status_of (unasked_verdict call.words files h.words)) in
+      record { by_the_store = λ calm files told. inl (so files); by_the_sinks = λ calm calm_out calm_notes files told. inl (so files) }
+  causes (Asked h) = by h.ran
+    where
+      by : Ran call.status call.store call.out call.notes (verdict call.words) (IsReached call.words) course.line → say.NothingIsRefusedWithoutCause call
+      by (Stopped e s reads out told) = record {
+        by_the_store = λ calm files is_told. elim (stopped_so e s reads calm files is_told) [ inl is ↦ inl is | inr is ↦ inr (inr is) ];
+        by_the_sinks = λ calm calm_out calm_notes files is_told. stopped_so e s reads calm files is_told;
+      }
+      by (Went run reads written) = record {
+        by_the_store = λ calm. went_by_the_store run reads written;
+        by_the_sinks = λ calm. went_by_the_sinks run reads written;
+      }
+
+  pub headline : say.Headline call
+  headline = record {
+    done_is_exact = done course.how;
+    every_bound_holds = λ files told. holds_of_all (verdict call.words files) BoundsHold bounds_hold;
+    the_rows_are_the_answer = λ files told. holds_of_run (verdict call.words files) RowsAreTheAnswer (verdict_ok call.words files) rows_are_the_answer;
+    want_of_memory_leaves_its_line = memory course.how;
+    write_faults_have_their_cause = cuts course.how;
+    refusals_are_the_verdict = refusals course.how;
+    read_faults_have_their_cause = faults course.how;
+    nothing_is_refused_without_cause = causes course.how;
+  }

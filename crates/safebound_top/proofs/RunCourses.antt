@@ -1,0 +1,150 @@
+-- The course of a command, from its schema's reading and what came of it.
+use Rattle.std.proofs.Common.{◌≡◌, ◌⊎◌, ℕ, inl, inr, List, Option, None, Some, Result, Ok, Err, refl, ap, sym, ◌∙◌, subst}
+use Rattle.std.specs.Prelude.{IsOk, codes}
+use Rattle.base_io.specs.Files.{Files}
+use Rattle.schema_types.specs.declared.types.Schema.{Schema}
+use Rattle.outcomes.specs.Devices.{Growth, Reading}
+use Rattle.outcomes.specs.Reads.{◌>>=◌, AtFile, Ends, Reads}
+use Rattle.outcomes.specs.Statuses.{ended}
+use Rattle.outcomes.specs.declared.ending.Ending.{Ending}
+use Rattle.outcomes.specs.declared.ending.Ending.TheVariants as ending
+use Rattle.outcomes.specs.declared.names.FileId.{FileId}
+use Rattle.outcomes.specs.declared.names.FileId.TheVariants as file
+use Rattle.outcomes.specs.declared.refusal.Refusal.{Refusal}
+use Rattle.outcomes.specs.declared.refusal.Refusal.TheVariants as refusal
+use Rattle.outcomes.specs.declared.status.Status.{Status}
+use Rattle.outcomes.specs.declared.status.Status.TheVariants as status
+use Rattle.outcomes.proofs.ReadFacts.{Meets, joined, reads_as, then_reads, then_stops}
+use Rattle.printed_texts.specs.Faults.{error_line}
+use Rattle.safebound_top.specs.Accepted.{Accepted}
+use Rattle.safebound_top.specs.Call.{Call}
+use Rattle.safebound_top.specs.Course.{Asked, Course, Ran, Stopped, Told, Unasked, Went}
+use Rattle.safebound_top.specs.Faults.{fault_text, status_line, where_ok}
+use Rattle.safebound_top.specs.Headline.{DidNotGrow}
+use Rattle.safebound_top.specs.Verdict.{IsFileOf, IsReached, Placed, ask_run, command_stage, schema_read, schema_run, schema_stage, table_from, table_reached, verdict}
+use Rattle.safebound_top.specs.Words.{Ask, schema_file}
+use Rattle.safebound_top.proofs.Stages.{AtQueryOrTable}
+
+-- the line of want of memory names nothing
+memory_line : (ask : Option Ask) (schema : Option Schema) → status_line status.NoMemory ask schema ≡ codes "error memory\n"
+unfolding error_line
+memory_line None schema = refl
+memory_line (Some ask) schema = refl
+
+pub memory_told : (s : Status) (ask : Option Ask) (schema : Option Schema) → s ≡ status.NoMemory → status_line s ask schema ≡ codes "error memory\n"
+memory_told s ask schema is = ap (λ (x : Status). status_line x ask schema) is ∙ memory_line ask schema
+
+-- words that are no command
+pub course_unasked : (call : Call) → call.status ≡ status.Usage → command_stage call.words ≡ Err refusal.Usage → call.store.misses_after ≡ call.store.misses_before → DidNotGrow call.out
+    → Told call.notes (status_line call.status None None) → Course call
+course_unasked call is words misses out told = record {
+  line = status_line call.status None None;
+  is_line = λ files _. ap (λ (s : Status). status_line s None None) is ∙ same files ∙ ap (λ (s : Status). fault_text s call.words files) (sym is);
+  memory = memory_told call.status None None;
+  how = Unasked (record { status = is; words = words; misses = misses; out = out; told = told });
+}
+  where
+    by : (ask : Option Ask) (schema : Option Schema) → status_line status.Usage None None ≡ status_line status.Usage ask schema
+    by None schema = refl
+    by (Some ask) schema = refl
+
+    same : (files : Files) → status_line status.Usage None None ≡ fault_text status.Usage call.words files
+    same files = by (where_ok (command_stage call.words)) (where_ok (schema_read call.words files))
+
+module _ (ask : Ask) (words : List (List ℕ)) (command : command_stage words ≡ Ok ask) where
+  verdict_of : (files : Files) → verdict words files ≡ ask_run ask files
+  unfolding verdict
+  verdict_of files = rw command refl
+
+  schema_of : (files : Files) → schema_read words files ≡ schema_stage (schema_file ask) files
+  unfolding schema_read
+  schema_of files = rw command refl
+
+  table_of : (files : Files) (schema : Schema) → schema_stage (schema_file ask) files ≡ Ok schema → table_reached words files ≡ table_from ask schema files
+  unfolding table_reached
+  table_of files schema is = rw (command, is) refl
+
+  no_usage : command_stage words ≡ Err refusal.Usage → ⊥
+  no_usage is = let no : ◌≡◌ {A = Result Ask Refusal} (Ok ask) (Err refusal.Usage) = sym command ∙ is in cc
+
+  -- ---- the verdict comes to these files
+
+  reached_schema : (files : Files) (id : FileId) → id ≡ file.Schema → IsReached words files id
+  reached_schema files id at' = subst (IsReached words files) (sym at') (subst IsOk (sym command) refl)
+
+  reached_table : (files : Files) (r : Result Placed Refusal) (id : FileId) → table_reached words files ≡ r → IsFileOf r id → IsReached words files id
+  reached_table files (Ok placed) (file.Table number) is h = subst (λ (v : Result Placed Refusal). IsFileOf v (file.Table number)) (sym is) h
+  reached_table files (Ok placed) file.Schema is h = absurd h
+  reached_table files (Ok placed) file.Query is h = absurd h
+  reached_table files (Err r) id is h = absurd h
+
+  reached_later : (schema : Schema) (files : Files) (id : FileId) → schema_stage (schema_file ask) files ≡ Ok schema → AtQueryOrTable ask schema files id → IsReached words files id
+  reached_later schema files id is (inl at') = subst (IsReached words files) (sym at') (subst IsOk (sym (schema_of files ∙ is)) refl)
+  reached_later schema files id is (inr at') = reached_table files (table_from ask schema files) id (table_of files schema is) at'
+
+  -- ---- the fault text
+
+  line_of : (s : Status) (files : Files) (r : Result Schema Refusal) → schema_stage (schema_file ask) files ≡ r → status_line s (Some ask) (where_ok r) ≡ fault_text s words files
+  line_of s files r is =
+      ap (λ (v : Result Schema Refusal). status_line s (Some ask) (where_ok v)) (sym (schema_of files ∙ is))
+      ∙ ap (λ (v : Result Ask Refusal). status_line s (where_ok v) (where_ok (schema_read words files))) (sym command)
+
+  -- ---- the schema's reading ended
+
+  module _ (s : Status) (store : Reading) (out notes : Growth) (e : Ending) (is : s ≡ ended e) (reads : Reads store (schema_stage (schema_file ask)) (AtFile file.Schema) (Err e)) where
+    stopped_line : (files : Files) → store.files ≡ Some files → status_line s (Some ask) None ≡ fault_text s words files
+    stopped_line files told = by e refl
+      where
+        ends_as : (f : Ending) → e ≡ f → Ends store (schema_stage (schema_file ask)) (AtFile file.Schema) f
+        ends_as f same = subst (Ends store (schema_stage (schema_file ask)) (AtFile file.Schema)) same reads.gives
+
+        any : (t : Status) → s ≡ t → ((r : Option Schema) → status_line t (Some ask) None ≡ status_line t (Some ask) r) → status_line s (Some ask) None ≡ fault_text s words files
+        any t same_as none =
+            ap (λ (x : Status). status_line x (Some ask) None) same_as ∙ none (where_ok (schema_stage (schema_file ask) files))
+            ∙ line_of t files (schema_stage (schema_file ask) files) refl ∙ ap (λ (x : Status). fault_text x words files) (sym same_as)
+
+        by : (f : Ending) → e ≡ f → status_line s (Some ask) None ≡ fault_text s words files
+        by (ending.Refused r) same = line_of s files (Err r) ((ends_as (ending.Refused r) same).0 files told)
+        by (ending.Fault id) same =
+            let at' : id ≡ file.Schema = (ends_as (ending.Fault id) same).1 files told in
+            any (status.ReadFault file.Schema) (is ∙ ap ended same ∙ ap (λ (x : FileId). status.ReadFault x) at') (λ r. refl)
+        by ending.NoMemory same = any status.NoMemory (is ∙ ap ended same) (λ r. refl)
+
+    stopped_reads : Reads store (verdict words) (IsReached words) (Err e)
+    unfolding ask_run
+    stopped_reads =
+        reads_as store (ask_run ask) (verdict words) (IsReached words) (IsReached words) (Err e) verdict_of (λ files id at'. at')
+        (then_stops (schema_stage (schema_file ask)) (schema_run ask) store (AtFile file.Schema) (IsReached words) e reached_schema reads)
+
+    pub course_stopped : DidNotGrow out → Told notes (status_line s (Some ask) None) → Course (record { words = words; status = s; store = store; out = out; notes = notes })
+    course_stopped still told = record {
+      line = status_line s (Some ask) None;
+      is_line = stopped_line;
+      memory = memory_told s (Some ask) None;
+      how = Asked (record { words = no_usage; ran = Stopped e is stopped_reads still told });
+    }
+
+  -- ---- the schema was read
+
+  module _ (s : Status) (first second : Reading) (out notes : Growth) (schema : Schema) (meets : Meets first second)
+      (reads : Reads first (schema_stage (schema_file ask)) (AtFile file.Schema) (Ok schema)) where
+    ran_reads : (answer : Result Accepted Ending) → Reads second (schema_run ask schema) (AtQueryOrTable ask schema) answer → Reads (joined first second) (verdict words) (IsReached words) answer
+    unfolding ask_run
+    ran_reads answer h =
+        reads_as (joined first second) (ask_run ask) (verdict words) (IsReached words) (IsReached words) answer verdict_of (λ files id at'. at')
+        (then_reads (schema_stage (schema_file ask)) (schema_run ask) first second (AtFile file.Schema) (AtQueryOrTable ask schema) (IsReached words) schema answer meets
+        (reached_later schema) reads h)
+
+    ran_so : Ran s second out notes (schema_run ask schema) (AtQueryOrTable ask schema) (status_line s (Some ask) (Some schema))
+        → Ran s (joined first second) out notes (verdict words) (IsReached words) (status_line s (Some ask) (Some schema))
+    ran_so (Stopped e is h still told) = Stopped e is (ran_reads (Err e) h) still told
+    ran_so (Went run h written) = Went run (ran_reads (Ok run) h) written
+
+    pub course_ran : Ran s second out notes (schema_run ask schema) (AtQueryOrTable ask schema) (status_line s (Some ask) (Some schema))
+        → Course (record { words = words; status = s; store = joined first second; out = out; notes = notes })
+    course_ran ran = record {
+      line = status_line s (Some ask) (Some schema);
+      is_line = λ files told. line_of s files (Ok schema) (reads.gives files told);
+      memory = memory_told s (Some ask) (Some schema);
+      how = Asked (record { words = no_usage; ran = ran_so ran });
+    }

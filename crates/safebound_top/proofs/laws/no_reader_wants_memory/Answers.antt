@@ -1,0 +1,13 @@
+use Rattle.text_answers.proofs.QueryAnswers as queries
+use Rattle.text_answers.proofs.SchemaAnswers as schemas
+use Rattle.safebound_top.proofs.TableErrors as tables
+use Rattle.safebound_top.proofs.laws.no_reader_wants_memory.Goals as goal
+
+pub returns-clause-schemas : goal.returns-clause-schemas
+returns-clause-schemas c = schemas.never_memory
+
+pub returns-clause-queries : goal.returns-clause-queries
+returns-clause-queries c = queries.never_memory
+
+pub returns-clause-tables : goal.returns-clause-tables
+returns-clause-tables c = tables.never_memory

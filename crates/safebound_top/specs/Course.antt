@@ -1,0 +1,75 @@
+-- The course of a call, from its words to its answer.
+use Rattle.std.specs.Prelude.{ℕ, ◌≡◌, ◌≤◌, List, codes, Some, Result, Ok, Err}
+use Rattle.base_io.specs.Files.{Files}
+use Rattle.base_io.specs.Sinks.{appended, GrewByPrefix}
+use Rattle.outcomes.specs.Devices.{Growth, Reading}
+use Rattle.outcomes.specs.Reads.{Reads}
+use Rattle.outcomes.specs.Statuses.{ended}
+use Rattle.outcomes.specs.declared.ending.Ending.{Ending}
+use Rattle.outcomes.specs.declared.names.FileId.{FileId}
+use Rattle.outcomes.specs.declared.names.SinkId.{SinkId}
+use Rattle.outcomes.specs.declared.names.SinkId.TheVariants as sink
+use Rattle.outcomes.specs.declared.refusal.Refusal.{Refusal}
+use Rattle.outcomes.specs.declared.refusal.Refusal.TheVariants as refusal
+use Rattle.outcomes.specs.declared.status.Status.{Status}
+use Rattle.outcomes.specs.declared.status.Status.TheVariants as status
+use Rattle.safebound_top.specs.Accepted.{Accepted}
+use Rattle.safebound_top.specs.Call.{Call, CutThenTold, Tells}
+use Rattle.safebound_top.specs.Faults.{fault_text}
+use Rattle.safebound_top.specs.Headline.{DidNotGrow, FaultsRose, Grew, GrewByLine}
+use Rattle.safebound_top.specs.Texts.{plan_text, rows_text}
+use Rattle.safebound_top.specs.Verdict.{IsReached, command_stage, verdict}
+
+-- a status was told in the notes
+pub record Told (notes : Growth) (line : List ℕ) : Type 0 where
+  pub tells : GrewByLine notes line
+  pub later : notes.faults_before ≤ notes.faults_after
+
+-- both texts were handed to the sinks, the plan text to the notes and then the rows text to out; the first failure ends it
+abbrev pub AreWritten : Growth → Growth → Accepted → Result (Unit {0}) SinkId → Type 0
+AreWritten out notes run (Ok u) = Grew notes (plan_text run) × Grew out (rows_text run)
+AreWritten out notes run (Err sink.Notes) = FaultsRose notes × DidNotGrow out × GrewByPrefix notes.taken_before notes.taken_after (plan_text run)
+AreWritten out notes run (Err sink.Out) = FaultsRose out × Grew notes (plan_text run) × GrewByPrefix out.taken_before out.taken_after (rows_text run)
+
+pub record Written (out notes : Growth) (run : Accepted) (result : Result (Unit {0}) SinkId) : Type 0 where
+  pub texts : AreWritten out notes run result
+  pub later_out : out.faults_before ≤ out.faults_after
+  pub later_notes : notes.faults_before ≤ notes.faults_after
+
+-- the same, and a failed write told in the notes
+pub data Ended (s : Status) (out notes : Growth) (run : Accepted) (line : List ℕ) : Type 0 where
+  Done : s ≡ status.Done → Grew notes (plan_text run) → Grew out (rows_text run) → Ended s out notes run line
+  CutInNotes : s ≡ status.WriteFault sink.Notes → FaultsRose notes → DidNotGrow out
+      → CutThenTold notes.taken_before notes.taken_after (plan_text run) line → Ended s out notes run line
+  CutInOut : s ≡ status.WriteFault sink.Out → FaultsRose out → GrewByPrefix out.taken_before out.taken_after (rows_text run)
+      → Tells (appended notes.taken_before (plan_text run)) notes.taken_after notes.faults_before notes.faults_after line → Ended s out notes run line
+
+-- a stage was read to its end and its texts were handed to the sinks, or its reading ended and that was told
+pub data Ran (s : Status) (store : Reading) (out notes : Growth) (stage : Files → Result Accepted Refusal) (ComesTo : Files → FileId → Type 0)
+    (line : List ℕ) : Type 0 where
+  Stopped : (e : Ending) → s ≡ ended e → Reads store stage ComesTo (Err e) → DidNotGrow out → Told notes line → Ran s store out notes stage ComesTo line
+  Went : (run : Accepted) → Reads store stage ComesTo (Ok run) → Ended s out notes run line → Ran s store out notes stage ComesTo line
+
+-- the words are no command: nothing was read, and that was told
+pub record IsUnasked (call : Call) (line : List ℕ) : Type 0 where
+  pub status : call.status ≡ status.Usage
+  pub words : command_stage call.words ≡ Err refusal.Usage
+  pub misses : call.store.misses_after ≡ call.store.misses_before
+  pub out : DidNotGrow call.out
+  pub told : Told call.notes line
+
+-- the words are a command, and it ran
+pub record IsAsked (call : Call) (line : List ℕ) : Type 0 where
+  pub words : command_stage call.words ≡ Err refusal.Usage → ⊥
+  pub ran : Ran call.status call.store call.out call.notes (verdict call.words) (IsReached call.words) line
+
+pub data How (call : Call) (line : List ℕ) : Type 0 where
+  Unasked : IsUnasked call line → How call line
+  Asked : IsAsked call line → How call line
+
+-- the whole course, and that its line is the fault text
+pub record Course (call : Call) : Type 0 where
+  pub line : List ℕ
+  pub is_line : (files : Files) → call.store.files ≡ Some files → line ≡ fault_text call.status call.words files
+  pub memory : call.status ≡ status.NoMemory → line ≡ codes "error memory\n"
+  pub how : How call line

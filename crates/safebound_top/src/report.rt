@@ -1,0 +1,61 @@
+//! The line that tells how a call ended.
+ghost use Rattle.std.specs.Prelude.{◌≡◌, ◌≢◌, option_copied};
+ghost use Rattle.outcomes.specs.Devices.{growth};
+ghost use Rattle.outcomes.specs.Writes.{Wrote};
+ghost use Rattle.safebound_top.specs.Course.{Told};
+ghost use Rattle.printed_texts.specs.Words.{named};
+ghost use Rattle.safebound_top.specs.Faults.{ask_of, names_of as names_told, status_line};
+
+use crate::words::Command;
+use base_io::{Failed, Sink};
+use outcomes::Status;
+use printed_texts::{Named, write_line};
+use schema_types::Schema;
+
+// The files of the texts, as a command names them.
+fn names_of<'a>(command: Option<&'a Command<'a>>, schema: Option<&'a Schema>) -> Named<'a>
+    ensures { named result ≡ names_told (ask_of command.entry) (option_copied schema.entry) }
+{
+    match command {
+        Some(command) => Named {
+            schema_file: command.schema_file(),
+            query_file: command.query_file(),
+            schema,
+        },
+        None => Named {
+            schema_file: "",
+            query_file: "",
+            schema,
+        },
+    }
+}
+
+/// Writes the line of a status that is not `Done`. A file is named by the word of the command, a table by its
+/// file and a column by its name, as the schema has them.
+pub fn write_fault<N: Sink>(
+    status: Status,
+    command: Option<&Command>,
+    schema: Option<&Schema>,
+    sink: &mut N,
+) -> Result<(), Failed>
+    requires { status ≢ Status.Done }
+    ensures { Wrote (growth N.taken N.faults sink.old sink.new) (status_line status (ask_of command.entry) (option_copied schema.entry)) result }
+{
+    write_line(status, names_of(command, schema), sink)
+}
+
+/// Tells a status as the last act of a call. A failure of this write changes nothing else.
+pub fn report<N: Sink>(
+    status: Status,
+    command: Option<&Command>,
+    schema: Option<&Schema>,
+    notes: &mut N,
+)
+    requires { status ≢ Status.Done }
+    ensures { Told (growth N.taken N.faults notes.old notes.new) (status_line status (ask_of command.entry) (option_copied schema.entry)) }
+{
+    match write_fault(status, command, schema, notes) {
+        Ok(()) => {}
+        Err(Failed) => {}
+    }
+}
