@@ -8,7 +8,7 @@ abbrev known : List Edge
 known = edge_of 5 3 1 2 ∷ edge_of 3 0 0 0 ∷ []
 
 pub rooted-requires-2-clause-within : goal.rooted-requires-2-clause-within
-rooted-requires-2-clause-within g c = let same : (c.edge.result ∷ c.edge-2.result ∷ []) ≡ known = cc in within_along 43 (c.edge.result ∷ c.edge-2.result ∷ []) known same refl
+rooted-requires-2-clause-within g c = let same : (c.edge.result ∷ c.edge-2.result ∷ []) ≡ known = cc in rw c.from_bits-2.ensures (within_along 43 (c.edge.result ∷ c.edge-2.result ∷ []) known same refl)
 
 pub rooted-requires-2-clause-no_cycle : goal.rooted-requires-2-clause-no_cycle
 rooted-requires-2-clause-no_cycle g c = let same : (c.edge.result ∷ c.edge-2.result ∷ []) ≡ known = cc in no_cycle_along (c.edge.result ∷ c.edge-2.result ∷ []) known same refl

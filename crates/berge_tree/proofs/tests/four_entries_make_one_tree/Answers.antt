@@ -8,7 +8,7 @@ abbrev known : List Edge
 known = edge_of 0 0 1 0 ∷ edge_of 1 0 2 0 ∷ edge_of 1 1 3 1 ∷ []
 
 pub rooted-requires-clause-within : goal.rooted-requires-clause-within
-rooted-requires-clause-within g c = let same : (c.edge.result ∷ c.edge-2.result ∷ c.edge-3.result ∷ []) ≡ known = cc in within_along 15 (c.edge.result ∷ c.edge-2.result ∷ c.edge-3.result ∷ []) known same refl
+rooted-requires-clause-within g c = let same : (c.edge.result ∷ c.edge-2.result ∷ c.edge-3.result ∷ []) ≡ known = cc in rw c.from_bits.ensures (within_along 15 (c.edge.result ∷ c.edge-2.result ∷ c.edge-3.result ∷ []) known same refl)
 
 pub rooted-requires-clause-no_cycle : goal.rooted-requires-clause-no_cycle
 rooted-requires-clause-no_cycle g c = let same : (c.edge.result ∷ c.edge-2.result ∷ c.edge-3.result ∷ []) ≡ known = cc in no_cycle_along (c.edge.result ∷ c.edge-2.result ∷ c.edge-3.result ∷ []) known same refl
