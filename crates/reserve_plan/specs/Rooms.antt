@@ -16,7 +16,7 @@ pub record Rooms : Type 0 where
   pub levels : List ℕ
   -- one row number of each entry
   pub row : ℕ
-  -- the keys of one level's chains
+  -- the keys of one level's chains: as many as the greatest scan has rows
   pub keys : ℕ
 
 abbrev pub greatest : List ℕ → ℕ
