@@ -89,12 +89,15 @@ module _ {A B : Type 0} (one : OfFiles A) (two : A → OfFiles B) where
       told_again files told = sym meets.files ∙ h.same ∙ told
 
       ends : (e : Ending) → Ends second (two x) D e → Ends (joined first second) both E e
-      ends (ending.Refused r) w =
-          ((λ files told. at_ok (one files) (λ y. two y files) x (h.gives files told) ∙ w.0 files (told_again files told)),
-          (λ none. w.1 (sym meets.files ∙ h.same ∙ none)), w.2)
-      ends (ending.Fault file) w =
-          (rose_earlier first.faults_before second.faults_before second.faults_after (omega (arith, h.later, meets.faults)) w.0,
-          λ files told. more files file (h.gives files told) (w.1 files (told_again files told)))
+      ends (ending.Refused r) w = (
+        (λ files told. at_ok (one files) (λ y. two y files) x (h.gives files told) ∙ w.0 files (told_again files told)),
+        (λ none. w.1 (sym meets.files ∙ h.same ∙ none)),
+        w.2,
+      )
+      ends (ending.Fault file) w = (
+        rose_earlier first.faults_before second.faults_before second.faults_after (omega (arith, h.later, meets.faults)) w.0,
+        λ files told. more files file (h.gives files told) (w.1 files (told_again files told)),
+      )
       ends ending.NoMemory w = tt
 
       given : (answer : Result B Ending) → Gives second (two x) D answer → Gives (joined first second) both E answer

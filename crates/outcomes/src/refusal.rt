@@ -36,13 +36,24 @@ pub enum Refusal {
     /// The words are no command.
     Usage,
     /// The file isn't there.
-    Missing { file: FileId },
+    Missing {
+        file: FileId,
+    },
     /// The schema text is refused at this place.
-    Schema { cause: SchemaCause, at: u32 },
+    Schema {
+        cause: SchemaCause,
+        at: u32,
+    },
     /// The query text is refused at this place.
-    Query { cause: QueryCause, at: u32 },
+    Query {
+        cause: QueryCause,
+        at: u32,
+    },
     /// The file of the table with this place in the schema is refused.
-    Table { table: u32, cause: TableCause },
+    Table {
+        table: u32,
+        cause: TableCause,
+    },
     /// The file has this many of a thing, more than its limit.
     Limit {
         which: LimitKind,
@@ -50,7 +61,11 @@ pub enum Refusal {
         found: u64,
     },
     /// The least cost of an order, in rows, is above the budget.
-    Budget { least: u128 },
+    Budget {
+        least: u128,
+    },
     /// The file asks for what isn't built today.
-    Unbuilt { file: FileId },
+    Unbuilt {
+        file: FileId,
+    },
 }

@@ -14,13 +14,24 @@ pub enum Status {
     /// The words are no command.
     Usage,
     /// The file isn't there, or a read of it failed.
-    ReadFault { file: FileId },
+    ReadFault {
+        file: FileId,
+    },
     /// The schema text is refused at this place.
-    Schema { cause: SchemaCause, at: u32 },
+    Schema {
+        cause: SchemaCause,
+        at: u32,
+    },
     /// The query text is refused at this place.
-    Query { cause: QueryCause, at: u32 },
+    Query {
+        cause: QueryCause,
+        at: u32,
+    },
     /// The file of the table with this place in the schema is refused.
-    Table { table: u32, cause: TableCause },
+    Table {
+        table: u32,
+        cause: TableCause,
+    },
     /// The file has this many of a thing, more than its limit.
     Limit {
         which: LimitKind,
@@ -28,11 +39,17 @@ pub enum Status {
         found: u64,
     },
     /// The least cost of an order, in rows, is above the budget.
-    Budget { least: u128 },
+    Budget {
+        least: u128,
+    },
     /// The file asks for what isn't built today.
-    Unbuilt { file: FileId },
+    Unbuilt {
+        file: FileId,
+    },
     /// A write failed.
-    WriteFault { sink: SinkId },
+    WriteFault {
+        sink: SinkId,
+    },
     /// Memory was wanting before the first byte of the plan text.
     NoMemory,
 }

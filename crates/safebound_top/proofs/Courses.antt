@@ -126,9 +126,13 @@ module _ (call : Call) (course : Course call) where
         by : Ended call.status call.out call.notes run course.line → say.FaultsRose call.notes × say.DidNotGrow call.out
             × say.OverFiles call (λ files v. IsOkAnd v (λ run. CutThenTold call.notes.taken_before call.notes.taken_after (plan_text run) (fault_text call.status call.words files)))
         by (Done e notes out) = absurd (let no : status.Done ≡ status.WriteFault sink.Notes = sym e ∙ is in cc)
-        by (CutInNotes e rose out line) = (rose, out, (λ files told.
-            subst (λ (v : Result Accepted Refusal). IsOkAnd v (λ run. CutThenTold call.notes.taken_before call.notes.taken_after (plan_text run) (fault_text call.status call.words files)))
-            (sym (went_verdict files told)) (subst (CutThenTold call.notes.taken_before call.notes.taken_after (plan_text run)) (course.is_line files told) line)))
+        by (CutInNotes e rose out line) = (
+          rose,
+          out,
+          (λ files told.
+              subst (λ (v : Result Accepted Refusal). IsOkAnd v (λ run. CutThenTold call.notes.taken_before call.notes.taken_after (plan_text run) (fault_text call.status call.words files)))
+              (sym (went_verdict files told)) (subst (CutThenTold call.notes.taken_before call.notes.taken_after (plan_text run)) (course.is_line files told) line)),
+        )
         by (CutInOut e rose out line) = absurd (let no : status.WriteFault sink.Out ≡ status.WriteFault sink.Notes = sym e ∙ is in cc)
 
     went_cut_out : call.status ≡ status.WriteFault sink.Out → say.FaultsRose call.out
@@ -141,11 +145,14 @@ module _ (call : Call) (course : Course call) where
             × Tells (appended call.notes.taken_before (plan_text run)) call.notes.taken_after call.notes.faults_before call.notes.faults_after (fault_text call.status call.words files)))
         by (Done e notes out) = absurd (let no : status.Done ≡ status.WriteFault sink.Out = sym e ∙ is in cc)
         by (CutInNotes e rose out line) = absurd (let no : status.WriteFault sink.Notes ≡ status.WriteFault sink.Out = sym e ∙ is in cc)
-        by (CutInOut e rose out line) = (rose, (λ files told.
-            subst (λ (v : Result Accepted Refusal). IsOkAnd v (λ run. GrewByPrefix call.out.taken_before call.out.taken_after (rows_text run)
-            × Tells (appended call.notes.taken_before (plan_text run)) call.notes.taken_after call.notes.faults_before call.notes.faults_after (fault_text call.status call.words files)))
-            (sym (went_verdict files told))
-            (out, subst (Tells (appended call.notes.taken_before (plan_text run)) call.notes.taken_after call.notes.faults_before call.notes.faults_after) (course.is_line files told) line)))
+        by (CutInOut e rose out line) = (
+          rose,
+          (λ files told.
+              subst (λ (v : Result Accepted Refusal). IsOkAnd v (λ run. GrewByPrefix call.out.taken_before call.out.taken_after (rows_text run)
+              × Tells (appended call.notes.taken_before (plan_text run)) call.notes.taken_after call.notes.faults_before call.notes.faults_after (fault_text call.status call.words files)))
+              (sym (went_verdict files told))
+              (out, subst (Tells (appended call.notes.taken_before (plan_text run)) call.notes.taken_after call.notes.faults_before call.notes.faults_after) (course.is_line files told) line)),
+        )
 
     went_by_the_store : (files : Files) → call.store.files ≡ Some files
         → (call.status ≡ say.status_of (verdict call.words files)) ⊎ ((which : SinkId) × (call.status ≡ status.WriteFault which)) ⊎ (call.status ≡ status.NoMemory)

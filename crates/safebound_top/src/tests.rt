@@ -202,7 +202,9 @@ fn is_usage(words: &[&str]) -> bool {
 fn runs_two_files(words: &[&str]) -> bool {
     match read_words(words) {
         Ok(command) => {
-            command.schema_file() == "s" && command.query_file() == "q" && command.budget() == 1_000_000
+            command.schema_file() == "s"
+                && command.query_file() == "q"
+                && command.budget() == 1_000_000
         }
         Err(WordsError::Usage) => false,
     }
