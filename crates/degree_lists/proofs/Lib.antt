@@ -1,2 +1,4 @@
 pub mod FallingCounts
-pub mod Tally
+pub mod OneMoreKey
+pub mod RunLengths
+pub mod SameDegrees
