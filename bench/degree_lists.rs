@@ -1,7 +1,6 @@
-//! What `falling` of crate degree_lists is measured against: the standard hash map and sort.
+//! What `falling` of crate degree_lists is measured against: a copy, the standard sort, and a walk over the runs.
 //! Build with `rustc -O bench/degree_lists.rs`. It prints the time in milliseconds for four million keys
 //! that are all different, all equal, and about as unequal as words of a text.
-use std::collections::HashMap;
 use std::time::Instant;
 
 const KEYS: u32 = 4_000_000;
@@ -24,12 +23,14 @@ fn keys_of(kind: &str) -> Vec<u64> {
 }
 
 fn falling(keys: &[u64]) -> Vec<u64> {
-    let mut counts: HashMap<u64, u64> = HashMap::new();
-    for &key in keys {
-        *counts.entry(key).or_insert(0) += 1;
-    }
-    let mut list: Vec<u64> = counts.into_values().collect();
-    list.sort_unstable_by(|a, b| b.cmp(a));
+    let mut sorted = keys.to_vec();
+    sorted.sort_unstable();
+    let mut list: Vec<u64> = sorted
+        .chunk_by(|a, b| a == b)
+        .map(|run| run.len() as u64)
+        .collect();
+    list.sort_unstable();
+    list.reverse();
     list
 }
 

@@ -41,7 +41,7 @@ run_goes_on sorted lengths run i are room same =
     }
 
 -- a key above all of a list stands nowhere in it
-degree-above : (s : List ℕ) (x : ℕ) → ((k : ℕ) → k < length s → get_or s k 0 < x) → degree s x ≡ 0
+pub degree-above : (s : List ℕ) (x : ℕ) → ((k : ℕ) → k < length s → get_or s k 0 < x) → degree s x ≡ 0
 degree-above [] x above = refl
 degree-above (y ∷ s) x above =
     let first : y < x = above 0 (omega arith) in
@@ -49,7 +49,7 @@ degree-above (y ∷ s) x above =
     let none : cond {A = ℕ} (eqb y x) 1 0 ≡ 0 = rw differs refl in
     omega (arith, none, sum_by-cons (λ z. cond (eqb z x) 1 0) y s, degree-above s x (λ k within. above (suc k) (omega arith)))
 
-take-run : (s : List ℕ) (x b n : ℕ) → b + n ≤ length s → ((k : ℕ) → b ≤ k → k < b + n → get_or s k 0 ≡ x) → take (b + n) s ≡ take b s ++ replicate n x
+pub take-run : (s : List ℕ) (x b n : ℕ) → b + n ≤ length s → ((k : ℕ) → b ≤ k → k < b + n → get_or s k 0 ≡ x) → take (b + n) s ≡ take b s ++ replicate n x
 take-run s x b zero room alike = ap (λ m. take m s) (omega arith) ∙ sym (append-nil (take b s))
 take-run s x b (suc n) room alike =
     let last : b + n < length s = omega arith in

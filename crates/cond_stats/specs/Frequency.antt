@@ -1,0 +1,26 @@
+-- Which values of a column are frequent: the 32 that stand in the most rows; of values in equally many rows, those that occur first.
+use Rattle.std.specs.Prelude.{ℕ, ◌==◌, nat_lt, nat_le, Bool, ◌&&◌, ◌||◌, List, take, drop}
+use Rattle.std.specs.List.{position_or_len}
+use Rattle.degree_sequences.specs.Degrees.{degree, different}
+use Rattle.cond_stats.specs.Leaves.{in_order}
+
+-- the first place of a value in a column
+abbrev pub first_place : List ℕ → ℕ → ℕ
+first_place column value = position_or_len (λ other. other == value) column
+
+-- one value is more frequent than another, or as frequent and occurs no later
+abbrev pub comes_before : List ℕ → ℕ → ℕ → Bool
+comes_before column a b =
+    nat_lt (degree column b) (degree column a) || degree column a == degree column b && nat_le (first_place column a) (first_place column b)
+
+-- the different values of a column, the most frequent first; of equally frequent ones the one that occurs first
+abbrev pub by_frequency : List ℕ → List ℕ
+by_frequency column = in_order (comes_before column) (different column)
+
+-- the frequent values
+abbrev pub frequent : List ℕ → List ℕ
+frequent column = take 32 (by_frequency column)
+
+-- the values that remain
+abbrev pub remaining : List ℕ → List ℕ
+remaining column = drop 32 (by_frequency column)

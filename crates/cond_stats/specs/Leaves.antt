@@ -1,0 +1,47 @@
+-- The leaves of a column: 32 ranges of its values, each with about as many rows, and the nodes above them.
+-- How values compare is a parameter: `at_most a b` says that a is at most b.
+use Rattle.std.specs.Prelude.{ℕ, suc, ◌*◌, ◌/◌, ◌==◌, Bool, if◌then◌else◌, List, [], ◌∷◌, map, length, slice_index, find, unwrap_or, Contains}
+use Rattle.std.specs.List.{list_any, range_with_len}
+
+-- a value in its place of an ascending list
+abbrev pub put_in_order : (ℕ → ℕ → Bool) → ℕ → List ℕ → List ℕ
+put_in_order at_most value [] = value ∷ []
+put_in_order at_most value (other ∷ others) =
+    if at_most value other then value ∷ (other ∷ others) else (other ∷ put_in_order at_most value others)
+
+-- the same values in ascending order
+abbrev pub in_order : (ℕ → ℕ → Bool) → List ℕ → List ℕ
+in_order at_most [] = []
+in_order at_most (value ∷ values) = put_in_order at_most value (in_order at_most values)
+
+-- the values at which the leaves begin: of n values in ascending order, counted from 0, those at n * i / 32 for i from 0 to 31.
+-- A column without rows has none
+unfoldable pub cuts : (ℕ → ℕ → Bool) → List ℕ → List ℕ
+cuts at_most [] = []
+cuts at_most (value ∷ values) =
+    map (λ i. slice_index (in_order at_most (value ∷ values)) (length (value ∷ values) * i / 32)) (range_with_len 0 32)
+
+-- the last place whose element passes, and 0 where none does
+abbrev pub last_place : (ℕ → Bool) → List ℕ → ℕ
+last_place passes [] = 0
+last_place passes (x ∷ xs) = if list_any passes xs then suc (last_place passes xs) else 0
+
+-- the leaf of whatever lies above the values that pass: the last whose cut passes
+abbrev pub leaf_above : (ℕ → ℕ → Bool) → List ℕ → (ℕ → Bool) → ℕ
+leaf_above at_most column passes = last_place passes (cuts at_most column)
+
+-- the leaf of a value: the last whose cut is at most the value
+abbrev pub leaf_of : (ℕ → ℕ → Bool) → List ℕ → ℕ → ℕ
+leaf_of at_most column value = leaf_above at_most column (λ cut. at_most cut value)
+
+-- nodes have 1, 2, 4, 8, 16 or 32 leaves, and begin at multiples of that. So many leaves has the least node that holds both leaves
+abbrev pub node_size : ℕ → ℕ → ℕ
+node_size low high = unwrap_or (find (λ size. low / size == high / size) (1 ∷ 2 ∷ 4 ∷ 8 ∷ 16 ∷ [])) 32
+
+-- whether the node of this size that holds one leaf holds the other
+abbrev pub in_node : ℕ → ℕ → ℕ → Bool
+in_node size leaf other = other / size == leaf / size
+
+-- a size that nodes have
+abbrev pub IsNodeSize : ℕ → Type 0
+IsNodeSize size = Contains (1 ∷ 2 ∷ 4 ∷ 8 ∷ 16 ∷ 32 ∷ []) size

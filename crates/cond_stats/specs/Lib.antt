@@ -1,0 +1,10 @@
+pub mod Rows
+pub mod Frequency
+pub mod Leaves
+pub mod Lists
+pub mod Columns
+pub mod Order
+pub mod Windows
+pub mod Runs
+pub mod Sorted
+pub mod Texts

@@ -1,0 +1,34 @@
+//! Conditional statistics: for a filter column and a joined column of one table, the lists that dominate the joined keys of the rows
+//! that a condition on the filter column leaves (SafeBound, SIGMOD 2023, conditional degree sequences).
+//!
+//! The stage after a table is read. In come columns of cells; out go compressed degree lists: of all rows, of the rows with one filter
+//! value, and of the rows with a filter value in a range. A `FilterColumn` sorts the filter column once, and makes each list when it is
+//! asked for.
+//!
+//! Callers cite `whole`, `list_of_value` and `list_of_range` (in `specs/Lists.antt`) for the lists, `leaf_of_value`, `list_between` and
+//! `is_between` (in `specs/Columns.antt`) for the ends of a range, and `laws` for what the lists dominate and sum to. They see a
+//! `FilterColumn` as a `CellColumn`.
+//!
+//! ```text
+//! let column = FilterColumn::new(alloc, &pool, kind, filter)?;
+//! let list = column.list_of_value(joined, Some(cell), 1)?;   // list ≡ list_of_value 1 (zip filter joined) (Some cell)
+//! ```
+#![tactic(auto)]
+
+mod column;
+mod cut_leaves;
+mod cuts;
+pub mod examples;
+mod groups;
+pub mod laws;
+mod lists;
+mod order;
+mod rest;
+mod texts;
+mod whole;
+
+pub use column::FilterColumn;
+pub use whole::whole_list;
+
+#[cfg(test)]
+mod tests;

@@ -1,0 +1,49 @@
+//! The rest list: what is kept of the degree lists of the values that aren't frequent.
+ghost use Rattle.std.specs.Prelude.{◌≡◌, ◌<◌, ◌≤◌, max, [], ◌∷◌, ◌++◌, length, slice_index, slice_set, IfOk, OnOk};
+ghost use Rattle.degree_sequences.specs.ByRank.{rank_maximum};
+ghost use Rattle.degree_sequences.specs.Falling.{IsFalling};
+ghost use Rattle.degree_sequences.specs.RunningSums.{cut_at};
+
+use base_io::NoMemory;
+use std::alloc::Global;
+
+/// Raises a list to another, rank by rank.
+pub(crate) fn raise(maxima: &mut Vec<u64>, degrees: &[u64]) -> Result<(), NoMemory>
+    ensures { OnOk result (maxima.new.items ≡ rank_maximum maxima.old.items degrees.now) }
+{
+    for (i, degree) in degrees.iter().enumerate() {
+        raise_at(maxima, i, *degree)?;
+    }
+    Ok(())
+}
+
+// Raises one rank, which may be the next after the last.
+fn raise_at(maxima: &mut Vec<u64>, i: usize, degree: u64) -> Result<(), NoMemory>
+    ensures within { OnOk result (i < length maxima.old.items → maxima.new.items ≡ slice_set maxima.old.items i (max (slice_index maxima.old.items i) degree)) }
+    ensures past { OnOk result (length maxima.old.items ≤ i → maxima.new.items ≡ maxima.old.items ++ degree ∷ []) }
+{
+    if i < maxima.len() {
+        maxima[i] = maxima[i].max(degree);
+    } else {
+        maxima.push(degree)?;
+    }
+    Ok(())
+}
+
+/// A falling list cut so that its running sums are at most a number.
+pub(crate) fn cut(alloc: Global, falling: &[u64], most: u64) -> Result<Vec<u64>, NoMemory>
+    requires { IsFalling falling.now }
+    ensures { IfOk result (λ list. list.items ≡ cut_at falling.now most) }
+{
+    let mut list = Vec::new(alloc);
+    let mut left = most;
+    for degree in falling {
+        let taken = left.min(*degree);
+        if taken == 0 {
+            return Ok(list);
+        }
+        list.push(taken)?;
+        left -= taken;
+    }
+    Ok(list)
+}

@@ -1,0 +1,98 @@
+//! The rows of a column of texts, numbered in the order of the texts. Texts are compared once for the different cells, and never for rows.
+ghost use Rattle.std.specs.Prelude.{◌≡◌, ◌<◌, ◌^◌, length, map, All, IfOk};
+ghost use Rattle.degree_sequences.specs.Degrees.{different};
+ghost use Rattle.cond_stats.specs.Order.{rows_from};
+ghost use Rattle.cond_stats.specs.Texts.{AreByText, IsTextOf, rank_or_zero};
+
+use crate::cut_leaves::{compare_texts, text_at};
+use crate::order::Row;
+use base_io::NoMemory;
+use csv_tables::Pool;
+use indexmap::IndexSet;
+use std::alloc::Global;
+
+/// A cell, and the text that it stands for.
+#[derive(Clone, Copy, Debug)]
+pub(crate) struct Text<'a> {
+    pub cell: u64,
+    pub text: &'a str,
+}
+
+/// The different cells of a column in the order of their texts: a cell's index is its rank.
+pub(crate) fn ranks(alloc: Global, pool: &Pool, cells: &[u64]) -> Result<IndexSet<u64>, NoMemory>
+    ensures { IfOk result (λ ranks. AreByText pool.now (different cells.now) ranks.keys) }
+{
+    let first_seen = different_cells(alloc, cells)?;
+    let ordered = by_text(alloc, pool, first_seen.as_slice())?;
+    different_cells(alloc, ordered.as_slice())
+}
+
+// The different cells, in the order in which they were first seen.
+fn different_cells(alloc: Global, cells: &[u64]) -> Result<IndexSet<u64>, NoMemory>
+    ensures { IfOk result (λ set. set.keys ≡ different cells.now) }
+{
+    let mut set: IndexSet<u64> = IndexSet::new(alloc);
+    for cell in cells {
+        set.insert(*cell)?;
+    }
+    Ok(set)
+}
+
+// The cells in the order of their texts.
+fn by_text(alloc: Global, pool: &Pool, cells: &[u64]) -> Result<Vec<u64>, NoMemory>
+    ensures { IfOk result (λ ordered. AreByText pool.now cells.now ordered.items) }
+{
+    let mut texts = texts_of(alloc, pool, cells)?;
+    texts.sort_unstable_by(|a, b| compare_texts(a.text, b.text));
+    cells_of(alloc, texts.as_slice())
+}
+
+// The cells with their texts.
+fn texts_of<'a>(alloc: Global, pool: &'a Pool, cells: &[u64]) -> Result<Vec<Text<'a>>, NoMemory>
+    ensures cells { IfOk result (λ texts. map (λ text. text.cell) texts.items ≡ cells.now) }
+    ensures texts { IfOk result (λ texts. All (λ text. IsTextOf pool.now text.cell text.text.now) texts.items) }
+{
+    let mut texts = Vec::with_capacity(alloc, cells.len())?;
+    for cell in cells {
+        texts.push(Text {
+            cell: *cell,
+            text: text_at(pool, *cell),
+        })?;
+    }
+    Ok(texts)
+}
+
+// The cells alone.
+fn cells_of(alloc: Global, texts: &[Text<'_>]) -> Result<Vec<u64>, NoMemory>
+    ensures { IfOk result (λ cells. cells.items ≡ map (λ text. text.cell) texts.now) }
+{
+    Ok(texts.iter().map(|text| text.cell).collect(alloc)?)
+}
+
+/// The rows of a column as they stand, each with the rank of its cell.
+pub(crate) fn numbered_by_rank(
+    alloc: Global,
+    ranks: &IndexSet<u64>,
+    cells: &[u64],
+) -> Result<Vec<Row>, NoMemory>
+    requires { length cells.now < 2 ^ 32 }
+    ensures { IfOk result (λ rows. rows.items ≡ rows_from (rank_or_zero ranks.now.keys) 0 cells.now) }
+{
+    let mut rows = Vec::with_capacity(alloc, cells.len())?;
+    for (i, cell) in cells.iter().enumerate() {
+        rows.push(Row {
+            number: rank_of(ranks, *cell),
+            place: i as u32,
+        })?;
+    }
+    Ok(rows)
+}
+
+fn rank_of(ranks: &IndexSet<u64>, cell: u64) -> u64
+    ensures { result ≡ rank_or_zero ranks.now.keys cell }
+{
+    match ranks.get_index_of(&cell) {
+        Some(rank) => rank as u64,
+        None => 0,
+    }
+}
