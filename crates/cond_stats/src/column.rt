@@ -4,15 +4,16 @@ ghost use Rattle.std.specs.List.{zip};
 ghost use Rattle.csv_tables.specs.Cells.{IsCell};
 ghost use Rattle.csv_tables.specs.Values.{Int, Text};
 ghost use Rattle.cond_stats.specs.Columns.{cell_le, leaf_of_value};
-ghost use Rattle.cond_stats.specs.Leaves.{node_size, IsNodeSize};
+ghost use Rattle.cond_stats.specs.Frequency.{frequent};
+ghost use Rattle.cond_stats.specs.Leaves.{cuts, node_size, IsNodeSize};
 ghost use Rattle.cond_stats.specs.Lists.{compressed_degrees, is_frequent, keys_with, rest, list_of_value, list_of_node, list_of_range};
 
 use crate::cut_leaves::{leaf_of_int, leaf_of_text};
 use crate::cuts::{cuts_of, leaf_starts};
 use crate::groups::{Group, groups_by_frequency};
-use crate::lists::{group_of, list_at, rest_list, stretch};
+use crate::lists::{group_of, list_at, rest_list, stretch, values_of};
 use crate::order::{InOrder, in_order};
-use base_io::NoMemory;
+use base_io::{NoMemory, Seq};
 use csv_tables::{Pool, cell_of};
 use piece_math::Pieces;
 use schema_types::Kind;
@@ -127,6 +128,64 @@ impl<'a> FilterColumn<'a> {
         leaf_of_text(self.kind, self.pool, self.cuts.as_slice(), text)
     }
 
+    /// The rest list, which every value has that isn't frequent. The accuracy is from 1 to 64.
+    pub fn rest(&self, joined: &[u64], accuracy: u8) -> Result<Pieces, NoMemory>
+        requires joined { length joined.now ≡ length self.now.cells }
+        requires accuracy { (0 < accuracy) × (accuracy ≤ 64) }
+        ensures { IfOk result (λ list. list ≡ rest accuracy (zip self.now.cells joined.now)) }
+    {
+        let frequent = self.groups.len().min(32);
+        let remaining = &self.groups[frequent..];
+        rest_list(
+            *self.places.allocator(),
+            joined,
+            self.places.as_slice(),
+            remaining,
+            accuracy,
+        )
+    }
+
+    /// The list of the node of 1, 2, 4, 8, 16 or 32 leaves that holds a leaf. The accuracy is from 1 to 64.
+    pub fn list_of_node(
+        &self,
+        joined: &[u64],
+        size: u8,
+        leaf: u8,
+        accuracy: u8,
+    ) -> Result<Pieces, NoMemory>
+        requires joined { length joined.now ≡ length self.now.cells }
+        requires size { IsNodeSize size }
+        requires leaf { leaf < 32 }
+        requires accuracy { (0 < accuracy) × (accuracy ≤ 64) }
+        ensures { IfOk result (λ list. list ≡ list_of_node (cell_le self.now.texts self.now.kind) accuracy (zip self.now.cells joined.now) size leaf) }
+    {
+        let first = (leaf / size * size) as usize;
+        let from = self.starts[first];
+        let to = self.starts[first + size as usize];
+        let places = stretch(self.places.as_slice(), from, to);
+        list_at(*self.places.allocator(), joined, places, accuracy)
+    }
+
+    /// The cells of the frequent values, the most frequent first.
+    pub fn frequent(&self) -> Result<Seq<u64>, NoMemory>
+        ensures { IfOk result (λ values. values ≡ frequent self.now.cells) }
+    {
+        let frequent = self.groups.len().min(32);
+        let values = values_of(
+            *self.places.allocator(),
+            self.cells,
+            &self.groups[..frequent],
+        )?;
+        Ok(Seq::from_vec(values))
+    }
+
+    /// The cells at which the leaves begin: 32 of them, or none without rows.
+    pub fn cuts(&self) -> &[u64]
+        ensures { result.now ≡ cuts (cell_le self.now.texts self.now.kind) self.now.cells }
+    {
+        self.cuts.as_slice()
+    }
+
     // The list of a value, where it is frequent.
     fn list_of_frequent(
         &self,
@@ -149,44 +208,6 @@ impl<'a> FilterColumn<'a> {
             }
             None => Ok(None),
         }
-    }
-
-    // The rest list.
-    fn rest(&self, joined: &[u64], accuracy: u8) -> Result<Pieces, NoMemory>
-        requires joined { length joined.now ≡ length self.now.cells }
-        requires accuracy { (0 < accuracy) × (accuracy ≤ 64) }
-        ensures { IfOk result (λ list. list ≡ rest accuracy (zip self.now.cells joined.now)) }
-    {
-        let frequent = self.groups.len().min(32);
-        let remaining = &self.groups[frequent..];
-        rest_list(
-            *self.places.allocator(),
-            joined,
-            self.places.as_slice(),
-            remaining,
-            accuracy,
-        )
-    }
-
-    // The list of the node of this size that holds a leaf.
-    fn list_of_node(
-        &self,
-        joined: &[u64],
-        size: u8,
-        leaf: u8,
-        accuracy: u8,
-    ) -> Result<Pieces, NoMemory>
-        requires joined { length joined.now ≡ length self.now.cells }
-        requires size { IsNodeSize size }
-        requires leaf { leaf < 32 }
-        requires accuracy { (0 < accuracy) × (accuracy ≤ 64) }
-        ensures { IfOk result (λ list. list ≡ list_of_node (cell_le self.now.texts self.now.kind) accuracy (zip self.now.cells joined.now) size leaf) }
-    {
-        let first = (leaf / size * size) as usize;
-        let from = self.starts[first];
-        let to = self.starts[first + size as usize];
-        let places = stretch(self.places.as_slice(), from, to);
-        list_at(*self.places.allocator(), joined, places, accuracy)
     }
 }
 

@@ -109,3 +109,19 @@ pub(crate) fn group_of(cells: &[u64], groups: &[Group], cell: u64) -> Option<Gro
     }
     None
 }
+
+/// The cells of the values of groups.
+pub(crate) fn values_of(
+    alloc: Global,
+    cells: &[u64],
+    groups: &[Group],
+) -> Result<Vec<u64>, NoMemory>
+    requires { All (λ group. group.first < length cells.now) groups.now }
+    ensures { IfOk result (λ values. values.items ≡ map (value_of_group cells.now) groups.now) }
+{
+    let mut values = Vec::with_capacity(alloc, groups.len())?;
+    for group in groups {
+        values.push(cells[group.first as usize])?;
+    }
+    Ok(values)
+}
