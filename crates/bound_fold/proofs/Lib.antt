@@ -1,6 +1,6 @@
-mod SetTrees
-mod SetBounds
-mod TestedSets
+pub mod SetTrees
+pub mod SetBounds
+pub mod TestedSets
 mod Held
 mod Links
 mod Collecting

@@ -1,0 +1,47 @@
+-- What a set needs, each set within it has.
+use Rattle.std.proofs.Common.{◌≡◌, ℕ, ◌-◌, ◌+◌, ◌^◌, ◌<◌, Bool, true, false, ◌&&◌, List, [], ◌∷◌, get_or, length, refl, subst, inl, inr, arith}
+use Rattle.std.specs.Prelude.{IsSome}
+use Rattle.std.specs.Int.{bit_at}
+use Rattle.std.specs.List.{AllByRecursion}
+use Rattle.std.proofs.lemmas.Bool.{cases_lt}
+use Rattle.std.proofs.lemmas.Nat.{pow_pos}
+use Rattle.std.proofs.lemmas.Nat.Bits.{bit_at_above, bit_at_ones}
+use Rattle.entry_sets.specs.Sets.{IsWithin, has_entry}
+use Rattle.entry_sets.proofs.Listing.{bit_has, has_bit}
+use Rattle.berge_tree.specs.declared.edges.Edge.{Edge}
+use Rattle.join_graph.specs.Kept.{joins_within}
+use Rattle.bound_fold.specs.declared.lists.EntryLists.{EntryLists}
+use Rattle.bound_fold.specs.Lists.{list_of, rows_of}
+use Rattle.bound_fold.specs.Sets.{SetIsListed}
+use Rattle.bound_fold.proofs.TestedSets.{each_in_set, each_named, entry_at, named_at}
+
+both : (x y : Bool) → (x && y) ≡ true → (x ≡ true) × (y ≡ true)
+both true y e = (refl, e)
+both false y e = absurd (cc e)
+
+together : (x y : Bool) → x ≡ true → y ≡ true → (x && y) ≡ true
+together x y e f = rw (e, f) refl
+
+pub joins_more : (subset whole : ℕ) → IsWithin subset whole → (e : Edge) → joins_within subset e ≡ true → joins_within whole e ≡ true
+joins_more subset whole within e joins =
+    let has : (has_entry subset e.left.entry ≡ true) × (has_entry subset e.right.entry ≡ true) = both (has_entry subset e.left.entry) (has_entry subset e.right.entry) joins in
+    together (has_entry whole e.left.entry) (has_entry whole e.right.entry) (within e.left.entry has.0) (within e.right.entry has.1)
+
+pub listed_within : (lists : EntryLists) (es : List Edge) (subset whole : ℕ) → IsWithin subset whole → SetIsListed lists es whole → SetIsListed lists es subset
+listed_within lists es subset whole within h = record {
+  rows = each_in_set (λ k. IsSome (rows_of lists k)) subset (λ k low has. entry_at (λ k. IsSome (rows_of lists k)) whole h.rows k (within k has));
+  columns = each_named (λ entry column. IsSome (list_of lists entry column)) subset es
+      (λ k d low joins. named_at (λ entry column. IsSome (list_of lists entry column)) whole es h.columns k d low (joins_more subset whole within (get_or es k d) joins));
+}
+
+-- a set of a smaller number than 2^n has entries below n alone
+pub first_within : (n subset : ℕ) → subset < 2 ^ n → IsWithin subset (2 ^ n - 1)
+first_within n subset fits entry has =
+    let bit : (entry < 16) × (bit_at subset entry ≡ 1) = has_bit subset entry has in
+    elim (cases_lt entry n) [
+      | inl below ↦ bit_has (2 ^ n - 1) entry (bit.0, bit_at_ones n entry below)
+      | inr above ↦ absurd (omega (arith, bit.1, bit_at_above subset n entry fits above))
+    ]
+
+pub first_listed : (lists : EntryLists) (es : List Edge) (n subset : ℕ) → SetIsListed lists es (2 ^ n - 1) → subset < 2 ^ n → SetIsListed lists es subset
+first_listed lists es n subset h fits = listed_within lists es subset (2 ^ n - 1) (first_within n subset fits) h

@@ -1,0 +1,37 @@
+-- The bounds of the first sets, one after another.
+use Rattle.std.proofs.Common.{◌≡◌, ◌⊎◌, ℕ, ◌+◌, ◌*◌, ◌-◌, ◌%◌, ◌^◌, ◌<◌, ◌≤◌, List, [], ◌∷◌, ◌++◌, get_or, length, map, refl, ap, sym, ◌∙◌, subst, pow_mono, arith}
+use Rattle.std.specs.List.{AllByRecursion, range_with_len}
+use Rattle.std.proofs.lemmas.List.FromFn.{get_or-map-range_with_len, map-range_with_len_more}
+use Rattle.entry_sets.specs.Sets.{entries_of_set}
+use Rattle.berge_tree.specs.declared.edges.Edge.{Edge}
+use Rattle.join_graph.specs.Kept.{equalities_within}
+use Rattle.tree_bounds.specs.Tables.{KeyedTables, AreDifferent, Satisfies, SetDominates}
+use Rattle.tree_bounds.specs.TreeBounds.{EntryBounds}
+use Rattle.bound_fold.specs.declared.lists.EntryLists.{EntryLists}
+use Rattle.bound_fold.specs.Lists.{bounds_of}
+use Rattle.bound_fold.specs.Sets.{SetIsListed}
+use Rattle.bound_fold.proofs.SetBounds.{set_never_under}
+use Rattle.set_bounds.specs.AllSets.{bound_told, bounds_of_sets, first_entries}
+use Rattle.set_bounds.proofs.Listing.{first_listed}
+
+-- how many sets there are
+pub sets_fit : (n : ℕ) → n ≤ 12 → 1 * 2 ^ n % 65536 ≡ 2 ^ n
+sets_fit n few = let powers : 2 ^ n ≤ 2 ^ 12 = pow_mono few in omega (arith, powers)
+
+-- the bounds of the sets below k
+abbrev pub told : EntryBounds → List Edge → ℕ → List ℕ
+told b es k = map (bound_told b es) (range_with_len 0 k)
+
+pub told_more : (b : EntryBounds) (es : List Edge) (k n : ℕ) (bounds longer : List ℕ) → bounds ≡ told b es k → n ≡ bound_told b es k → longer ≡ bounds ++ n ∷ [] → longer ≡ told b es (k + 1)
+told_more b es k n bounds longer before is pushed =
+    pushed ∙ ap (λ (s : List ℕ). s ++ n ∷ []) before ∙ ap (λ m. told b es k ++ m ∷ []) is ∙ sym (map-range_with_len_more (bound_told b es) 0 k k (omega arith))
+
+pub told_at : (b : EntryBounds) (es : List Edge) (n subset : ℕ) (bounds : List ℕ) → bounds ≡ bounds_of_sets b es n → subset < 2 ^ n → get_or bounds subset 0 ≡ bound_told b es subset
+told_at b es n subset bounds is fits = ap (λ (s : List ℕ). get_or s subset 0) is ∙ get_or-map-range_with_len (bound_told b es) 0 (2 ^ n) subset subset 0 fits (omega arith)
+
+pub never_under : (lists : EntryLists) (es : List Edge) (n : ℕ) (bounds : List ℕ) → SetIsListed lists es (first_entries n) → bounds ≡ bounds_of_sets (bounds_of lists) es n
+    → (subset : ℕ) → subset < 2 ^ n → (tables : KeyedTables) → SetDominates (bounds_of lists) tables es subset → (choices : List (ℕ → ℕ))
+    → AllByRecursion (Satisfies tables (entries_of_set subset) (equalities_within subset es)) choices → AreDifferent (entries_of_set subset) choices
+    → (length choices ≤ get_or bounds subset 0) ⊎ (get_or bounds subset 0 ≡ 2 ^ 128 - 1)
+never_under lists es n bounds listed is subset fits tables dominates choices satisfy differ =
+    set_never_under lists es subset (get_or bounds subset 0) (first_listed lists es n subset listed fits) (told_at (bounds_of lists) es n subset bounds is fits) tables dominates choices satisfy differ

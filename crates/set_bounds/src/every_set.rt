@@ -1,0 +1,43 @@
+//! The bound of every set, one after another.
+ghost use Rattle.std.specs.Prelude.{◌≡◌, ◌⊎◌, ◌-◌, ◌^◌, ◌<◌, ◌≤◌, ℕ, List, length, slice_index, IfOk};
+ghost use Rattle.std.specs.List.{AllByRecursion};
+ghost use Rattle.limits.specs.Profile.{most_entries, top_bound};
+ghost use Rattle.entry_sets.specs.Sets.{entries_of_set};
+ghost use Rattle.join_graph.specs.Kept.{equalities_within};
+ghost use Rattle.tree_bounds.specs.Tables.{KeyedTables, AreDifferent, Satisfies, SetDominates};
+ghost use Rattle.bound_fold.specs.Lists.{bounds_of};
+ghost use Rattle.bound_fold.specs.Sets.{SetIsListed};
+ghost use Rattle.set_bounds.specs.AllSets.{bounds_of_sets as bounds_told, first_entries};
+
+use base_io::{NoMemory, Seq};
+use bound_fold::{EntryLists, set_bound};
+use entry_sets::EntrySet;
+use join_graph::Parts;
+use std::alloc::Global;
+
+/// The bounds of all sets of the first `count` entries, each at the number whose bits are the set, in rows; `u128::MAX` where a bound is larger, and 1 for the empty set.
+///
+/// A set's bound is the least over its turns of the product over its trees (SafeBound, SIGMOD 2023; Degree Sequence Bound, ICDT 2023). Where the lists dominate tables, no join of a set's tables by all its equalities has more rows.
+pub fn bounds_of_sets(
+    alloc: Global,
+    parts: &Parts,
+    lists: &EntryLists,
+    count: u8,
+) -> Result<Seq<u128>, NoMemory>
+    requires few { count ≤ most_entries }
+    requires listed { SetIsListed lists.now parts.now.equalities (first_entries count) }
+    ensures exact { IfOk result (λ bounds. bounds ≡ bounds_told (bounds_of lists.now) parts.now.equalities count) }
+    ensures never_under { IfOk result (λ bounds. (subset : ℕ) → subset < 2 ^ count
+        → (tables : KeyedTables) → SetDominates (bounds_of lists.now) tables parts.now.equalities subset
+        → (choices : List (ℕ → ℕ))
+        → AllByRecursion (Satisfies tables (entries_of_set subset) (equalities_within subset parts.now.equalities)) choices
+        → AreDifferent (entries_of_set subset) choices
+        → (length choices ≤ slice_index bounds subset) ⊎ (slice_index bounds subset ≡ top_bound)) }
+{
+    let mut bounds = Vec::new(alloc);
+    for bits in 0..1u16 << count {
+        let subset = EntrySet::from_bits(bits);
+        bounds.push(set_bound(alloc, parts, subset, lists)?)?;
+    }
+    Ok(Seq::from_vec(bounds))
+}
