@@ -1,2 +1,4 @@
 pub mod Listing
 pub mod Telling
+pub mod Forests
+pub mod SameTrees

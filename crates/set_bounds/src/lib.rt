@@ -6,5 +6,7 @@
 #![tactic(auto)]
 
 mod every_set;
+mod laws;
 
 pub use every_set::bounds_of_sets;
+pub use laws::one_turn_serves;
