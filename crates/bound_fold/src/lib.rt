@@ -15,7 +15,7 @@ pub use laws::nodes_hold_one_tree;
 pub use listed::is_listed;
 pub use lists::EntryLists;
 pub use over_nodes::fold;
-pub use sets::set_bound;
+pub use sets::{set_bound, turn_bound};
 
 #[cfg(test)]
 mod tests;

@@ -34,8 +34,8 @@ fn product_of_trees(alloc: Global, trees: &[Tree], lists: &EntryLists) -> Result
     Ok(product)
 }
 
-// The bound that a set has in one turn.
-fn turn_bound(
+/// The bound that a set has in one turn, or `u128::MAX` where it is larger: the product over the trees of the equalities that it keeps.
+pub fn turn_bound(
     alloc: Global,
     parts: &Parts,
     subset: EntrySet,

@@ -2,3 +2,5 @@ pub mod Listing
 pub mod Telling
 pub mod Forests
 pub mod SameTrees
+pub mod Parted
+pub mod Tested

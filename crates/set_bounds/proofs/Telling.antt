@@ -11,20 +11,16 @@ use Rattle.bound_fold.specs.declared.lists.EntryLists.{EntryLists}
 use Rattle.bound_fold.specs.Lists.{bounds_of}
 use Rattle.bound_fold.specs.Sets.{SetIsListed}
 use Rattle.bound_fold.proofs.SetBounds.{set_never_under}
-use Rattle.set_bounds.specs.AllSets.{bound_told, bounds_of_sets, first_entries}
+use Rattle.set_bounds.specs.AllSets.{bound_told, bounds_below, bounds_of_sets, first_entries}
 use Rattle.set_bounds.proofs.Listing.{first_listed}
 
 -- how many sets there are
 pub sets_fit : (n : ℕ) → n ≤ 12 → 1 * 2 ^ n % 65536 ≡ 2 ^ n
 sets_fit n few = let powers : 2 ^ n ≤ 2 ^ 12 = pow_mono few in omega (arith, powers)
 
--- the bounds of the sets below k
-abbrev pub told : EntryBounds → List Edge → ℕ → List ℕ
-told b es k = map (bound_told b es) (range_with_len 0 k)
-
-pub told_more : (b : EntryBounds) (es : List Edge) (k n : ℕ) (bounds longer : List ℕ) → bounds ≡ told b es k → n ≡ bound_told b es k → longer ≡ bounds ++ n ∷ [] → longer ≡ told b es (k + 1)
+pub told_more : (b : EntryBounds) (es : List Edge) (k n : ℕ) (bounds longer : List ℕ) → bounds ≡ bounds_below b es k → n ≡ bound_told b es k → longer ≡ bounds ++ n ∷ [] → longer ≡ bounds_below b es (k + 1)
 told_more b es k n bounds longer before is pushed =
-    pushed ∙ ap (λ (s : List ℕ). s ++ n ∷ []) before ∙ ap (λ m. told b es k ++ m ∷ []) is ∙ sym (map-range_with_len_more (bound_told b es) 0 k k (omega arith))
+    pushed ∙ ap (λ (s : List ℕ). s ++ n ∷ []) before ∙ ap (λ m. bounds_below b es k ++ m ∷ []) is ∙ sym (map-range_with_len_more (bound_told b es) 0 k k (omega arith))
 
 pub told_at : (b : EntryBounds) (es : List Edge) (n subset : ℕ) (bounds : List ℕ) → bounds ≡ bounds_of_sets b es n → subset < 2 ^ n → get_or bounds subset 0 ≡ bound_told b es subset
 told_at b es n subset bounds is fits = ap (λ (s : List ℕ). get_or s subset 0) is ∙ get_or-map-range_with_len (bound_told b es) 0 (2 ^ n) subset subset 0 fits (omega arith)

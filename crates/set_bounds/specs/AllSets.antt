@@ -14,6 +14,10 @@ first_entries n = 2 ^ n - 1
 abbrev pub bound_told : EntryBounds → List Edge → ℕ → ℕ
 bound_told b es subset = saturated (bound_of_set b es subset)
 
+-- of each set whose number is below k
+abbrev pub bounds_below : EntryBounds → List Edge → ℕ → List ℕ
+bounds_below b es k = map (bound_told b es) (range_with_len 0 k)
+
 -- of each set of the first n entries, at the number whose bits are the set
 abbrev pub bounds_of_sets : EntryBounds → List Edge → ℕ → List ℕ
-bounds_of_sets b es n = map (bound_told b es) (range_with_len 0 (2 ^ n))
+bounds_of_sets b es n = bounds_below b es (2 ^ n)

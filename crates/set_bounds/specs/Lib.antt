@@ -1,1 +1,2 @@
 pub mod AllSets
+pub mod Parts

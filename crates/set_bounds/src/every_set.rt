@@ -1,4 +1,4 @@
-//! The bound of every set, one after another.
+//! The bound of every set, one after another. Where a set's equalities close no cycle, one fold for each connected set serves: the others have the products of what was found before.
 ghost use Rattle.std.specs.Prelude.{◌≡◌, ◌⊎◌, ◌-◌, ◌^◌, ◌<◌, ◌≤◌, ℕ, List, length, slice_index, IfOk};
 ghost use Rattle.std.specs.List.{AllByRecursion};
 ghost use Rattle.limits.specs.Profile.{most_entries, top_bound};
@@ -9,8 +9,9 @@ ghost use Rattle.bound_fold.specs.Lists.{bounds_of};
 ghost use Rattle.bound_fold.specs.Sets.{SetIsListed};
 ghost use Rattle.set_bounds.specs.AllSets.{bounds_of_sets as bounds_told, first_entries};
 
+use crate::one_set::next_bound;
 use base_io::{NoMemory, Seq};
-use bound_fold::{EntryLists, set_bound};
+use bound_fold::EntryLists;
 use entry_sets::EntrySet;
 use join_graph::Parts;
 use std::alloc::Global;
@@ -37,7 +38,8 @@ pub fn bounds_of_sets(
     let mut bounds = Vec::new(alloc);
     for bits in 0..1u16 << count {
         let subset = EntrySet::from_bits(bits);
-        bounds.push(set_bound(alloc, parts, subset, lists)?)?;
+        let bound = next_bound(alloc, parts, lists, subset, bounds.as_slice())?;
+        bounds.push(bound)?;
     }
     Ok(Seq::from_vec(bounds))
 }

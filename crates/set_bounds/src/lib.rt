@@ -7,6 +7,8 @@
 
 mod every_set;
 mod laws;
+mod one_set;
+mod parts;
 
 pub use every_set::bounds_of_sets;
-pub use laws::one_turn_serves;
+pub use laws::{one_turn_serves, parts_multiply};

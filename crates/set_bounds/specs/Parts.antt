@@ -1,0 +1,27 @@
+-- Sets of entries whose equalities fall apart.
+use Rattle.std.specs.Prelude.{◌≡◌, ℕ, Bool, false, ◌&&◌, ◌||◌, not, if◌then◌else◌, List, [], ◌∷◌}
+use Rattle.std.specs.List.{AllByRecursion}
+use Rattle.entry_sets.specs.Sets.{IsWithin, has_entry}
+use Rattle.berge_tree.specs.declared.edges.Edge.{Edge}
+use Rattle.join_graph.specs.Kept.{equalities_within, joins_within}
+
+-- no equality of the set joins an entry of the part with one outside it
+abbrev pub AreUnjoined : List Edge → ℕ → ℕ → Type 0
+AreUnjoined es subset part = AllByRecursion (λ e. has_entry part e.left.entry ≡ has_entry part e.right.entry) (equalities_within subset es)
+
+-- the set is a part and the rest, and no equality joins the two
+pub record FallsInto (es : List Edge) (subset part rest : ℕ) : Type 0 where
+  pub within : IsWithin part subset
+  pub others : (entry : ℕ) → has_entry rest entry ≡ (has_entry subset entry && not (has_entry part entry))
+  pub unjoined : AreUnjoined es subset part
+
+-- ---- the same, tested
+
+-- the equality is one of the set, and joins an entry of the part with one outside it
+abbrev pub crosses : ℕ → ℕ → Edge → Bool
+crosses subset part e =
+    joins_within subset e && (if has_entry part e.left.entry then not (has_entry part e.right.entry) else has_entry part e.right.entry)
+
+abbrev pub some_cross : ℕ → ℕ → List Edge → Bool
+some_cross subset part [] = false
+some_cross subset part (e ∷ es) = crosses subset part e || some_cross subset part es

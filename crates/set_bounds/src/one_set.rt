@@ -1,0 +1,59 @@
+//! The bound of a set, from those of the sets of smaller numbers.
+ghost use Rattle.std.specs.Prelude.{◌≡◌, IfOk};
+ghost use Rattle.berge_tree.specs.Equalities.{ClosesNoCycle};
+ghost use Rattle.join_graph.specs.Kept.{equalities_within};
+ghost use Rattle.bound_fold.specs.Lists.{bounds_of};
+ghost use Rattle.bound_fold.specs.Sets.{SetIsListed};
+ghost use Rattle.set_bounds.specs.AllSets.{bound_told, bounds_below};
+
+use crate::parts::{falls_into, first_part, is_forest, rest_of};
+use base_io::NoMemory;
+use bound_fold::{EntryLists, set_bound, turn_bound};
+use entry_sets::EntrySet;
+use join_graph::Parts;
+use std::alloc::Global;
+
+// The product over its parts where the set falls apart, else the bound of its one turn that counts.
+fn forest_bound(
+    alloc: Global,
+    parts: &Parts,
+    lists: &EntryLists,
+    subset: EntrySet,
+    smaller: &[u128],
+) -> Result<u128, NoMemory>
+    requires forest { ClosesNoCycle (equalities_within subset parts.now.equalities) }
+    requires listed { SetIsListed lists.now parts.now.equalities subset }
+    requires smaller { smaller.now ≡ bounds_below (bounds_of lists.now) parts.now.equalities subset }
+    ensures { IfOk result (λ n. n ≡ bound_told (bounds_of lists.now) parts.now.equalities subset) }
+{
+    let edges = parts.equalities.as_slice();
+    let part = first_part(edges, subset);
+    let rest = rest_of(subset, part);
+    if falls_into(edges, subset, part, rest) {
+        let own = smaller[part.bits() as usize];
+        let others = smaller[rest.bits() as usize];
+        return Ok(own.saturating_mul(others));
+    }
+    let bound = turn_bound(alloc, parts, subset, 0, lists)?;
+    Ok(bound)
+}
+
+/// The bound of a set, where those of all sets of smaller numbers are known.
+pub(crate) fn next_bound(
+    alloc: Global,
+    parts: &Parts,
+    lists: &EntryLists,
+    subset: EntrySet,
+    smaller: &[u128],
+) -> Result<u128, NoMemory>
+    requires listed { SetIsListed lists.now parts.now.equalities subset }
+    requires smaller { smaller.now ≡ bounds_below (bounds_of lists.now) parts.now.equalities subset }
+    ensures { IfOk result (λ n. n ≡ bound_told (bounds_of lists.now) parts.now.equalities subset) }
+{
+    if is_forest(alloc, parts, subset)? {
+        let bound = forest_bound(alloc, parts, lists, subset, smaller)?;
+        return Ok(bound);
+    }
+    let bound = set_bound(alloc, parts, subset, lists)?;
+    Ok(bound)
+}

@@ -1,0 +1,119 @@
+//! Whether the equalities of a set close no cycle, and into which parts they let it fall.
+ghost use Rattle.std.specs.Prelude.{◌≡◌, ◌<◌, ◌&&◌, ℕ, true, not, length, IfOk};
+ghost use Rattle.entry_sets.specs.Sets.{has_entry};
+ghost use Rattle.berge_tree.specs.Equalities.{ClosesNoCycle};
+ghost use Rattle.join_graph.specs.Kept.{equalities_within};
+ghost use Rattle.join_graph.specs.Names.{IsNamed};
+ghost use Rattle.set_bounds.specs.Parts.{FallsInto, crosses, some_cross};
+
+use base_io::NoMemory;
+use berge_tree::Edge;
+use entry_sets::EntrySet;
+use join_graph::{Parts, joins_within, kept};
+use std::alloc::Global;
+
+// An entry joins the part in one round at least with the entry that it hangs on.
+const ROUNDS: u8 = 16;
+
+fn count_within(edges: &[Edge], subset: EntrySet) -> usize
+    ensures { result ≡ length (equalities_within subset edges.now) }
+{
+    edges
+        .iter()
+        .filter(|edge| joins_within(subset, **edge))
+        .count()
+}
+
+/// Whether the equalities of a set close no cycle: then all of them are kept.
+pub(crate) fn is_forest(alloc: Global, parts: &Parts, subset: EntrySet) -> Result<bool, NoMemory>
+    ensures { IfOk result (λ forest. forest ≡ true → ClosesNoCycle (equalities_within subset parts.now.equalities)) }
+{
+    let edges = kept(alloc, parts, subset, 0)?;
+    Ok(edges.len() == count_within(parts.equalities.as_slice(), subset))
+}
+
+// The part with the entries of an equality of which one is in it.
+fn with_edge(part: EntrySet, edge: Edge) -> EntrySet
+    requires { IsNamed edge }
+{
+    if part.has(edge.left.entry) || part.has(edge.right.entry) {
+        part.with(edge.left.entry).with(edge.right.entry)
+    } else {
+        part
+    }
+}
+
+#[tactic(auto, using(join_graph::proofs::Turning::is_named))]
+fn with_neighbours(edges: &[Edge], subset: EntrySet, part: EntrySet) -> EntrySet {
+    let mut part = part;
+    for edge in edges {
+        if joins_within(subset, *edge) {
+            part = with_edge(part, *edge);
+        }
+    }
+    part
+}
+
+/// The least entry of a set with all that its equalities connect with it. It is tested by `falls_into` before it is used.
+pub(crate) fn first_part(edges: &[Edge], subset: EntrySet) -> EntrySet {
+    let bits = subset.bits();
+    let mut part = EntrySet::from_bits(bits & bits.wrapping_neg());
+    for _ in 0..ROUNDS {
+        let more = with_neighbours(edges, subset, part);
+        if more == part {
+            return part;
+        }
+        part = more;
+    }
+    part
+}
+
+/// The entries of a set that are not in a part.
+pub(crate) fn rest_of(subset: EntrySet, part: EntrySet) -> EntrySet
+    ensures { (entry : ℕ) → has_entry result entry ≡ (has_entry subset entry && not (has_entry part entry)) }
+{
+    EntrySet::from_bits(subset.bits() & !part.bits())
+}
+
+fn crosses(subset: EntrySet, part: EntrySet, edge: Edge) -> bool
+    ensures { result ≡ crosses subset part edge }
+{
+    if !joins_within(subset, edge) {
+        return false;
+    }
+    if part.has(edge.left.entry) {
+        !part.has(edge.right.entry)
+    } else {
+        part.has(edge.right.entry)
+    }
+}
+
+fn some_cross(edges: &[Edge], subset: EntrySet, part: EntrySet) -> bool
+    ensures { result ≡ some_cross subset part edges.now }
+{
+    for edge in edges {
+        if crosses(subset, part, *edge) {
+            return true;
+        }
+    }
+    false
+}
+
+/// Whether a set falls into a part and the rest, and both have smaller numbers.
+pub(crate) fn falls_into(edges: &[Edge], subset: EntrySet, part: EntrySet, rest: EntrySet) -> bool
+    requires others { (entry : ℕ) → has_entry rest entry ≡ (has_entry subset entry && not (has_entry part entry)) }
+    ensures falls { result ≡ true → FallsInto edges.now subset part rest }
+    ensures part { result ≡ true → part < subset }
+    ensures rest { result ≡ true → rest < subset }
+{
+    if part.bits() >= subset.bits() {
+        return false;
+    }
+    if rest.bits() >= subset.bits() {
+        return false;
+    }
+    if !part.is_within(subset) {
+        return false;
+    }
+    !some_cross(edges, subset, part)
+}
