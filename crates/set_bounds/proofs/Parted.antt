@@ -1,5 +1,5 @@
 -- A set whose equalities close no cycle and fall apart has the product of the bounds of its parts.
-use Rattle.std.proofs.Common.{◌≡◌, ◌≢◌, ◌⊎◌, ℕ, ◌*◌, Bool, true, false, cond, not, ◌&&◌, List, [], ◌∷◌, ◌++◌, map, refl, ap, sym, ◌∙◌, subst, inl, inr, mul_assoc, mul_comm, arith}
+use Rattle.std.proofs.Common.{◌≡◌, ◌≢◌, ◌⊎◌, ℕ, ◌*◌, Bool, true, false, cond, not, ◌&&◌, List, [], ◌∷◌, ◌++◌, refl, ap, sym, ◌∙◌, subst, inl, inr, mul_assoc, mul_comm, arith}
 use Rattle.std.specs.Prelude.{filter}
 use Rattle.std.specs.List.{AllByRecursion, AllPairs, Contains}
 use Rattle.std.specs.List.Sorted.{IsStrictlyIncreasing}
@@ -10,7 +10,7 @@ use Rattle.entry_sets.specs.Sets.{IsWithin, entries_of_set, has_entry}
 use Rattle.entry_sets.proofs.Listing.{in_front, in_none, in_rest, one_in, set_entries, set_entries_only}
 use Rattle.berge_tree.specs.declared.edges.Edge.{Edge}
 use Rattle.berge_tree.specs.declared.edges.Place.{Place}
-use Rattle.berge_tree.specs.Equalities.{ClosesNoCycle, class_of, places_of}
+use Rattle.berge_tree.specs.Equalities.{ClosesNoCycle, class_of}
 use Rattle.berge_tree.specs.Rooted.{AreAllTreesOf, IsTreeOf, roots}
 use Rattle.berge_tree.specs.Trees.{JoinTree, entries, entries_below, entries_of_all}
 use Rattle.berge_tree.proofs.Joining.{class_of-joined, joined}

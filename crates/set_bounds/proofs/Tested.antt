@@ -1,15 +1,14 @@
 -- What the tests of a set tell.
-use Rattle.std.proofs.Common.{◌≡◌, ◌⊎◌, ℕ, zero, suc, ◌+◌, ◌-◌, ◌*◌, ◌^◌, ◌<◌, ◌≤◌, min, Bool, true, false, cond, not, ◌&&◌, eqb, ltb, bit_and, w16, List, [], ◌∷◌, ◌++◌, get_or, length, refl, ap, sym, ◌∙◌, subst, inl, inr, arith}
+use Rattle.std.proofs.Common.{◌≡◌, ℕ, zero, suc, ◌-◌, ◌*◌, ◌^◌, ◌<◌, ◌≤◌, min, Bool, true, false, cond, not, ◌&&◌, eqb, ltb, bit_and, w16, List, [], ◌∷◌, get_or, length, refl, ap, sym, ◌∙◌, subst, inl, inr, arith}
 use Rattle.std.specs.Prelude.{◌||◌}
 use Rattle.std.specs.Int.{bit_at, bit_not}
-use Rattle.std.specs.List.{AllByRecursion}
-use Rattle.std.proofs.lemmas.Bool.{cases_Bool, cases_lt, ltb-true}
+use Rattle.std.proofs.lemmas.Bool.{cases_Bool, ltb-true}
 use Rattle.std.proofs.lemmas.List.{append-nil}
 use Rattle.std.proofs.lemmas.List.FromFn.{get_or-map-range_with_len, length-map-range_with_len}
 use Rattle.std.proofs.lemmas.Nat.Bits.{bit_at-lt, bit_at_and, bit_at_not}
 use Rattle.degree_sequences.proofs.SaturationLaws.{saturated-mul}
 use Rattle.degree_sequences.specs.Saturation.{saturated}
-use Rattle.entry_sets.specs.Sets.{IsWithin, has_entry}
+use Rattle.entry_sets.specs.Sets.{has_entry}
 use Rattle.berge_tree.specs.declared.edges.Edge.{Edge}
 use Rattle.berge_tree.specs.Equalities.{ClosesNoCycle}
 use Rattle.berge_tree.specs.Testing.{joined_parts}

@@ -1,6 +1,5 @@
-use Rattle.std.proofs.Common.{◌≡◌, ◌^◌, ◌<◌, ℕ, List, ap, sym, ◌∙◌, subst, arith}
+use Rattle.std.proofs.Common.{◌≡◌, ◌^◌, ap, ◌∙◌, arith}
 use Rattle.bound_fold.specs.Lists.{bounds_of}
-use Rattle.bound_fold.specs.Sets.{SetIsListed}
 use Rattle.set_bounds.specs.AllSets.{bound_told, bounds_below}
 use Rattle.set_bounds.proofs.Listing.{first_listed}
 use Rattle.set_bounds.proofs.Telling.{never_under, sets_fit, told_more}
@@ -13,8 +12,8 @@ next_bound-requires-clause-listed c =
 
 pub loop-bits-preserved : goal.loop-bits-preserved
 loop-bits-preserved c =
-    told_more (bounds_of c.args.lists.now) c.args.parts.now.equalities c.loop-bits.bits c.in_ok-next_bound.field-0 c.loop-bits.bounds.items c.push.new.self.items c.loop-bits.invariant
-    (c.in_ok-next_bound.ensures ∙ ap (bound_told (bounds_of c.args.lists.now) c.args.parts.now.equalities) c.from_bits-subset.ensures) c.in_ok-push.ensures.items
+    told_more (bounds_of c.args.lists.now) c.args.parts.now.equalities c.loop-bits.bits c.in_ok-bound.bound c.loop-bits.bounds.items c.push.new.self.items c.loop-bits.invariant
+    (c.in_ok-bound.ensures ∙ ap (bound_told (bounds_of c.args.lists.now) c.args.parts.now.equalities) c.from_bits-subset.ensures) c.in_ok-push.ensures.items
 
 pub returns-clause-exact : goal.returns-clause-exact
 returns-clause-exact c =

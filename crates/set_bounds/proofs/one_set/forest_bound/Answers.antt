@@ -1,4 +1,4 @@
-use Rattle.std.proofs.Common.{◌≡◌, ◌∙◌, ℕ, List, ap, get_or, sym, subst, arith}
+use Rattle.std.proofs.Common.{◌∙◌, ℕ, List, ap, get_or, sym, subst, arith}
 use Rattle.degree_sequences.specs.Saturation.{saturated}
 use Rattle.berge_tree.specs.declared.edges.Edge.{Edge}
 use Rattle.bound_fold.specs.Lists.{bounds_of}

@@ -1,4 +1,4 @@
-use Rattle.std.proofs.Common.{◌≡◌, ◌∙◌, List, sym, ap, length}
+use Rattle.std.proofs.Common.{◌∙◌, List, sym, ap, length}
 use Rattle.std.proofs.lemmas.Bool.{eqb-true}
 use Rattle.berge_tree.specs.declared.edges.Edge.{Edge}
 use Rattle.join_graph.specs.Kept.{equalities_within}
