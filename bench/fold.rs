@@ -1,4 +1,5 @@
-//! What `set_bound` of bound_fold is measured against: the same steps over plain vectors.
+//! What `set_bound` of bound_fold and, with a word, `bounds_of_sets` of set_bounds are measured against: the same steps
+//! over plain vectors.
 //! Build with `rustc -O bench/fold.rs`. It prints for each measure the shape, the entries, the pieces of each list, the
 //! trees, the bound, the nanoseconds of one bound, the least of several, and the pieces of the lists of a tree's nodes.
 use std::collections::HashMap;
@@ -8,6 +9,7 @@ type Place = (u8, u32);
 type Pieces = Vec<(u128, u64)>;
 
 const ROUNDS: u32 = 20;
+const PLANS: u32 = 3;
 
 struct Query {
     equalities: Vec<(Place, Place)>,
@@ -123,9 +125,9 @@ fn compose(parent: &[(u128, u64)], children: &[(Pieces, Pieces)]) -> Pieces {
 // ---- trees ----
 
 // The equalities that a turn keeps.
-fn kept(query: &Query, entries: u8, turn: usize) -> Vec<(Place, Place)> {
-    let (before, from) = query.equalities.split_at(turn);
-    let mut names: Vec<u8> = (0..entries).collect();
+fn kept(equalities: &[(Place, Place)], turn: usize) -> Vec<(Place, Place)> {
+    let (before, from) = equalities.split_at(turn);
+    let mut names: Vec<u8> = (0..16).collect();
     let mut kept = Vec::new();
     for &(left, right) in from.iter().chain(before) {
         let (new, old) = (names[usize::from(left.0)], names[usize::from(right.0)]);
@@ -203,15 +205,83 @@ fn fold(query: &Query, nodes: &[Node]) -> (u128, usize) {
     unreachable!()
 }
 
-fn bound(query: &Query, entries: u8) -> (u128, usize) {
+fn bound(query: &Query) -> (u128, usize) {
     let turns = query.equalities.len().clamp(1, 16);
     let of_turn = |turn| {
-        let columns = classes(&kept(query, entries, turn));
+        let columns = classes(&kept(&query.equalities, turn));
         let mut nodes = vec![Node { kind: Kind::Entry(0), via: 0, children: Vec::new() }];
         add_below(&mut nodes, &columns, 0, 0, None);
         fold(query, &nodes)
     };
     (0..turns).map(of_turn).min().unwrap()
+}
+
+// ---- all sets ----
+
+fn has(set: u16, entry: u8) -> bool {
+    set >> entry & 1 == 1
+}
+
+fn equalities_of(query: &Query, set: u16) -> Vec<(Place, Place)> {
+    let within = |&(left, right): &(Place, Place)| has(set, left.0) && has(set, right.0);
+    query.equalities.iter().copied().filter(within).collect()
+}
+
+fn turn_bound(query: &Query, set: u16, equalities: &[(Place, Place)], turn: usize) -> u128 {
+    let columns = classes(&kept(equalities, turn));
+    let (mut done, mut product) = (0u16, 1u128);
+    for entry in (0..16).filter(|&entry| has(set, entry)) {
+        if has(done, entry) {
+            continue;
+        }
+        let mut nodes = vec![Node { kind: Kind::Entry(entry), via: 0, children: Vec::new() }];
+        add_below(&mut nodes, &columns, 0, entry, None);
+        for node in &nodes {
+            if let Kind::Entry(entry) = node.kind {
+                done |= 1 << entry;
+            }
+        }
+        product = product.saturating_mul(fold(query, &nodes).0);
+    }
+    product
+}
+
+// The least entry with all that equalities connect with it.
+fn first_part(equalities: &[(Place, Place)], set: u16) -> u16 {
+    let mut part = set & set.wrapping_neg();
+    loop {
+        let mut more = part;
+        for &(left, right) in equalities {
+            if has(more, left.0) || has(more, right.0) {
+                more |= 1 << left.0 | 1 << right.0;
+            }
+        }
+        if more == part {
+            return part;
+        }
+        part = more;
+    }
+}
+
+fn next_bound(query: &Query, set: u16, smaller: &[u128]) -> u128 {
+    let equalities = equalities_of(query, set);
+    if kept(&equalities, 0).len() < equalities.len() {
+        return (0..equalities.len().min(16)).map(|turn| turn_bound(query, set, &equalities, turn)).min().unwrap();
+    }
+    let part = first_part(&equalities, set);
+    let rest = set & !part;
+    if part < set && rest < set {
+        return smaller[usize::from(part)].saturating_mul(smaller[usize::from(rest)]);
+    }
+    turn_bound(query, set, &equalities, 0)
+}
+
+fn bounds_of_sets(query: &Query, entries: u8) -> Vec<u128> {
+    let mut bounds = Vec::new();
+    for set in 0..1u16 << entries {
+        bounds.push(next_bound(query, set, &bounds));
+    }
+    bounds
 }
 
 // ---- queries ----
@@ -229,17 +299,24 @@ fn list_of_column(rows: u64, pieces: u32, column: u32) -> Pieces {
     list
 }
 
-fn equality(shape: &str, entry: u8) -> (Place, Place) {
+fn equality(shape: &str, left: u8, right: u8, entries: u8) -> Option<(Place, Place)> {
+    let is_next = left + 1 == right;
     match shape {
-        "chain" => ((entry - 1, 1), (entry, 0)),
-        "star" if entry > 1 => ((1, u32::from(entry)), (entry, 0)),
-        _ => ((0, 0), (entry, 0)),
+        "chain" => is_next.then_some(((left, 1), (right, 0))),
+        "star" if left == 1 => Some(((1, u32::from(right)), (right, 0))),
+        "star" => is_next.then_some(((0, 0), (right, 0))),
+        "one_class" => (left == 0).then_some(((0, 0), (right, 0))),
+        "ring" if left == 0 && right + 1 == entries => Some(((right, 1), (left, 0))),
+        "ring" => is_next.then_some(((left, 1), (right, 0))),
+        "pairs" => Some(((left, 0), (right, 0))),
+        _ => Some(((left, u32::from(right)), (right, u32::from(left)))),
     }
 }
 
 fn query_of_shape(shape: &str, entries: u8, pieces: u32) -> Query {
     let rows: HashMap<u8, u64> = (0..entries).map(|entry| (entry, 1_000_000 + 77_777 * u64::from(entry))).collect();
-    let equalities: Vec<_> = (1..entries).map(|entry| equality(shape, entry)).collect();
+    let pairs = (0..entries).flat_map(|right| (0..right).map(move |left| (left, right)));
+    let equalities: Vec<_> = pairs.filter_map(|(left, right)| equality(shape, left, right, entries)).collect();
     let mut lists = HashMap::new();
     for place in equalities.iter().flat_map(|&(left, right)| [left, right]) {
         lists.entry(place).or_insert_with(|| list_of_column(rows[&place.0], pieces, place.1));
@@ -247,7 +324,24 @@ fn query_of_shape(shape: &str, entries: u8, pieces: u32) -> Query {
     Query { equalities, rows, lists }
 }
 
+fn time_sets() {
+    for shape in ["chain", "star", "one_class", "ring", "pairs", "pairs_apart"] {
+        let query = query_of_shape(shape, 12, 23);
+        let (mut least, mut sum) = (u128::MAX, 0);
+        for _ in 0..PLANS {
+            let start = Instant::now();
+            let bounds = std::hint::black_box(bounds_of_sets(std::hint::black_box(&query), 12));
+            least = least.min(start.elapsed().as_nanos());
+            sum = bounds.iter().fold(0u128, |sum, &bound| sum.wrapping_add(bound));
+        }
+        println!("{shape} {sum} {least}");
+    }
+}
+
 fn main() {
+    if std::env::args().count() > 1 {
+        return time_sets();
+    }
     for shape in ["chain", "star", "one_class"] {
         for (entries, pieces) in [(12, 16), (12, 32), (3, 64), (6, 64), (12, 64)] {
             let query = query_of_shape(shape, entries, pieces);
@@ -255,7 +349,7 @@ fn main() {
             let mut answer = (0, 0);
             for _ in 0..ROUNDS {
                 let start = Instant::now();
-                answer = std::hint::black_box(bound(std::hint::black_box(&query), entries));
+                answer = std::hint::black_box(bound(std::hint::black_box(&query)));
                 least = least.min(start.elapsed().as_nanos());
             }
             let (bound, held) = answer;

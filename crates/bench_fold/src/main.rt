@@ -2,7 +2,8 @@
 //!
 //! Without a word it writes the bounds of two small queries. With one, as `time`, it writes a line for each measure: the
 //! shape, the entries, the pieces of each list, the trees that are folded, the bound, and the nanoseconds of one bound,
-//! the least of several.
+//! the least of several. With two, as `time sets`, it does the same for the bounds of all sets of twelve entries:
+//! the shape, the sum of the bounds, and the nanoseconds; bench/planning.rs is the plain side of that.
 #![tactic(auto)]
 
 mod queries;
@@ -12,12 +13,15 @@ use bound_fold::{is_listed, set_bound};
 use entry_sets::EntrySet;
 use join_graph::turns;
 use queries::{Query, Shape, add_list, edge, list_of_numbers, query_of, query_of_shape};
+use set_bounds::bounds_of_sets;
 use std::alloc::Global;
 use std::rt::Runtime;
 use std::time::Instant;
 use std::{env, io};
 
 const ROUNDS: u32 = 20;
+
+const PLANS: u32 = 3;
 
 fn out_of_memory(_: NoMemory) -> io::Error {
     io::Error::from(io::ErrorKind::OutOfMemory)
@@ -52,6 +56,51 @@ fn timed<R: Runtime>(
         least = Timing { bound, nanos };
     }
     Ok(least)
+}
+
+fn sum_of(bounds: &[u128]) -> u128 {
+    let mut sum: u128 = 0;
+    for bound in bounds {
+        sum = sum.wrapping_add(*bound);
+    }
+    sum
+}
+
+// The sum of the bounds of all sets of twelve entries, and the least time that they took.
+fn timed_sets<R: Runtime>(rt: &R, alloc: Global, query: &Query) -> io::Result<Timing> {
+    let all = EntrySet::from_bits(0xfff);
+    if !is_listed(&query.parts, all, &query.lists) {
+        return Err(io::Error::from(io::ErrorKind::InvalidInput));
+    }
+    let mut least = Timing {
+        bound: 0,
+        nanos: u128::MAX,
+    };
+    for _ in 0..PLANS {
+        let start = Instant::now(rt)?;
+        let bounds = bounds_of_sets(alloc, &query.parts, &query.lists, 12).map_err(out_of_memory)?;
+        let nanos = least.nanos.min(start.elapsed(rt)?.as_nanos());
+        let bound = sum_of(bounds.as_slice());
+        least = Timing { bound, nanos };
+    }
+    Ok(least)
+}
+
+fn time_sets(rt: &HostRuntime) -> io::Result<()> {
+    let alloc = rt.alloc();
+    for shape in [
+        Shape::Chain,
+        Shape::Star,
+        Shape::OneClass,
+        Shape::Ring,
+        Shape::Pairs,
+        Shape::PairsApart,
+    ] {
+        let query = query_of_shape(alloc, shape, 12, 23).map_err(out_of_memory)?;
+        let Timing { bound, nanos } = timed_sets(rt, alloc, &query)?;
+        println!(rt; "{} {bound} {nanos}", shape.name())?;
+    }
+    Ok(())
 }
 
 // R.X = S.X and S.Y = T.Y.
@@ -103,6 +152,9 @@ fn main(rt: HostRuntime) -> io::Result<()> {
         let cycle = triangle(alloc).map_err(out_of_memory)?;
         let triangle = timed(&rt, alloc, &cycle, EntrySet::from_bits(0b111), 1)?;
         return println!(rt; "triangle {}", triangle.bound);
+    }
+    if env::args(&rt)?.count() > 2 {
+        return time_sets(&rt);
     }
     for shape in [Shape::Chain, Shape::Star, Shape::OneClass] {
         for (entries, pieces) in [(12, 16), (12, 32), (3, 64), (6, 64), (12, 64)] {

@@ -1,4 +1,4 @@
-//! What is joined: equalities of columns in three shapes, and for each entry a row bound and lists.
+//! What is joined: equalities of columns in some shapes, and for each entry a row bound and lists.
 ghost use Rattle.std.specs.Prelude.{◌≡◌, ℕ, None, IfOk};
 ghost use Rattle.bound_fold.specs.Lists.{list_of};
 
@@ -25,6 +25,12 @@ pub enum Shape {
     Star,
     /// The first columns of all entries are equal.
     OneClass,
+    /// A chain whose last entry is joined with the first one.
+    Ring,
+    /// The first columns of all entries are equal, and each pair is written.
+    Pairs,
+    /// Each pair of entries is joined by columns of its own.
+    PairsApart,
 }
 
 impl Shape {
@@ -33,16 +39,39 @@ impl Shape {
             Shape::Chain => "chain",
             Shape::Star => "star",
             Shape::OneClass => "one_class",
+            Shape::Ring => "ring",
+            Shape::Pairs => "pairs",
+            Shape::PairsApart => "pairs_apart",
         }
     }
 
-    // The equality that joins an entry, other than the first, with one before it.
-    fn equality(self, entry: u8) -> Edge {
+    // The equality of two entries of which the first comes before the other, where there is one.
+    fn equality(self, left: u8, right: u8, entries: u8) -> Option<Edge> {
+        let is_next = u16::from(left) + 1 == u16::from(right);
+        let is_last = left == 0 && u16::from(right) + 1 == u16::from(entries);
         match self {
-            Shape::Chain => edge(entry.saturating_sub(1), 1, entry, 0),
-            Shape::Star if entry > 1 => edge(1, u32::from(entry), entry, 0),
-            _ => edge(0, 0, entry, 0),
+            Shape::Chain => is_next.then_some(edge(left, 1, right, 0)),
+            Shape::Star if left == 1 => Some(edge(1, u32::from(right), right, 0)),
+            Shape::Star => is_next.then_some(edge(0, 0, right, 0)),
+            Shape::OneClass => (left == 0).then_some(edge(0, 0, right, 0)),
+            Shape::Ring if is_last => Some(edge(right, 1, left, 0)),
+            Shape::Ring => is_next.then_some(edge(left, 1, right, 0)),
+            Shape::Pairs => Some(edge(left, 0, right, 0)),
+            Shape::PairsApart => Some(edge(left, u32::from(right), right, u32::from(left))),
         }
+    }
+
+    // The equalities of so many entries, by the later entry and then by the earlier one.
+    fn equalities(self, alloc: Global, entries: u8) -> Result<Vec<Edge>, NoMemory> {
+        let mut edges = Vec::new(alloc);
+        for right in 0..entries {
+            for left in 0..right {
+                if let Some(edge) = self.equality(left, right, entries) {
+                    edges.push(edge)?;
+                }
+            }
+        }
+        Ok(edges)
     }
 }
 
@@ -179,13 +208,10 @@ pub fn query_of_shape(
     entries: u8,
     pieces: u32,
 ) -> Result<Query, NoMemory> {
+    let edges = shape.equalities(alloc, entries)?;
     let mut rows = Vec::new(alloc);
-    let mut edges = Vec::new(alloc);
     for entry in 0..entries {
         rows.push(1_000_000 + 77_777 * u64::from(entry))?;
-        if entry > 0 {
-            edges.push(shape.equality(entry))?;
-        }
     }
     let mut query = query_of(alloc, edges.as_slice(), rows.as_slice())?;
     for edge in edges.as_slice() {

@@ -43,3 +43,6 @@ pub fn bounds_of_sets(
     }
     Ok(Seq::from_vec(bounds))
 }
+
+#[cfg(test)]
+mod tests;

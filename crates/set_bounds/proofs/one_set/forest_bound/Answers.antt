@@ -19,10 +19,10 @@ pub returns-then-falls_into : goal.returns-then-falls_into
 returns-then-falls_into c =
     c.saturating_mul.ensures
     ∙ product_told (bounds_of c.args.lists.now) c.args.parts.now.equalities c.args.subset c.first_part-part.result c.rest_of-rest.result
-        (get_or c.args.smaller.now c.bits.result 0) (get_or c.args.smaller.now c.bits-then-falls_into.result 0) c.args.smaller.now c.requires.forest
-        (subst (λ (es : List Edge). FallsInto es c.args.subset c.first_part-part.result c.rest_of-rest.result) c.as_slice-edges.ensures (c.falls_into.ensures.falls c.if-falls_into.true))
-        c.requires.smaller (c.falls_into.ensures.part c.if-falls_into.true) (c.falls_into.ensures.rest c.if-falls_into.true)
-        (ap (λ (k : ℕ). get_or c.args.smaller.now k 0) c.bits.ensures) (ap (λ (k : ℕ). get_or c.args.smaller.now k 0) c.bits-then-falls_into.ensures)
+    (get_or c.args.smaller.now c.bits.result 0) (get_or c.args.smaller.now c.bits-then-falls_into.result 0) c.args.smaller.now c.requires.forest
+    (subst (λ (es : List Edge). FallsInto es c.args.subset c.first_part-part.result c.rest_of-rest.result) c.as_slice-edges.ensures (c.falls_into.ensures.falls c.if-falls_into.true))
+    c.requires.smaller (c.falls_into.ensures.part c.if-falls_into.true) (c.falls_into.ensures.rest c.if-falls_into.true)
+    (ap (λ (k : ℕ). get_or c.args.smaller.now k 0) c.bits.ensures) (ap (λ (k : ℕ). get_or c.args.smaller.now k 0) c.bits-then-falls_into.ensures)
 
 pub returns : goal.returns
 returns c =
