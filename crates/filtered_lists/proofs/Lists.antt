@@ -1,0 +1,99 @@
+-- The running sums and the sum of a filtered list, from those of its lists.
+use Rattle.std.proofs.Common.{◌≡◌, ℕ, ◌+◌, ◌<◌, ◌≤◌, min, List, [], length, refl, ◌∙◌, arith}
+use Rattle.std.specs.List.{All, sum}
+use Rattle.degree_sequences.proofs.ByRank.{running_sum-rank_sum, IsFalling-rank_sum}
+use Rattle.degree_sequences.proofs.Minima.{running_sum-lesser, IsFalling-lesser}
+use Rattle.degree_sequences.proofs.RunningSums.{running_sum-nil, running_sum-past}
+use Rattle.degree_sequences.specs.ByRank.{rank_sum}
+use Rattle.degree_sequences.specs.Falling.{IsFalling}
+use Rattle.degree_sequences.specs.RunningSums.{IsAbove, running_sum, lesser}
+use Rattle.query_types.specs.declared.types.Cond.{Cond}
+use Rattle.filtered_lists.specs.Lists.{ColumnLists, RowCounts, list_answers, count_answers, filtered_list, row_bound}
+use Rattle.filtered_lists.specs.Filters.{own_conjuncts}
+use Rattle.filtered_lists.specs.Standing.{ListsFall, SumTo}
+use Rattle.filtered_lists.proofs.Trimmed.{lesser_self}
+use Rattle.filtered_lists.proofs.Related.{filtered_related}
+
+-- ---- running sums
+
+-- the running sums of lists at a rank
+abbrev pub running_sums : ColumnLists → ℕ → RowCounts
+running_sums lists r = record {
+  whole = running_sum lists.whole r;
+  equal = λ column value. running_sum (lists.equal column value) r;
+  range = λ range. running_sum (lists.range range) r;
+}
+
+-- those of the filtered list are put together in the same way
+pub running_sum-filtered : (lists : ColumnLists) (r entry : ℕ) (conjuncts : List Cond)
+    → running_sum (filtered_list lists entry conjuncts) r ≡ row_bound (running_sums lists r) entry conjuncts
+running_sum-filtered lists r =
+    filtered_related (List ℕ) ℕ (λ s n. running_sum s r ≡ n) (list_answers lists) (count_answers (running_sums lists r)) (record {
+      whole = refl;
+      equal = λ column value. refl;
+      range = λ range. refl;
+      both = λ s t m n h k. running_sum-lesser s t r ∙ omega (arith, h, k);
+      none = running_sum-nil r;
+      either = λ s t m n h k. running_sum-rank_sum s t r ∙ omega (arith, h, k);
+    })
+
+-- ---- sums
+
+-- a rank beyond the ends of three lists
+past : (s t u : List ℕ) → ℕ
+past s t u = length s + length t + length u
+
+pub sum-lesser : (s t : List ℕ) → sum (lesser s t) ≡ min (sum s) (sum t)
+unfolding past
+sum-lesser s t =
+    let r : ℕ = past s t (lesser s t) in
+    omega (arith, running_sum-lesser s t r, running_sum-past s r (omega arith), running_sum-past t r (omega arith), running_sum-past (lesser s t) r (omega arith))
+
+pub sum-rank_sum : (s t : List ℕ) → sum (rank_sum s t) ≡ sum s + sum t
+unfolding past
+sum-rank_sum s t =
+    let r : ℕ = past s t (rank_sum s t) in
+    omega (arith, running_sum-rank_sum s t r, running_sum-past s r (omega arith), running_sum-past t r (omega arith), running_sum-past (rank_sum s t) r (omega arith))
+
+pub sum-filtered : (lists : ColumnLists) (counts : RowCounts) (entry : ℕ) (conjuncts : List Cond) → SumTo lists counts
+    → sum (filtered_list lists entry conjuncts) ≡ row_bound counts entry conjuncts
+sum-filtered lists counts entry conjuncts h =
+    filtered_related (List ℕ) ℕ (λ s n. sum s ≡ n) (list_answers lists) (count_answers counts) (record {
+      whole = h.whole;
+      equal = h.equal;
+      range = h.range;
+      both = λ s t m n e f. sum-lesser s t ∙ omega (arith, e, f);
+      none = refl;
+      either = λ s t m n e f. sum-rank_sum s t ∙ omega (arith, e, f);
+    }) entry conjuncts
+
+-- ---- falling lists
+
+-- where the lists fall, the filtered list falls
+pub filtered_falls : (lists : ColumnLists) (entry : ℕ) (conjuncts : List Cond) → ListsFall lists → IsFalling (filtered_list lists entry conjuncts)
+filtered_falls lists entry conjuncts h =
+    filtered_related (List ℕ) (List ℕ) (λ s t. IsFalling s) (list_answers lists) (list_answers lists) (record {
+      whole = h.whole;
+      equal = h.equal;
+      range = h.range;
+      both = λ s t s' t' f g. IsFalling-lesser s t f g;
+      none = λ r. omega arith;
+      either = λ s t s' t' f g. IsFalling-rank_sum s t f g;
+    }) entry conjuncts
+
+-- ---- no own conjunct
+
+pub unfiltered : (lists : ColumnLists) (entry : ℕ) (conjuncts : List Cond) → own_conjuncts entry conjuncts ≡ [] → All (λ x. 0 < x) lists.whole
+    → filtered_list lists entry conjuncts ≡ lists.whole
+unfiltered lists entry conjuncts none positive = rw none (lesser_self lists.whole positive)
+
+pub unfiltered_rows : (counts : RowCounts) (entry : ℕ) (conjuncts : List Cond) → own_conjuncts entry conjuncts ≡ [] → row_bound counts entry conjuncts ≡ counts.whole
+unfiltered_rows counts entry conjuncts none = rw none (omega arith)
+
+-- ---- within the whole
+
+pub filtered_within : (lists : ColumnLists) (entry : ℕ) (conjuncts : List Cond) → IsAbove lists.whole (filtered_list lists entry conjuncts)
+filtered_within lists entry conjuncts r = omega (arith, running_sum-filtered lists r entry conjuncts)
+
+pub rows_within : (counts : RowCounts) (entry : ℕ) (conjuncts : List Cond) → row_bound counts entry conjuncts ≤ counts.whole
+rows_within counts entry conjuncts = omega arith

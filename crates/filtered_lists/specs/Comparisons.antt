@@ -1,0 +1,47 @@
+-- Comparisons of a column with a literal.
+use Rattle.std.specs.Prelude.{ℕ, Option, None, Some}
+use Rattle.csv_tables.specs.Values.{Value, Int, Text}
+use Rattle.query_grammar.specs.declared.tree.Op.{Op}
+use Rattle.query_grammar.specs.declared.tree.Op.TheVariants as op
+use Rattle.query_types.specs.declared.types.Operand.{Operand}
+use Rattle.query_types.specs.declared.types.Operand.TheVariants as operand
+
+-- the comparison that holds exactly where this one does not
+abbrev pub opposite : Op → Op
+opposite op.Eq = op.Ne
+opposite op.Ne = op.Eq
+opposite op.Lt = op.Ge
+opposite op.Le = op.Gt
+opposite op.Gt = op.Le
+opposite op.Ge = op.Lt
+
+-- the same comparison with its sides changed
+abbrev pub turned : Op → Op
+turned op.Eq = op.Eq
+turned op.Ne = op.Ne
+turned op.Lt = op.Gt
+turned op.Le = op.Ge
+turned op.Gt = op.Lt
+turned op.Ge = op.Le
+
+-- a column, by its number in its table, compared with a literal on its right
+pub record Comparison : Type 0 where
+  pub op : Op
+  pub column : ℕ
+  pub literal : Value
+
+-- the comparison of a column with a literal that stands on either side, if it is one
+abbrev pub comparison_of : Op → Operand → Operand → Option Comparison
+comparison_of op (operand.Column column) (operand.Int number) =
+    Some (record { op = op; column = column.column; literal = Int number })
+comparison_of op (operand.Column column) (operand.Text text) =
+    Some (record { op = op; column = column.column; literal = Text text })
+comparison_of op (operand.Column column) (operand.Column other) = None
+comparison_of op (operand.Int number) (operand.Column column) =
+    Some (record { op = turned op; column = column.column; literal = Int number })
+comparison_of op (operand.Int number) (operand.Int other) = None
+comparison_of op (operand.Int number) (operand.Text text) = None
+comparison_of op (operand.Text text) (operand.Column column) =
+    Some (record { op = turned op; column = column.column; literal = Text text })
+comparison_of op (operand.Text text) (operand.Int number) = None
+comparison_of op (operand.Text text) (operand.Text other) = None

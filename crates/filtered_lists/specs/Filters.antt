@@ -1,0 +1,104 @@
+-- What an entry's own conjuncts make of answers to their comparisons: lists, numbers of rows, or tests of a row.
+use Rattle.std.specs.Prelude.{ℕ, Bool, true, false, List, [], ◌∷◌, ◌++◌, map, Option, None, Some}
+use Rattle.std.specs.List.{filter}
+use Rattle.csv_tables.specs.Values.{Value}
+use Rattle.query_grammar.specs.declared.tree.Op.{Op}
+use Rattle.query_grammar.specs.declared.tree.Op.TheVariants as op
+use Rattle.query_types.specs.declared.types.Cond.{Cond}
+use Rattle.query_types.specs.declared.types.Cond.TheFolds.{fold-Cond}
+use Rattle.query_types.specs.declared.types.Cond.TheOpen.{Cond-F}
+use Rattle.query_types.specs.declared.types.Cond.TheOpen as layer
+use Rattle.join_graph.specs.Conjuncts.{names_just}
+use Rattle.filtered_lists.specs.Comparisons.{Comparison, comparison_of, opposite}
+use Rattle.filtered_lists.specs.Ranges.{Range, from_value, up_to_value, range_for_each_column}
+
+-- an answer for all rows of an entry, for the rows that have a value in a column, and for those in a range of a column;
+-- and how answers are put together
+pub record Answers (A : Type 0) : Type 0 where
+  pub whole : A
+  pub equal : ℕ → Value → A
+  pub range : Range → A
+  pub both : A → A → A
+  pub none : A
+  pub either : A → A → A
+
+-- what an AND joins: the ranges of comparisons with < <= > >=, each with one end, and the answers of all other members
+pub record Conjunction (A : Type 0) : Type 0 where
+  pub ranges : List Range
+  pub others : List A
+
+abbrev pub of_range : {A : Type 0} → Range → Conjunction A
+of_range range = record { ranges = range ∷ []; others = [] }
+
+abbrev pub of_answer : {A : Type 0} → A → Conjunction A
+of_answer answer = record { ranges = []; others = answer ∷ [] }
+
+-- ANDs within an AND are one
+abbrev pub joined : {A : Type 0} → List (Conjunction A) → Conjunction A
+joined [] = record { ranges = []; others = [] }
+joined (member ∷ members) = record { ranges = member.ranges ++ (joined members).ranges; others = member.others ++ (joined members).others }
+
+abbrev pub and_more : {A : Type 0} → Answers A → A → List A → A
+and_more answers so_far [] = so_far
+and_more answers so_far (x ∷ xs) = and_more answers (answers.both so_far x) xs
+
+-- all of the answers, where there are some
+abbrev pub all_of : {A : Type 0} → Answers A → List A → A
+all_of answers [] = answers.whole
+all_of answers (x ∷ xs) = and_more answers x xs
+
+abbrev pub or_more : {A : Type 0} → Answers A → A → List A → A
+or_more answers so_far [] = so_far
+or_more answers so_far (x ∷ xs) = or_more answers (answers.either so_far x) xs
+
+-- any of the answers
+abbrev pub any_of : {A : Type 0} → Answers A → List A → A
+any_of answers xs = or_more answers answers.none xs
+
+-- AND: all of the answers of its members, in which the ranges of one column are one
+abbrev pub and_answer : {A : Type 0} → Answers A → Conjunction A → A
+and_answer answers members = all_of answers (members.others ++ map answers.range (range_for_each_column members.ranges))
+
+-- OR: any of the answers of its members
+abbrev pub or_answer : {A : Type 0} → Answers A → List (Conjunction A) → A
+or_answer answers members = any_of answers (map (and_answer answers) members)
+
+-- a comparison of a column with a literal. <> is below or above, each a range with one end, and joins no range
+abbrev pub of_comparison : {A : Type 0} → Answers A → Op → ℕ → Value → Conjunction A
+of_comparison answers op.Eq column literal = of_answer (answers.equal column literal)
+of_comparison answers op.Ne column literal =
+    of_answer (answers.either (answers.range (up_to_value column literal)) (answers.range (from_value column literal)))
+of_comparison answers op.Lt column literal = of_range (up_to_value column literal)
+of_comparison answers op.Le column literal = of_range (up_to_value column literal)
+of_comparison answers op.Gt column literal = of_range (from_value column literal)
+of_comparison answers op.Ge column literal = of_range (from_value column literal)
+
+-- any other comparison is whole
+abbrev pub of_comparison_or_whole : {A : Type 0} → Answers A → Option Comparison → Conjunction A
+of_comparison_or_whole answers None = of_answer answers.whole
+of_comparison_or_whole answers (Some c) = of_comparison answers c.op c.column c.literal
+
+-- NOT is pushed down: false stands for the opposite of a condition. It turns AND into OR, OR into AND, and each
+-- comparison into its opposite
+abbrev pub conjunction_step : {A : Type 0} → Answers A → Cond-F (Bool → Conjunction A) → Bool → Conjunction A
+conjunction_step answers (layer.And all) true = joined (map (λ member. member true) all)
+conjunction_step answers (layer.And all) false = of_answer (or_answer answers (map (λ member. member false) all))
+conjunction_step answers (layer.Or any) true = of_answer (or_answer answers (map (λ member. member true) any))
+conjunction_step answers (layer.Or any) false = joined (map (λ member. member false) any)
+conjunction_step answers (layer.Not inner) true = inner false
+conjunction_step answers (layer.Not inner) false = inner true
+conjunction_step answers (layer.Compare op left right) true = of_comparison_or_whole answers (comparison_of op left right)
+conjunction_step answers (layer.Compare op left right) false = of_comparison_or_whole answers (comparison_of (opposite op) left right)
+
+-- what a condition, or its opposite, adds to the AND in which it stands
+abbrev pub conjunction_of : {A : Type 0} → Answers A → Cond → Bool → Conjunction A
+conjunction_of {A} answers = fold-Cond (Bool → Conjunction A) (conjunction_step answers)
+
+-- the conjuncts that name an entry and no other one
+abbrev pub own_conjuncts : ℕ → List Cond → List Cond
+own_conjuncts entry conjuncts = filter (names_just entry) conjuncts
+
+-- the AND of an entry's own conjuncts, within the whole
+abbrev pub filtered : {A : Type 0} → Answers A → ℕ → List Cond → A
+filtered answers entry conjuncts =
+    answers.both (and_answer answers (joined (map (λ c. conjunction_of answers c true) (own_conjuncts entry conjuncts)))) answers.whole

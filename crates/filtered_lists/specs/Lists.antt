@@ -1,0 +1,37 @@
+-- The list of a filtered entry, and its row bound.
+use Rattle.std.specs.Prelude.{ℕ, ◌+◌, min, List, []}
+use Rattle.csv_tables.specs.Values.{Value}
+use Rattle.degree_sequences.specs.ByRank.{rank_sum}
+use Rattle.degree_sequences.specs.RunningSums.{lesser}
+use Rattle.query_types.specs.declared.types.Cond.{Cond}
+use Rattle.filtered_lists.specs.Filters.{Answers, filtered}
+use Rattle.filtered_lists.specs.Ranges.{Range}
+
+-- what statistics know of a joined column of an entry: a list for all rows, for the rows that have a value in a filter
+-- column, and for those in a range of a filter column
+pub record ColumnLists : Type 0 where
+  pub whole : List ℕ
+  pub equal : ℕ → Value → List ℕ
+  pub range : Range → List ℕ
+
+-- AND takes the minima of running sums, OR the sum rank by rank
+abbrev pub list_answers : ColumnLists → Answers (List ℕ)
+list_answers lists = record { whole = lists.whole; equal = lists.equal; range = lists.range; both = lesser; none = []; either = rank_sum }
+
+-- the list of a joined column where an entry is filtered by its own conjuncts
+abbrev pub filtered_list : ColumnLists → ℕ → List Cond → List ℕ
+filtered_list lists entry conjuncts = filtered (list_answers lists) entry conjuncts
+
+-- what statistics know of the number of an entry's rows, in the same way
+pub record RowCounts : Type 0 where
+  pub whole : ℕ
+  pub equal : ℕ → Value → ℕ
+  pub range : Range → ℕ
+
+-- AND takes the least, OR the sum
+abbrev pub count_answers : RowCounts → Answers ℕ
+count_answers counts = record { whole = counts.whole; equal = counts.equal; range = counts.range; both = min; none = 0; either = ◌+◌ }
+
+-- the row bound of an entry that is filtered by its own conjuncts
+abbrev pub row_bound : RowCounts → ℕ → List Cond → ℕ
+row_bound counts entry conjuncts = filtered (count_answers counts) entry conjuncts

@@ -1,0 +1,69 @@
+-- When statistics stand for an entry's table, and which rows its own conjuncts leave.
+use Rattle.std.specs.Prelude.{◌≡◌, ◌≤◌, ℕ, Bool, true, ◌&&◌, List, map, length, Option, None, Some}
+use Rattle.std.specs.List.{filter, range_with_len, sum}
+use Rattle.std.specs.Ordering.{is_eq, is_ge, is_le}
+use Rattle.csv_tables.specs.Values.{Value, value_cmp}
+use Rattle.degree_sequences.specs.Domination.{DominatesKeys}
+use Rattle.degree_sequences.specs.Falling.{IsFalling}
+use Rattle.query_types.specs.declared.types.Cond.{Cond}
+use Rattle.sql_meaning.specs.Answers.{conjunct_of}
+use Rattle.sql_meaning.specs.Conditions.{column_value}
+use Rattle.sql_meaning.specs.Levels.{scan}
+use Rattle.sql_meaning.specs.Tables.{Tables, row_counts}
+use Rattle.filtered_lists.specs.Lists.{ColumnLists, RowCounts}
+use Rattle.filtered_lists.specs.Ranges.{Range}
+
+-- the value of an entry's row in a column
+abbrev pub value_in_row : Tables → ℕ → ℕ → ℕ → Value
+value_in_row tables entry column row = column_value tables (λ e. row) (record { from = entry; column = column })
+
+-- it is at least the low end, and at most the high end, where there are such
+abbrev pub is_from : Option Value → Value → Bool
+is_from None value = true
+is_from (Some low) value = is_ge (value_cmp value low)
+
+abbrev pub is_up_to : Option Value → Value → Bool
+is_up_to None value = true
+is_up_to (Some high) value = is_le (value_cmp value high)
+
+-- whether an entry's row has a value in a column, and whether it is in a range
+abbrev pub has_value : Tables → ℕ → ℕ → Value → ℕ → Bool
+has_value tables entry column value row = is_eq (value_cmp (value_in_row tables entry column row) value)
+
+abbrev pub is_in_range : Tables → ℕ → Range → ℕ → Bool
+is_in_range tables entry range row =
+    is_from range.low (value_in_row tables entry range.column row) && is_up_to range.high (value_in_row tables entry range.column row)
+
+-- the numbers of an entry's rows that pass a test
+abbrev pub rows_where : Tables → ℕ → (ℕ → Bool) → List ℕ
+rows_where tables entry test = filter test (range_with_len 0 (row_counts tables entry))
+
+-- the lists of a joined column stand for an entry's table, whose rows have these keys in that column
+pub record ListsStandFor (lists : ColumnLists) (tables : Tables) (entry : ℕ) (key : ℕ → ℕ) : Type 0 where
+  pub whole : DominatesKeys lists.whole (map key (range_with_len 0 (row_counts tables entry)))
+  pub equal : (column : ℕ) (value : Value)
+      → DominatesKeys (lists.equal column value) (map key (rows_where tables entry (has_value tables entry column value)))
+  pub range : (range : Range) → DominatesKeys (lists.range range) (map key (rows_where tables entry (is_in_range tables entry range)))
+
+-- the numbers of rows stand for an entry's table
+pub record CountsStandFor (counts : RowCounts) (tables : Tables) (entry : ℕ) : Type 0 where
+  pub whole : row_counts tables entry ≤ counts.whole
+  pub equal : (column : ℕ) (value : Value)
+      → length (rows_where tables entry (has_value tables entry column value)) ≤ counts.equal column value
+  pub range : (range : Range) → length (rows_where tables entry (is_in_range tables entry range)) ≤ counts.range range
+
+-- each list sums to its number of rows
+pub record SumTo (lists : ColumnLists) (counts : RowCounts) : Type 0 where
+  pub whole : sum lists.whole ≡ counts.whole
+  pub equal : (column : ℕ) (value : Value) → sum (lists.equal column value) ≡ counts.equal column value
+  pub range : (range : Range) → sum (lists.range range) ≡ counts.range range
+
+-- each list falls
+pub record ListsFall (lists : ColumnLists) : Type 0 where
+  pub whole : IsFalling lists.whole
+  pub equal : (column : ℕ) (value : Value) → IsFalling (lists.equal column value)
+  pub range : (range : Range) → IsFalling (lists.range range)
+
+-- the rows that an entry's own conjuncts leave
+abbrev pub scan_of : Tables → ℕ → List Cond → List ℕ
+scan_of tables entry conjuncts = scan (map (conjunct_of tables) conjuncts) (row_counts tables) entry

@@ -1,0 +1,47 @@
+//! What the definitions mean: no law computes anything, and the contract is the law.
+ghost use Rattle.std.specs.Prelude.{◌≡◌, ℕ, ◌<◌, ◌≤◌, List, [], length, map};
+ghost use Rattle.std.specs.List.{All, sum};
+ghost use Rattle.degree_sequences.specs.Domination.{DominatesKeys};
+ghost use Rattle.degree_sequences.specs.Falling.{IsFalling};
+ghost use Rattle.degree_sequences.specs.RunningSums.{IsAbove};
+ghost use Rattle.query_types.specs.declared.types.Cond.{Cond};
+ghost use Rattle.sql_meaning.specs.Tables.{Tables};
+ghost use Rattle.filtered_lists.specs.Filters.{own_conjuncts};
+ghost use Rattle.filtered_lists.specs.Lists.{ColumnLists, RowCounts, filtered_list, row_bound};
+ghost use Rattle.filtered_lists.specs.Standing.{CountsStandFor, ListsFall, ListsStandFor, SumTo, scan_of};
+
+/// Never under: where statistics stand for an entry's table, the list of the filtered entry dominates the joined column
+/// over the rows that the entry's scan leaves, and its sum and the row bound are at least their number. `key` gives the
+/// key of each row in the joined column.
+pub fn filters_are_never_under()
+    ensures list { (lists : ColumnLists) (tables : Tables) (entry : ℕ) (key : ℕ → ℕ) (conjuncts : List Cond)
+        → ListsStandFor lists tables entry key
+        → DominatesKeys (filtered_list lists entry conjuncts) (map key (scan_of tables entry conjuncts)) }
+    ensures sum { (lists : ColumnLists) (tables : Tables) (entry : ℕ) (key : ℕ → ℕ) (conjuncts : List Cond)
+        → ListsStandFor lists tables entry key
+        → length (scan_of tables entry conjuncts) ≤ sum (filtered_list lists entry conjuncts) }
+    ensures rows { (counts : RowCounts) (tables : Tables) (entry : ℕ) (conjuncts : List Cond)
+        → CountsStandFor counts tables entry
+        → length (scan_of tables entry conjuncts) ≤ row_bound counts entry conjuncts }
+{}
+
+/// The row bound is the sum of the list, the same for every joined column whose lists sum to the same numbers of rows.
+pub fn row_bounds_are_sums()
+    ensures sum { (lists : ColumnLists) (counts : RowCounts) (entry : ℕ) (conjuncts : List Cond)
+        → SumTo lists counts → sum (filtered_list lists entry conjuncts) ≡ row_bound counts entry conjuncts }
+    ensures rows { (counts : RowCounts) (entry : ℕ) (conjuncts : List Cond) → row_bound counts entry conjuncts ≤ counts.whole }
+{}
+
+/// The list of a filtered entry falls where its lists do, and at every rank its running sum is at most that of the list of
+/// all rows. Without a conjunct on the entry alone it is that list, and the row bound is the number of all rows.
+pub fn filters_stay_within_the_whole()
+    ensures falls { (lists : ColumnLists) (entry : ℕ) (conjuncts : List Cond) → ListsFall lists
+        → IsFalling (filtered_list lists entry conjuncts) }
+    ensures within { (lists : ColumnLists) (entry : ℕ) (conjuncts : List Cond)
+        → IsAbove lists.whole (filtered_list lists entry conjuncts) }
+    ensures unfiltered { (lists : ColumnLists) (entry : ℕ) (conjuncts : List Cond)
+        → own_conjuncts entry conjuncts ≡ [] → All (λ x. 0 < x) lists.whole
+        → filtered_list lists entry conjuncts ≡ lists.whole }
+    ensures unfiltered_rows { (counts : RowCounts) (entry : ℕ) (conjuncts : List Cond)
+        → own_conjuncts entry conjuncts ≡ [] → row_bound counts entry conjuncts ≡ counts.whole }
+{}

@@ -1,0 +1,16 @@
+//! The list of a filtered entry, as mathematics: what an entry's own conjuncts make of the lists that statistics know, and
+//! why it dominates what the entry's scan leaves.
+//!
+//! In: conjuncts, and for a joined column of an entry a list for all rows, for the rows that have a value in a filter
+//! column, and for those in a range of a filter column (`ColumnLists`). Out: definitions and laws, and nothing that runs.
+//! NOT is pushed down to the comparisons; the comparisons of one column in an AND are one range; AND takes the minima of
+//! running sums, OR the sum rank by rank, and the list of all rows cuts the end.
+//!
+//! Callers cite `filtered_list` and `row_bound`, `ListsStandFor` and `CountsStandFor`.
+#![tactic(auto)]
+
+mod examples;
+mod laws;
+
+pub use examples::{comparisons, conditions, tables};
+pub use laws::{filters_are_never_under, filters_stay_within_the_whole, row_bounds_are_sums};

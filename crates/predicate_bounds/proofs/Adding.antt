@@ -1,0 +1,175 @@
+-- Steps that are added member by member.
+use Rattle.std.proofs.Common.{◌≡◌, ℕ, ◌+◌, ◌<◌, Bool, true, false, ◌||◌, List, [], ◌∷◌, ◌++◌, map, length, take, get_or, refl, ap, sym, ◌∙◌, subst, append_assoc}
+use Rattle.std.proofs.lemmas.List.{take_more, map-append}
+use Rattle.query_types.specs.declared.types.Cond.{Cond}
+use Rattle.filtered_lists.specs.Filters.{Conjunction, and_answer, and_more, all_of, or_more, or_answer, joined, of_answer, of_range}
+use Rattle.filtered_lists.specs.Ranges as ranges
+use Rattle.filtered_lists.specs.Ranges.{range_for_each_column}
+use Rattle.predicate_bounds.specs.declared.steps.Range.{Range}
+use Rattle.predicate_bounds.specs.declared.steps.Step.{Step}
+use Rattle.predicate_bounds.specs.declared.steps.Step.TheVariants as step
+use Rattle.predicate_bounds.specs.declared.reading.Members.{Members}
+use Rattle.predicate_bounds.specs.Added.{AreAdded, closing, ending, is_some_of, last_steps, more_steps}
+use Rattle.predicate_bounds.specs.Steps.{range_in, range_of, step_answers}
+use Rattle.predicate_bounds.proofs.Literals.{ranges_again}
+
+pub or_true : (b : Bool) → (b || true) ≡ true
+or_true true = refl
+or_true false = refl
+
+pub or_false : (b : Bool) → (b || false) ≡ b
+or_false true = refl
+or_false false = refl
+
+append_nil : (s : List Step) → s ++ [] ≡ s
+append_nil [] = refl
+append_nil (x ∷ s) = ap (λ (t : List Step). x ∷ t) (append_nil s)
+
+-- ---- the steps of members
+
+pub more_steps-append : (some : Bool) (xs ys : List (List Step)) → more_steps some (xs ++ ys) ≡ more_steps some xs ++ more_steps (some || is_some_of xs) ys
+more_steps-append some [] ys = ap (λ (b : Bool). more_steps b ys) (sym (or_false some))
+more_steps-append some (x ∷ xs) ys =
+    rw (more_steps-append true xs ys, or_true some)
+    (ap (λ (t : List Step). x ++ t) (sym (append_assoc (closing some) (more_steps true xs) (more_steps true ys)))
+    ∙ sym (append_assoc x (closing some ++ more_steps true xs) (more_steps true ys)))
+
+pub is_some_of-append : (xs ys : List (List Step)) → is_some_of (xs ++ ys) ≡ (is_some_of xs || is_some_of ys)
+is_some_of-append [] ys = refl
+is_some_of-append (x ∷ xs) ys = refl
+
+and_more_steps : (so_far : List Step) (xs : List (List Step)) → and_more step_answers so_far xs ≡ so_far ++ more_steps true xs
+and_more_steps so_far [] = sym (append_nil so_far)
+and_more_steps so_far (x ∷ xs) =
+    and_more_steps (so_far ++ (x ++ step.And ∷ [])) xs ∙ append_assoc so_far (x ++ step.And ∷ []) (more_steps true xs)
+    ∙ ap (λ (t : List Step). so_far ++ t) (append_assoc x (step.And ∷ []) (more_steps true xs))
+
+pub last_true : (ys : List (List Step)) → last_steps true ys ≡ more_steps true ys
+last_true [] = refl
+last_true (y ∷ ys) = refl
+
+-- an AND of answers, the last of which are those of its ranges
+all_steps : (xs ys : List (List Step)) → all_of step_answers (xs ++ ys) ≡ more_steps false xs ++ last_steps (is_some_of xs) ys
+all_steps [] [] = refl
+all_steps [] (y ∷ ys) = and_more_steps y ys
+all_steps (x ∷ xs) ys =
+    and_more_steps x (xs ++ ys) ∙ ap (λ (t : List Step). x ++ t) (more_steps-append true xs ys)
+    ∙ sym (append_assoc x (more_steps true xs) (more_steps true ys)) ∙ ap (λ (t : List Step). (x ++ more_steps true xs) ++ t) (sym (last_true ys))
+
+-- ---- a member more
+
+pub nothing_added : (members : Members) (steps : List Step) → AreAdded members steps members steps (record { ranges = []; others = [] })
+nothing_added members steps = record { steps = sym (append_nil steps); ranges = sym (nil members.ranges); some = sym (or_false members.some) }
+  where
+    nil : (s : List Range) → s ++ [] ≡ s
+    nil [] = refl
+    nil (x ∷ s) = ap (λ (t : List Range). x ∷ t) (nil s)
+
+pub or_assoc : (a b c : Bool) → ((a || b) || c) ≡ (a || (b || c))
+or_assoc true b c = refl
+or_assoc false b c = refl
+
+-- the answers and ranges of both
+abbrev pub two : Conjunction (List Step) → Conjunction (List Step) → Conjunction (List Step)
+two x y = record { ranges = x.ranges ++ y.ranges; others = x.others ++ y.others }
+
+pub both_added : (before between after : Members) (old mid new : List Step) (x y : Conjunction (List Step))
+    → AreAdded before old between mid x → AreAdded between mid after new y → AreAdded before old after new (two x y)
+both_added before between after old mid new x y h k = record {
+  steps = k.steps ∙ ap (λ (s : List Step). s ++ more_steps between.some y.others) h.steps ∙ append_assoc old (more_steps before.some x.others) (more_steps between.some y.others)
+      ∙ ap (λ (b : Bool). old ++ (more_steps before.some x.others ++ more_steps b y.others)) h.some ∙ ap (λ (s : List Step). old ++ s) (sym (more_steps-append before.some x.others y.others));
+  ranges = k.ranges ∙ ap (λ (s : List Range). s ++ map range_in y.ranges) h.ranges ∙ append_assoc before.ranges (map range_in x.ranges) (map range_in y.ranges)
+      ∙ ap (λ (s : List Range). before.ranges ++ s) (sym (map-append range_in x.ranges y.ranges));
+  some = k.some ∙ ap (λ (b : Bool). b || is_some_of y.others) h.some ∙ or_assoc before.some (is_some_of x.others) (is_some_of y.others) ∙ ap (λ (b : Bool). before.some || b) (sym (is_some_of-append x.others y.others));
+}
+
+pub joined_more : (cs : List (Conjunction (List Step))) (c : Conjunction (List Step)) → joined (cs ++ c ∷ []) ≡ two (joined cs) c
+joined_more [] c = ap (λ (s : List ranges.Range). record { ranges = s; others = c.others ++ [] }) (nil c.ranges) ∙ ap (λ (s : List (List Step)). record { ranges = c.ranges; others = s }) (nils c.others)
+  where
+    nil : (s : List ranges.Range) → s ++ [] ≡ s
+    nil [] = refl
+    nil (x ∷ s) = ap (λ (t : List ranges.Range). x ∷ t) (nil s)
+
+    nils : (s : List (List Step)) → s ++ [] ≡ s
+    nils [] = refl
+    nils (x ∷ s) = ap (λ (t : List (List Step)). x ∷ t) (nils s)
+joined_more (d ∷ cs) c =
+    rw (joined_more cs c)
+    (ap (λ (s : List ranges.Range). record { ranges = s; others = d.others ++ ((joined cs).others ++ c.others) }) (sym (append_assoc d.ranges (joined cs).ranges c.ranges))
+    ∙ ap (λ (s : List (List Step)). record { ranges = (d.ranges ++ (joined cs).ranges) ++ c.ranges; others = s }) (sym (append_assoc d.others (joined cs).others c.others)))
+
+-- one condition more
+pub each_more : (f : Cond → Conjunction (List Step)) (conds : List Cond) (i : ℕ) (cond : Cond) (before between after : Members) (old mid new : List Step)
+    → i < length conds → cond ≡ get_or conds i cond
+    → AreAdded before old between mid (joined (map f (take i conds))) → AreAdded between mid after new (f cond) → AreAdded before old after new (joined (map f (take (i + 1) conds)))
+each_more f conds i cond before between after old mid new low is h k =
+    let front : take (i + 1) conds ≡ take i conds ++ cond ∷ [] = take_more conds i cond low ∙ ap (λ (c : Cond). take i conds ++ c ∷ []) (sym is) in
+    subst (AreAdded before old after new)
+    (sym (joined_more (map f (take i conds)) (f cond)) ∙ ap joined (sym (map-append f (take i conds) (cond ∷ [])) ∙ ap (map f) (sym front)))
+    (both_added before between after old mid new (joined (map f (take i conds))) (f cond) h k)
+
+-- one answer more
+pub answer_added : (before after : Members) (old mid new x : List Step) → mid ≡ old ++ x → new ≡ mid ++ closing before.some → after.some ≡ true → after.ranges ≡ before.ranges
+    → AreAdded before old after new (of_answer x)
+answer_added before after old mid new x is closed some same = record {
+  steps = closed ∙ ap (λ (s : List Step). s ++ closing before.some) is ∙ append_assoc old x (closing before.some) ∙ ap (λ (s : List Step). old ++ (x ++ s)) (sym (append_nil (closing before.some)));
+  ranges = same ∙ sym (nil before.ranges);
+  some = some ∙ sym (or_true before.some);
+}
+  where
+    nil : (s : List Range) → s ++ [] ≡ s
+    nil [] = refl
+    nil (y ∷ s) = ap (λ (t : List Range). y ∷ t) (nil s)
+
+-- one range more
+pub range_added : (before after : Members) (steps : List Step) (range : ranges.Range) → after.some ≡ before.some → after.ranges ≡ before.ranges ++ range_in range ∷ []
+    → AreAdded before steps after steps (of_range range)
+range_added before after steps range some more = record { steps = sym (append_nil steps); ranges = more; some = some ∙ sym (or_false before.some) }
+
+-- ---- the end of an AND
+
+pub answer_steps : (none after : Members) (old mid new : List Step) (c : Conjunction (List Step)) → none.some ≡ false → none.ranges ≡ []
+    → AreAdded none old after mid c → new ≡ mid ++ ending after.some after.ranges → new ≡ old ++ and_answer step_answers c
+answer_steps none after old mid new c fresh empty h closed =
+    let some : after.some ≡ is_some_of c.others = h.some ∙ ap (λ (b : Bool). b || is_some_of c.others) fresh in
+    let same_ranges : map range_of after.ranges ≡ c.ranges = ap (map range_of) (h.ranges ∙ ap (λ (s : List Range). s ++ map range_in c.ranges) empty) ∙ ranges_again c.ranges in
+    let steps : mid ≡ old ++ more_steps false c.others = h.steps ∙ ap (λ (b : Bool). old ++ more_steps b c.others) fresh in
+    closed ∙ ap (λ (s : List Step). s ++ ending after.some after.ranges) steps
+    ∙ ap (λ (b : Bool). (old ++ more_steps false c.others) ++ ending b after.ranges) some
+    ∙ ap (λ (rs : List ranges.Range). (old ++ more_steps false c.others) ++ last_steps (is_some_of c.others) (map step_answers.range (range_for_each_column rs))) same_ranges
+    ∙ append_assoc old (more_steps false c.others) (last_steps (is_some_of c.others) (map step_answers.range (range_for_each_column c.ranges)))
+    ∙ ap (λ (s : List Step). old ++ s) (sym (all_steps c.others (map step_answers.range (range_for_each_column c.ranges))))
+
+-- ---- OR
+
+-- the steps of each answer, and OR after it
+abbrev pub or_steps : List (List Step) → List Step
+or_steps [] = []
+or_steps (x ∷ xs) = x ++ (step.Or ∷ or_steps xs)
+
+or_more_steps : (so_far : List Step) (xs : List (List Step)) → or_more step_answers so_far xs ≡ so_far ++ or_steps xs
+or_more_steps so_far [] = sym (append_nil so_far)
+or_more_steps so_far (x ∷ xs) =
+    or_more_steps (so_far ++ (x ++ step.Or ∷ [])) xs ∙ append_assoc so_far (x ++ step.Or ∷ []) (or_steps xs)
+    ∙ ap (λ (t : List Step). so_far ++ t) (append_assoc x (step.Or ∷ []) (or_steps xs))
+
+or_steps_more : (xs : List (List Step)) (x : List Step) → or_steps (xs ++ x ∷ []) ≡ or_steps xs ++ (x ++ step.Or ∷ [])
+or_steps_more [] x = refl
+or_steps_more (y ∷ xs) x =
+    rw (or_steps_more xs x) (sym (append_assoc y (step.Or ∷ or_steps xs) (x ++ step.Or ∷ [])))
+
+-- one condition more
+pub any_more : (f : Cond → List Step) (conds : List Cond) (i : ℕ) (cond : Cond) (old mid next new : List Step) → i < length conds → cond ≡ get_or conds i cond
+    → mid ≡ old ++ or_steps (map f (take i conds)) → next ≡ mid ++ f cond → new ≡ next ++ step.Or ∷ [] → new ≡ old ++ or_steps (map f (take (i + 1) conds))
+any_more f conds i cond old mid next new low is so_far more last =
+    let front : take (i + 1) conds ≡ take i conds ++ cond ∷ [] = take_more conds i cond low ∙ ap (λ (c : Cond). take i conds ++ c ∷ []) (sym is) in
+    last ∙ ap (λ (s : List Step). s ++ step.Or ∷ []) more ∙ append_assoc mid (f cond) (step.Or ∷ []) ∙ ap (λ (s : List Step). s ++ (f cond ++ step.Or ∷ [])) so_far
+    ∙ append_assoc old (or_steps (map f (take i conds))) (f cond ++ step.Or ∷ [])
+    ∙ ap (λ (s : List Step). old ++ s) (sym (or_steps_more (map f (take i conds)) (f cond)))
+    ∙ ap (λ (s : List (List Step)). old ++ or_steps s) (sym (map-append f (take i conds) (cond ∷ [])) ∙ ap (map f) (sym front))
+
+pub or_answer_steps : (old mid new : List Step) (cs : List (Conjunction (List Step))) → mid ≡ old ++ step.Nothing ∷ [] → new ≡ mid ++ or_steps (map (and_answer step_answers) cs)
+    → new ≡ old ++ or_answer step_answers cs
+or_answer_steps old mid new cs first all =
+    all ∙ ap (λ (s : List Step). s ++ or_steps (map (and_answer step_answers) cs)) first ∙ append_assoc old (step.Nothing ∷ []) (or_steps (map (and_answer step_answers) cs))
+    ∙ ap (λ (s : List Step). old ++ s) (sym (or_more_steps (step.Nothing ∷ []) (map (and_answer step_answers) cs)))

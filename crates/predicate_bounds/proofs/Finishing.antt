@@ -1,0 +1,112 @@
+-- The end of an AND: the steps of its ranges.
+use Rattle.std.proofs.Common.{◌≡◌, ℕ, ◌+◌, ◌<◌, Bool, true, false, ◌||◌, eqb, List, [], ◌∷◌, ◌++◌, map, length, take, get_or, refl, ap, sym, ◌∙◌, append_assoc, arith}
+use Rattle.std.specs.List.{list_any}
+use Rattle.std.proofs.lemmas.List.{append-nil, length-map, take_all}
+use Rattle.degree_sequences.specs.Degrees.{different}
+use Rattle.filtered_lists.specs.Ranges as ranges
+use Rattle.filtered_lists.specs.Ranges.{one_range, range_for_each_column}
+use Rattle.predicate_bounds.specs.declared.steps.Range.{Range}
+use Rattle.predicate_bounds.specs.declared.steps.Step.{Step}
+use Rattle.predicate_bounds.specs.declared.steps.Step.TheVariants as step
+use Rattle.predicate_bounds.specs.declared.reading.Members.{Members}
+use Rattle.predicate_bounds.specs.Added.{closing, is_some_of, last_steps, more_steps, ending}
+use Rattle.predicate_bounds.specs.Steps.{range_in, range_of, step_answers}
+use Rattle.predicate_bounds.proofs.Adding.{more_steps-append, is_some_of-append, or_true, or_false, last_true}
+use Rattle.predicate_bounds.proofs.Narrow.{columns, first_steps, old_column, new_column}
+
+-- the first i ranges are done
+pub record AreFinished (before : Members) (old : List Step) (now : Members) (new : List Step) (count i : ℕ) : Type 0 where
+  pub ranges : now.ranges ≡ before.ranges
+  pub len : count ≡ length before.ranges
+  pub steps : new ≡ old ++ more_steps before.some (first_steps before.ranges i)
+  pub some : now.some ≡ (before.some || is_some_of (first_steps before.ranges i))
+
+pub none_finished : (before : Members) (old : List Step) (len : ℕ) → len ≡ length before.ranges → AreFinished before old before old len 0
+none_finished before old len h = record { ranges = refl; len = h; steps = sym (append-nil old); some = sym (or_false before.some) }
+
+pub finished_old : (before now : Members) (old new : List Step) (len i : ℕ) (r : Range) → AreFinished before old now new len i → i < len → r ≡ get_or now.ranges i r
+    → list_any (λ range. eqb range.column r.column) (take i now.ranges) ≡ true → AreFinished before old now new len (i + 1)
+finished_old before now old new len i r h low is there =
+    let same : first_steps before.ranges (i + 1) ≡ first_steps before.ranges i =
+    old_column before.ranges i r (omega (arith, h.len)) (is ∙ ap (λ (rs : List Range). get_or rs i r) h.ranges) (ap (λ (rs : List Range). list_any (λ range. eqb range.column r.column) (take i rs)) (sym h.ranges) ∙ there) in
+    record {
+      ranges = h.ranges;
+      len = h.len;
+      steps = h.steps ∙ ap (λ (s : List (List Step)). old ++ more_steps before.some s) (sym same);
+      some = h.some ∙ ap (λ (s : List (List Step)). before.some || is_some_of s) (sym same);
+    }
+
+pub finished_new : (before now after : Members) (old new mid last : List Step) (len i : ℕ) (r range : Range) → AreFinished before old now new len i → i < len → r ≡ get_or now.ranges i r
+    → list_any (λ range. eqb range.column r.column) (take i now.ranges) ≡ false → range ≡ range_in (one_range (map range_of now.ranges) r.column)
+    → mid ≡ new ++ step.Within range ∷ [] → last ≡ mid ++ closing now.some → after.some ≡ true → after.ranges ≡ now.ranges
+    → AreFinished before old after last len (i + 1)
+finished_new before now after old new mid last len i r range h low is there one more closed some same =
+    let x : List Step = step_answers.range (one_range (map range_of before.ranges) r.column) in
+    let xs : List (List Step) = first_steps before.ranges i in
+    let added : first_steps before.ranges (i + 1) ≡ xs ++ x ∷ [] =
+    new_column before.ranges i r (omega (arith, h.len)) (is ∙ ap (λ (rs : List Range). get_or rs i r) h.ranges) (ap (λ (rs : List Range). list_any (λ range. eqb range.column r.column) (take i rs)) (sym h.ranges) ∙ there) in
+    let within : step.Within range ∷ [] ≡ x = ap (λ (y : Range). step.Within y ∷ []) (one ∙ ap (λ (rs : List Range). range_in (one_range (map range_of rs) r.column)) h.ranges) in
+    record {
+      ranges = same ∙ h.ranges;
+      len = h.len;
+      steps = closed ∙ ap (λ (s : List Step). s ++ closing now.some) (more ∙ ap (λ (s : List Step). s ++ step.Within range ∷ []) h.steps ∙ ap (λ (s : List Step). (old ++ more_steps before.some xs) ++ s) within)
+          ∙ append_assoc (old ++ more_steps before.some xs) x (closing now.some) ∙ append_assoc old (more_steps before.some xs) (x ++ closing now.some)
+          ∙ ap (λ (b : Bool). old ++ (more_steps before.some xs ++ (x ++ closing b))) h.some
+          ∙ ap (λ (s : List Step). old ++ (more_steps before.some xs ++ (x ++ s))) (sym (append-nil (closing (before.some || is_some_of xs))))
+          ∙ ap (λ (s : List Step). old ++ s) (sym (more_steps-append before.some xs (x ∷ [])))
+          ∙ ap (λ (s : List (List Step)). old ++ more_steps before.some s) (sym added);
+      some = some ∙ sym (ap (λ (s : List (List Step)). before.some || is_some_of s) added ∙ ap (λ (b : Bool). before.some || b) (is_some_of-append xs (x ∷ []))
+          ∙ ap (λ (b : Bool). before.some || b) (or_true (is_some_of xs)) ∙ or_true before.some);
+    }
+
+all_columns : (rs : List Range) → first_steps rs (length rs) ≡ map step_answers.range (range_for_each_column (map range_of rs))
+all_columns rs = ap (λ (cs : List ℕ). map step_answers.range (map (one_range (map range_of rs)) (different cs)))
+    (take_all (length rs) (columns rs) (omega (arith, length-map (map range_of rs) (λ (range : ranges.Range). range.column), length-map rs range_of)))
+
+-- an AND that has members ends with its ranges, and one that has none is whole
+ending_some : (some : Bool) (xs : List (List Step)) → (some || is_some_of xs) ≡ true → last_steps some xs ≡ more_steps some xs
+ending_some true xs h = last_true xs
+ending_some false [] h = cc
+ending_some false (x ∷ xs) h = refl
+
+ending_none : (some : Bool) (xs : List (List Step)) → (some || is_some_of xs) ≡ false → last_steps some xs ≡ more_steps some xs ++ step.Whole ∷ []
+ending_none true xs h = cc
+ending_none false [] h = refl
+ending_none false (x ∷ xs) h = cc
+
+pub finished_some : (before now : Members) (old new : List Step) (len i : ℕ) → AreFinished before old now new len i → i ≡ len → now.some ≡ true → new ≡ old ++ ending before.some before.ranges
+finished_some before now old new len i h last some =
+    let all : first_steps before.ranges i ≡ map step_answers.range (range_for_each_column (map range_of before.ranges)) = ap (first_steps before.ranges) (last ∙ h.len) ∙ all_columns before.ranges in
+    h.steps ∙ ap (λ (s : List Step). old ++ s) (sym (ending_some before.some (first_steps before.ranges i) (sym h.some ∙ some)))
+    ∙ ap (λ (s : List (List Step)). old ++ last_steps before.some s) all
+
+pub finished_none : (before now : Members) (old new last : List Step) (len i : ℕ) → AreFinished before old now new len i → i ≡ len → now.some ≡ false → last ≡ new ++ step.Whole ∷ []
+    → last ≡ old ++ ending before.some before.ranges
+finished_none before now old new last len i h end none whole =
+    let all : first_steps before.ranges i ≡ map step_answers.range (range_for_each_column (map range_of before.ranges)) = ap (first_steps before.ranges) (end ∙ h.len) ∙ all_columns before.ranges in
+    whole ∙ ap (λ (s : List Step). s ++ step.Whole ∷ []) h.steps ∙ append_assoc old (more_steps before.some (first_steps before.ranges i)) (step.Whole ∷ [])
+    ∙ ap (λ (s : List Step). old ++ s) (sym (ending_none before.some (first_steps before.ranges i) (sym h.some ∙ none)))
+    ∙ ap (λ (s : List (List Step)). old ++ last_steps before.some s) all
+
+-- ---- as the loop has it
+
+there_is : (items : List Range) (i : ℕ) (r : Range) (found told : Bool) → r ≡ get_or items i r → found ≡ list_any (λ range. eqb range.column (get_or items i r).column) (take i items) → found ≡ told
+    → (rs : List Range) → items ≡ rs → list_any (λ range. eqb range.column r.column) (take i rs) ≡ told
+there_is items i r found told is tests tells rs same =
+    ap (λ (s : List Range). list_any (λ range. eqb range.column r.column) (take i s)) (sym same)
+    ∙ ap (λ (x : Range). list_any (λ range. eqb range.column x.column) (take i items)) is ∙ sym tests ∙ tells
+
+pub loop_old : (before now now' : Members) (old new new' : List Step) (len i : ℕ) (r : Range) (items : List Range) (found : Bool) → AreFinished before old now new len i → i < len
+    → items ≡ now.ranges → r ≡ get_or items i r → found ≡ list_any (λ range. eqb range.column (get_or items i r).column) (take i items) → found ≡ true
+    → now' ≡ now → new' ≡ new → AreFinished before old now' new' len (i + 1)
+loop_old before now now' old new new' len i r items found h low same is tests tells self steps =
+    rw (self, steps) (finished_old before now old new len i r h low (is ∙ ap (λ (s : List Range). get_or s i r) same) (there_is items i r found true is tests tells now.ranges same))
+
+pub loop_new : (before now after now' : Members) (old new mid last new' : List Step) (len i : ℕ) (r range : Range) (items : List Range) (found : Bool) → AreFinished before old now new len i → i < len
+    → items ≡ now.ranges → r ≡ get_or items i r → found ≡ list_any (λ range. eqb range.column (get_or items i r).column) (take i items) → found ≡ false
+    → range ≡ range_in (one_range (map range_of items) (get_or items i r).column)
+    → mid ≡ new ++ step.Within range ∷ [] → last ≡ mid ++ closing now.some → after.some ≡ true → after.ranges ≡ now.ranges
+    → now' ≡ after → new' ≡ last → AreFinished before old now' new' len (i + 1)
+loop_new before now after now' old new mid last new' len i r range items found h low same is tests tells one more closed some kept self steps =
+    rw (self, steps) (finished_new before now after old new mid last len i r range h low (is ∙ ap (λ (s : List Range). get_or s i r) same) (there_is items i r found false is tests tells now.ranges same)
+    (one ∙ ap (λ (x : Range). range_in (one_range (map range_of items) x.column)) (sym is) ∙ ap (λ (s : List Range). range_in (one_range (map range_of s) r.column)) same) more closed some kept)

@@ -1,0 +1,9 @@
+pub mod Literals
+pub mod Adding
+pub mod Narrow
+pub mod Finishing
+pub mod Conditions
+pub mod Answering
+pub mod Stacks
+pub mod Telling
+pub mod Own

@@ -1,0 +1,130 @@
+-- One range of each column, range by range.
+use Rattle.std.proofs.Common.{◌≡◌, ℕ, suc, ◌+◌, ◌-◌, ◌<◌, ◌≤◌, Bool, true, false, not, ◌||◌, eqb, cond, List, [], ◌∷◌, ◌++◌, map, length, take, drop, get_or, Option, None, Some, refl, ap, sym, ◌∙◌, inl, inr, arith}
+use Rattle.std.specs.List.{cons_option, filter, filter_map, list_any}
+use Rattle.std.proofs.Math.ListN.{get_or-map}
+use Rattle.std.proofs.Math.Seq.{drop-cons}
+use Rattle.std.proofs.lemmas.Bool.{cases_Bool, eqb-true, eqb-false, ne_eqb, eq-eqb}
+use Rattle.std.proofs.lemmas.List.{take_more, take-map, map-append, length-map}
+use Rattle.std.proofs.lemmas.List.Elements.{filter-append}
+use Rattle.csv_tables.specs.Values.{Value}
+use Rattle.degree_sequences.specs.Degrees.{different}
+use Rattle.filtered_lists.specs.Ranges as ranges
+use Rattle.filtered_lists.specs.Ranges.{greatest, least, one_range, ranges_of, range_for_each_column}
+use Rattle.predicate_bounds.specs.declared.steps.Range.{Range}
+use Rattle.predicate_bounds.specs.declared.steps.Step.{Step}
+use Rattle.predicate_bounds.specs.Narrowing.{more_high, more_low, narrowed}
+use Rattle.predicate_bounds.specs.Steps.{range_of, step_answers}
+
+-- ---- the ends
+
+low_more : (low : Option Value) (lows : List Value) → greatest (cons_option low lows) ≡ more_low low (greatest lows)
+low_more None lows = refl
+low_more (Some v) lows = refl
+
+high_more : (high : Option Value) (highs : List Value) → least (cons_option high highs) ≡ more_high high (least highs)
+high_more None highs = refl
+high_more (Some v) highs = refl
+
+range_more : (r : ranges.Range) (rs : List ranges.Range) (column : ℕ) → eqb r.column column ≡ true → one_range (r ∷ rs) column ≡ narrowed r (one_range rs column)
+range_more r rs column t =
+    rw t (ap (λ (low : Option Value). record { column = column; low = low; high = least (cons_option r.high (filter_map (λ range. range.high) (ranges_of column rs))) }) (low_more r.low (filter_map (λ range. range.low) (ranges_of column rs)))
+    ∙ ap (λ (high : Option Value). record { column = column; low = more_low r.low (greatest (filter_map (λ range. range.low) (ranges_of column rs))); high = high }) (high_more r.high (filter_map (λ range. range.high) (ranges_of column rs))))
+
+range_other : (r : ranges.Range) (rs : List ranges.Range) (column : ℕ) → eqb r.column column ≡ false → one_range (r ∷ rs) column ≡ one_range rs column
+range_other r rs column n = rw n refl
+
+front : (rs : List Range) (j : ℕ) (r : Range) → j < length rs → r ≡ get_or rs j r → drop j (map range_of rs) ≡ range_of r ∷ drop (suc j) (map range_of rs)
+front rs j r low is =
+    let within : j < length (map range_of rs) = omega (arith, length-map rs range_of) in
+    drop-cons (map range_of rs) j (range_of r) within ∙ ap (λ (x : ranges.Range). x ∷ drop (suc j) (map range_of rs)) (get_or-map range_of rs j r ∙ ap range_of (sym is))
+
+-- going down, a range of the column narrows, and another one does nothing
+pub narrowed_more : (rs : List Range) (i : ℕ) (r : Range) (column : ℕ) (one more : ranges.Range) → 0 < i → i ≤ length rs → r ≡ get_or rs (i - 1) r → r.column ≡ column
+    → one ≡ one_range (drop i (map range_of rs)) column → more ≡ narrowed (range_of r) one → more ≡ one_range (drop (i - 1) (map range_of rs)) column
+narrowed_more rs i r column one more some low is same so_far narrow =
+    let here : i ≡ suc (i - 1) = omega arith in
+    narrow ∙ ap (narrowed (range_of r)) (so_far ∙ ap (λ (n : ℕ). one_range (drop n (map range_of rs)) column) here)
+    ∙ sym (range_more (range_of r) (drop (suc (i - 1)) (map range_of rs)) column (eq-eqb r.column column same))
+    ∙ ap (λ (s : List ranges.Range). one_range s column) (sym (front rs (i - 1) r (omega arith) is))
+
+pub other_more : (rs : List Range) (i : ℕ) (r : Range) (column : ℕ) (one : ranges.Range) → 0 < i → i ≤ length rs → r ≡ get_or rs (i - 1) r → ¬ (r.column ≡ column)
+    → one ≡ one_range (drop i (map range_of rs)) column → one ≡ one_range (drop (i - 1) (map range_of rs)) column
+other_more rs i r column one some low is apart so_far =
+    let here : i ≡ suc (i - 1) = omega arith in
+    so_far ∙ ap (λ (n : ℕ). one_range (drop n (map range_of rs)) column) here
+    ∙ sym (range_other (range_of r) (drop (suc (i - 1)) (map range_of rs)) column (ne_eqb r.column column apart))
+    ∙ ap (λ (s : List ranges.Range). one_range s column) (sym (front rs (i - 1) r (omega arith) is))
+
+-- ---- different columns
+
+same_test : (a b : ℕ) → eqb a b ≡ eqb b a
+same_test a b = elim (cases_Bool (eqb a b)) [
+  | inl t ↦ t ∙ sym (eq-eqb b a (sym (eqb-true a b t)))
+  | inr n ↦ n ∙ sym (ne_eqb b a (λ e. eqb-false a b n (sym e)))
+]
+
+pub different_new : (xs : List ℕ) (x : ℕ) → list_any (λ c. eqb c x) xs ≡ false → different (xs ++ x ∷ []) ≡ different xs ++ x ∷ []
+different_new [] x h = refl
+different_new (y ∷ xs) x h = elim (cases_Bool (eqb y x)) [
+  | inl t ↦ (let no : true ≡ false = rw t at h in absurd (cc))
+  | inr n ↦ (let rest : list_any (λ c. eqb c x) xs ≡ false = rw n at h in
+      ap (λ (s : List ℕ). y ∷ s) (ap (filter (λ other. not (eqb other y))) (different_new xs x rest) ∙ filter-append (λ other. not (eqb other y)) (different xs) (x ∷ [])
+      ∙ ap (λ (b : Bool). filter (λ other. not (eqb other y)) (different xs) ++ cond (not b) (x ∷ []) []) (same_test x y ∙ n)))
+]
+
+append_none : (s : List ℕ) → s ++ [] ≡ s
+append_none [] = refl
+append_none (x ∷ s) = ap (λ (t : List ℕ). x ∷ t) (append_none s)
+
+pub different_old : (xs : List ℕ) (x : ℕ) → list_any (λ c. eqb c x) xs ≡ true → different (xs ++ x ∷ []) ≡ different xs
+different_old [] x h = cc
+different_old (y ∷ xs) x h = elim (cases_Bool (list_any (λ c. eqb c x) xs)) [
+  | inl t ↦ ap (λ (s : List ℕ). y ∷ filter (λ other. not (eqb other y)) s) (different_old xs x t)
+  | inr n ↦ elim (cases_Bool (eqb y x)) [
+    | inl t ↦ ap (λ (s : List ℕ). y ∷ s) (ap (filter (λ other. not (eqb other y))) (different_new xs x n) ∙ filter-append (λ other. not (eqb other y)) (different xs) (x ∷ [])
+        ∙ ap (λ (b : Bool). filter (λ other. not (eqb other y)) (different xs) ++ cond (not b) (x ∷ []) []) (same_test x y ∙ t)
+        ∙ append_none (filter (λ other. not (eqb other y)) (different xs)))
+    | inr m ↦ (let no : false ≡ true = rw (m, n) at h in absurd (cc))
+  ]
+]
+
+-- ---- the ranges of an AND, one for each column
+
+abbrev pub columns : List Range → List ℕ
+columns rs = map (λ range. range.column) (map range_of rs)
+
+-- the steps of the ranges of the columns that the first i ranges are of
+abbrev pub first_steps : List Range → ℕ → List (List Step)
+first_steps rs i = map step_answers.range (map (one_range (map range_of rs)) (different (take i (columns rs))))
+
+next_column : (rs : List Range) (i : ℕ) (r : Range) → i < length rs → r ≡ get_or rs i r → take (i + 1) (columns rs) ≡ take i (columns rs) ++ r.column ∷ []
+next_column rs i r low is =
+    let within : i < length (columns rs) = omega (arith, length-map (map range_of rs) (λ (range : ranges.Range). range.column), length-map rs range_of) in
+    take_more (columns rs) i r.column within ∙ ap (λ (c : ℕ). take i (columns rs) ++ c ∷ [])
+    (get_or-map (λ (range : ranges.Range). range.column) (map range_of rs) i (range_of r) ∙ ap (λ (range : ranges.Range). range.column) (get_or-map range_of rs i r ∙ ap range_of (sym is)))
+
+any_of_columns : (rs : List Range) (column : ℕ) → list_any (λ c. eqb c column) (columns rs) ≡ list_any (λ range. eqb range.column column) rs
+any_of_columns [] column = refl
+any_of_columns (r ∷ rs) column = ap (λ (b : Bool). eqb r.column column || b) (any_of_columns rs column)
+
+is_there : (rs : List Range) (i column : ℕ) → list_any (λ c. eqb c column) (take i (columns rs)) ≡ list_any (λ range. eqb range.column column) (take i rs)
+is_there rs i column =
+    ap (list_any (λ c. eqb c column)) (take-map (λ (range : ranges.Range). range.column) i (map range_of rs) ∙ ap (map (λ (range : ranges.Range). range.column)) (take-map range_of i rs))
+    ∙ any_of_columns (take i rs) column
+
+-- a range of a column that an earlier range is of
+pub old_column : (rs : List Range) (i : ℕ) (r : Range) → i < length rs → r ≡ get_or rs i r → list_any (λ range. eqb range.column r.column) (take i rs) ≡ true
+    → first_steps rs (i + 1) ≡ first_steps rs i
+old_column rs i r low is there =
+    ap (λ (cs : List ℕ). map step_answers.range (map (one_range (map range_of rs)) cs))
+    (ap different (next_column rs i r low is) ∙ different_old (take i (columns rs)) r.column (is_there rs i r.column ∙ there))
+
+-- the first range of a column
+pub new_column : (rs : List Range) (i : ℕ) (r : Range) → i < length rs → r ≡ get_or rs i r → list_any (λ range. eqb range.column r.column) (take i rs) ≡ false
+    → first_steps rs (i + 1) ≡ first_steps rs i ++ step_answers.range (one_range (map range_of rs) r.column) ∷ []
+new_column rs i r low is there =
+    let f : ℕ → List Step = λ column. step_answers.range (one_range (map range_of rs) column) in
+    ap (λ (cs : List ℕ). map step_answers.range (map (one_range (map range_of rs)) cs))
+    (ap different (next_column rs i r low is) ∙ different_new (take i (columns rs)) r.column (is_there rs i r.column ∙ there))
+    ∙ ap (map step_answers.range) (map-append (one_range (map range_of rs)) (different (take i (columns rs))) (r.column ∷ []))
+    ∙ map-append step_answers.range (map (one_range (map range_of rs)) (different (take i (columns rs)))) (one_range (map range_of rs) r.column ∷ [])

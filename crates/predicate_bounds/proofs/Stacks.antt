@@ -1,0 +1,93 @@
+-- A stack of lists, kept with its top at the end.
+use Rattle.std.proofs.Common.{◌≡◌, ℕ, suc, ◌+◌, ◌*◌, ◌^◌, ◌<◌, ◌≤◌, true, List, [], ◌∷◌, ◌++◌, map, reverse, length, drop, get_or, sum, refl, ap, sym, ◌∙◌, arith}
+use Rattle.std.specs.List.{list_all}
+use Rattle.std.proofs.lemmas.List.{reverse-append, drop_all}
+use Rattle.std.proofs.lemmas.List.Sums.{sum_by-append, sum_by-cons, AllPass-from_list_all}
+use Rattle.std.proofs.Math.Numerals.{add-one}
+use Rattle.std.proofs.Math.Seq.{drop-cons}
+use Rattle.degree_sequences.specs.ByRank.{rank_sum}
+use Rattle.degree_sequences.specs.RunningSums.{lesser}
+use Rattle.degree_sequences.specs.Saturation.{saturated}
+use Rattle.filtered_lists.proofs.Lists.{sum-lesser, sum-rank_sum}
+use Rattle.predicate_bounds.specs.ListRuns.{total_of, top_of, is_small, after_list_step, after_list_steps}
+use Rattle.predicate_bounds.specs.Runs.{put_together}
+use Rattle.predicate_bounds.specs.declared.running.ListStep.{ListStep}
+
+-- ---- the top
+
+pub pushed : (old new : List (List ℕ)) (x : List ℕ) → new ≡ old ++ x ∷ [] → reverse new ≡ x ∷ reverse old
+pushed old new x h = ap reverse h ∙ reverse-append old (x ∷ [])
+
+pub two_put_together : (f : List ℕ → List ℕ → List ℕ) (old mid rest new : List (List ℕ)) (x y : List ℕ) → old ≡ mid ++ y ∷ [] → mid ≡ rest ++ x ∷ [] → new ≡ rest ++ f x y ∷ []
+    → reverse new ≡ put_together f (reverse old)
+two_put_together f old mid rest new x y h k l =
+    pushed rest new (f x y) l ∙ sym (ap (put_together f) (pushed mid old y h ∙ ap (λ (s : List (List ℕ)). y ∷ s) (pushed rest mid x k)))
+
+pub one_stays : (f : List ℕ → List ℕ → List ℕ) (old mid rest new : List (List ℕ)) (y : List ℕ) → old ≡ mid ++ y ∷ [] → mid ≡ [] → rest ≡ [] → new ≡ rest ++ y ∷ []
+    → reverse new ≡ put_together f (reverse old)
+one_stays f old mid rest new y h none empty l =
+    ap reverse (l ∙ ap (λ (s : List (List ℕ)). s ++ y ∷ []) empty) ∙ sym (ap (λ (s : List (List ℕ)). put_together f (reverse s)) (h ∙ ap (λ (s : List (List ℕ)). s ++ y ∷ []) none))
+
+pub none_stays : (f : List ℕ → List ℕ → List ℕ) (old new : List (List ℕ)) → old ≡ [] → new ≡ [] → reverse new ≡ put_together f (reverse old)
+none_stays f old new h k = ap reverse k ∙ sym (ap (λ (s : List (List ℕ)). put_together f (reverse s)) h)
+
+-- ---- the rows of all lists
+
+pub total_push : (old new : List (List ℕ)) (x : List ℕ) → new ≡ old ++ x ∷ [] → total_of new ≡ total_of old + sum x
+total_push old new x h =
+    let parts : total_of (old ++ x ∷ []) ≡ total_of old + total_of (x ∷ []) = sum_by-append sum old (x ∷ []) in
+    omega (arith, ap total_of h, parts, sum_by-cons sum x [])
+
+pub and_total : (old mid rest new : List (List ℕ)) (x y z : List ℕ) → old ≡ mid ++ y ∷ [] → mid ≡ rest ++ x ∷ [] → z ≡ lesser x y → new ≡ rest ++ z ∷ []
+    → total_of new ≤ total_of old
+and_total old mid rest new x y z h k is l =
+    omega (arith, total_push mid old y h, total_push rest mid x k, total_push rest new z l, ap sum is, sum-lesser x y)
+
+pub or_total : (old mid rest new : List (List ℕ)) (x y z : List ℕ) → old ≡ mid ++ y ∷ [] → mid ≡ rest ++ x ∷ [] → z ≡ rank_sum x y → new ≡ rest ++ z ∷ []
+    → total_of new ≤ total_of old
+or_total old mid rest new x y z h k is l =
+    omega (arith, total_push mid old y h, total_push rest mid x k, total_push rest new z l, ap sum is, sum-rank_sum x y)
+
+small_whole : (s : List ℕ) → sum s < 2 ^ 128 → map saturated s ≡ s
+small_whole [] h = refl
+small_whole (x ∷ s) h =
+    let e : sum (x ∷ s) ≡ x + sum s = sum_by-cons (λ (y : ℕ). y) x s in
+    let rest : sum s < 2 ^ 128 = omega arith in
+    let here : saturated x ≡ x = omega arith in
+    ap (λ (n : ℕ). n ∷ map saturated s) here ∙ ap (λ (t : List ℕ). x ∷ t) (small_whole s rest)
+
+-- the sum of two lists of a small stack is no more than 128 bits hold
+pub or_exact : (old mid rest : List (List ℕ)) (x y z : List ℕ) → old ≡ mid ++ y ∷ [] → mid ≡ rest ++ x ∷ [] → total_of old < 2 ^ 128 → z ≡ map saturated (rank_sum x y) → z ≡ rank_sum x y
+or_exact old mid rest x y z h k small is =
+    is ∙ small_whole (rank_sum x y) (omega (arith, total_push mid old y h, total_push rest mid x k, sum-rank_sum x y, small))
+
+-- ---- running
+
+pub record AreRun (steps : List ListStep) (i : ℕ) (stack : List (List ℕ)) : Type 0 where
+  pub lists : after_list_steps (drop i steps) (reverse stack) ≡ after_list_steps steps []
+  pub total : total_of stack ≤ i * 2 ^ 32
+
+pub none_run : (steps : List ListStep) (stack : List (List ℕ)) → stack ≡ [] → AreRun steps 0 stack
+none_run steps stack h = record { lists = ap (λ (s : List (List ℕ)). after_list_steps steps (reverse s)) h; total = omega (arith, ap total_of h) }
+
+pub one_run : (steps : List ListStep) (i : ℕ) (step : ListStep) (old new : List (List ℕ)) → AreRun steps i old → i < length steps → step ≡ get_or steps i step
+    → reverse new ≡ after_list_step step (reverse old) → total_of new ≤ total_of old + 2 ^ 32 → AreRun steps (i + 1) new
+one_run steps i step old new h low is lists total = record {
+  lists = ap (after_list_steps (drop (i + 1) steps)) lists
+      ∙ ap (λ (n : ℕ). after_list_steps (drop n steps) (after_list_step step (reverse old))) (add-one i)
+      ∙ sym (ap (λ (s : List ListStep). after_list_steps s (reverse old)) (drop-cons steps i step low ∙ ap (λ (s : ListStep). s ∷ drop (suc i) steps) (sym is))) ∙ h.lists;
+  total = omega (arith, h.total);
+}
+
+-- what is left on the stack when all steps are taken
+pub all_run : (steps : List ListStep) (i : ℕ) (stack : List (List ℕ)) → AreRun steps i stack → length steps ≤ i → reverse stack ≡ after_list_steps steps []
+all_run steps i stack h end = ap (λ (s : List ListStep). after_list_steps s (reverse stack)) (sym (drop_all i steps end)) ∙ h.lists
+
+pub top_left : (steps : List ListStep) (stack rest : List (List ℕ)) (list : List ℕ) → reverse stack ≡ after_list_steps steps [] → stack ≡ rest ++ list ∷ [] → list ≡ top_of (after_list_steps steps [])
+top_left steps stack rest list h k = ap top_of (sym (pushed rest stack list k) ∙ h)
+
+pub none_left : (steps : List ListStep) (stack : List (List ℕ)) (list : List ℕ) → reverse stack ≡ after_list_steps steps [] → stack ≡ [] → list ≡ [] → list ≡ top_of (after_list_steps steps [])
+none_left steps stack list h k empty = empty ∙ ap top_of (sym (ap reverse k) ∙ h)
+
+pub small_at : (steps : List ListStep) (i : ℕ) (step : ListStep) → list_all is_small steps ≡ true → i < length steps → step ≡ get_or steps i step → is_small step ≡ true
+small_at steps i step h low is = ap is_small is ∙ AllPass-from_list_all is_small steps h i step low

@@ -1,0 +1,25 @@
+use Rattle.std.proofs.Common.{◌≡◌, Some, ap, sym, ◌∙◌}
+use Rattle.std.specs.List.{list_all}
+use Rattle.predicate_bounds.specs.declared.columns.ColumnSteps.{ColumnSteps}
+use Rattle.predicate_bounds.specs.ListRuns.{is_small}
+use Rattle.predicate_bounds.specs.Told.{first_steps}
+use Rattle.predicate_bounds.proofs.Telling.{first_here, told_rows, counted_rows, enough_rows}
+use Rattle.predicate_bounds.proofs.columns.QueryStats.row_bound.Goals as goal
+
+pub returns-clause-rows : goal.returns-clause-rows
+returns-clause-rows c = λ query lists counts tells sums.
+    let these : c.as_slice.result.now ≡ c.index-columns-0.result.steps = c.as_slice.ensures ∙ ap (λ (one : ColumnSteps). one.steps) (sym c.index-columns-0.is) in
+    let here : first_steps c.args.self.now c.args.from ≡ Some c.as_slice.result.now =
+    first_here c.args.self.now c.args.from c.columns-columns.result.now c.index-columns-0.result c.as_slice.result.now c.columns-columns.ensures c.requires.known c.index-columns-0.is these in
+    counted_rows query c.args.from lists counts c.rows_of.result sums
+    (told_rows query c.args.self.now c.args.from lists c.as_slice.result.now c.in_ok-list.list c.rows_of.result here tells
+    (ap (list_all is_small) these ∙ c.index-columns-0.result.small) c.in_ok-list.ensures c.rows_of.ensures)
+
+pub returns-clause-never_under : goal.returns-clause-never_under
+returns-clause-never_under c = λ query lists tables key tells stands.
+    let these : c.as_slice.result.now ≡ c.index-columns-0.result.steps = c.as_slice.ensures ∙ ap (λ (one : ColumnSteps). one.steps) (sym c.index-columns-0.is) in
+    let here : first_steps c.args.self.now c.args.from ≡ Some c.as_slice.result.now =
+    first_here c.args.self.now c.args.from c.columns-columns.result.now c.index-columns-0.result c.as_slice.result.now c.columns-columns.ensures c.requires.known c.index-columns-0.is these in
+    enough_rows query c.args.from lists tables key c.rows_of.result stands
+    (told_rows query c.args.self.now c.args.from lists c.as_slice.result.now c.in_ok-list.list c.rows_of.result here tells
+    (ap (list_all is_small) these ∙ c.index-columns-0.result.small) c.in_ok-list.ensures c.rows_of.ensures)

@@ -1,0 +1,14 @@
+use Rattle.std.proofs.Common.{◌≡◌, ◌++◌, map, take}
+use Rattle.filtered_lists.specs.Filters.{and_answer, conjunction_of, joined}
+use Rattle.predicate_bounds.specs.Added.{AreAdded}
+use Rattle.predicate_bounds.specs.Steps.{step_answers}
+use Rattle.predicate_bounds.proofs.Adding.{or_steps}
+use Rattle.predicate_bounds.proofs.reading.+reading.Given as goal
+
+abbrev pub invariant-Members::add_any-loop-cond : goal.invariant-Members::add_any-loop-cond
+invariant-Members::add_any-loop-cond l =
+    l.steps ≡ l.initial.steps ++ or_steps (map (λ cond. and_answer step_answers (conjunction_of step_answers cond l.holds)) (take l.cond-index l.conds))
+
+abbrev pub invariant-Members::add_each-loop-cond : goal.invariant-Members::add_each-loop-cond
+invariant-Members::add_each-loop-cond l =
+    AreAdded l.initial.self l.initial.steps l.self l.steps (joined (map (λ cond. conjunction_of step_answers cond l.holds) (take l.cond-index l.conds)))

@@ -1,0 +1,38 @@
+-- What the members of an AND add to steps, one after another.
+use Rattle.std.specs.Prelude.{◌≡◌, Bool, true, false, ◌||◌, List, [], ◌∷◌, ◌++◌, map}
+use Rattle.filtered_lists.specs.Filters.{Conjunction}
+use Rattle.filtered_lists.specs.Ranges.{range_for_each_column}
+use Rattle.predicate_bounds.specs.declared.steps.Range.{Range}
+use Rattle.predicate_bounds.specs.declared.steps.Step.{Step}
+use Rattle.predicate_bounds.specs.declared.steps.Step.TheVariants as step
+use Rattle.predicate_bounds.specs.declared.reading.Members.{Members}
+use Rattle.predicate_bounds.specs.Steps.{range_of, range_in}
+
+-- what follows the steps of a member: AND, if an answer stands before it
+abbrev pub closing : Bool → List Step
+closing false = []
+closing true = step.And ∷ []
+
+-- the steps of further members, where an answer stands before them or none does
+abbrev pub more_steps : Bool → List (List Step) → List Step
+more_steps some [] = []
+more_steps some (steps ∷ members) = steps ++ (closing some ++ more_steps true members)
+
+abbrev pub is_some_of : {A : Type 0} → List A → Bool
+is_some_of [] = false
+is_some_of (x ∷ xs) = true
+
+-- the members have these further answers and ranges, and the steps are those before with the answers' steps after them
+pub record AreAdded (before : Members) (old : List Step) (after : Members) (new : List Step) (c : Conjunction (List Step)) : Type 0 where
+  pub steps : new ≡ old ++ more_steps before.some c.others
+  pub ranges : after.ranges ≡ before.ranges ++ map range_in c.ranges
+  pub some : after.some ≡ (before.some || is_some_of c.others)
+
+-- the steps of the ranges of an AND, one for each column. An AND of nothing is whole
+abbrev pub last_steps : Bool → List (List Step) → List Step
+last_steps false [] = step.Whole ∷ []
+last_steps true [] = []
+last_steps some (steps ∷ members) = more_steps some (steps ∷ members)
+
+abbrev pub ending : Bool → List Range → List Step
+ending some ranges = last_steps some (map (λ range. step.Within (range_in range) ∷ []) (range_for_each_column (map range_of ranges)))

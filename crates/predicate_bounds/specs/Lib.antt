@@ -1,0 +1,7 @@
+pub mod Steps
+pub mod Runs
+pub mod Comparing
+pub mod Narrowing
+pub mod Added
+pub mod ListRuns
+pub mod Told

@@ -1,0 +1,46 @@
+-- What steps make of a stack of lists, whose top stands first.
+use Rattle.std.specs.Prelude.{ℕ, ◌^◌, nat_le, Bool, true, List, [], ◌∷◌}
+use Rattle.std.specs.List.{sum, sum_by}
+use Rattle.degree_sequences.specs.ByRank.{rank_sum}
+use Rattle.degree_sequences.specs.RunningSums.{lesser}
+use Rattle.filtered_lists.specs.Lists.{ColumnLists}
+use Rattle.predicate_bounds.specs.declared.running.ListStep.{ListStep}
+use Rattle.predicate_bounds.specs.declared.running.ListStep.TheVariants as list_step
+use Rattle.predicate_bounds.specs.declared.steps.Step.{Step}
+use Rattle.predicate_bounds.specs.declared.steps.Step.TheVariants as step
+use Rattle.predicate_bounds.specs.Runs.{put_together}
+use Rattle.predicate_bounds.specs.Steps.{value_of, range_of}
+
+abbrev pub after_list_step : ListStep → List (List ℕ) → List (List ℕ)
+after_list_step (list_step.List list) stack = list ∷ stack
+after_list_step list_step.And stack = put_together lesser stack
+after_list_step list_step.Nothing stack = [] ∷ stack
+after_list_step list_step.Or stack = put_together rank_sum stack
+
+abbrev pub after_list_steps : List ListStep → List (List ℕ) → List (List ℕ)
+after_list_steps [] stack = stack
+after_list_steps (step ∷ steps) stack = after_list_steps steps (after_list_step step stack)
+
+abbrev pub top_of : List (List ℕ) → List ℕ
+top_of [] = []
+top_of (list ∷ stack) = list
+
+-- the rows of all lists together
+abbrev pub total_of : List (List ℕ) → ℕ
+total_of stack = sum_by sum stack
+
+-- a list has at most 2^32 rows
+abbrev pub is_small : ListStep → Bool
+is_small (list_step.List list) = nat_le (sum list) (2 ^ 32)
+is_small list_step.And = true
+is_small list_step.Nothing = true
+is_small list_step.Or = true
+
+-- a step with its list
+abbrev pub listed : ColumnLists → Step → ListStep
+listed lists step.Whole = list_step.List lists.whole
+listed lists (step.Equal column literal) = list_step.List (lists.equal column (value_of literal))
+listed lists (step.Within range) = list_step.List (lists.range (range_of range))
+listed lists step.And = list_step.And
+listed lists step.Nothing = list_step.Nothing
+listed lists step.Or = list_step.Or

@@ -1,0 +1,27 @@
+-- Ranges of a column, narrowed one by one.
+use Rattle.std.specs.Prelude.{Bool, false, Option, None, Some}
+use Rattle.std.specs.Ordering.{is_lt, is_gt}
+use Rattle.csv_tables.specs.Values.{Value, value_cmp}
+use Rattle.filtered_lists.specs.Ranges.{Range, greater_of, lower_of}
+
+-- an end is there, and stands above a value or below it
+abbrev pub is_above : Option Value → Value → Bool
+is_above None value = false
+is_above (Some end) value = is_lt (value_cmp value end)
+
+abbrev pub is_below : Option Value → Value → Bool
+is_below None value = false
+is_below (Some end) value = is_gt (value_cmp value end)
+
+-- the greater of two low ends, and the lower of two high ends
+abbrev pub more_low : Option Value → Option Value → Option Value
+more_low None other = other
+more_low (Some value) other = Some (greater_of value other)
+
+abbrev pub more_high : Option Value → Option Value → Option Value
+more_high None other = other
+more_high (Some value) other = Some (lower_of value other)
+
+-- a range narrowed by another one of its column
+abbrev pub narrowed : Range → Range → Range
+narrowed range one = record { column = one.column; low = more_low range.low one.low; high = more_high range.high one.high }

@@ -1,0 +1,43 @@
+-- An entry's own conjuncts as steps over a stack of answers: each step of a comparison puts an answer on it, and AND and OR
+-- put the two on top together.
+use Rattle.std.specs.Prelude.{ℕ, List, [], ◌∷◌, ◌++◌, option_map}
+use Rattle.csv_tables.specs.Values as values
+use Rattle.csv_tables.specs.Values.{Value}
+use Rattle.query_types.specs.declared.types.Cond.{Cond}
+use Rattle.filtered_lists.specs.Filters.{Answers, filtered}
+use Rattle.filtered_lists.specs.Ranges as ranges
+use Rattle.predicate_bounds.specs.declared.steps.Literal.{Literal}
+use Rattle.predicate_bounds.specs.declared.steps.Literal.TheVariants as literal
+use Rattle.predicate_bounds.specs.declared.steps.Range.{Range}
+use Rattle.predicate_bounds.specs.declared.steps.Step.{Step}
+use Rattle.predicate_bounds.specs.declared.steps.Step.TheVariants as step
+
+-- a literal is a value, and a value is a literal
+abbrev pub value_of : Literal → Value
+value_of (literal.Int number) = values.Int number
+value_of (literal.Text text) = values.Text text
+
+abbrev pub literal_of : Value → Literal
+literal_of (values.Int number) = literal.Int number
+literal_of (values.Text text) = literal.Text text
+
+abbrev pub range_of : Range → ranges.Range
+range_of range = record { column = range.column; low = option_map value_of range.low; high = option_map value_of range.high }
+
+abbrev pub range_in : ranges.Range → Range
+range_in range = record { column = range.column; low = option_map literal_of range.low; high = option_map literal_of range.high }
+
+-- the steps that put an answer on the stack
+abbrev pub step_answers : Answers (List Step)
+step_answers = record {
+  whole = step.Whole ∷ [];
+  equal = λ column value. step.Equal column (literal_of value) ∷ [];
+  range = λ range. step.Within (range_in range) ∷ [];
+  both = λ x y. x ++ (y ++ step.And ∷ []);
+  none = step.Nothing ∷ [];
+  either = λ x y. x ++ (y ++ step.Or ∷ []);
+}
+
+-- the steps of an entry's own conjuncts
+abbrev pub steps_of : ℕ → List Cond → List Step
+steps_of entry conjuncts = filtered step_answers entry conjuncts

@@ -1,0 +1,31 @@
+//! Bounds of filtered entries: from an entry's own conjuncts, and the lists that they ask for, to the list that dominates what
+//! its scan leaves.
+//!
+//! In: a query, and lists of its filter columns for its joined columns. `read_steps` turns an entry's own conjuncts into steps
+//! over a stack of answers: NOT is pushed down, ANDs are joined, a literal on the left is turned round, and the comparisons
+//! of one column in an AND are one range. `QueryStats` holds these steps, each with its list, for each joined column, and
+//! `bound_list` and `row_bound` run them. Nothing here knows where the lists come from.
+//!
+//! Callers cite `steps_of` (in `specs/Steps.antt`) for what is asked, `TellsList` and `TellsRows` (in `specs/Told.antt`) for
+//! what statistics hold, and `filtered_list` and `row_bound` of `filtered_lists` for the answers.
+//!
+//! ```text
+//! let steps = read_steps(alloc, &query, 0, own)?;      // steps ≡ steps_of 0 query.conjuncts
+//! let list = stats.bound_list(alloc, 0, column)?;      // list ≡ filtered_list lists 0 query.conjuncts
+//! ```
+#![tactic(auto)]
+
+mod columns;
+mod comparing;
+mod ranges;
+mod reading;
+mod running;
+mod stats;
+mod steps;
+#[cfg(test)]
+mod tests;
+
+pub use columns::{ColumnSteps, EntryStats, QueryStats};
+pub use reading::read_steps;
+pub use running::ListStep;
+pub use steps::{Literal, Range, Step};

@@ -1,0 +1,101 @@
+//! The one range that the ranges of a column make together.
+ghost use Rattle.std.specs.Prelude.{◌≡◌, ◌==◌, map, option_map, IfOk};
+ghost use Rattle.std.specs.List.{list_any};
+ghost use Rattle.filtered_lists.specs.Ranges.{one_range};
+ghost use Rattle.predicate_bounds.specs.Narrowing.{is_below, is_above, more_high, more_low, narrowed};
+ghost use Rattle.predicate_bounds.specs.Steps.{range_in, range_of, value_of};
+
+use crate::steps::{Literal, Range, compare_literals};
+use base_io::NoMemory;
+use std::alloc::Global;
+
+// Whether an end is there and stands above a literal.
+fn is_above(end: &Option<Literal>, literal: &Literal) -> bool
+    ensures { result ≡ is_above (option_map value_of end.now) (value_of literal.now) }
+{
+    match end {
+        None => false,
+        Some(end) => compare_literals(literal, end).is_lt(),
+    }
+}
+
+// Whether an end is there and stands below a literal.
+fn is_below(end: &Option<Literal>, literal: &Literal) -> bool
+    ensures { result ≡ is_below (option_map value_of end.now) (value_of literal.now) }
+{
+    match end {
+        None => false,
+        Some(end) => compare_literals(literal, end).is_gt(),
+    }
+}
+
+// The greater of two low ends.
+fn greater_low(
+    alloc: Global,
+    one: &Option<Literal>,
+    other: Option<Literal>,
+) -> Result<Option<Literal>, NoMemory>
+    ensures { IfOk result (λ low. option_map value_of low ≡ more_low (option_map value_of one.now) (option_map value_of other)) }
+{
+    let Some(one) = one else {
+        return Ok(other);
+    };
+    if is_above(&other, one) {
+        return Ok(other);
+    }
+    Ok(Some(one.copy(alloc)?))
+}
+
+// The lower of two high ends.
+fn lower_high(
+    alloc: Global,
+    one: &Option<Literal>,
+    other: Option<Literal>,
+) -> Result<Option<Literal>, NoMemory>
+    ensures { IfOk result (λ high. option_map value_of high ≡ more_high (option_map value_of one.now) (option_map value_of other)) }
+{
+    let Some(one) = one else {
+        return Ok(other);
+    };
+    if is_below(&other, one) {
+        return Ok(other);
+    }
+    Ok(Some(one.copy(alloc)?))
+}
+
+// A range narrowed by another one of its column.
+fn narrowed(alloc: Global, range: &Range, one: Range) -> Result<Range, NoMemory>
+    ensures { IfOk result (λ narrow. range_of narrow ≡ narrowed (range_of range.now) (range_of one)) }
+{
+    let Range { column, low, high } = one;
+    let low = greater_low(alloc, &range.low, low)?;
+    let high = lower_high(alloc, &range.high, high)?;
+    Ok(Range { column, low, high })
+}
+
+/// The one range of a column: from the greatest of the low ends to the least of the high ends.
+pub(crate) fn one_range(alloc: Global, ranges: &[Range], column: u32) -> Result<Range, NoMemory>
+    ensures { IfOk result (λ range. range ≡ range_in (one_range (map range_of ranges.now) column)) }
+{
+    let mut one = Range {
+        column,
+        low: None,
+        high: None,
+    };
+    let mut i = ranges.len();
+    while i > 0 {
+        i -= 1;
+        let range = &ranges[i];
+        if range.column == column {
+            one = narrowed(alloc, range, one)?;
+        }
+    }
+    Ok(one)
+}
+
+/// Whether one of the ranges is of a column.
+pub(crate) fn has_column(ranges: &[Range], column: u32) -> bool
+    ensures { result ≡ list_any (λ range. range.column == column) ranges.now }
+{
+    ranges.iter().any(|range| range.column == column)
+}

@@ -1,0 +1,256 @@
+//! From an entry's own conjuncts to steps. NOT is pushed down as conditions are read: `holds` is false where the opposite of
+//! a condition is read. The recursion is as deep as the condition.
+ghost use Rattle.std.specs.Prelude.{◌≡◌, ◌^◌, ◌<◌, ◌++◌, ◌∷◌, [], false, true, map, length, IfOk, OnOk};
+ghost use Rattle.filtered_lists.specs.Comparisons.{comparison_of};
+ghost use Rattle.filtered_lists.specs.Filters.{and_answer, conjunction_of, joined, or_answer};
+ghost use Rattle.filtered_lists.specs.Filters.{of_answer, of_comparison, of_comparison_or_whole};
+ghost use Rattle.predicate_bounds.specs.Added.{AreAdded, closing, ending};
+ghost use Rattle.predicate_bounds.specs.Steps.{range_of, step_answers, steps_of, value_of};
+ghost use Rattle.join_graph.specs.Conjuncts.{names_just, numbers_where};
+
+use crate::comparing::{Compared, compared_of, opposite};
+use crate::ranges::{has_column, one_range};
+use crate::steps::{Literal, Range, Step};
+use base_io::{NoMemory, Seq};
+use join_graph::split;
+use query_grammar::Op;
+use query_types::{Cond, Operand, Query};
+use std::alloc::Global;
+
+/// What an AND has so far: whether the steps of an answer stand there, and the ranges of its comparisons.
+#[derive(Drop)]
+pub(crate) struct Members {
+    pub some: bool,
+    pub ranges: Seq<Range>,
+}
+
+impl Members {
+    // No member yet.
+    fn none(alloc: Global) -> Members
+        ensures some { result.some ≡ false }
+        ensures ranges { result.ranges ≡ [] }
+    {
+        Members {
+            some: false,
+            ranges: Seq::new(alloc),
+        }
+    }
+
+    // The steps of one more answer stand at the end.
+    fn close(&mut self, steps: &mut Seq<Step>) -> Result<(), NoMemory>
+        ensures steps { OnOk result (steps.new ≡ steps.old ++ closing self.old.some) }
+        ensures some { OnOk result (self.new.some ≡ true) }
+        ensures ranges { OnOk result (self.new.ranges ≡ self.old.ranges) }
+    {
+        if self.some {
+            steps.push(Step::And)?;
+        }
+        self.some = true;
+        Ok(())
+    }
+
+    // The last members: one range for each column. An AND of nothing is whole.
+    fn finish(&mut self, alloc: Global, steps: &mut Seq<Step>) -> Result<(), NoMemory>
+        ensures { OnOk result (steps.new ≡ steps.old ++ ending self.old.some self.old.ranges) }
+    {
+        let len = self.ranges.len();
+        for i in 0..len {
+            let ranges = self.ranges.as_slice();
+            let column = ranges[i].column;
+            if !has_column(&ranges[..i], column) {
+                steps.push(Step::Within(one_range(alloc, ranges, column)?))?;
+                self.close(steps)?;
+            }
+        }
+        if !self.some {
+            steps.push(Step::Whole)?;
+        }
+        Ok(())
+    }
+
+    // A comparison of a column with a literal.
+    fn add_compared(
+        &mut self,
+        alloc: Global,
+        compared: Compared,
+        steps: &mut Seq<Step>,
+    ) -> Result<(), NoMemory>
+        ensures { OnOk result (AreAdded self.old steps.old self.new steps.new
+            (of_comparison step_answers compared.op compared.column (value_of compared.literal))) }
+    {
+        let Compared {
+            op,
+            column,
+            literal,
+        } = compared;
+        match op {
+            Op::Eq => {
+                steps.push(Step::Equal { column, literal })?;
+                self.close(steps)
+            }
+            Op::Ne => {
+                let below = Range {
+                    column,
+                    low: None,
+                    high: Some(literal.copy(alloc)?),
+                };
+                let above = Range {
+                    column,
+                    low: Some(literal),
+                    high: None,
+                };
+                steps.push(Step::Within(below))?;
+                steps.push(Step::Within(above))?;
+                steps.push(Step::Or)?;
+                self.close(steps)
+            }
+            Op::Lt | Op::Le => self.ranges.push(Range {
+                column,
+                low: None,
+                high: Some(literal),
+            }),
+            Op::Gt | Op::Ge => self.ranges.push(Range {
+                column,
+                low: Some(literal),
+                high: None,
+            }),
+        }
+    }
+
+    // A comparison. One that has no column and no literal is whole.
+    fn add_comparison(
+        &mut self,
+        alloc: Global,
+        op: Op,
+        left: &Operand,
+        right: &Operand,
+        steps: &mut Seq<Step>,
+    ) -> Result<(), NoMemory>
+        ensures { OnOk result (AreAdded self.old steps.old self.new steps.new
+            (of_comparison_or_whole step_answers (comparison_of op left.now right.now))) }
+    {
+        match compared_of(alloc, op, left, right)? {
+            Some(compared) => self.add_compared(alloc, compared, steps),
+            None => {
+                steps.push(Step::Whole)?;
+                self.close(steps)
+            }
+        }
+    }
+
+    /// A condition, or its opposite.
+    #[cycle(reading)]
+    pub(crate) fn add_condition(
+        &mut self,
+        alloc: Global,
+        cond: &Cond,
+        holds: bool,
+        steps: &mut Seq<Step>,
+    ) -> Result<(), NoMemory>
+        ensures { OnOk result (AreAdded self.old steps.old self.new steps.new (conjunction_of step_answers cond.now holds)) }
+    {
+        match cond {
+            Cond::And(all) => {
+                if holds {
+                    self.add_each(alloc, all.as_slice(), holds, steps)
+                } else {
+                    self.add_any(alloc, all.as_slice(), holds, steps)
+                }
+            }
+            Cond::Or(any) => {
+                if holds {
+                    self.add_any(alloc, any.as_slice(), holds, steps)
+                } else {
+                    self.add_each(alloc, any.as_slice(), holds, steps)
+                }
+            }
+            Cond::Not(inner) => self.add_condition(alloc, inner.get(), !holds, steps),
+            Cond::Compare { op, left, right } => {
+                let op = if holds { *op } else { opposite(*op) };
+                self.add_comparison(alloc, op, left, right, steps)
+            }
+        }
+    }
+
+    // Each of these conditions, or its opposite: an AND within an AND.
+    #[cycle(reading)]
+    fn add_each(
+        &mut self,
+        alloc: Global,
+        conds: &[Cond],
+        holds: bool,
+        steps: &mut Seq<Step>,
+    ) -> Result<(), NoMemory>
+        ensures { OnOk result (AreAdded self.old steps.old self.new steps.new
+            (joined (map (λ cond. conjunction_of step_answers cond holds) conds.now))) }
+    {
+        for cond in conds {
+            self.add_condition(alloc, cond, holds, steps)?;
+        }
+        Ok(())
+    }
+
+    // Any of these conditions, or of their opposites.
+    #[cycle(reading)]
+    fn add_any(
+        &mut self,
+        alloc: Global,
+        conds: &[Cond],
+        holds: bool,
+        steps: &mut Seq<Step>,
+    ) -> Result<(), NoMemory>
+        ensures { OnOk result (AreAdded self.old steps.old self.new steps.new
+            (of_answer (or_answer step_answers (map (λ cond. conjunction_of step_answers cond holds) conds.now)))) }
+    {
+        steps.push(Step::Nothing)?;
+        for cond in conds {
+            add_answer(alloc, cond, holds, steps)?;
+            steps.push(Step::Or)?;
+        }
+        self.close(steps)
+    }
+}
+
+// The steps of the answer of a condition, or of its opposite.
+#[cycle(reading)]
+fn add_answer(
+    alloc: Global,
+    cond: &Cond,
+    holds: bool,
+    steps: &mut Seq<Step>,
+) -> Result<(), NoMemory>
+    ensures { OnOk result (steps.new ≡ steps.old ++ and_answer step_answers (conjunction_of step_answers cond.now holds)) }
+{
+    let mut members = Members::none(alloc);
+    members.add_condition(alloc, cond, holds, steps)?;
+    members.finish(alloc, steps)
+}
+
+// The steps of an entry's own conjuncts, which are those with these numbers.
+fn read_own(alloc: Global, query: &Query, from: u8, own: &[u32]) -> Result<Seq<Step>, NoMemory>
+    requires { own.now ≡ numbers_where (names_just from) 0 query.now.conjuncts }
+    ensures { IfOk result (λ steps. steps ≡ steps_of from query.now.conjuncts) }
+{
+    let mut members = Members::none(alloc);
+    let mut steps = Seq::new(alloc);
+    for number in own {
+        let cond = query.conjuncts.get(*number as usize);
+        members.add_condition(alloc, cond, true, &mut steps)?;
+    }
+    members.finish(alloc, &mut steps)?;
+    steps.push(Step::Whole)?;
+    steps.push(Step::And)?;
+    Ok(steps)
+}
+
+/// The steps of an entry's own conjuncts: what a bound asks of statistics, and how it puts their lists together.
+pub fn read_steps(alloc: Global, query: &Query, from: u8) -> Result<Seq<Step>, NoMemory>
+    requires entry { from < length query.now.from }
+    requires entries { length query.now.from < 2 ^ 8 }
+    requires conjuncts { length query.now.conjuncts < 2 ^ 32 }
+    ensures { IfOk result (λ steps. steps ≡ steps_of from query.now.conjuncts) }
+{
+    let parts = split(alloc, query)?;
+    let own = parts.local.get(from as usize);
+    read_own(alloc, query, from, own.as_slice())
+}

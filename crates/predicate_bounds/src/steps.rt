@@ -1,0 +1,92 @@
+//! The steps by which an entry's own conjuncts put answers together, and the literals and ranges that they ask for.
+ghost use Rattle.std.specs.Prelude.{◌≡◌, IfOk};
+ghost use Rattle.csv_tables.specs.Values.{Int, Text, value_cmp};
+ghost use Rattle.std.specs.Cmp.Lexicographic.{slice_cmp};
+ghost use Rattle.std.specs.Ordering.{nat_cmp};
+ghost use Rattle.std.specs.Str.{chars};
+ghost use Rattle.predicate_bounds.specs.Steps.{value_of};
+
+use base_io::{Name, NoMemory};
+use std::alloc::Global;
+use std::cmp::Ordering;
+
+/// A literal of a query.
+#[derive(Debug, Drop)]
+pub enum Literal {
+    Int(i64),
+    Text(Name),
+}
+
+/// The values of a column from a low end to a high end, both included, where there are such ends.
+#[derive(Debug, Drop)]
+pub struct Range {
+    pub column: u32,
+    pub low: Option<Literal>,
+    pub high: Option<Literal>,
+}
+
+/// A step over a stack of answers.
+#[derive(Debug, Drop)]
+pub enum Step {
+    /// Puts the answer for all rows on the stack.
+    Whole,
+    /// Puts the answer for the rows with a value in a column on the stack.
+    Equal { column: u32, literal: Literal },
+    /// Puts the answer for the rows in a range of a column on the stack.
+    Within(Range),
+    /// Puts the two answers on top together by AND.
+    And,
+    /// Puts the answer for no row on the stack.
+    Nothing,
+    /// Puts the two answers on top together by OR.
+    Or,
+}
+
+impl Literal {
+    /// The same literal.
+    pub(crate) fn copy(&self, alloc: Global) -> Result<Literal, NoMemory>
+        ensures { IfOk result (λ literal. literal ≡ self.now) }
+    {
+        match self {
+            Literal::Int(number) => Ok(Literal::Int(*number)),
+            Literal::Text(text) => Ok(Literal::Text(Name::from_str(alloc, text.as_str())?)),
+        }
+    }
+}
+
+// The order of two texts, by the code points of their characters.
+fn compare_texts(a: &str, b: &str) -> Ordering
+    ensures { result ≡ slice_cmp nat_cmp (chars a.now) (chars b.now) }
+{
+    a.chars().cmp(b.chars())
+}
+
+// The order of a number and a literal.
+fn compare_int(a: i64, b: &Literal) -> Ordering
+    ensures { result ≡ value_cmp (Int a) (value_of b.now) }
+{
+    match b {
+        Literal::Int(b) => a.cmp(b),
+        Literal::Text(_) => Ordering::Less,
+    }
+}
+
+// The order of a text and a literal.
+fn compare_text(a: &str, b: &Literal) -> Ordering
+    ensures { result ≡ value_cmp (Text a.now) (value_of b.now) }
+{
+    match b {
+        Literal::Int(_) => Ordering::Greater,
+        Literal::Text(b) => compare_texts(a, b.as_str()),
+    }
+}
+
+/// The order of two literals: numbers by size, texts by code points.
+pub(crate) fn compare_literals(a: &Literal, b: &Literal) -> Ordering
+    ensures { result ≡ value_cmp (value_of a.now) (value_of b.now) }
+{
+    match a {
+        Literal::Int(a) => compare_int(*a, b),
+        Literal::Text(a) => compare_text(a.as_str(), b),
+    }
+}
