@@ -1,0 +1,5 @@
+pub mod Holding
+pub mod Sets
+pub mod Levels
+pub mod SmallPair
+pub mod Near

@@ -1,0 +1,116 @@
+-- The bounds of scans and of sets, as what statistics tell.
+use Rattle.std.proofs.Common.{◌≡◌, inl, inr, ℕ, zero, suc, ◌+◌, ◌-◌, ◌<◌, ◌≤◌, ◌^◌, Bool, true, false, ◌&&◌, ◌||◌, eqb, ltb, List, [], ◌∷◌, ◌++◌, map, min, length, get_or, Option, Some, None, refl, ap, sym, ◌∙◌, subst, arith}
+use Rattle.std.specs.Prelude.{IsSome, if◌then◌else◌}
+use Rattle.std.specs.Int.{bit_at}
+use Rattle.std.specs.List.{list_any, range_with_len}
+use Rattle.std.proofs.lemmas.Bool.{and_from, cases_lt, eq-eqb, lt-ltb}
+use Rattle.std.proofs.lemmas.List.{length-map}
+use Rattle.std.proofs.lemmas.List.FromFn.{get_or-map-range_with_len, map-range_with_len_more}
+use Rattle.std.proofs.lemmas.Nat.{pow_pos}
+use Rattle.std.proofs.lemmas.Nat.Bits.{bit_at_above}
+use Rattle.degree_sequences.proofs.Minima.{length-range_with_len}
+use Rattle.degree_sequences.specs.Saturation.{saturated}
+use Rattle.entry_sets.specs.Sets.{entries_of_set, has_entry}
+use Rattle.entry_sets.proofs.Listing.{has_bit}
+use Rattle.berge_tree.specs.declared.edges.Edge.{Edge}
+use Rattle.berge_tree.specs.declared.edges.Place.{Place}
+use Rattle.berge_tree.specs.Equalities.{places_of}
+use Rattle.query_types.specs.declared.types.Query.{Query}
+use Rattle.join_graph.specs.Conjuncts.{equalities_of}
+use Rattle.tree_bounds.specs.TreeBounds.{EntryBounds}
+use Rattle.tree_bounds.proofs.SmallSets.{empty_is}
+use Rattle.bound_fold.specs.declared.lists.EntryLists.{EntryLists}
+use Rattle.bound_fold.specs.Lists.{list_of, rows_of}
+use Rattle.bound_fold.specs.Sets.{SetIsListed}
+use Rattle.bound_fold.proofs.TestedSets.{each_in_set, each_named}
+use Rattle.set_bounds.specs.AllSets.{bound_told, bounds_of_sets}
+use Rattle.set_bounds.proofs.Telling.{told_at}
+use Rattle.query_bounds.specs.Bounds.{Holds, is_among, is_at, scan_list, scan_rows}
+use Rattle.query_bounds.specs.Statistics.{Statistics}
+use Rattle.query_bounds.proofs.Holding.{is_some_of}
+
+-- ---- which entries and columns are there
+
+-- the entries of a set below 2^n are below n
+pub entry_below : (n subset entry : ℕ) → subset < 2 ^ n → has_entry subset entry ≡ true → entry < n
+entry_below n subset entry fits has =
+    let bit : (entry < 16) × (bit_at subset entry ≡ 1) = has_bit subset entry has in
+    elim (cases_lt entry n) [
+      | inl below ↦ below
+      | inr above ↦ absurd (omega (arith, bit.1, bit_at_above subset n entry fits above))
+    ]
+
+pub row_there : (query : Query) (known : Statistics) (n : ℕ) (places : List Place) (lists : EntryLists) → Holds query known n places lists → (entry : ℕ) → entry < n → rows_of lists entry ≡ Some (scan_rows query known entry)
+row_there query known n places lists held entry low = held.rows entry ∙ ap (λ (t : Bool). if t then Some (scan_rows query known entry) else None) (lt-ltb entry n low)
+
+pub list_there : (query : Query) (known : Statistics) (n : ℕ) (places : List Place) (lists : EntryLists) → Holds query known n places lists → (entry column : ℕ) → is_among places entry column ≡ true
+    → list_of lists entry column ≡ Some (scan_list query known entry column)
+list_there query known n places lists held entry column among = held.columns entry column ∙ ap (λ (t : Bool). if t then Some (scan_list query known entry column) else None) among
+
+at_itself : (p : Place) → is_at p.entry p.column p ≡ true
+at_itself p = and_from (eqb p.entry p.entry) (eqb p.column p.column) (eq-eqb p.entry p.entry refl) (eq-eqb p.column p.column refl)
+
+or_more : (a b c : Bool) → c ≡ true → (a || (b || c)) ≡ true
+or_more true b c h = refl
+or_more false true c h = refl
+or_more false false c h = h
+
+first_or : (a b : Bool) → a ≡ true → (a || b) ≡ true
+first_or a b h = rw h refl
+
+next_or : (a b c : Bool) → b ≡ true → (a || (b || c)) ≡ true
+next_or true b c h = refl
+next_or false b c h = rw h refl
+
+-- both columns of an equality are among those that equalities join
+pub both_among : (es : List Edge) (k : ℕ) (d : Edge) → k < length es
+    → (is_among (places_of es) (get_or es k d).left.entry (get_or es k d).left.column ≡ true) × (is_among (places_of es) (get_or es k d).right.entry (get_or es k d).right.column ≡ true)
+both_among [] k d low = absurd (omega arith)
+both_among (e ∷ es) zero d low = (
+  first_or (is_at e.left.entry e.left.column e.left) (is_at e.left.entry e.left.column e.right || is_among (places_of es) e.left.entry e.left.column) (at_itself e.left),
+  next_or (is_at e.right.entry e.right.column e.left) (is_at e.right.entry e.right.column e.right) (is_among (places_of es) e.right.entry e.right.column) (at_itself e.right),
+)
+both_among (e ∷ es) (suc k) d low =
+    let later = both_among es k d (omega arith) in
+    let l : Place = (get_or es k d).left in
+    let r : Place = (get_or es k d).right in
+    (
+      or_more (is_at l.entry l.column e.left) (is_at l.entry l.column e.right) (is_among (places_of es) l.entry l.column) later.0,
+      or_more (is_at r.entry r.column e.left) (is_at r.entry r.column e.right) (is_among (places_of es) r.entry r.column) later.1,
+    )
+
+-- so every set has what its bound needs
+pub all_listed : (query : Query) (known : Statistics) (n : ℕ) (es : List Edge) (lists : EntryLists) → Holds query known n (places_of es) lists → SetIsListed lists es (2 ^ n - 1)
+all_listed query known n es lists held = record {
+  rows = each_in_set (λ k. IsSome (rows_of lists k)) (2 ^ n - 1) (λ k low has. is_some_of (rows_of lists k) (scan_rows query known k)
+      (row_there query known n (places_of es) lists held k (entry_below n (2 ^ n - 1) k (omega (arith, pow_pos n)) has)));
+  columns = each_named (λ entry column. IsSome (list_of lists entry column)) (2 ^ n - 1) es (λ k d low joins.
+      let among = both_among es k d low in
+      let l : Place = (get_or es k d).left in
+      let r : Place = (get_or es k d).right in
+      (
+        is_some_of (list_of lists l.entry l.column) (scan_list query known l.entry l.column) (list_there query known n (places_of es) lists held l.entry l.column among.0),
+        is_some_of (list_of lists r.entry r.column) (scan_list query known r.entry r.column) (list_there query known n (places_of es) lists held r.entry r.column among.1),
+      ));
+}
+
+-- ---- scans
+
+pub scans_more : (query : Query) (known : Statistics) (i rows : ℕ) (scans longer : List ℕ) → scans ≡ map (scan_rows query known) (range_with_len 0 i) → rows ≡ scan_rows query known i
+    → longer ≡ scans ++ rows ∷ [] → longer ≡ map (scan_rows query known) (range_with_len 0 (i + 1))
+scans_more query known i rows scans longer before is pushed =
+    pushed ∙ ap (λ (s : List ℕ). s ++ rows ∷ []) before ∙ ap (λ (m : ℕ). map (scan_rows query known) (range_with_len 0 i) ++ m ∷ []) is
+    ∙ sym (map-range_with_len_more (scan_rows query known) 0 i i (omega arith))
+
+pub scan_at : (query : Query) (known : Statistics) (n entry : ℕ) (scans : List ℕ) → scans ≡ map (scan_rows query known) (range_with_len 0 n) → entry < n → get_or scans entry 0 ≡ scan_rows query known entry
+scan_at query known n entry scans is low = ap (λ (s : List ℕ). get_or s entry 0) is ∙ get_or-map-range_with_len (scan_rows query known) 0 n entry entry 0 low (omega arith)
+
+-- ---- sets
+
+pub set_count : (b : EntryBounds) (es : List Edge) (n : ℕ) → length (bounds_of_sets b es n) ≡ 2 ^ n
+set_count b es n = length-map (range_with_len 0 (2 ^ n)) (bound_told b es) ∙ length-range_with_len 0 (2 ^ n)
+
+pub nothing_bound : (b : EntryBounds) (es : List Edge) (n : ℕ) → get_or (bounds_of_sets b es n) 0 0 ≡ 1
+nothing_bound b es n =
+    told_at b es n 0 (bounds_of_sets b es n) refl (pow_pos n)
+    ∙ ap saturated (empty_is b es)

@@ -1,0 +1,16 @@
+-- Two tables joined by one column, by computation.
+use Rattle.std.proofs.Common.{◌≡◌, ℕ, List, [], ◌∷◌, refl, arith}
+use Rattle.entry_sets.specs.Sets.{entries_of_set}
+use Rattle.query_grammar.specs.declared.tree.Op.TheVariants as op
+use Rattle.join_graph.specs.Conjuncts.{column_operand}
+use Rattle.join_graph.proofs.Comparing.{equality_two}
+use Rattle.sql_meaning.proofs.ConditionFacts.{entries_compare}
+use Rattle.query_bounds.specs.Bounds.{scan_bounds, set_bounds}
+use Rattle.query_bounds.specs.Examples.{pair, pair_known}
+
+pub pair_scans : scan_bounds pair pair_known ≡ 6 ∷ 5 ∷ []
+pair_scans = rw (entries_compare op.Eq (column_operand 0 0) (column_operand 1 0)) refl
+
+pub pair_sets : set_bounds pair pair_known ≡ 1 ∷ 6 ∷ 5 ∷ 12 ∷ []
+unfolding entries_of_set
+pair_sets = rw (entries_compare op.Eq (column_operand 0 0) (column_operand 1 0), equality_two 0 0 1 0 (λ e. absurd (omega (arith, e)))) refl

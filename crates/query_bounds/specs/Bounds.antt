@@ -1,0 +1,53 @@
+-- The bounds that statistics give: of each entry, of its scan, and of all sets of entries.
+use Rattle.std.specs.Prelude.{◌≡◌, ℕ, Bool, ◌&&◌, ◌==◌, nat_lt, if◌then◌else◌, List, [], length, map, Option, None, Some}
+use Rattle.std.specs.List.{list_any, range_with_len}
+use Rattle.berge_tree.specs.declared.edges.Place.{Place}
+use Rattle.berge_tree.specs.Equalities.{places_of}
+use Rattle.query_types.specs.declared.types.Query.{Query}
+use Rattle.join_graph.specs.Conjuncts.{equalities_of}
+use Rattle.tree_bounds.specs.TreeBounds.{EntryBounds}
+use Rattle.bound_fold.specs.declared.lists.EntryLists.{EntryLists}
+use Rattle.bound_fold.specs.Lists.{list_of, rows_of}
+use Rattle.set_bounds.specs.AllSets.{bounds_of_sets}
+use Rattle.filtered_lists.specs.Lists.{filtered_list, row_bound}
+use Rattle.query_bounds.specs.Statistics.{Statistics}
+
+-- the row bound of an entry's scan, and the list of one of its columns over the scan
+abbrev pub scan_rows : Query → Statistics → ℕ → ℕ
+scan_rows query known entry = row_bound (known.counts entry) entry query.conjuncts
+
+abbrev pub scan_list : Query → Statistics → ℕ → ℕ → List ℕ
+scan_list query known entry column = filtered_list (known.lists entry column) entry query.conjuncts
+
+-- the column is one of these
+abbrev pub is_at : ℕ → ℕ → Place → Bool
+is_at entry column place = place.entry == entry && place.column == column
+
+abbrev pub is_among : List Place → ℕ → ℕ → Bool
+is_among places entry column = list_any (is_at entry column) places
+
+-- the columns that the equalities of a query join
+abbrev pub joined_columns : Query → List Place
+joined_columns query = places_of (equalities_of query)
+
+-- of each FROM entry its row bound, and of each joined column its list; 0 and no list for all others
+abbrev pub entry_bounds : Query → Statistics → EntryBounds
+entry_bounds query known = record {
+  rows = λ entry. if nat_lt entry (length query.from) then scan_rows query known entry else 0;
+  list = λ entry column. if is_among (joined_columns query) entry column then scan_list query known entry column else [];
+}
+
+-- the row bounds of the first n entries are there, the lists of these columns, and nothing else
+pub record Holds (query : Query) (known : Statistics) (n : ℕ) (places : List Place) (lists : EntryLists) : Type 0 where
+  pub rows : (entry : ℕ) → rows_of lists entry ≡ (if nat_lt entry n then Some (scan_rows query known entry) else None)
+  pub columns : (entry column : ℕ) → list_of lists entry column ≡ (if is_among places entry column then Some (scan_list query known entry column) else None)
+
+-- ---- of scans and of sets
+
+-- the bound of each entry's scan, in FROM order
+abbrev pub scan_bounds : Query → Statistics → List ℕ
+scan_bounds query known = map (scan_rows query known) (range_with_len 0 (length query.from))
+
+-- the bound of each set of entries, at the number whose bits are the set
+abbrev pub set_bounds : Query → Statistics → List ℕ
+set_bounds query known = bounds_of_sets (entry_bounds query known) (equalities_of query) (length query.from)

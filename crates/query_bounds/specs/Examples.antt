@@ -1,0 +1,29 @@
+-- Two tables that are joined by one column, for worked examples.
+use Rattle.std.specs.Prelude.{ℕ, ◌==◌, if◌then◌else◌, List, [], ◌∷◌}
+use Rattle.query_grammar.specs.declared.tree.Op.TheVariants as op
+use Rattle.query_types.specs.declared.types.Cond.{Compare}
+use Rattle.query_types.specs.declared.types.Query.{Query}
+use Rattle.join_graph.specs.Conjuncts.{column_operand}
+use Rattle.query_bounds.specs.Statistics.{Statistics}
+
+-- SELECT R.X FROM R, S WHERE R.X = S.X
+abbrev pub pair : Query
+pair = record {
+  from = record { table = 0; alias = 82 ∷ [] } ∷ record { table = 1; alias = 83 ∷ [] } ∷ [];
+  conjuncts = Compare op.Eq (column_operand 0 0) (column_operand 1 0) ∷ [];
+  select = record { column = record { from = 0; column = 0 }; name = 88 ∷ [] } ∷ [];
+}
+
+-- R(X) has the rows 1, 1, 1, 2, 2, 3, and S(X) the rows 1, 1, 4, 5, 6
+abbrev pub pair_rows : ℕ → ℕ
+pair_rows entry = if entry == 0 then 6 else 5
+
+-- their degree lists 3, 2, 1 and 2, 1, 1, 1, compressed at accuracy 1
+abbrev pub pair_list : ℕ → List ℕ
+pair_list entry = if entry == 0 then 3 ∷ 3 ∷ [] else 2 ∷ 2 ∷ 1 ∷ []
+
+abbrev pub pair_known : Statistics
+pair_known = record {
+  counts = λ entry. record { whole = pair_rows entry; equal = λ column value. pair_rows entry; range = λ range. pair_rows entry };
+  lists = λ entry column. record { whole = pair_list entry; equal = λ filter value. pair_list entry; range = λ range. pair_list entry };
+}

@@ -1,0 +1,4 @@
+pub mod Statistics
+pub mod Bounds
+pub mod Adding
+pub mod Examples

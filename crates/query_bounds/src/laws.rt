@@ -1,0 +1,19 @@
+//! What holds of the bounds of a query, as laws. Each call does nothing.
+ghost use Rattle.std.specs.Prelude.{◌+◌, ◌*◌, ◌^◌, ◌<◌, ◌≤◌, ℕ, length, slice_index};
+ghost use Rattle.entry_sets.specs.Sets.{entries_of_set};
+ghost use Rattle.query_types.specs.declared.types.Query.{Query};
+ghost use Rattle.join_graph.specs.Conjuncts.{equalities_of};
+ghost use Rattle.tree_bounds.specs.SetBounds.{bound_of_set};
+ghost use Rattle.sql_meaning.specs.Tables.{Tables};
+ghost use Rattle.level_bounds.specs.Keys.{Keys};
+ghost use Rattle.level_bounds.specs.Whole.{uncompressed};
+ghost use Rattle.query_bounds.specs.Bounds.{set_bounds};
+ghost use Rattle.query_bounds.specs.Statistics.{AreWhole, Statistics};
+
+/// Near, where no conjunct names just one entry: at accuracy K, K^n times the bound of a set of n entries from compressed lists of whole columns is at most (K + 1)^n times its bound from the degree lists themselves.
+pub fn unfiltered_bounds_are_near()
+    ensures { (query : Query) (known : Statistics) (tables : Tables) (key : Keys) (accuracy subset : ℕ)
+        → AreWhole query known tables key accuracy → subset < 2 ^ length query.from
+        → accuracy ^ length (entries_of_set subset) * slice_index (set_bounds query known) subset
+        ≤ (accuracy + 1) ^ length (entries_of_set subset) * bound_of_set (uncompressed tables key) (equalities_of query) subset }
+{}
