@@ -15,6 +15,7 @@ use Rattle.tree_bounds.specs.SetBounds.{bound_of_set, bound_of_turn, least_to, t
 use Rattle.tree_bounds.specs.TreeBounds.{EntryBounds, bound_of_trees}
 use Rattle.tree_bounds.proofs.Agreeing.{for_trees}
 use Rattle.tree_bounds.proofs.Turns.{trees_are, trees_there}
+use Rattle.set_bounds.specs.Alike.{AreAlike}
 use Rattle.set_bounds.proofs.Forests.{AreAmong, all_among, all_in, among_round, each, forest_kept, round_among}
 
 -- ---- trees go from some equalities to others
@@ -134,6 +135,15 @@ pub same_trees : (es : List Edge) (subset turn other : ℕ) → Carries (λ x. �
 same_trees es subset turn other c =
     trees_are es subset other (trees_of (kept_of subset turn es) subset)
     (all_trees_carry (kept_of subset turn es) (kept_of subset other es) (entries_of_set subset) (trees_of (kept_of subset turn es) subset) c (trees_there es subset turn))
+
+pub alike_trees : (es : List Edge) (subset turn other : ℕ) → AreAlike (kept_of subset turn es) (kept_of subset other es)
+    → trees_of (kept_of subset turn es) subset ≡ trees_of (kept_of subset other es) subset
+alike_trees es subset turn other h = same_trees es subset turn other (record {
+  places_to = λ q k. (h.columns q).1 k;
+  places_from = λ q any k. (h.columns q).0 k;
+  class_to = λ p q any e. (h.classes p q).1 e;
+  class_from = λ p q any e. (h.classes p q).0 e;
+})
 
 -- ---- where a set's equalities close no cycle, its turns are alike
 

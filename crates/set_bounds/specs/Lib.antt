@@ -1,2 +1,3 @@
 pub mod AllSets
 pub mod Parts
+pub mod Alike

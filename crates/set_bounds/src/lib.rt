@@ -11,4 +11,4 @@ mod one_set;
 mod parts;
 
 pub use every_set::bounds_of_sets;
-pub use laws::{one_turn_serves, parts_multiply};
+pub use laws::{alike_turns_have_the_same_trees, one_turn_serves, parts_multiply};
