@@ -17,7 +17,7 @@ try:
 	    --data query.sql=../../examples/first/query.sql --data city.csv=../../examples/first/city.csv \
 	    -- run schema.sql query.sql
 
-# Everything: each proof from nothing, the edits that must fail, the tests, the stored runs.
+# Everything: each proof that this machine hasn't kept, the edits that must fail, the tests, the stored runs, random ones.
 test:
 	.ci/run
 
