@@ -1,0 +1,179 @@
+-- Numbers, each once, and their places.
+use Rattle.std.proofs.Common.{◌≡◌, ℕ, zero, suc, ◌+◌, ◌<◌, ◌≤◌, ◌||◌, Bool, true, false, cond, not, eqb, inl, inr, List, [], ◌∷◌, ◌++◌, length, get_or, map, take, refl, sym, ap, ◌∙◌, arith, append-nil}
+use Rattle.std.proofs.lemmas.Bool.{cases_Bool, eq-eqb, eqb-false, eqb-true, false≢true}
+use Rattle.std.proofs.lemmas.List.{map-append, take_more}
+use Rattle.std.proofs.lemmas.List.Elements.{filter-append}
+use Rattle.std.proofs.lemmas.List.Sums.{passes_at_first, position_or_len_is, prefix_len-le-length}
+use Rattle.std.specs.List.{AllByRecursion, filter, list_any}
+use Rattle.query_types.specs.declared.types.Source.{Source}
+use Rattle.table_files.specs.Stage.{different, numbers_of, place_of, tables_of_query}
+
+abbrev pub has : List ℕ → ℕ → Bool
+has numbers n = list_any (eqb n) numbers
+
+abbrev without : ℕ → List ℕ → List ℕ
+without m numbers = filter (λ other. not (eqb other m)) numbers
+
+-- ---- places
+
+pub has_place : (xs : List ℕ) (n : ℕ) → has xs n ≡ true → place_of xs n < length xs
+has_place [] n h = absurd (false≢true h)
+has_place (x ∷ xs) n h = elim (cases_Bool (eqb n x)) [
+  | inl e ↦ (let here : place_of (x ∷ xs) n ≡ 0 = rw e refl in omega arith)
+  | inr e ↦ (let here : place_of (x ∷ xs) n ≡ 1 + place_of xs n = rw e refl in
+      let rest : has (x ∷ xs) n ≡ has xs n = rw e refl in
+      omega (arith, has_place xs n (sym rest ∙ h)))
+]
+
+pub no_place : (xs : List ℕ) (n : ℕ) → has xs n ≡ false → place_of xs n ≡ length xs
+no_place [] n h = refl
+no_place (x ∷ xs) n h = elim (cases_Bool (eqb n x)) [
+  | inl e ↦ (let here : has (x ∷ xs) n ≡ true = rw e refl in absurd (false≢true (sym h ∙ here)))
+  | inr e ↦ (let here : place_of (x ∷ xs) n ≡ 1 + place_of xs n = rw e refl in
+      let rest : has (x ∷ xs) n ≡ has xs n = rw e refl in
+      omega (arith, no_place xs n (sym rest ∙ h)))
+]
+
+pub place_within : (xs : List ℕ) (n : ℕ) → place_of xs n ≤ length xs
+place_within xs n = prefix_len-le-length (λ x. not (eqb n x)) xs
+
+-- at its place stands the number
+pub at_place : (xs : List ℕ) (n : ℕ) → place_of xs n < length xs → get_or xs (place_of xs n) 0 ≡ n
+at_place xs n lt = sym (eqb-true n (get_or xs (place_of xs n) 0) (passes_at_first (eqb n) xs 0 lt))
+
+-- each number of a list is there
+pub has_each : (xs : List ℕ) (i : ℕ) → i < length xs → has xs (get_or xs i 0) ≡ true
+has_each [] i lt = absurd (omega arith)
+has_each (x ∷ xs) zero lt = rw (eq-eqb x x refl) refl
+has_each (x ∷ xs) (suc i) lt = elim (cases_Bool (eqb (get_or xs i 0) x)) [
+  | inl e ↦ rw e refl
+  | inr e ↦ rw e (has_each xs i (omega arith))
+]
+
+-- ---- each once
+
+has_kept : (m n : ℕ) (xs : List ℕ) → eqb n m ≡ false → has (without m xs) n ≡ has xs n
+has_kept m n [] d = refl
+has_kept m n (x ∷ xs) d = elim (cases_Bool (eqb x m)) [
+  | inl e ↦ (let other : eqb n x ≡ false = ap (eqb n) (eqb-true x m e) ∙ d in
+      let left : without m (x ∷ xs) ≡ without m xs = rw e refl in
+      let right : has (x ∷ xs) n ≡ has xs n = rw other refl in
+      ap (λ (l : List ℕ). has l n) left ∙ has_kept m n xs d ∙ sym right)
+  | inr e ↦ (let left : without m (x ∷ xs) ≡ x ∷ without m xs = rw e refl in
+      ap (λ (l : List ℕ). has l n) left ∙ ap (λ (b : Bool). eqb n x || b) (has_kept m n xs d))
+]
+
+-- no number is lost
+pub has_different : (ns : List ℕ) (n : ℕ) → has ns n ≡ true → has (different ns) n ≡ true
+has_different [] n h = h
+has_different (m ∷ ns) n h = elim (cases_Bool (eqb n m)) [
+  | inl e ↦ rw e refl
+  | inr e ↦ (let here : has (m ∷ without m (different ns)) n ≡ has (without m (different ns)) n = rw e refl in
+      let rest : has (m ∷ ns) n ≡ has ns n = rw e refl in
+      here ∙ has_kept m n (different ns) e ∙ has_different ns n (sym rest ∙ h))
+]
+
+-- one more number: a new one goes last
+new_last : (ns : List ℕ) (n : ℕ) → has (different ns) n ≡ false → different (ns ++ n ∷ []) ≡ different ns ++ n ∷ []
+new_last [] n h = refl
+new_last (m ∷ ns) n h = elim (cases_Bool (eqb n m)) [
+  | inl e ↦ (let here : has (different (m ∷ ns)) n ≡ true = rw e refl in absurd (false≢true (sym h ∙ here)))
+  | inr e ↦ (let here : has (different (m ∷ ns)) n ≡ has (without m (different ns)) n = rw e refl in
+      let fresh : has (different ns) n ≡ false = sym (has_kept m n (different ns) e) ∙ sym here ∙ h in
+      let one : without m (n ∷ []) ≡ n ∷ [] = rw e refl in
+      ap (λ (l : List ℕ). m ∷ without m l) (new_last ns n fresh)
+      ∙ ap (λ (l : List ℕ). m ∷ l) (filter-append (λ other. not (eqb other m)) (different ns) (n ∷ []))
+      ∙ ap (λ (l : List ℕ). m ∷ (without m (different ns) ++ l)) one)
+]
+
+old_none : (ns : List ℕ) (n : ℕ) → has (different ns) n ≡ true → different (ns ++ n ∷ []) ≡ different ns
+old_none [] n h = absurd (false≢true h)
+old_none (m ∷ ns) n h = elim (cases_Bool (eqb n m)) [
+  | inl e ↦ ap (λ (l : List ℕ). m ∷ l) (elim (cases_Bool (has (different ns) n)) [
+      | inl there ↦ ap (without m) (old_none ns n there)
+      | inr fresh ↦ (let one : without m (n ∷ []) ≡ [] = rw e refl in
+          ap (without m) (new_last ns n fresh) ∙ filter-append (λ other. not (eqb other m)) (different ns) (n ∷ [])
+          ∙ ap (λ (l : List ℕ). without m (different ns) ++ l) one ∙ append-nil (without m (different ns)))
+    ])
+  | inr e ↦ (let here : has (different (m ∷ ns)) n ≡ has (without m (different ns)) n = rw e refl in
+      let there : has (different ns) n ≡ true = sym (has_kept m n (different ns) e) ∙ sym here ∙ h in
+      ap (λ (l : List ℕ). m ∷ without m l) (old_none ns n there))
+]
+
+-- the same by the number's place
+pub different_new : (ns : List ℕ) (n : ℕ) → place_of (different ns) n ≡ length (different ns) → different (ns ++ n ∷ []) ≡ different ns ++ n ∷ []
+different_new ns n past = elim (cases_Bool (has (different ns) n)) [
+  | inl there ↦ absurd (omega (arith, has_place (different ns) n there))
+  | inr fresh ↦ new_last ns n fresh
+]
+
+pub different_old : (ns : List ℕ) (n : ℕ) → place_of (different ns) n < length (different ns) → different (ns ++ n ∷ []) ≡ different ns
+different_old ns n lt = elim (cases_Bool (has (different ns) n)) [
+  | inl there ↦ old_none ns n there
+  | inr fresh ↦ absurd (omega (arith, no_place (different ns) n fresh))
+]
+
+-- ---- what stays of a list
+
+kept_short : (m : ℕ) (xs : List ℕ) → length (without m xs) ≤ length xs
+kept_short m [] = omega arith
+kept_short m (x ∷ xs) = elim (cases_Bool (eqb x m)) [
+  | inl e ↦ (let left : without m (x ∷ xs) ≡ without m xs = rw e refl in omega (arith, ap length left, kept_short m xs))
+  | inr e ↦ (let left : without m (x ∷ xs) ≡ x ∷ without m xs = rw e refl in omega (arith, ap length left, kept_short m xs))
+]
+
+pub different_short : (ns : List ℕ) → length (different ns) ≤ length ns
+different_short [] = omega arith
+different_short (n ∷ ns) = omega (arith, kept_short n (different ns), different_short ns)
+
+kept_all : (P : ℕ → Type 0) (m : ℕ) (xs : List ℕ) → AllByRecursion P xs → AllByRecursion P (without m xs)
+kept_all P m [] h = tt
+kept_all P m (x ∷ xs) h = elim (cases_Bool (eqb x m)) [
+  | inl e ↦ rw e (kept_all P m xs h.1)
+  | inr e ↦ rw e (h.0, kept_all P m xs h.1)
+]
+
+pub different_all : (P : ℕ → Type 0) (ns : List ℕ) → AllByRecursion P ns → AllByRecursion P (different ns)
+different_all P [] h = tt
+different_all P (n ∷ ns) h = (h.0, kept_all P n (different ns) (different_all P ns h.1))
+
+-- ---- what the loops do
+
+-- no number before place i is n
+abbrev pub IsPassed : List ℕ → ℕ → ℕ → Type 0
+IsPassed xs n i = (k : ℕ) → k < i → eqb n (get_or xs k 0) ≡ false
+
+pub found_at : (xs : List ℕ) (n i : ℕ) → i < length xs → eqb n (get_or xs i 0) ≡ true → IsPassed xs n i → i ≡ place_of xs n
+found_at xs n i lt here h = sym (position_or_len_is (eqb n) xs i 0 (omega arith) h (λ low. here))
+
+pub found_nowhere : (xs : List ℕ) (n i : ℕ) → i ≡ length xs → IsPassed xs n i → i ≡ place_of xs n
+found_nowhere xs n i all h = sym (position_or_len_is (eqb n) xs i 0 (omega arith) h (λ low. absurd (omega arith)))
+
+-- one more entry of FROM
+numbers_more : (from : List Source) (i : ℕ) (s : Source) → i < length from → s ≡ get_or from i s → numbers_of (take (i + 1) from) ≡ numbers_of (take i from) ++ s.table ∷ []
+numbers_more from i s lt is =
+    ap numbers_of (take_more from i s lt) ∙ map-append (λ (source : Source). source.table) (take i from) (get_or from i s ∷ [])
+    ∙ ap (λ (t : Source). numbers_of (take i from) ++ t.table ∷ []) (sym is)
+
+different_put : (ns : List ℕ) (n : ℕ) → different (ns ++ n ∷ [])
+    ≡ cond (eqb (place_of (different ns) n) (length (different ns))) (different ns ++ n ∷ []) (different ns)
+different_put ns n = elim (cases_Bool (eqb (place_of (different ns) n) (length (different ns)))) [
+  | inl e ↦ (let past : place_of (different ns) n ≡ length (different ns) = eqb-true (place_of (different ns) n) (length (different ns)) e in
+      different_new ns n past ∙ ap (λ (b : Bool). cond b (different ns ++ n ∷ []) (different ns)) (sym e))
+  | inr e ↦ (let within : place_of (different ns) n < length (different ns) =
+      omega (arith, place_within (different ns) n, eqb-false (place_of (different ns) n) (length (different ns)) e) in
+      different_old ns n within ∙ ap (λ (b : Bool). cond b (different ns ++ n ∷ []) (different ns)) (sym e))
+]
+
+pub tables_more : (from : List Source) (i : ℕ) (s : Source) (old new : List ℕ) → i < length from → s ≡ get_or from i s → old ≡ tables_of_query (take i from)
+    → new ≡ cond (eqb (place_of old s.table) (length old)) (old ++ s.table ∷ []) old → new ≡ tables_of_query (take (i + 1) from)
+tables_more from i s old new lt is so_far put =
+    put ∙ ap (λ (l : List ℕ). cond (eqb (place_of l s.table) (length l)) (l ++ s.table ∷ []) l) so_far
+    ∙ sym (different_put (numbers_of (take i from)) s.table) ∙ ap different (sym (numbers_more from i s lt is))
+
+pub slots_more : (numbers : List ℕ) (from : List Source) (i : ℕ) (s : Source) (old : List ℕ) → i < length from → s ≡ get_or from i s → old ≡ map (place_of numbers) (numbers_of (take i from))
+    → old ++ place_of numbers s.table ∷ [] ≡ map (place_of numbers) (numbers_of (take (i + 1) from))
+slots_more numbers from i s old lt is so_far =
+    ap (λ (l : List ℕ). l ++ place_of numbers s.table ∷ []) so_far
+    ∙ sym (map-append (place_of numbers) (numbers_of (take i from)) (s.table ∷ []))
+    ∙ ap (map (place_of numbers)) (sym (numbers_more from i s lt is))

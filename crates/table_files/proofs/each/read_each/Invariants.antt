@@ -1,0 +1,6 @@
+use Rattle.outcomes.specs.Devices.{reading}
+use Rattle.table_files.proofs.EachTable.{SoFar}
+use Rattle.table_files.proofs.each.read_each.Given as goal
+
+abbrev pub invariant-numbers : goal.invariant-numbers
+invariant-numbers g l = SoFar l.schema l.numbers (reading g.S.Store.files g.S.Store.faults g.S.Store.misses l.initial.store l.store) l.number-index l.pool l.found

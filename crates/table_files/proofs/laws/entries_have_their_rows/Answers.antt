@@ -1,0 +1,11 @@
+use Rattle.table_files.proofs.EntryLaws.{entries_have, one_read, one_refused}
+use Rattle.table_files.proofs.laws.entries_have_their_rows.Goals as goal
+
+pub returns-clause-each : goal.returns-clause-each
+returns-clause-each c = entries_have
+
+pub returns-clause-one : goal.returns-clause-one
+returns-clause-one c = one_read
+
+pub returns-clause-refused : goal.returns-clause-refused
+returns-clause-refused c = one_refused

@@ -1,0 +1,32 @@
+-- What was read, as rows.
+use Rattle.std.specs.Prelude.{ℕ, ◌<◌, List, [], ◌∷◌, length, map, slice_index, ⊤}
+use Rattle.std.specs.List.{range_with_len}
+use Rattle.schema_types.specs.declared.types.Schema.{Schema}
+use Rattle.csv_tables.specs.Cells.{AreCellsOf, rows_of_cells}
+use Rattle.csv_tables.specs.Rows.{Row}
+use Rattle.csv_tables.specs.declared.types.Cells.{Cells}
+use Rattle.csv_tables.specs.declared.types.Database.{Database}
+use Rattle.query_types.specs.declared.types.Source.{Source}
+use Rattle.sql_meaning.specs.Tables.{cells_of, tables_of}
+use Rattle.table_files.specs.Stage.{numbers_of, table_at}
+
+-- for each FROM entry of a database the rows of its table
+abbrev pub entry_rows : Database → List (List Row)
+entry_rows db = map (tables_of db) (range_with_len 0 (length db.slots))
+
+-- each FROM entry has the cells of its table
+abbrev pub HasCells : Schema → List Source → Database → Type 0
+HasCells schema from db = (entry : ℕ) → entry < length from
+    → AreCellsOf (table_at schema (slice_index (numbers_of from) entry)) db.pool (cells_of db entry)
+
+-- these are the cells of the tables with these numbers, one after the other
+abbrev pub AreCellsOfEach : Schema → List (List ℕ) → List ℕ → List Cells → Type 0
+AreCellsOfEach schema texts [] [] = ⊤
+AreCellsOfEach schema texts [] (cells ∷ others) = ⊥
+AreCellsOfEach schema texts (number ∷ numbers) [] = ⊥
+AreCellsOfEach schema texts (number ∷ numbers) (cells ∷ others) =
+    AreCellsOf (table_at schema number) texts cells × AreCellsOfEach schema texts numbers others
+
+-- the rows of the cells of tables
+abbrev pub rows_of_tables : List (List ℕ) → List Cells → List (List Row)
+rows_of_tables texts tables = map (rows_of_cells texts) tables

@@ -1,0 +1,4 @@
+pub mod Examples
+pub mod Found
+pub mod Stage
+pub mod TableFile

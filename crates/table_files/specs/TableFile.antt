@@ -1,0 +1,36 @@
+-- The rows of one table, in its file.
+use Rattle.std.specs.Prelude.{ℕ, ◌+◌, List, ◌++◌, length, map, codes, nat_lt, Option, None, Some, Result, Ok, Err, if◌then◌else◌}
+use Rattle.std.specs.Char.{to_ascii_lowercase}
+use Rattle.base_io.specs.Files.{Files, file_of}
+use Rattle.schema_types.specs.declared.errors.LimitKind.TheVariants as limit
+use Rattle.schema_types.specs.declared.types.Table.{Table}
+use Rattle.csv_tables.specs.Files.{rows_of_file}
+use Rattle.csv_tables.specs.Rows.{Row}
+use Rattle.outcomes.specs.Errors.{table_refusal}
+use Rattle.outcomes.specs.Reads.{◌>>=◌, told}
+use Rattle.outcomes.specs.declared.names.FileId.{FileId}
+use Rattle.outcomes.specs.declared.names.FileId.TheVariants as file
+use Rattle.outcomes.specs.declared.refusal.Refusal.{Refusal}
+use Rattle.outcomes.specs.declared.refusal.Refusal.TheVariants as refusal
+
+-- the bytes of a file of at most so many, or why there are none
+abbrev pub bytes_of : FileId → ℕ → Option (List ℕ) → Result (List ℕ) Refusal
+bytes_of id most None = Err (refusal.Missing id)
+bytes_of id most (Some bytes) = if nat_lt most (length bytes) then Err (refusal.Limit limit.FileBytes id (most + 1)) else Ok bytes
+
+abbrev pub read : FileId → ℕ → List ℕ → Files → Result (List ℕ) Refusal
+read id most name files = bytes_of id most (file_of files name)
+
+-- the name of a table's file: the table's in lower case, and `.csv`
+abbrev pub file_name : Table → List ℕ
+file_name table = map to_ascii_lowercase table.name ++ codes ".csv"
+
+-- the rows in the bytes of the table with this number in the schema
+abbrev pub rows_of_bytes : ℕ → Table → List ℕ → Result (List Row) Refusal
+rows_of_bytes number table bytes = told (table_refusal number) (rows_of_file table bytes)
+
+-- the rows of that table: its file is absent, too long, or refused for what it holds, or these are its rows
+unfoldable pub file_rows : ℕ → Table → Files → Result (List Row) Refusal
+file_rows number table files = do
+  bytes ← read (file.Table number) 67108864 (file_name table) files
+  rows_of_bytes number table bytes

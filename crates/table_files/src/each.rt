@@ -1,0 +1,41 @@
+//! Tables, one after the other.
+ghost use Rattle.std.specs.Prelude.{◌≡◌, ◌≤◌, ◌<◌, [], All, length, IfOk};
+ghost use Rattle.outcomes.specs.Devices.{reading};
+ghost use Rattle.outcomes.specs.Reads.{Reads, seen};
+ghost use Rattle.schema_types.specs.Validity.{IsValid};
+ghost use Rattle.table_files.specs.Found.{AreCellsOfEach, rows_of_tables};
+ghost use Rattle.table_files.specs.Stage.{IsReached, rows_of_each};
+
+use crate::table::load_table;
+use base_io::{NoMemory, Seq, Store};
+use csv_tables::{Cells, Pool};
+use outcomes::Ending;
+use schema_types::Schema;
+use std::alloc::Global;
+
+/// Reads the tables with these numbers in the schema, in this order, into one pool.
+pub(crate) fn read_each<S: Store>(
+    alloc: Global,
+    store: &mut S,
+    schema: &Schema,
+    numbers: &[u32],
+    pool: &mut Pool,
+) -> Result<Seq<Cells>, Ending>
+    requires valid { IsValid schema.now }
+    requires numbers { All (λ number. number < length schema.now.tables) numbers.now }
+    requires few { length numbers.now ≤ 12 }
+    requires empty { pool.old ≡ [] }
+    ensures cells { IfOk result (AreCellsOfEach schema.now pool.new numbers.now) }
+    ensures reads { Reads (reading S.files S.faults S.misses store.old store.new) (rows_of_each schema.now numbers.now)
+        (IsReached schema.now numbers.now) (seen (rows_of_tables pool.new) result) }
+{
+    let mut found = Seq::new(alloc);
+    'numbers: for number in numbers {
+        let table = schema.tables.get(*number as usize);
+        let cells = load_table(alloc, store, *number, table, pool)?;
+        let Ok(()) = found.push(cells) else {
+            return Err(Ending::NoMemory);
+        };
+    }
+    Ok(found)
+}

@@ -1,0 +1,26 @@
+//! The tables of a query, from their files: the stage of a run after the query is read.
+//!
+//! A query has from one to twelve FROM entries. Each table that they name is read once, in the order in
+//! which FROM first names it, from the file that has its name in lower case and `.csv`. Entries of one table
+//! share its cells, and all tables share one pool of texts. A file's bytes are let go once its cells stand.
+//!
+//! Callers cite `tables_stage` (in `specs/Stage.antt`): for each entry the rows of its table, or the first
+//! refusal, as the schema, FROM and the files determine it; `IsReached` (there): to which files the stage
+//! comes; and `entry_rows` and `HasCells` (in `specs/Found.antt`): what a database has for each entry.
+#![tactic(auto)]
+
+mod each;
+mod examples;
+mod laws;
+mod load;
+mod numbers;
+mod stage;
+mod table;
+
+pub use examples::{absences, orders};
+pub use laws::entries_have_their_rows;
+pub use load::load_file;
+pub use stage::read_tables;
+
+#[cfg(test)]
+mod tests;

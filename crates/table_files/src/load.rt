@@ -1,0 +1,35 @@
+//! A file of a run.
+ghost use Rattle.std.specs.Prelude.{◌≡◌, ◌≤◌, length, IfOk};
+ghost use Rattle.outcomes.specs.Devices.{reading};
+ghost use Rattle.outcomes.specs.Reads.{AtFile, Reads};
+ghost use Rattle.table_files.specs.TableFile.{read};
+
+use base_io::{ReadError, Seq, Store, read_file};
+use outcomes::{Ending, FileId, Refusal};
+use schema_types::LimitKind;
+use std::alloc::Global;
+
+/// Reads a file of at most `limit` bytes.
+pub fn load_file<S: Store>(
+    alloc: Global,
+    store: &mut S,
+    file: FileId,
+    name: &str,
+    limit: u32,
+) -> Result<Seq<u8>, Ending>
+    requires { limit ≤ 67108864 }
+    ensures short { IfOk result (λ bytes. length bytes ≤ limit) }
+    ensures reads { Reads (reading S.files S.faults S.misses store.old store.new) (read file limit name.now) (AtFile file) result }
+{
+    match read_file(alloc, store, name, limit) {
+        Ok(bytes) => Ok(bytes),
+        Err(ReadError::Missing) => Err(Ending::Refused(Refusal::Missing { file })),
+        Err(ReadError::Fault) => Err(Ending::Fault { file }),
+        Err(ReadError::TooLong { .. }) => Err(Ending::Refused(Refusal::Limit {
+            which: LimitKind::FileBytes,
+            file,
+            found: limit as u64 + 1,
+        })),
+        Err(ReadError::NoMemory) => Err(Ending::NoMemory),
+    }
+}

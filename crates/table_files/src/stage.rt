@@ -1,0 +1,59 @@
+//! The tables of a query.
+ghost use Rattle.std.specs.Prelude.{◌≡◌, All, IfOk, IsUtf8};
+ghost use Rattle.csv_tables.specs.Pools.{AreDifferent};
+ghost use Rattle.outcomes.specs.Devices.{reading};
+ghost use Rattle.outcomes.specs.Reads.{Reads, seen};
+ghost use Rattle.query_types.specs.Validity.{IsOf};
+ghost use Rattle.schema_types.specs.Validity.{IsValid};
+ghost use Rattle.sql_meaning.specs.Databases.{IsDatabaseOf};
+ghost use Rattle.table_files.specs.Found.{HasCells, entry_rows};
+ghost use Rattle.table_files.specs.Stage.{IsReached, tables_of_query, tables_stage};
+
+use crate::each::read_each;
+use crate::numbers::{slots, table_numbers};
+use base_io::Store;
+use csv_tables::{Database, Pool};
+use outcomes::Ending;
+use query_types::Query;
+use schema_types::Schema;
+use std::alloc::Global;
+
+/// Reads the tables of a query of the schema, each once, in the order in which FROM first names them. Entries
+/// of one table share one place in `cells`.
+///
+/// Ends with the first refusal of a file: it is absent, has more than 67,108,864 bytes, or its rows are
+/// refused. A failed read ends it as a counted fault, and want of memory may end it anywhere.
+pub fn read_tables<S: Store>(
+    alloc: Global,
+    store: &mut S,
+    schema: &Schema,
+    query: &Query,
+) -> Result<Database, Ending>
+    requires schema { IsValid schema.now }
+    requires query { IsOf schema.now query.now }
+
+    // The database can be asked the query, and has for each entry the cells of its table.
+    ensures database { IfOk result (IsDatabaseOf query.now) }
+    ensures cells { IfOk result (HasCells schema.now query.now.from) }
+
+    // Its texts are UTF-8, and no two are equal.
+    ensures texts { IfOk result (λ db. All IsUtf8 db.pool) }
+    ensures different { IfOk result (λ db. AreDifferent db.pool) }
+
+    // Its rows are those of the stage, or the ending has its cause.
+    ensures reads { Reads (reading S.files S.faults S.misses store.old store.new) (tables_stage schema.now query.now.from)
+        (IsReached schema.now (tables_of_query query.now.from)) (seen entry_rows result) }
+{
+    let from = query.from.as_slice();
+    let Ok(numbers) = table_numbers(alloc, from) else {
+        return Err(Ending::NoMemory);
+    };
+    let Ok(slots) = slots(alloc, from, numbers.as_slice()) else {
+        return Err(Ending::NoMemory);
+    };
+    let mut pool = Pool::new(alloc);
+    let cells = read_each(alloc, store, schema, numbers.as_slice(), &mut pool)?;
+    // A pool tells of its texts where it is asked for their number.
+    let _texts = pool.len();
+    Ok(Database { pool, cells, slots })
+}

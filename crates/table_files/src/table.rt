@@ -1,0 +1,54 @@
+//! A table, from its file.
+ghost use Rattle.std.specs.Prelude.{◌≡◌, ◌≤◌, ◌+◌, length, IfOk, string_bytes};
+ghost use Rattle.csv_tables.specs.Cells.{AreCellsOf, rows_of_cells};
+ghost use Rattle.csv_tables.specs.Pools.{BeginsWith};
+ghost use Rattle.outcomes.specs.Devices.{reading};
+ghost use Rattle.outcomes.specs.Reads.{AtFile, Reads, seen};
+ghost use Rattle.schema_types.specs.Validity.{IsValidTable};
+ghost use Rattle.table_files.specs.TableFile.{file_name, file_rows};
+
+use crate::load::load_file;
+use base_io::{NoMemory, Store};
+use csv_tables::{Cells, Pool, read_table};
+use outcomes::{Ending, FileId, table_ending};
+use schema_types::Table;
+use std::alloc::Global;
+
+/// The most bytes of a table's file.
+const TABLE_BYTES: u32 = 67_108_864;
+
+// The name of a table's file: the table's in lower case, and `.csv`.
+fn table_file_name(alloc: Global, table: &Table) -> Result<String, NoMemory>
+    ensures { IfOk result (λ name. string_bytes name ≡ file_name table.now) }
+{
+    let mut name = table.name.as_str().to_ascii_lowercase(alloc)?;
+    name.push_str(".csv")?;
+    Ok(name)
+}
+
+/// Reads the file of the table with this number in the schema. Its bytes are let go once its cells stand.
+pub(crate) fn load_table<S: Store>(
+    alloc: Global,
+    store: &mut S,
+    number: u32,
+    table: &Table,
+    pool: &mut Pool,
+) -> Result<Cells, Ending>
+    requires valid { IsValidTable table.now }
+    requires room { length pool.old ≤ 4000000000 }
+    ensures cells { IfOk result (AreCellsOf table.now pool.new) }
+    ensures begins { IfOk result (λ _. BeginsWith pool.old pool.new) }
+    ensures more { IfOk result (λ _. length pool.new ≤ length pool.old + 256000000) }
+    ensures reads { Reads (reading S.files S.faults S.misses store.old store.new) (file_rows number table.now) (AtFile (FileId.Table number))
+        (seen (rows_of_cells pool.new) result) }
+{
+    let Ok(name) = table_file_name(alloc, table) else {
+        return Err(Ending::NoMemory);
+    };
+    let file = FileId::Table(number);
+    let bytes = load_file(alloc, store, file, name.as_str(), TABLE_BYTES)?;
+    match read_table(alloc, table, bytes.as_slice(), pool) {
+        Ok(cells) => Ok(cells),
+        Err(error) => Err(table_ending(number, error)),
+    }
+}
