@@ -1,5 +1,5 @@
 //! The tables of a query.
-ghost use Rattle.std.specs.Prelude.{◌≡◌, All, IfOk, IsUtf8};
+ghost use Rattle.std.specs.Prelude.{◌≡◌, All, IfOk, IsUtf8, length};
 ghost use Rattle.csv_tables.specs.Pools.{AreDifferent};
 ghost use Rattle.outcomes.specs.Devices.{reading};
 ghost use Rattle.outcomes.specs.Reads.{Reads, seen};
@@ -35,6 +35,9 @@ pub fn read_tables<S: Store>(
     // The database can be asked the query, and has for each entry the cells of its table.
     ensures database { IfOk result (IsDatabaseOf query.now) }
     ensures cells { IfOk result (HasCells schema.now query.now.from) }
+
+    // Each table of the query has one place.
+    ensures once { IfOk result (λ db. length db.cells ≡ length (tables_of_query query.now.from)) }
 
     // Its texts are UTF-8, and no two are equal.
     ensures texts { IfOk result (λ db. All IsUtf8 db.pool) }

@@ -4,6 +4,7 @@ use Rattle.std.proofs.lemmas.Result.{err_from_is_err_and}
 use Rattle.query_types.specs.declared.types.Source.{Source}
 use Rattle.table_files.specs.Stage.{numbers_of, place_of, tables_of_query}
 use Rattle.table_files.proofs.Asked.{numbers_few, numbers_low}
+use Rattle.table_files.proofs.EntryRows.{each_long}
 use Rattle.table_files.proofs.StageFacts.{found_cells, found_database, stage_read, stage_stops}
 use Rattle.table_files.proofs.stage.read_tables.Goals as goal
 
@@ -51,3 +52,8 @@ returns-clause-reads g c =
     c.in-Ok-slots.ensures ∙ ap (λ (l : List ℕ). map (place_of l) (numbers_of c.as_slice-from.result.now)) (c.as_slice.ensures ∙ sym c.as_slice-2.ensures)
     ∙ ap (λ (f : List Source). map (place_of c.as_slice-2.result.now) (numbers_of f)) c.as_slice-from.ensures in
     stage_read c.args.schema.now c.args.query.now.from c.read_each.new.pool c.in_ok-cells.cells c.in-Ok-slots.slots c.as_slice-2.result.now named placed _ c.in_ok-cells.ensures.reads
+
+pub returns-clause-once : goal.returns-clause-once
+returns-clause-once g c =
+    let named : c.as_slice-2.result.now ≡ tables_of_query c.args.query.now.from = c.as_slice-2.ensures ∙ c.in-Ok.ensures ∙ ap tables_of_query c.as_slice-from.ensures in
+    each_long c.args.schema.now c.read_each.new.pool c.as_slice-2.result.now c.in_ok-cells.cells c.in_ok-cells.ensures.cells ∙ ap length named
