@@ -24,13 +24,13 @@ use Rattle.sql_meaning.specs.Answers.{conjunct_of, conjuncts_of}
 use Rattle.sql_meaning.specs.Choices.{extended, IsChoiceOf}
 use Rattle.sql_meaning.specs.Conditions.{cond_holds}
 use Rattle.sql_meaning.specs.Databases.{AreCells, IsAskable, IsColumnOf, IsColumnOfKind, IsDatabaseOf}
-use Rattle.sql_meaning.specs.Levels.{completed_hold, completes, row_in}
+use Rattle.sql_meaning.specs.Levels.{all_hold, completed_hold, completes, row_in, Conjunct}
 use Rattle.sql_meaning.specs.Tables.{cells_of, row_counts, tables_of}
 use Rattle.sql_meaning.proofs.LoopFacts.{rows_are}
 use Rattle.sql_meaning.proofs.NamedFacts.{can_ask}
 use Rattle.join_steps.specs.declared.keys.Key.{Key}
 use Rattle.join_steps.specs.Columns.{column_cells}
-use Rattle.join_steps.specs.Lists.{passes_own, scan_of, IsOrderOf}
+use Rattle.join_steps.specs.Lists.{passes_own, scan_of, IsOfScan, IsOrderOf}
 use Rattle.join_steps.specs.Sides.{is_between, is_in}
 use Rattle.join_steps.proofs.KeyFacts.{key_holds, sides_between, IsKeyOf}
 use Rattle.hash_join.specs.Levels.{joined, level_sizes, query_level, scan_sizes}
@@ -95,8 +95,8 @@ filtered_twice p q (x ∷ xs) =
     let rest : length (filter p (filter q xs)) ≤ length (filter p xs) = filtered_twice p q xs in
     elim (cases_Bool (q x)) [
       | inl good ↦ elim (cases_Bool (p x)) [
-        | inl hit ↦ rw (good, hit, hit) (omega (arith, rest))
-        | inr miss ↦ rw (good, miss, miss) rest
+        | inl hit ↦ rw (good, hit) (omega (arith, rest))
+        | inr miss ↦ rw (good, miss) rest
       ]
       | inr bad ↦ elim (cases_Bool (p x)) [
         | inl hit ↦ rw (bad, hit) (omega (arith, rest))
@@ -166,6 +166,9 @@ more_times (suc n) a b low =
     let other : suc n * b ≡ n * b + b = suc-mul n b in
     omega (arith, rest, one, other, low)
 
+few_enough : (a b c : ℕ) → a ≤ b → b ≤ c → a ≤ c
+few_enough a b c low lower = omega (arith, low, lower)
+
 nothing_asked : (xs : List (List ℕ)) → AllByRecursion (λ x. Unit {0}) xs
 nothing_asked [] = tt
 nothing_asked (x ∷ xs) = (tt, nothing_asked xs)
@@ -182,7 +185,7 @@ module _ (left right times : ℕ) (rest : Bool) (lk lv rv : List ℕ) (are_lk : 
   abbrev order : List ℕ
   order = 0 ∷ 1 ∷ []
 
-  abbrev conjuncts : _
+  abbrev conjuncts : List Conjunct
   conjuncts = conjuncts_of q (tables_of db)
 
   abbrev col : ℕ → ℕ → ColumnRef
@@ -257,7 +260,7 @@ module _ (left right times : ℕ) (rest : Bool) (lk lv rv : List ℕ) (are_lk : 
   pub second_scan : length (scan_of q db 1) ≤ right
   second_scan = omega (arith, scan_few 1, rows_are db 1)
 
-  of_scans : _
+  of_scans : All (IsOfScan conjuncts (row_counts (tables_of db)) (scan_of q db)) order
   of_scans = are_of_scans q db (scan_of q db) order is_order (λ e low. refl)
 
   joined_is : (k : ℕ) → joined q db (scan_of q db) order k ≡ query_level q db order k
@@ -267,9 +270,9 @@ module _ (left right times : ℕ) (rest : Bool) (lk lv rv : List ℕ) (are_lk : 
   first_level =
       let above : List (List ℕ) = joined q db (scan_of q db) order 0 in
       let next = next_joined q db (scan_of q db) order is_order 0 (omega arith) (of_scans 0 0 (omega arith)) in
-      let some_above : length above ≤ 1 = fewer _ ([] ∷ []) in
+      let some_above : length above ≤ 1 = fewer (λ (choice : List ℕ). all_hold conjuncts [] (row_in [] choice)) ([] ∷ []) in
       let few_all = few_each (completed_hold conjuncts [] 0) (scan_of q db 0) (length (scan_of q db 0)) (λ choice. Unit {0})
-          (λ choice p. omega (arith, fewer (completed_hold conjuncts [] 0) (map (λ row. choice ++ row ∷ []) (scan_of q db 0)), length-map (scan_of q db 0) (λ row. choice ++ row ∷ []))) above (nothing_asked above) in
+      (λ choice p. omega (arith, fewer (completed_hold conjuncts [] 0) (map (λ row. choice ++ row ∷ []) (scan_of q db 0)), length-map (scan_of q db 0) (λ row. choice ++ row ∷ []))) above (nothing_asked above) in
       omega (arith, ap (λ (s : List (List ℕ)). length s) (sym (joined_is 1) ∙ next), few_all, at_most_one (length (scan_of q db 0)) (length above) some_above, first_scan)
 
   -- a row that is joined has the key of the left row
@@ -291,16 +294,19 @@ module _ (left right times : ℕ) (rest : Bool) (lk lv rv : List ℕ) (are_lk : 
   below_choice [] p = absurd p
   below_choice (x ∷ y ∷ choice) p = absurd p.1
   below_choice (x ∷ []) p =
-      omega (arith, few_below (completed_hold conjuncts (0 ∷ []) 1) (λ row. eqb (get_or (repeated right times) row 0) (get_or lk x 0)) (λ row. row < row_counts (tables_of db) 1) (x ∷ []) (λ row low hit. has_key x row p.0 low hit)
-      (scan_of q db 1) (recursion_from_All (λ row. row < row_counts (tables_of db) 1) (scan_of q db 1) (scan_below conjuncts (row_counts (tables_of db)) 1 (scan_of q db 1) (of_scans 1 0 (omega arith)))),
-      few_keys right times (get_or lk x 0) (passes_own conjuncts 1) some, rows_are db 1)
+      few_enough (length (filter (completed_hold conjuncts (0 ∷ []) 1) (map (λ row. (x ∷ []) ++ row ∷ []) (scan_of q db 1))))
+      (length (filter (λ row. eqb (get_or (repeated right times) row 0) (get_or lk x 0)) (scan_of q db 1))) times
+      (few_below (completed_hold conjuncts (0 ∷ []) 1) (λ row. eqb (get_or (repeated right times) row 0) (get_or lk x 0)) (λ row. row < row_counts (tables_of db) 1) (x ∷ []) (λ row low hit. has_key x row p.0 low hit)
+      (scan_of q db 1) (recursion_from_All (λ row. row < row_counts (tables_of db) 1) (scan_of q db 1) (scan_below conjuncts (row_counts (tables_of db)) 1 (scan_of q db 1) (of_scans 1 0 (omega arith)))))
+      (subst (λ (n : ℕ). length (filter (λ row. eqb (get_or (repeated right times) row 0) (get_or lk x 0)) (filter (passes_own conjuncts 1) (range_with_len 0 n))) ≤ times) (sym (rows_are db 1))
+      (few_keys right times (get_or lk x 0) (passes_own conjuncts 1) some))
 
   pub second_level : length (query_level q db order 2) ≤ times * left
   second_level =
       let above : List (List ℕ) = joined q db (scan_of q db) order 1 in
       let next = next_joined q db (scan_of q db) order is_order 1 (omega arith) (of_scans 1 0 (omega arith)) in
       let few_all = few_each (completed_hold conjuncts (0 ∷ []) 1) (scan_of q db 1) times (IsChoiceOf (row_counts (tables_of db)) (0 ∷ [])) below_choice above
-          (recursion_from_All (IsChoiceOf (row_counts (tables_of db)) (0 ∷ [])) above (placed_joined q db (scan_of q db) order is_order 1 (omega arith) of_scans)) in
+      (recursion_from_All (IsChoiceOf (row_counts (tables_of db)) (0 ∷ [])) above (placed_joined q db (scan_of q db) order is_order 1 (omega arith) of_scans)) in
       let few_above : length above ≤ left = omega (arith, ap (λ (s : List (List ℕ)). length s) (joined_is 1), first_level) in
       omega (arith, ap (λ (s : List (List ℕ)). length s) (sym (joined_is 2) ∙ next), few_all, more_times times (length above) left few_above)
 

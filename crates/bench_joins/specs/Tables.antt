@@ -1,5 +1,5 @@
 -- Two tables that are joined, and the query over them.
-use Rattle.std.specs.Prelude.{◌≡◌, ℕ, ◌/◌, ◌^◌, ◌<◌, Bool, if◌then◌else◌, List, [], ◌∷◌, All, length, map}
+use Rattle.std.specs.Prelude.{◌≡◌, ℕ, ◌*◌, ◌/◌, ◌^◌, ◌<◌, Bool, if◌then◌else◌, List, [], ◌∷◌, All, length, map}
 use Rattle.std.specs.List.{range_with_len}
 use Rattle.schema_types.specs.declared.types.Kind.TheVariants as kind
 use Rattle.csv_tables.specs.declared.types.Cells.{Cells}
@@ -10,6 +10,7 @@ use Rattle.query_types.specs.declared.types.Operand.{Operand}
 use Rattle.query_types.specs.declared.types.Operand.TheVariants as operand
 use Rattle.query_types.specs.declared.types.Cond.{Cond, Compare}
 use Rattle.query_types.specs.declared.types.Query.{Query}
+use Rattle.reserve_plan.specs.Rooms.{rooms, Rooms}
 
 abbrev pub compared : Op → ℕ → Cond
 compared op number = Compare op (operand.Column (record { from = 0; column = number })) (operand.Column (record { from = 1; column = number }))
@@ -59,3 +60,7 @@ pub record AreTwo (left right times : ℕ) (db : Database) : Type 0 where
   pub is : db ≡ tables_of_two first second
   pub is_first : IsTable left first
   pub is_second : HasRepeated right times second
+
+-- the rooms for both scans, and for at most so many rows of the join for each row of the left table
+abbrev pub rooms_for : ℕ → ℕ → ℕ → Rooms
+rooms_for left right times = rooms (0 ∷ 1 ∷ []) (left ∷ right ∷ []) (left ∷ times * left ∷ [])

@@ -3,8 +3,9 @@
 //! It joins pairs of tables, and writes for each pair how many rows the join has and the sum of their row numbers. Without a word the tables are small; with one, as `time`, they have up to 1,000,000 rows, and it writes to standard error the nanoseconds of an execution, the least of three.
 #![tactic(auto)]
 
-ghost use Rattle.std.specs.Prelude.{◌≡◌, ◌*◌, ◌<◌, ◌≤◌, length};
-ghost use Rattle.bench_joins.specs.Tables.{join_of, AreTwo};
+ghost use Rattle.std.specs.Prelude.{◌≡◌, ◌*◌, ◌<◌, ◌≤◌, IfOk, length};
+ghost use Rattle.reserve_plan.specs.Rooms.{HasRooms};
+ghost use Rattle.bench_joins.specs.Tables.{join_of, rooms_for, AreTwo};
 
 mod tables;
 
@@ -12,7 +13,8 @@ use base_io::NoMemory;
 use csv_tables::Database;
 use hash_join::{Executed, execute};
 use query_types::Query;
-use reserve_plan::reserve;
+use reserve_plan::{Reserved, reserve};
+use std::alloc::Global;
 use std::rt::Runtime;
 use std::time::Instant;
 use std::{env, io};
@@ -49,8 +51,51 @@ fn summed(executed: &Executed) -> Joined
     }
 }
 
-// One execution: the time of the join alone, without the reservation before it.
-fn timed<R: Runtime>(rt: &R, sizes: Sizes, rest: bool, query: &Query, db: &Database) -> io::Result<Joined>
+// Buffers with room for the scans, and for a join of at most so many rows for each row of the left table as the right one has each key.
+fn reserved_for(alloc: Global, sizes: Sizes) -> Result<Reserved, NoMemory>
+    requires left { sizes.left ≤ 4000000 }
+    requires right { sizes.right ≤ 4000000 }
+    requires joined { sizes.times * sizes.left ≤ 20000000 }
+    ensures { IfOk result (HasRooms (rooms_for sizes.left sizes.right sizes.times)) }
+{
+    let left = sizes.left as u64;
+    let right = sizes.right as u64;
+    let most = sizes.times as u64 * left;
+    reserve(alloc, &[0, 1], &[left, right], &[left, most])
+}
+
+// One execution, without the reservation before it.
+fn execution<R: Runtime>(
+    rt: &R,
+    reserved: Reserved,
+    sizes: Sizes,
+    rest: bool,
+    query: &Query,
+    db: &Database,
+) -> io::Result<Joined>
+    requires query { query.now ≡ join_of rest }
+    requires db { AreTwo sizes.left sizes.right sizes.times db.now }
+    requires some { 0 < sizes.times }
+    requires left { sizes.left ≤ 4000000 }
+    requires right { sizes.right ≤ 4000000 }
+    requires joined { sizes.times * sizes.left ≤ 20000000 }
+    requires rooms { HasRooms (rooms_for sizes.left sizes.right sizes.times) reserved }
+{
+    let start = Instant::now(rt)?;
+    let executed = execute(reserved, &[0, 1], query, db);
+    let nanos = start.elapsed(rt)?.as_nanos();
+    let Joined { rows, sum, .. } = summed(&executed);
+    Ok(Joined { nanos, rows, sum })
+}
+
+fn timed<R: Runtime>(
+    rt: &R,
+    alloc: Global,
+    sizes: Sizes,
+    rest: bool,
+    query: &Query,
+    db: &Database,
+) -> io::Result<Joined>
     requires query { query.now ≡ join_of rest }
     requires db { AreTwo sizes.left sizes.right sizes.times db.now }
     requires some { 0 < sizes.times }
@@ -58,15 +103,8 @@ fn timed<R: Runtime>(rt: &R, sizes: Sizes, rest: bool, query: &Query, db: &Datab
     requires right { sizes.right ≤ 4000000 }
     requires joined { sizes.times * sizes.left ≤ 20000000 }
 {
-    let most = u64::from(sizes.times) * u64::from(sizes.left);
-    let scans = [u64::from(sizes.left), u64::from(sizes.right)];
-    let levels = [u64::from(sizes.left), most];
-    let reserved = reserve(rt.alloc(), &[0, 1], &scans, &levels).map_err(out_of_memory)?;
-    let start = Instant::now(rt)?;
-    let executed = execute(reserved, &[0, 1], query, db);
-    let nanos = start.elapsed(rt)?.as_nanos();
-    let Joined { rows, sum, .. } = summed(&executed);
-    Ok(Joined { nanos, rows, sum })
+    let reserved = reserved_for(alloc, sizes).map_err(out_of_memory)?;
+    execution(rt, reserved, sizes, rest, query, db)
 }
 
 // Joins two tables of these sizes, and writes what came. The right one has each key so many times, so the join has at most so many rows for each row of the left one.
@@ -79,9 +117,9 @@ fn show(rt: &HostRuntime, name: &str, sizes: Sizes, rest: bool, rounds: u32) -> 
     let alloc = rt.alloc();
     let db = database(alloc, sizes).map_err(out_of_memory)?;
     let query = query(alloc, rest).map_err(out_of_memory)?;
-    let mut least = timed(rt, sizes, rest, &query, &db)?;
+    let mut least = timed(rt, alloc, sizes, rest, &query, &db)?;
     for _ in 1..rounds {
-        let next = timed(rt, sizes, rest, &query, &db)?;
+        let next = timed(rt, alloc, sizes, rest, &query, &db)?;
         if next.nanos < least.nanos {
             least = next;
         }
@@ -109,6 +147,18 @@ fn main(rt: HostRuntime) -> io::Result<()> {
     show(&rt, "products", pair(400_000, 20_000, 1), false, ROUNDS)?;
     show(&rt, "unique", pair(1_000_000, 1_000_000, 1), false, ROUNDS)?;
     show(&rt, "heavy", pair(10_000, 10_000, 1_000), false, ROUNDS)?;
-    show(&rt, "unique-tested", pair(1_000_000, 1_000_000, 1), true, ROUNDS)?;
-    show(&rt, "heavy-tested", pair(10_000, 10_000, 1_000), true, ROUNDS)
+    show(
+        &rt,
+        "unique-tested",
+        pair(1_000_000, 1_000_000, 1),
+        true,
+        ROUNDS,
+    )?;
+    show(
+        &rt,
+        "heavy-tested",
+        pair(10_000, 10_000, 1_000),
+        true,
+        ROUNDS,
+    )
 }
