@@ -61,7 +61,9 @@ fn time_sort<R: Runtime>(
     pool: &Pool,
     cells: &[u64],
     rounds: u32,
-) -> io::Result<Measure> {
+) -> io::Result<Measure>
+    requires { length cells.now < 2 ^ 32 }
+{
     let mut least = NONE;
     for _ in 0..rounds {
         let start = Instant::now(rt)?;
