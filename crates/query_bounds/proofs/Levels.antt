@@ -68,8 +68,7 @@ module _ (query : Query) (known : Statistics) (tables : Tables) (key : Keys) (li
       total_there (get_or es k d).right.entry (get_or es k d).right.column (scan_list query known (get_or es k d).right.entry (get_or es k d).right.column) (right_there k d low),
     ));
     columns = each_named (DominatesScan (bounds_of lists) query tables key) subset es (λ k d low joins.
-        let stand = pair_at (λ entry column. ListsStandFor (known.lists entry column) tables entry (key entry column)) es stands.lists k d low in
-        (
+        let stand = pair_at (λ entry column. ListsStandFor (known.lists entry column) tables entry (key entry column)) es stands.lists k d low in (
           dominates_there (get_or es k d).left.entry (get_or es k d).left.column stand.0 (left_there k d low),
           dominates_there (get_or es k d).right.entry (get_or es k d).right.column stand.1 (right_there k d low),
         ));

@@ -3,4 +3,3 @@ pub mod Sets
 pub mod Levels
 pub mod SmallPair
 pub mod Near
-pub mod PairTold

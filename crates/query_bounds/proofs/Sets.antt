@@ -73,8 +73,7 @@ both_among (e ∷ es) zero d low = (
 both_among (e ∷ es) (suc k) d low =
     let later = both_among es k d (omega arith) in
     let l : Place = (get_or es k d).left in
-    let r : Place = (get_or es k d).right in
-    (
+    let r : Place = (get_or es k d).right in (
       or_more (is_at l.entry l.column e.left) (is_at l.entry l.column e.right) (is_among (places_of es) l.entry l.column) later.0,
       or_more (is_at r.entry r.column e.left) (is_at r.entry r.column e.right) (is_among (places_of es) r.entry r.column) later.1,
     )
@@ -87,8 +86,7 @@ all_listed query known n es lists held = record {
   columns = each_named (λ entry column. IsSome (list_of lists entry column)) (2 ^ n - 1) es (λ k d low joins.
       let among = both_among es k d low in
       let l : Place = (get_or es k d).left in
-      let r : Place = (get_or es k d).right in
-      (
+      let r : Place = (get_or es k d).right in (
         is_some_of (list_of lists l.entry l.column) (scan_list query known l.entry l.column) (list_there query known n (places_of es) lists held l.entry l.column among.0),
         is_some_of (list_of lists r.entry r.column) (scan_list query known r.entry r.column) (list_there query known n (places_of es) lists held r.entry r.column among.1),
       ));

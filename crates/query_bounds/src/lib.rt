@@ -14,6 +14,3 @@ pub use bounds::{bounds_of, scans_of};
 pub use examples::pairs;
 pub use laws::unfiltered_bounds_are_near;
 pub use lists::entry_lists;
-
-#[cfg(test)]
-mod tests;

@@ -23,7 +23,7 @@ pub add_list-requires-in-loop-edge : goal.add_list-requires-in-loop-edge
 add_list-requires-in-loop-edge c =
     let left : Place = (get_or c.as_slice-edge-items.result.now c.loop-edge.edge-index no_edge).left in
     let told = pair_told c.args.query.now c.args.stats.now c.requires.told.known c.as_slice-edge-items.result.now c.requires.told.tells (c.as_slice-edge-items.ensures ∙ c.requires.equalities)
-        c.loop-edge.edge-index no_edge c.loop-edge-test.true in
+    c.loop-edge.edge-index no_edge c.loop-edge-test.true in
     may_add c.args.query.now c.args.stats.now c.requires.told.known (length c.args.query.now.from) (places_of (take c.loop-edge.edge-index c.args.parts.now.equalities) ++ left ∷ [])
     (get_or c.as_slice-edge-items.result.now c.loop-edge.edge-index no_edge).right c.add_list.new.lists c.requires.told.tells refl told.1
     (added c.args.query.now c.args.stats.now c.requires.told.known (length c.args.query.now.from) (places_of (take c.loop-edge.edge-index c.args.parts.now.equalities)) left
@@ -35,11 +35,11 @@ loop-edge-preserved c = λ known tells.
     let right : Place = (get_or c.as_slice-edge-items.result.now c.loop-edge.edge-index no_edge).right in
     let before : List Place = places_of (take c.loop-edge.edge-index c.args.parts.now.equalities) in
     let told = pair_told c.args.query.now c.args.stats.now known c.as_slice-edge-items.result.now tells (c.as_slice-edge-items.ensures ∙ c.requires.equalities)
-        c.loop-edge.edge-index no_edge c.loop-edge-test.true in
+    c.loop-edge.edge-index no_edge c.loop-edge-test.true in
     let one = added c.args.query.now c.args.stats.now known (length c.args.query.now.from) before left c.loop-edge.lists c.add_list.new.lists told.0 (c.loop-edge.invariant known tells)
-        c.in_ok-add_list.ensures.set c.in_ok-add_list.ensures.others c.in_ok-add_list.ensures.rows in
+    c.in_ok-add_list.ensures.set c.in_ok-add_list.ensures.others c.in_ok-add_list.ensures.rows in
     let two = added c.args.query.now c.args.stats.now known (length c.args.query.now.from) (before ++ left ∷ []) right c.add_list.new.lists c.add_list-in-loop-edge.new.lists told.1 one
-        c.in_ok-add_list-2.ensures.set c.in_ok-add_list-2.ensures.others c.in_ok-add_list-2.ensures.rows in
+    c.in_ok-add_list-2.ensures.set c.in_ok-add_list-2.ensures.others c.in_ok-add_list-2.ensures.rows in
     subst (λ (places : List Place). Holds c.args.query.now known (length c.args.query.now.from) places c.add_list-in-loop-edge.new.lists)
     (sym (places_more c.args.parts.now.equalities c.as_slice-edge-items.result.now c.loop-edge.edge-index no_edge c.as_slice-edge-items.ensures c.loop-edge-test.true)) two
 
