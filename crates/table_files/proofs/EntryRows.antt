@@ -27,7 +27,7 @@ each_place : {B : Type 0} (g : ℕ → B) (xs : List ℕ) → map (λ i. g (get_
 each_place g xs = same_lists (map (λ i. g (get_or xs i 0)) (range_with_len 0 (length xs))) (map g xs)
     (length-map-range_with_len (λ i. g (get_or xs i 0)) 0 (length xs) ∙ sym (length-map xs g))
     (λ k d low. let within : k < length xs = omega (arith, length-map-range_with_len (λ i. g (get_or xs i 0)) 0 (length xs)) in
-      get_or-map-range_with_len (λ i. g (get_or xs i 0)) 0 (length xs) k k d within (omega arith) ∙ sym (list.get_or-map g xs k 0 d within))
+    get_or-map-range_with_len (λ i. g (get_or xs i 0)) 0 (length xs) k k d within (omega arith) ∙ sym (list.get_or-map g xs k 0 d within))
 
 -- ---- the cells of tables, by their places
 

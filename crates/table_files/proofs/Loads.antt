@@ -49,8 +49,11 @@ module _ (store : Reading) (id : FileId) (most : ℕ) (name : List ℕ) (later :
   pub load_long : (passed : ℕ) → ReadsFile (told store.files name) most (Err (error.TooLong passed)) → store.misses_after ≡ store.misses_before
       → Reads store (read id most name) (AtFile id) (Err (ending.Refused (refusal.Limit limit.FileBytes id (most + 1))))
   load_long passed h misses = record {
-    gives = ((λ files told'. long id most passed (file_of files name) (subst (λ (f : Option Files). ReadsFile (told f name) most (Err (error.TooLong passed))) told' h)),
-        (λ none file e. cc), (λ e. cc));
+    gives = (
+      (λ files told'. long id most passed (file_of files name) (subst (λ (f : Option Files). ReadsFile (told f name) most (Err (error.TooLong passed))) told' h)),
+      (λ none file e. cc),
+      (λ e. cc),
+    );
     misses = λ files told' missed. misses;
     later = later;
     same = same;

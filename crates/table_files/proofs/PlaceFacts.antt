@@ -90,11 +90,11 @@ old_none : (ns : List ℕ) (n : ℕ) → has (different ns) n ≡ true → diffe
 old_none [] n h = absurd (false≢true h)
 old_none (m ∷ ns) n h = elim (cases_Bool (eqb n m)) [
   | inl e ↦ ap (λ (l : List ℕ). m ∷ l) (elim (cases_Bool (has (different ns) n)) [
-      | inl there ↦ ap (without m) (old_none ns n there)
-      | inr fresh ↦ (let one : without m (n ∷ []) ≡ [] = rw e refl in
-          ap (without m) (new_last ns n fresh) ∙ filter-append (λ other. not (eqb other m)) (different ns) (n ∷ [])
-          ∙ ap (λ (l : List ℕ). without m (different ns) ++ l) one ∙ append-nil (without m (different ns)))
-    ])
+    | inl there ↦ ap (without m) (old_none ns n there)
+    | inr fresh ↦ (let one : without m (n ∷ []) ≡ [] = rw e refl in
+        ap (without m) (new_last ns n fresh) ∙ filter-append (λ other. not (eqb other m)) (different ns) (n ∷ [])
+        ∙ ap (λ (l : List ℕ). without m (different ns) ++ l) one ∙ append-nil (without m (different ns)))
+  ])
   | inr e ↦ (let here : has (different (m ∷ ns)) n ≡ has (without m (different ns)) n = rw e refl in
       let there : has (different ns) n ≡ true = sym (has_kept m n (different ns) e) ∙ sym here ∙ h in
       ap (λ (l : List ℕ). m ∷ without m l) (old_none ns n there))
