@@ -23,7 +23,6 @@ test:
 
 bench: build
 	@cd crates/bench_degrees && rt run -- time > build.log 2>&1 || { cat build.log; exit 1; }
-	@cd crates/bench_stats && rt run -- time > build.log 2>&1 || { cat build.log; exit 1; }
 	@cd crates/bench_link_index && rt run -- time > build.log 2>&1 || { cat build.log; exit 1; }
 	@cd crates/bench_tables && rt run -- time > build.log 2>&1 || { cat build.log; exit 1; }
 	@cd crates/bench_orders && rt run -- time > build.log 2>&1 || { cat build.log; exit 1; }
@@ -32,7 +31,6 @@ bench: build
 	@cd crates/bench_joins && rt run -- time > build.log 2>&1 || { cat build.log; exit 1; }
 	bench/one-table
 	bench/degrees
-	bench/stats
 	bench/link-index
 	bench/tables
 	bench/orders
