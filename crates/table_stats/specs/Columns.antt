@@ -1,0 +1,38 @@
+-- The values of a column as numbers: a value is the first row that has it, so that equal values are one number.
+use Rattle.std.specs.Prelude.{ℕ, List, map, pos, slice_index_or}
+use Rattle.std.specs.List.{position_or_len, range_with_len, zip}
+use Rattle.std.specs.Ordering.{is_eq}
+use Rattle.std.specs.Prelude.{Bool}
+use Rattle.csv_tables.specs.Values.{Value, Int, value_cmp}
+use Rattle.cond_stats.specs.Columns.{value_le}
+use Rattle.cond_stats.specs.Leaves.{leaf_above}
+use Rattle.filtered_lists.specs.Standing.{value_in_row}
+use Rattle.sql_meaning.specs.Tables.{Tables, row_counts}
+
+-- the value of each row of an entry's table in a column
+abbrev pub column_values : Tables → ℕ → ℕ → List Value
+column_values tables entry column = map (value_in_row tables entry column) (range_with_len 0 (row_counts tables entry))
+
+-- the first row that has a value, or the number of rows where none has it
+abbrev pub first_row : List Value → Value → ℕ
+first_row values value = position_or_len (λ other. is_eq (value_cmp other value)) values
+
+-- a column as numbers, row by row
+abbrev pub numbered : List Value → List ℕ
+numbered values = map (first_row values) values
+
+-- the value of a row
+abbrev pub value_of_row : List Value → ℕ → Value
+value_of_row values row = slice_index_or values row (Int (pos 0))
+
+-- the value of one row is at most that of another
+abbrev pub row_le : List Value → ℕ → ℕ → Bool
+row_le values row other = value_le (value_of_row values row) (value_of_row values other)
+
+-- the leaf of a value in a column, which need not have it
+abbrev pub leaf_of_value : List Value → Value → ℕ
+leaf_of_value values value = leaf_above (row_le values) (numbered values) (λ cut. value_le (value_of_row values cut) value)
+
+-- the rows of a filter column and of a joined column, each row as its two numbers
+abbrev pub paired : List Value → List Value → List (ℕ × ℕ)
+paired filter joined = zip (numbered filter) (numbered joined)

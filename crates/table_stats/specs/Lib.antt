@@ -1,0 +1,4 @@
+pub mod Columns
+pub mod Statistics
+pub mod Keys
+pub mod Cells

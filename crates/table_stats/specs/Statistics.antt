@@ -1,0 +1,61 @@
+-- What the statistics of a table know of its columns: the lists of a joined column, and the numbers of rows.
+use Rattle.std.specs.Prelude.{ℕ, if◌then◌else◌, List, map, length, Option, option_map, unwrap_or}
+use Rattle.std.specs.List.{count_by, list_any}
+use Rattle.std.specs.Prelude.{◌==◌, Some}
+use Rattle.csv_tables.specs.Values.{Value}
+use Rattle.cond_stats.specs.Frequency.{frequent, remaining}
+use Rattle.cond_stats.specs.Leaves.{in_node, leaf_of, node_size}
+use Rattle.cond_stats.specs.Lists.{compressed_degrees, greatest, list_of_range, list_of_value}
+use Rattle.degree_sequences.specs.Degrees.{degree}
+use Rattle.filtered_lists.specs.Lists.{ColumnLists, RowCounts}
+use Rattle.filtered_lists.specs.Ranges.{Range}
+use Rattle.sql_meaning.specs.Tables.{Tables, row_counts}
+use Rattle.table_stats.specs.Columns.{column_values, first_row, leaf_of_value, numbered, paired, row_le}
+
+-- the leaf of an end of a range, where there is one
+abbrev pub end_leaf : List Value → Option Value → Option ℕ
+end_leaf values end = option_map (leaf_of_value values) end
+
+-- ---- lists
+
+-- the list of a joined column for the rows that have a value in a filter column
+abbrev pub list_with : ℕ → List Value → List Value → Value → List ℕ
+list_with accuracy filter joined value = list_of_value accuracy (paired filter joined) (Some (first_row filter value))
+
+-- and for the rows whose value lies between two ends
+abbrev pub list_between : ℕ → List Value → List Value → Option Value → Option Value → List ℕ
+list_between accuracy filter joined low high =
+    list_of_range (row_le filter) accuracy (paired filter joined) (end_leaf filter low) (end_leaf filter high)
+
+-- what is known of a joined column of an entry, at an accuracy
+abbrev pub column_lists : Tables → ℕ → ℕ → ℕ → ColumnLists
+column_lists tables accuracy entry joined = record {
+  whole = compressed_degrees accuracy (numbered (column_values tables entry joined));
+  equal = λ column value. list_with accuracy (column_values tables entry column) (column_values tables entry joined) value;
+  range = λ range. list_between accuracy (column_values tables entry range.column) (column_values tables entry joined) range.low range.high;
+}
+
+-- ---- numbers of rows
+
+-- the rows of a value where it is frequent, else those of the most frequent value that remains
+abbrev pub count_with : List Value → Value → ℕ
+count_with filter value =
+    if list_any (λ other. other == first_row filter value) (frequent (numbered filter))
+    then degree (numbered filter) (first_row filter value)
+    else greatest (map (degree (numbered filter)) (remaining (numbered filter)))
+
+-- the rows whose leaf lies in the least node that holds two leaves
+abbrev pub count_in_node : List Value → ℕ → ℕ → ℕ
+count_in_node filter first last =
+    count_by (λ number. in_node (node_size first last) first (leaf_of (row_le filter) (numbered filter) number)) (numbered filter)
+
+abbrev pub count_between : List Value → Option Value → Option Value → ℕ
+count_between filter low high = count_in_node filter (unwrap_or (end_leaf filter low) 0) (unwrap_or (end_leaf filter high) 31)
+
+-- what is known of the number of an entry's rows
+abbrev pub entry_counts : Tables → ℕ → RowCounts
+entry_counts tables entry = record {
+  whole = row_counts tables entry;
+  equal = λ column value. count_with (column_values tables entry column) value;
+  range = λ range. count_between (column_values tables entry range.column) range.low range.high;
+}

@@ -1,0 +1,10 @@
+//! The statistics of a query's tables, over plain rows: for a filter column and a joined column of an entry's table the lists that
+//! bounds are made of (SafeBound, SIGMOD 2023), and the numbers of rows.
+//!
+//! Nothing here knows of cells or of a pool of texts: a value is the first row that has it. That columns of cells have the same lists
+//! is a law, as is that the lists stand for the tables.
+//!
+//! Callers cite `column_lists` and `entry_counts` (in `specs/Statistics.antt`) for what is known, and `laws`.
+#![tactic(auto)]
+
+pub mod laws;
