@@ -1,8 +1,7 @@
 -- The values of a column as numbers: a value is the first row that has it, so that equal values are one number.
-use Rattle.std.specs.Prelude.{ℕ, List, map, pos, slice_index_or}
+use Rattle.std.specs.Prelude.{ℕ, Bool, List, map, pos, slice_index_or}
 use Rattle.std.specs.List.{position_or_len, range_with_len, zip}
 use Rattle.std.specs.Ordering.{is_eq}
-use Rattle.std.specs.Prelude.{Bool}
 use Rattle.csv_tables.specs.Values.{Value, Int, value_cmp}
 use Rattle.cond_stats.specs.Columns.{value_le}
 use Rattle.cond_stats.specs.Leaves.{leaf_above}
@@ -29,7 +28,7 @@ value_of_row values row = slice_index_or values row (Int (pos 0))
 abbrev pub row_le : List Value → ℕ → ℕ → Bool
 row_le values row other = value_le (value_of_row values row) (value_of_row values other)
 
--- the leaf of a value in a column, which need not have it
+-- the leaf of a value in a column, which need not have it: the last whose cut is at most the value, and 0 where none is
 abbrev pub leaf_of_value : List Value → Value → ℕ
 leaf_of_value values value = leaf_above (row_le values) (numbered values) (λ cut. value_le (value_of_row values cut) value)
 

@@ -2,3 +2,4 @@ pub mod Columns
 pub mod Statistics
 pub mod Keys
 pub mod Cells
+pub mod Examples

@@ -1,14 +1,12 @@
 -- What the statistics of a table know of its columns: the lists of a joined column, and the numbers of rows.
-use Rattle.std.specs.Prelude.{ℕ, if◌then◌else◌, List, map, length, Option, option_map, unwrap_or}
+use Rattle.std.specs.Prelude.{ℕ, ◌==◌, if◌then◌else◌, List, map, Option, Some, option_map, unwrap_or}
 use Rattle.std.specs.List.{count_by, list_any}
-use Rattle.std.specs.Prelude.{◌==◌, Some}
 use Rattle.csv_tables.specs.Values.{Value}
 use Rattle.cond_stats.specs.Frequency.{frequent, remaining}
 use Rattle.cond_stats.specs.Leaves.{in_node, leaf_of, node_size}
 use Rattle.cond_stats.specs.Lists.{compressed_degrees, greatest, list_of_range, list_of_value}
 use Rattle.degree_sequences.specs.Degrees.{degree}
 use Rattle.filtered_lists.specs.Lists.{ColumnLists, RowCounts}
-use Rattle.filtered_lists.specs.Ranges.{Range}
 use Rattle.sql_meaning.specs.Tables.{Tables, row_counts}
 use Rattle.table_stats.specs.Columns.{column_values, first_row, leaf_of_value, numbered, paired, row_le}
 
@@ -22,7 +20,7 @@ end_leaf values end = option_map (leaf_of_value values) end
 abbrev pub list_with : ℕ → List Value → List Value → Value → List ℕ
 list_with accuracy filter joined value = list_of_value accuracy (paired filter joined) (Some (first_row filter value))
 
--- and for the rows whose value lies between two ends
+-- and for the rows whose value lies between two ends, either of which may be missing. The ends may be crossed
 abbrev pub list_between : ℕ → List Value → List Value → Option Value → Option Value → List ℕ
 list_between accuracy filter joined low high =
     list_of_range (row_le filter) accuracy (paired filter joined) (end_leaf filter low) (end_leaf filter high)
@@ -49,6 +47,7 @@ abbrev pub count_in_node : List Value → ℕ → ℕ → ℕ
 count_in_node filter first last =
     count_by (λ number. in_node (node_size first last) first (leaf_of (row_le filter) (numbered filter) number)) (numbered filter)
 
+-- the rows in the node of a range: without a low end it begins in leaf 0, without a high end it ends in leaf 31
 abbrev pub count_between : List Value → Option Value → Option Value → ℕ
 count_between filter low high = count_in_node filter (unwrap_or (end_leaf filter low) 0) (unwrap_or (end_leaf filter high) 31)
 

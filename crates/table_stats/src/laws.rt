@@ -1,20 +1,17 @@
 //! What holds of the statistics of tables: no law computes anything, and the contract is the law.
-ghost use Rattle.std.specs.Prelude.{◌≡◌, ℕ, List, [], Option, slice_index_or};
+ghost use Rattle.std.specs.Prelude.{◌≡◌, ℕ, List, Option};
 ghost use Rattle.std.specs.List.{zip};
 ghost use Rattle.berge_tree.specs.declared.edges.Edge.{Edge};
-ghost use Rattle.schema_types.specs.declared.types.Kind.{Kind};
-ghost use Rattle.schema_types.specs.declared.types.Kind.TheVariants as kind;
 ghost use Rattle.csv_tables.specs.Values.{Value};
 ghost use Rattle.csv_tables.specs.declared.types.Database.{Database};
 ghost use Rattle.query_types.specs.declared.types.ColumnRef.{ColumnRef};
 ghost use Rattle.cond_stats.specs.Columns.{list_between as list_of_cells_between};
 ghost use Rattle.cond_stats.specs.Lists.{compressed_degrees, list_of_value};
-ghost use Rattle.filtered_lists.specs.Ranges.{Range};
 ghost use Rattle.filtered_lists.specs.Standing.{CountsStandFor, ListsFall, ListsStandFor, SumTo};
 ghost use Rattle.level_bounds.specs.Keys.{AreKeys, HaveDifferentCharacters, Keys};
-ghost use Rattle.sql_meaning.specs.Databases.{IsColumnOf, IsDatabaseOf, AreTables};
-ghost use Rattle.sql_meaning.specs.Tables.{Tables, cells_of, tables_of};
-ghost use Rattle.table_stats.specs.Cells.{StandsFor};
+ghost use Rattle.sql_meaning.specs.Databases.{AreTables, IsColumnOf};
+ghost use Rattle.sql_meaning.specs.Tables.{Tables, tables_of};
+ghost use Rattle.table_stats.specs.Cells.{StandsFor, cells_of_column, kind_of_column};
 ghost use Rattle.table_stats.specs.Keys.{TellsValues};
 ghost use Rattle.table_stats.specs.Statistics.{column_lists, entry_counts};
 
@@ -27,7 +24,8 @@ pub fn statistics_stand_for_tables()
 
 /// Each list falls and sums to its number of rows, which is the same for every joined column.
 pub fn lists_sum_to_counts()
-    ensures sums { (tables : Tables) (accuracy entry column : ℕ) → SumTo (column_lists tables accuracy entry column) (entry_counts tables entry) }
+    ensures sums { (tables : Tables) (accuracy entry column : ℕ)
+        → SumTo (column_lists tables accuracy entry column) (entry_counts tables entry) }
     ensures falls { (tables : Tables) (accuracy entry column : ℕ) → ListsFall (column_lists tables accuracy entry column) }
 {}
 
@@ -41,18 +39,17 @@ pub fn tables_have_keys()
 pub fn cells_have_the_same_lists()
     ensures whole { (db : Database) (joined : ColumnRef) (accuracy : ℕ)
         → AreTables db → HaveDifferentCharacters db.pool → IsColumnOf db joined
-        → compressed_degrees accuracy (slice_index_or (cells_of db joined.from).columns joined.column [])
+        → compressed_degrees accuracy (cells_of_column db joined)
         ≡ (column_lists (tables_of db) accuracy joined.from joined.column).whole }
     ensures equal { (db : Database) (filter joined : ColumnRef) (accuracy : ℕ) (value : Value) (cell : Option ℕ)
         → AreTables db → HaveDifferentCharacters db.pool → IsColumnOf db filter → IsColumnOf db joined → filter.from ≡ joined.from
-        → StandsFor db.pool (slice_index_or (cells_of db filter.from).kinds filter.column kind.Int) value cell
-        → list_of_value accuracy (zip (slice_index_or (cells_of db filter.from).columns filter.column [])
-            (slice_index_or (cells_of db joined.from).columns joined.column [])) cell
+        → StandsFor db.pool (kind_of_column db filter) value cell
+        → list_of_value accuracy (zip (cells_of_column db filter) (cells_of_column db joined)) cell
         ≡ (column_lists (tables_of db) accuracy joined.from joined.column).equal filter.column value }
     ensures range { (db : Database) (filter joined : ColumnRef) (accuracy : ℕ) (low high : Option Value)
         → AreTables db → HaveDifferentCharacters db.pool → IsColumnOf db filter → IsColumnOf db joined → filter.from ≡ joined.from
-        → list_of_cells_between db.pool (slice_index_or (cells_of db filter.from).kinds filter.column kind.Int) accuracy
-            (zip (slice_index_or (cells_of db filter.from).columns filter.column []) (slice_index_or (cells_of db joined.from).columns joined.column []))
-            low high
-        ≡ (column_lists (tables_of db) accuracy joined.from joined.column).range (record { column = filter.column; low = low; high = high }) }
+        → list_of_cells_between db.pool (kind_of_column db filter) accuracy
+        (zip (cells_of_column db filter) (cells_of_column db joined)) low high
+        ≡ (column_lists (tables_of db) accuracy joined.from joined.column).range
+        (record { column = filter.column; low = low; high = high }) }
 {}

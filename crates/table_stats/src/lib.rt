@@ -4,7 +4,10 @@
 //! Nothing here knows of cells or of a pool of texts: a value is the first row that has it. That columns of cells have the same lists
 //! is a law, as is that the lists stand for the tables.
 //!
-//! Callers cite `column_lists` and `entry_counts` (in `specs/Statistics.antt`) for what is known, and `laws`.
+//! In: tables as lists of rows. Out: definitions and laws, and nothing that runs. Callers cite `column_lists` and `entry_counts` (in
+//! `specs/Statistics.antt`) for what is known, `TellsValues` (in `specs/Keys.antt`) for keys of rows, `StandsFor` (in
+//! `specs/Cells.antt`) for the cell of a literal, and `laws`. `examples` works out a table of six rows.
 #![tactic(auto)]
 
+pub mod examples;
 pub mod laws;

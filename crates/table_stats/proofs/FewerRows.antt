@@ -1,0 +1,35 @@
+-- Of rows of which fewer pass, fewer have picked keys.
+use Rattle.std.proofs.Common.{◌≡◌, ℕ, zero, suc, ◌+◌, ◌<◌, ◌≤◌, Bool, true, cond, List, [], ◌∷◌, map, arith, inl, inr}
+use Rattle.std.specs.List.{AllByRecursion, count_by, filter, range_with_len}
+use Rattle.std.proofs.lemmas.Bool.{cases_Bool}
+use Rattle.std.proofs.lemmas.List.Sums.{sum_by-cons}
+use Rattle.degree_sequences.specs.Domination.{DominatesKeys}
+use Rattle.degree_sequences.proofs.Counting.{is_in}
+
+module _ (key : ℕ → ℕ) (p q : ℕ → Bool) where
+  -- a row that passes the one test passes the other
+  abbrev pub PassesBoth : ℕ → Type 0
+  PassesBoth row = p row ≡ true → q row ≡ true
+
+  fewer : (counted : ℕ → Bool) (rows : List ℕ) → AllByRecursion PassesBoth rows
+      → count_by counted (map key (filter p rows)) ≤ count_by counted (map key (filter q rows))
+  fewer counted [] all = omega arith
+  fewer counted (row ∷ rows) all =
+      let rest : count_by counted (map key (filter p rows)) ≤ count_by counted (map key (filter q rows)) = fewer counted rows all.1 in
+      let more : (kept : List ℕ) → count_by counted (key row ∷ kept) ≡ cond (counted (key row)) 1 0 + count_by counted kept =
+      λ kept. sum_by-cons (λ k. cond (counted k) 1 0) (key row) kept in
+      elim (cases_Bool (p row)) [
+        | inl t ↦ rw (t, all.0 t) (omega (arith, rest, more (map key (filter p rows)), more (map key (filter q rows))))
+        | inr n ↦ elim (cases_Bool (q row)) [
+          | inl u ↦ rw (n, u) (omega (arith, rest, more (map key (filter q rows))))
+          | inr m ↦ rw (n, m) rest
+        ]
+      ]
+
+  pub fewer_dominated : (s rows : List ℕ) → AllByRecursion PassesBoth rows → DominatesKeys s (map key (filter q rows)) → DominatesKeys s (map key (filter p rows))
+  fewer_dominated s rows all dominates picked apart = omega (arith, fewer (is_in picked) rows all, dominates picked apart)
+
+-- what holds of each number of a range holds along it
+pub all_in_range : (Q : ℕ → Type 0) (first count : ℕ) → ((x : ℕ) → x < first + count → Q x) → AllByRecursion Q (range_with_len first count)
+all_in_range Q first zero h = tt
+all_in_range Q first (suc count) h = (h first (omega arith), all_in_range Q (first + 1) count (λ x low. h x (omega arith)))

@@ -1,0 +1,9 @@
+pub mod EqualValues
+pub mod FirstRows
+pub mod FewerRows
+pub mod ColumnRows
+pub mod Dominating
+pub mod Summing
+pub mod ValueNumbers
+pub mod CellColumns
+pub mod DatabaseColumns

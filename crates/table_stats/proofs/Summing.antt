@@ -1,0 +1,119 @@
+-- What the lists sum to, and that they fall.
+use Rattle.std.proofs.Common.{◌≡◌, ℕ, ◌≤◌, Bool, cond, eqb, List, map, length, sum, Some, ap, sym, ◌∙◌, subst, arith}
+use Rattle.std.specs.List.{count_by, list_any}
+use Rattle.std.proofs.lemmas.Bool.{cond_both}
+use Rattle.std.proofs.lemmas.List.{length-map}
+use Rattle.csv_tables.specs.Values.{Value}
+use Rattle.cond_stats.specs.Frequency.{frequent, remaining}
+use Rattle.cond_stats.specs.Leaves.{in_node, leaf_of, node_size}
+use Rattle.cond_stats.specs.Lists.{compressed_degrees, greatest, is_frequent, keys_with, list_of_node, list_of_value, rest}
+use Rattle.cond_stats.specs.Rows.{filter_values, keys_where}
+use Rattle.cond_stats.proofs.Dominating.{rest-is, uncompressed_rest}
+use Rattle.cond_stats.proofs.Sums.{IsFalling-uncompressed_rest, sum-compressed_degrees, sum-list_of_node, sum-list_of_value, sum-rest}
+use Rattle.degree_sequences.specs.Degrees.{degree, degree_list}
+use Rattle.degree_sequences.specs.Falling.{IsFalling}
+use Rattle.degree_sequences.proofs.CompressedLists.{IsFalling-compressed}
+use Rattle.degree_sequences.proofs.DegreeLists.{IsFalling-degree_list, places_fit}
+use Rattle.degree_sequences.specs.Domination.{DominatesKeys}
+use Rattle.filtered_lists.specs.Ranges.{Range}
+use Rattle.filtered_lists.specs.Standing.{CountsStandFor, ListsFall, SumTo, has_value, is_in_range, rows_where}
+use Rattle.sql_meaning.specs.Tables.{Tables}
+use Rattle.table_stats.specs.Columns.{first_row, numbered, paired, row_le}
+use Rattle.table_stats.specs.Statistics.{column_lists, count_with, entry_counts}
+use Rattle.table_stats.proofs.ColumnRows.{filter_numbers, height, number_at, values}
+use Rattle.table_stats.proofs.Dominating.{equal_for_keys, first_leaf, last_leaf, range_for_keys}
+
+-- ---- lists fall
+
+compressed-falls : (accuracy : ℕ) (keys : List ℕ) → IsFalling (compressed_degrees accuracy keys)
+compressed-falls accuracy keys = IsFalling-compressed accuracy (degree_list keys) (IsFalling-degree_list keys)
+
+rest-falls : (accuracy : ℕ) (pairs : List (ℕ × ℕ)) → IsFalling (rest accuracy pairs)
+rest-falls accuracy pairs =
+    subst IsFalling (sym (rest-is accuracy pairs)) (IsFalling-compressed accuracy (uncompressed_rest pairs) (IsFalling-uncompressed_rest pairs))
+
+value-falls : (accuracy : ℕ) (pairs : List (ℕ × ℕ)) (value : ℕ) → IsFalling (list_of_value accuracy pairs (Some value))
+unfolding list_of_value
+value-falls accuracy pairs value =
+    cond_both (is_frequent pairs value) (compressed_degrees accuracy (keys_with value pairs)) (rest accuracy pairs) IsFalling
+    (λ e. compressed-falls accuracy (keys_with value pairs)) (λ e. rest-falls accuracy pairs)
+
+node-falls : (at_most : ℕ → ℕ → Bool) (accuracy : ℕ) (pairs : List (ℕ × ℕ)) (size leaf : ℕ) → IsFalling (list_of_node at_most accuracy pairs size leaf)
+unfolding list_of_node
+node-falls at_most accuracy pairs size leaf =
+    compressed-falls accuracy (keys_where (λ value. in_node size leaf (leaf_of at_most (filter_values pairs) value)) pairs)
+
+module _ (tables : Tables) (accuracy entry joined : ℕ) where
+  abbrev pairs : ℕ → List (ℕ × ℕ)
+  pairs column = paired (values tables entry column) (values tables entry joined)
+
+  pub lists_fall : ListsFall (column_lists tables accuracy entry joined)
+  lists_fall = record {
+    whole = compressed-falls accuracy (numbered (values tables entry joined));
+    equal = λ column value. value-falls accuracy (pairs column) (first_row (values tables entry column) value);
+    range = λ range. node-falls (row_le (values tables entry range.column)) accuracy (pairs range.column)
+        (node_size (first_leaf (values tables entry range.column) range.low) (last_leaf (values tables entry range.column) range.high))
+        (first_leaf (values tables entry range.column) range.low);
+  }
+
+  -- ---- lists sum to numbers of rows
+
+  abbrev remaining_count : List ℕ → ℕ
+  remaining_count numbers = greatest (map (degree numbers) (remaining numbers))
+
+  abbrev count_of : List ℕ → ℕ → ℕ
+  count_of numbers number = cond (list_any (λ other. eqb other number) (frequent numbers)) (degree numbers number) (remaining_count numbers)
+
+  equal_sum : (column : ℕ) (value : Value) → sum ((column_lists tables accuracy entry joined).equal column value) ≡ count_with (values tables entry column) value
+  equal_sum column value =
+      let number : ℕ = first_row (values tables entry column) value in
+      sum-list_of_value accuracy (pairs column) number
+      ∙ ap (λ (n : ℕ). cond (is_frequent (pairs column) number) (degree (filter_values (pairs column)) number) n) (sum-rest accuracy (pairs column))
+      ∙ ap (λ (numbers : List ℕ). count_of numbers number) (filter_numbers tables entry column joined)
+
+  range_sum : (range : Range) → sum ((column_lists tables accuracy entry joined).range range) ≡ (entry_counts tables entry).range range
+  range_sum range =
+      let at_most : ℕ → ℕ → Bool = row_le (values tables entry range.column) in
+      let first : ℕ = first_leaf (values tables entry range.column) range.low in
+      let size : ℕ = node_size first (last_leaf (values tables entry range.column) range.high) in
+      sum-list_of_node at_most accuracy (pairs range.column) size first
+      ∙ ap (λ (numbers : List ℕ). count_by (λ number. in_node size first (leaf_of at_most numbers number)) numbers) (filter_numbers tables entry range.column joined)
+
+  pub lists_sum : SumTo (column_lists tables accuracy entry joined) (entry_counts tables entry)
+  lists_sum = record {
+    whole = sum-compressed_degrees accuracy (numbered (values tables entry joined))
+        ∙ length-map (values tables entry joined) (first_row (values tables entry joined)) ∙ height tables entry joined;
+    equal = equal_sum;
+    range = range_sum;
+  }
+
+-- ---- numbers of rows are enough
+
+module _ (tables : Tables) (entry : ℕ) where
+  -- the rows in question, by the numbers of any column
+  fits : (s : List ℕ) (test : ℕ → Bool) → DominatesKeys s (map (number_at tables entry 0) (rows_where tables entry test)) → length (rows_where tables entry test) ≤ sum s
+  fits s test dominates =
+      omega (
+        arith,
+        places_fit s (map (number_at tables entry 0) (rows_where tables entry test)) dominates,
+        length-map (rows_where tables entry test) (number_at tables entry 0),
+      )
+
+  pub counts_stand : CountsStandFor (entry_counts tables entry) tables entry
+  counts_stand = record {
+    whole = omega arith;
+    equal = λ column value. let lists = column_lists tables 1 entry 0 in
+        omega (
+          arith,
+          fits (lists.equal column value) (has_value tables entry column value)
+              (equal_for_keys tables 1 entry 0 (number_at tables entry 0) (λ row other low also. ((λ same. same), (λ same. same))) column value),
+          equal_sum tables 1 entry 0 column value,
+        );
+    range = λ range. let lists = column_lists tables 1 entry 0 in
+        omega (
+          arith,
+          fits (lists.range range) (is_in_range tables entry range)
+              (range_for_keys tables 1 entry 0 (number_at tables entry 0) (λ row other low also. ((λ same. same), (λ same. same))) range),
+          range_sum tables 1 entry 0 range,
+        );
+  }
