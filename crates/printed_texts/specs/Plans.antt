@@ -1,4 +1,4 @@
--- The plan text, and that a plan is one for these entries.
+-- The plan text, and the audit text.
 use Rattle.std.specs.Prelude.{ℕ, ◌+◌, List, [], ◌∷◌, ◌++◌, Option, None, Some, slice_get, codes, decimal}
 use Rattle.plans.specs.declared.left_deep.Plan.{Plan}
 use Rattle.query_types.specs.declared.types.Source.{Source}
@@ -31,3 +31,20 @@ level_lines k sources (entry ∷ order) (bound ∷ bounds) =
 -- a line for each FROM entry's scan, and then one for each level of the order
 abbrev pub plan_lines : List Source → Plan → List ℕ
 plan_lines sources plan = scan_lines sources plan.scans ++ level_lines 1 sources plan.order plan.levels
+
+-- level K ALIAS BOUND ROWS
+abbrev pub audit_line : ℕ → List ℕ → ℕ → ℕ → List ℕ
+audit_line k alias bound rows =
+    codes "level " ++ (decimal k ++ (codes " " ++ (alias ++ (codes " " ++ (decimal bound ++ (codes " " ++ (decimal rows ++ codes "\n")))))))
+
+-- a line for each entry of the order, the bound of its level and the number of its rows, the levels from the k-th on
+abbrev pub level_audits : ℕ → List Source → List ℕ → List ℕ → List ℕ → List ℕ
+level_audits k sources [] bounds counts = []
+level_audits k sources (entry ∷ order) [] counts = []
+level_audits k sources (entry ∷ order) (bound ∷ bounds) [] = []
+level_audits k sources (entry ∷ order) (bound ∷ bounds) (rows ∷ counts) =
+    audit_line k (alias_of (slice_get sources entry)) bound rows ++ level_audits (k + 1) sources order bounds counts
+
+-- a line for each level of the order, where these are the numbers of rows of the levels
+abbrev pub audit_lines : List Source → Plan → List ℕ → List ℕ
+audit_lines sources plan counts = level_audits 1 sources plan.order plan.levels counts

@@ -2,9 +2,10 @@
 //! takes memory, so nothing here can want it.
 //!
 //! In come a plan, the entries of a query, a database and the rows to print; or a status, and what its line may
-//! name. Callers cite `plan_lines` (in `specs/Plans.antt`), `rows_lines` and `lines_at` (in `specs/Texts.antt`
-//! and `specs/Lines.antt`) and `fault_line` (in `specs/Faults.antt`). Each writing call has one clause, `Wrote`:
-//! it leaves a prefix of its text where the sink fails, as `write_line(status, names, notes)` does.
+//! name. Callers cite `plan_lines` and `audit_lines` (in `specs/Plans.antt`), `rows_lines` and `lines_at` (in
+//! `specs/Texts.antt` and `specs/Lines.antt`) and `fault_line` (in `specs/Faults.antt`). Each writing call has one
+//! clause, `Wrote`: it leaves a prefix of its text where the sink fails, as `write_line(status, names, notes)` does.
+//! `put_line` and `alias_at` are parts for texts over several entries.
 #![tactic(auto)]
 
 mod fault_lines;
@@ -13,5 +14,5 @@ mod plan;
 mod rows;
 
 pub use fault_lines::{Named, write_line};
-pub use plan::write_plan;
-pub use rows::write_rows;
+pub use plan::{alias_at, write_plan};
+pub use rows::{Line, put_line, write_rows};

@@ -73,7 +73,8 @@ fn write_level<N: Sink>(
     )
 }
 
-fn alias_at(sources: &[Source], entry: u8) -> &str
+/// The name in the query of the FROM entry with this number.
+pub fn alias_at(sources: &[Source], entry: u8) -> &str
     requires { entry < length sources.now }
     ensures { result.now ≡ alias_of (slice_get sources.now entry) }
 {

@@ -16,7 +16,7 @@ use query_types::Out;
 use row_printer::{put_comma, put_field, put_lone_field, put_record_end};
 use sql_meaning::{ValueRef, value_of_column};
 
-/// A record of the rows text: the header, or that of a choice of one row for each FROM entry.
+/// A record of the rows text: the header, or that of a choice of one row for each FROM entry, in FROM order.
 #[derive(Clone, Copy, Debug)]
 pub enum Line<'a> {
     Header,
@@ -136,8 +136,8 @@ fn put_fields<N: Sink>(
     }
 }
 
-// A record: its fields and its end.
-fn put_line<N: Sink>(
+/// Puts a record of the rows text: the fields of the outputs, and the record's end (RFC 4180).
+pub fn put_line<N: Sink>(
     outs: &[Out],
     line: Line,
     db: &Database,

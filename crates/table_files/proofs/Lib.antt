@@ -2,6 +2,7 @@ pub mod Asked
 pub mod EachTable
 pub mod EntryLaws
 pub mod EntryRows
+pub mod FewRows
 pub mod Loads
 pub mod OneTable
 pub mod PlaceFacts

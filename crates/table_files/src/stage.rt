@@ -1,11 +1,12 @@
 //! The tables of a query.
-ghost use Rattle.std.specs.Prelude.{◌≡◌, All, IfOk, IsUtf8, length};
+ghost use Rattle.std.specs.Prelude.{◌≡◌, ◌<◌, ◌≤◌, ℕ, All, IfOk, IsUtf8, length};
 ghost use Rattle.csv_tables.specs.Pools.{AreDifferent};
 ghost use Rattle.outcomes.specs.Devices.{reading};
 ghost use Rattle.outcomes.specs.Reads.{Reads, seen};
 ghost use Rattle.query_types.specs.Validity.{IsOf};
 ghost use Rattle.schema_types.specs.Validity.{IsValid};
 ghost use Rattle.sql_meaning.specs.Databases.{IsDatabaseOf};
+ghost use Rattle.sql_meaning.specs.Tables.{row_counts, tables_of};
 ghost use Rattle.table_files.specs.Found.{HasCells, entry_rows};
 ghost use Rattle.table_files.specs.Stage.{IsReached, tables_of_query, tables_stage};
 
@@ -38,6 +39,9 @@ pub fn read_tables<S: Store>(
 
     // Each table of the query has one place.
     ensures once { IfOk result (λ db. length db.cells ≡ length (tables_of_query query.now.from)) }
+
+    // No table has more rows than a file may have.
+    ensures few_rows { IfOk result (λ db. (entry : ℕ) → entry < length query.now.from → row_counts (tables_of db) entry ≤ 4000000) }
 
     // Its texts are UTF-8, and no two are equal.
     ensures texts { IfOk result (λ db. All IsUtf8 db.pool) }

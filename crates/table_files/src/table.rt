@@ -37,6 +37,7 @@ pub(crate) fn load_table<S: Store>(
     requires valid { IsValidTable table.now }
     requires room { length pool.old ≤ 4000000000 }
     ensures cells { IfOk result (AreCellsOf table.now pool.new) }
+    ensures few { IfOk result (λ cells. cells.rows ≤ 4000000) }
     ensures begins { IfOk result (λ _. BeginsWith pool.old pool.new) }
     ensures more { IfOk result (λ _. length pool.new ≤ length pool.old + 256000000) }
     ensures reads { Reads (reading S.files S.faults S.misses store.old store.new) (file_rows number table.now) (AtFile (FileId.Table number))

@@ -4,3 +4,4 @@ pub mod SchemaAnswers
 pub mod SmallSchemas
 pub mod SmallQueries
 pub mod QueryAnswers
+pub mod QueryLimits

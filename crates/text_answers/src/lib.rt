@@ -10,4 +10,4 @@ mod examples;
 mod laws;
 
 pub use examples::{small_queries, small_schemas};
-pub use laws::{query_texts, schema_texts};
+pub use laws::{query_limits, query_texts, schema_texts};

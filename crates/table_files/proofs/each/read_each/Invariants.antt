@@ -1,6 +1,11 @@
+use Rattle.std.specs.Prelude.{All}
 use Rattle.outcomes.specs.Devices.{reading}
 use Rattle.table_files.proofs.EachTable.{SoFar}
+use Rattle.table_files.proofs.FewRows.{HasFewRows}
 use Rattle.table_files.proofs.each.read_each.Given as goal
 
 abbrev pub invariant-numbers : goal.invariant-numbers
-invariant-numbers g l = SoFar l.schema l.numbers (reading g.S.Store.files g.S.Store.faults g.S.Store.misses l.initial.store l.store) l.number-index l.pool l.found
+invariant-numbers g l = record {
+  so_far : SoFar l.schema l.numbers (reading g.S.Store.files g.S.Store.faults g.S.Store.misses l.initial.store l.store) l.number-index l.pool l.found;
+  few_rows : All HasFewRows l.found;
+}

@@ -5,7 +5,8 @@ use Rattle.query_types.specs.declared.types.Source.{Source}
 use Rattle.table_files.specs.Stage.{numbers_of, place_of, tables_of_query}
 use Rattle.table_files.proofs.Asked.{numbers_few, numbers_low}
 use Rattle.table_files.proofs.EntryRows.{each_long}
-use Rattle.table_files.proofs.StageFacts.{found_cells, found_database, stage_read, stage_stops}
+use Rattle.table_files.proofs.FewRows.{tables_are_few}
+use Rattle.table_files.proofs.StageFacts.{found_cells, found_database, made, stage_read, stage_stops}
 use Rattle.table_files.proofs.stage.read_tables.Goals as goal
 
 pub slots-requires : goal.slots-requires
@@ -57,3 +58,6 @@ pub returns-clause-once : goal.returns-clause-once
 returns-clause-once g c =
     let named : c.as_slice-2.result.now ≡ tables_of_query c.args.query.now.from = c.as_slice-2.ensures ∙ c.in-Ok.ensures ∙ ap tables_of_query c.as_slice-from.ensures in
     each_long c.args.schema.now c.read_each.new.pool c.as_slice-2.result.now c.in_ok-cells.cells c.in_ok-cells.ensures.cells ∙ ap length named
+
+pub returns-clause-few_rows : goal.returns-clause-few_rows
+returns-clause-few_rows g c entry low = tables_are_few (made c.read_each.new.pool c.in_ok-cells.cells c.in-Ok-slots.slots) c.in_ok-cells.ensures.few_rows entry

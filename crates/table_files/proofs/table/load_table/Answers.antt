@@ -1,5 +1,6 @@
 use Rattle.std.proofs.Common.{◌∙◌, refl, arith}
 use Rattle.std.proofs.lemmas.Result.{err_from_is_err_and}
+use Rattle.table_files.proofs.FewRows.{cells_are_few}
 use Rattle.table_files.proofs.Loads.{wanting}
 use Rattle.table_files.proofs.OneTable.{rows_read, rows_refused, rows_stop}
 use Rattle.table_files.proofs.table.load_table.Goals as goal
@@ -16,6 +17,9 @@ pub returns-in-Ok-read_table-clause-reads : goal.returns-in-Ok-read_table-clause
 returns-in-Ok-read_table-clause-reads g c =
     rows_read c.args.number c.args.table.now c.as_str.result.now (c.as_str.ensures.value ∙ c.in-Ok.ensures) _ c.as_slice.result.now _ c.as_slice.ensures c.in-Ok-read_table.ensures.rows
     c.in_ok-bytes.ensures.reads
+
+pub returns-in-Ok-read_table-clause-few : goal.returns-in-Ok-read_table-clause-few
+returns-in-Ok-read_table-clause-few g c = cells_are_few c.args.table.now c.as_slice.result.now _ _ c.in-Ok-read_table.ensures.rows
 
 pub returns-clause-reads : goal.returns-clause-reads
 returns-clause-reads g c =

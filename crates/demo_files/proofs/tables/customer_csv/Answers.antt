@@ -1,0 +1,19 @@
+use Rattle.std.proofs.Common.{◌≡◌, ◌∙◌, ap, arith}
+use Rattle.demo_files.specs.Files.{file_text, customer_records, table_records}
+use Rattle.demo_files.specs.Shop.{customer, customer_columns, customers}
+use Rattle.demo_files.proofs.RecordTexts.{one_more, only_names}
+use Rattle.demo_files.proofs.tables.customer_csv.Goals as goal
+
+pub loop-i-init : goal.loop-i-init
+loop-i-init c = c.in_ok-file.ensures.items ∙ only_names customer_columns (customer c.args.number)
+
+pub loop-i-preserved : goal.loop-i-preserved
+loop-i-preserved c =
+    one_more customer_columns (customer c.args.number) c.loop-i.i c.loop-i.file.items c.push_customer.new.file.items
+    c.loop-i.invariant c.in_ok-push_customer.ensures
+
+pub returns : goal.returns
+unfolding customer_records
+returns c =
+    let all : c.loop-i.i ≡ customers = omega arith in
+    c.from_vec.ensures ∙ c.loop-i.invariant ∙ ap (λ n. file_text (table_records customer_columns (customer c.args.number) n)) all

@@ -1,0 +1,7 @@
+use Rattle.std.proofs.Common.{◌≡◌}
+use Rattle.demo_files.specs.Files.{file_text, table_records}
+use Rattle.demo_files.specs.Shop.{customer, customer_columns}
+use Rattle.demo_files.proofs.tables.customer_csv.Given as goal
+
+abbrev pub invariant-loop-i : goal.invariant-loop-i
+invariant-loop-i l = l.file.items ≡ file_text (table_records customer_columns (customer l.number) l.i)

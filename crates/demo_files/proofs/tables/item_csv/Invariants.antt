@@ -1,0 +1,7 @@
+use Rattle.std.proofs.Common.{◌≡◌}
+use Rattle.demo_files.specs.Files.{file_text, table_records}
+use Rattle.demo_files.specs.Shop.{item, item_columns}
+use Rattle.demo_files.proofs.tables.item_csv.Given as goal
+
+abbrev pub invariant-loop-i : goal.invariant-loop-i
+invariant-loop-i l = l.file.items ≡ file_text (table_records item_columns (item l.number) l.i)

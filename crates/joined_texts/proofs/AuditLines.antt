@@ -1,0 +1,58 @@
+-- The lines of the audit text, one after the other, and the numbers of rows in them.
+use Rattle.std.proofs.Common.{◌≡◌, ℕ, zero, suc, ◌+◌, ◌<◌, List, [], ◌∷◌, ◌++◌, drop, length, map, get_or, refl, ap, sym, ◌∙◌, arith, add-one}
+use Rattle.std.specs.Prelude.{slice_get}
+use Rattle.std.specs.List.{range_with_len}
+use Rattle.std.proofs.Math.Seq.{drop-cons}
+use Rattle.std.proofs.lemmas.List.{length-map}
+use Rattle.csv_tables.specs.declared.types.Database.{Database}
+use Rattle.link_index.specs.Forest.{Level, rows_at}
+use Rattle.query_types.specs.declared.types.Query.{Query}
+use Rattle.query_types.specs.declared.types.Source.{Source}
+use Rattle.hash_join.specs.Levels.{level_sizes, query_level}
+use Rattle.printed_texts.specs.Plans.{alias_of, audit_line, level_audits}
+use Rattle.joined_texts.specs.Printed.{level_counts}
+
+-- ---- lines
+
+-- what is left from place i on begins with the number there
+left_at : (xs : List ℕ) (i x : ℕ) → i < length xs → x ≡ get_or xs i 0 → drop i xs ≡ x ∷ drop (i + 1) xs
+left_at xs i x low at' =
+    drop-cons xs i 0 low ∙ ap (λ (y : ℕ). y ∷ drop (suc i) xs) (sym at') ∙ ap (λ (j : ℕ). x ∷ drop j xs) (sym (add-one i))
+
+-- the next level's line comes first
+pub next_audit : (k : ℕ) (sources : List Source) (order bounds counts : List ℕ) (i entry bound rows : ℕ)
+    → i < length order → i < length bounds → i < length counts → entry ≡ get_or order i 0 → bound ≡ get_or bounds i 0 → rows ≡ get_or counts i 0
+    → level_audits k sources (drop i order) (drop i bounds) (drop i counts)
+    ≡ audit_line k (alias_of (slice_get sources entry)) bound rows ++ level_audits (k + 1) sources (drop (i + 1) order) (drop (i + 1) bounds) (drop (i + 1) counts)
+next_audit k sources order bounds counts i entry bound rows some more count is at' counted =
+    ap (λ (left : List ℕ). level_audits k sources left (drop i bounds) (drop i counts)) (left_at order i entry some is)
+    ∙ ap (λ (left : List ℕ). level_audits k sources (entry ∷ drop (i + 1) order) left (drop i counts)) (left_at bounds i bound more at')
+    ∙ ap (λ (left : List ℕ). level_audits k sources (entry ∷ drop (i + 1) order) (bound ∷ drop (i + 1) bounds) left) (left_at counts i rows count counted)
+
+-- ---- counts
+
+pub count_at : (levels : List Level) (i : ℕ) → get_or (level_counts levels) i 0 ≡ length (rows_at levels i)
+count_at [] i = refl
+count_at (level ∷ levels) zero = refl
+count_at (level ∷ levels) (suc i) = count_at levels i
+
+pub count_of_counts : (levels : List Level) → length (level_counts levels) ≡ length levels
+count_of_counts levels = length-map levels (λ level. length level.rows)
+
+counts_from : (levels : List Level) (f : ℕ → ℕ) (a : ℕ) → ((k : ℕ) → k < length levels → length (rows_at levels k) ≡ f (a + k))
+    → level_counts levels ≡ map f (range_with_len a (length levels))
+counts_from [] f a same = refl
+counts_from (level ∷ levels) f a same =
+    let start : a + 0 ≡ a = omega arith in
+    let first : length level.rows ≡ f a = same 0 (omega arith) ∙ ap f start in
+    let rest : level_counts levels ≡ map f (range_with_len (a + 1) (length levels)) = counts_from levels f (a + 1) (λ k low. let next : a + suc k ≡ a + 1 + k = omega arith in same (suc k) (omega (arith, low)) ∙ ap f next) in
+    rw (first, rest) refl
+
+pub counts_are_sizes : (query : Query) (db : Database) (order : List ℕ) (executed : List Level)
+    → ((k : ℕ) → k < length order → rows_at executed k ≡ query_level query db order (k + 1)) → length executed ≡ length order
+    → level_counts executed ≡ level_sizes query db order
+counts_are_sizes query db order executed levels count =
+    let size : ℕ → ℕ = λ k. length (query_level query db order (k + 1)) in
+    counts_from executed size 0
+    (λ k low. let from_zero : k ≡ 0 + k = omega arith in ap (λ (rows : List (List ℕ)). length rows) (levels k (omega (arith, low, count))) ∙ ap size from_zero)
+    ∙ ap (λ (n : ℕ). map size (range_with_len 0 n)) count

@@ -1,0 +1,4 @@
+pub mod AuditLines
+pub mod Placing
+pub mod Printing
+pub mod Shown

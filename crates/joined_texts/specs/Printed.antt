@@ -1,0 +1,22 @@
+-- What is printed of a query that was executed.
+use Rattle.std.specs.Prelude.{ℕ, List, length, map}
+use Rattle.csv_tables.specs.Rows.{Row}
+use Rattle.csv_tables.specs.declared.types.Database.{Database}
+use Rattle.link_index.specs.Forest.{Level}
+use Rattle.query_types.specs.declared.types.Query.{Query}
+use Rattle.sql_meaning.specs.Answers.{selected}
+use Rattle.sql_meaning.specs.Levels.{row_in}
+use Rattle.sql_meaning.specs.Tables.{tables_of}
+use Rattle.hash_join.specs.Levels.{query_level}
+
+-- the values of the outputs where the entries of the order have the rows of a choice
+abbrev pub selected_in : Query → Database → List ℕ → List ℕ → Row
+selected_in query db order choice = selected query (tables_of db) (row_in order choice)
+
+-- the rows that are printed: the outputs of each choice of the last level, in its order
+abbrev pub printed_rows : Query → Database → List ℕ → List Row
+printed_rows query db order = map (λ choice. selected_in query db order choice) (query_level query db order (length order))
+
+-- how many rows each level has
+abbrev pub level_counts : List Level → List ℕ
+level_counts executed = map (λ level. length level.rows) executed

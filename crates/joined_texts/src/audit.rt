@@ -1,0 +1,96 @@
+//! The audit text.
+ghost use Rattle.std.specs.Prelude.{ℕ, ◌≡◌, ◌<◌, ◌+◌, ◌==◌, length};
+ghost use Rattle.std.specs.List.{AllByRecursion, IsDistinct};
+ghost use Rattle.outcomes.specs.Devices.{growth};
+ghost use Rattle.outcomes.specs.Writes.{Put, Wrote};
+ghost use Rattle.plans.specs.LeftDeep.{IsPlan};
+ghost use Rattle.printed_texts.specs.Plans.{audit_line, audit_lines, level_audits};
+ghost use Rattle.joined_texts.specs.Printed.{level_counts};
+
+use base_io::{Buffer, Failed, Sink};
+use hash_join::Executed;
+use plans::Plan;
+use printed_texts::alias_at;
+use query_types::Source;
+
+const LEVEL: &[u8] = b"level ";
+
+const SPACE: &[u8] = b" ";
+
+const LINE_END: &[u8] = b"\n";
+
+fn put_level<N: Sink>(
+    k: u64,
+    alias: &str,
+    bound: u64,
+    rows: u32,
+    buffer: &mut Buffer,
+    sink: &mut N,
+) -> Result<(), Failed>
+    ensures { Put (growth N.taken N.faults sink.old sink.new) buffer.old buffer.new (audit_line k alias.now bound rows) result }
+{
+    let mut place = itoa::Buffer::new();
+    let mut digits = itoa::Buffer::new();
+    let mut count = itoa::Buffer::new();
+    let place = place.format(k).as_bytes();
+    let bound = digits.format(bound).as_bytes();
+    let rows = count.format(rows).as_bytes();
+    buffer.put_parts(
+        sink,
+        &[
+            LEVEL,
+            place,
+            SPACE,
+            alias.as_bytes(),
+            SPACE,
+            bound,
+            SPACE,
+            rows,
+            LINE_END,
+        ],
+    )
+}
+
+// A line for each level, along the order.
+fn put_levels<N: Sink>(
+    executed: &Executed,
+    sources: &[Source],
+    order: &[u8],
+    bounds: &[u64],
+    buffer: &mut Buffer,
+    sink: &mut N,
+) -> Result<(), Failed>
+    requires entries { AllByRecursion (λ entry. entry < length sources.now) order.now }
+    requires all { length order.now ≡ length sources.now }
+    requires once { IsDistinct ◌==◌ order.now }
+    requires bounds { length bounds.now ≡ length order.now }
+    requires levels { length executed.now ≡ length order.now }
+    ensures { Put (growth N.taken N.faults sink.old sink.new) buffer.old buffer.new
+        (level_audits 1 sources.now order.now bounds.now (level_counts executed.now)) result }
+{
+    'levels: for i in 0..order.len() {
+        let alias = alias_at(sources, order[i]);
+        let rows = executed.len(i as u8);
+        put_level(i as u64 + 1, alias, bounds[i], rows, buffer, sink)?;
+    }
+    Ok(())
+}
+
+/// Writes the audit text: for each level of the plan's order, from 1 on, its entry's name in the query, its bound
+/// and the number of rows that was listed, both in rows. `Failed` comes where the sink failed, and then a prefix
+/// of the text stands.
+pub fn write_audit<N: Sink>(
+    executed: &Executed,
+    plan: &Plan,
+    sources: &[Source],
+    sink: &mut N,
+) -> Result<(), Failed>
+    requires plan { IsPlan (length sources.now) plan.now }
+    requires count { length executed.now ≡ length plan.now.order }
+    ensures { Wrote (growth N.taken N.faults sink.old sink.new) (audit_lines sources.now plan.now (level_counts executed.now)) result }
+{
+    let mut buffer = Buffer::new();
+    let (order, levels) = (plan.order.as_slice(), plan.levels.as_slice());
+    put_levels(executed, sources, order, levels, &mut buffer, sink)?;
+    buffer.flush(sink)
+}

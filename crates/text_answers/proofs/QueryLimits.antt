@@ -1,0 +1,82 @@
+-- A query that a text is answered with keeps the limits.
+use Rattle.std.proofs.Common.{◌≡◌, inl, inr, ℕ, ◌≤◌, Bool, true, false, cond, nat_lt, List, [], ◌∷◌, ◌++◌, length, Result, Ok, Err, refl, sym, subst}
+use Rattle.std.proofs.lemmas.Bool.{ltb-false}
+use Rattle.query_grammar.specs.declared.tree.QueryText.{QueryText}
+use Rattle.schema_types.specs.declared.errors.LimitKind.{LimitKind}
+use Rattle.schema_types.specs.declared.errors.LimitKind.TheVariants as limit
+use Rattle.schema_types.specs.declared.types.Schema.{Schema}
+use Rattle.query_types.specs.declared.types.Query.{Query}
+use Rattle.sql_parse.specs.declared.errors.QueryError.{QueryError}
+use Rattle.sql_parse.specs.Names.{entries}
+use Rattle.sql_parse.specs.Offences.{name_offences, all_kind_offences}
+use Rattle.sql_parse.specs.Values.{query_of}
+use Rattle.sql_parse.specs.Bound.{refusal, most_entries, most_conjuncts, most_outputs, over, first_list, limit_refusals, first_place, name_error, kind_error, long_lists, refusals, unless, bound}
+use Rattle.sql_parse.specs.Numbers.{number_offences}
+use Rattle.sql_parse.specs.Reading.{lexemes_of, unless_number, IsAnswer}
+use Rattle.text_answers.specs.QueryTexts.{query_answer}
+use Rattle.text_answers.proofs.QueryAnswers.{allowed}
+
+-- ---- no refusal
+
+none_before : (xs ys : List QueryError) → xs ++ ys ≡ [] → xs ≡ []
+none_before [] ys none = refl
+none_before (x ∷ xs) ys none = absurd cc
+
+none_behind : (xs ys : List QueryError) → xs ++ ys ≡ [] → ys ≡ []
+none_behind [] ys none = none
+none_behind (x ∷ xs) ys none = absurd cc
+
+not_over : (which : LimitKind) (most n : ℕ) → over which most n ≡ [] → n ≤ most
+not_over which most n none = at (nat_lt most n) refl none where
+  at : (more : Bool) → more ≡ nat_lt most n → cond more (refusal which n ∷ []) [] ≡ [] → n ≤ most
+  at true is none = absurd cc
+  at false is none = ltb-false most n (sym is)
+
+unless_ok : (wrong : List QueryError) (value query : Query) → unless wrong value ≡ Ok query → (wrong ≡ []) × (value ≡ query)
+unless_ok [] value query is = (refl, cc)
+unless_ok (e ∷ rest) value query is = absurd cc
+
+unless_number_ok : (places : List ℕ) (answer : Result Query QueryError) (query : Query) → Ok query ≡ unless_number places answer → answer ≡ Ok query
+unless_number_ok [] answer query is = sym is
+unless_number_ok (place ∷ rest) answer query is = absurd cc
+
+-- ---- of what is wrong with a query of a tree nothing is
+
+pub record KeepsLimits (query : Query) : Type 0 where
+  pub conjuncts : length query.conjuncts ≤ most_conjuncts
+  pub outputs : length query.select ≤ most_outputs
+
+kept : (query : Query) (lists : List ℕ) → limit_refusals query lists ≡ [] → KeepsLimits query
+kept query lists none =
+    let before : List QueryError = over limit.FromEntries most_entries (length query.from) ++ first_list lists in
+    let many_conjuncts : List QueryError = over limit.Conjuncts most_conjuncts (length query.conjuncts) in
+    let many_outputs : List QueryError = over limit.Outputs most_outputs (length query.select) in
+    record {
+      conjuncts = not_over limit.Conjuncts most_conjuncts (length query.conjuncts)
+          (none_behind before many_conjuncts (none_before (before ++ many_conjuncts) many_outputs none));
+      outputs = not_over limit.Outputs most_outputs (length query.select) (none_behind (before ++ many_conjuncts) many_outputs none);
+    }
+
+bound_keeps : (schema : Schema) (text : List ℕ) (tree : QueryText) (query : Query) → bound schema text tree ≡ Ok query → KeepsLimits query
+unfolding bound refusals
+bound_keeps schema text tree query is =
+    let names : List QueryError = first_place name_error (name_offences schema text (entries schema text tree) tree) in
+    let kinds : List QueryError = first_place kind_error (all_kind_offences schema text (entries schema text tree) tree) in
+    let made : Query = query_of schema text tree in
+    let limits : List QueryError = limit_refusals made (long_lists (entries schema text tree) tree) in
+    let parts : (refusals schema text tree ≡ []) × (made ≡ query) = unless_ok (refusals schema text tree) made query is in
+    subst KeepsLimits parts.1 (kept made (long_lists (entries schema text tree) tree) (none_behind (names ++ kinds) limits parts.0))
+
+-- every query that the relation allows
+pub answer_keeps : (schema : Schema) (text : List ℕ) (query : Query) → IsAnswer schema text (Ok query) → KeepsLimits query
+answer_keeps schema text query (inl memory) = absurd cc
+answer_keeps schema text query (inr (inl unlexed)) = absurd (let is = unlexed.refused in cc)
+answer_keeps schema text query (inr (inr (inl deep))) = absurd (let is = deep.refused in cc)
+answer_keeps schema text query (inr (inr (inr (inl unspelled)))) = absurd (let is = unspelled.refused in cc)
+answer_keeps schema text query (inr (inr (inr (inr spelled)))) =
+    bound_keeps schema text spelled.tree query
+    (unless_number_ok (number_offences text (lexemes_of text spelled.tokens)) (bound schema text spelled.tree) query spelled.answered)
+
+-- and so the one that is computed
+pub text_keeps : (schema : Schema) (text : List ℕ) (query : Query) → query_answer schema text ≡ Ok query → KeepsLimits query
+text_keeps schema text query is = answer_keeps schema text query (subst (IsAnswer schema text) is (allowed schema text))
