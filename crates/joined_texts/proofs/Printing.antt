@@ -7,6 +7,7 @@ use Rattle.std.proofs.lemmas.List.Elements.{All-filter, Contains-get_or}
 use Rattle.std.proofs.lemmas.List.Folds.{flat_map-map}
 use Rattle.csv_tables.specs.declared.types.Database.{Database}
 use Rattle.link_index.specs.Forest.{Level, rows_at}
+use Rattle.query_types.specs.declared.types.Out.{Out}
 use Rattle.query_types.specs.declared.types.Query.{Query}
 use Rattle.sql_meaning.specs.Answers.{conjuncts_of}
 use Rattle.sql_meaning.specs.Choices.{IsChoiceOf, choices_of}
@@ -50,10 +51,15 @@ module _ (joining : Joining) (is : IsOrdered joining) (executed : List Level)
   }
 
   -- the header and the records of the last level are the whole text
-  pub whole_text : header_text joining.query.now.select ++ flat_map (choice_record joining) (last_rows joining executed)
+  pub whole_text : (outs : List Out) → outs ≡ joining.query.now.select
+      → header_text outs ++ flat_map (choice_record joining) (last_rows joining executed)
       ≡ rows_lines joining.query.now.select (printed_rows joining.query.now joining.db.now joining.order.now)
-  whole_text =
-      ap (λ (rest : List ℕ). header_text joining.query.now.select ++ rest) (
+  whole_text outs same =
+      let query : Query = joining.query.now in
+      let db : Database = joining.db.now in
+      let order : List ℕ = joining.order.now in
+      ap (λ (o : List Out). header_text o ++ flat_map (choice_record joining) (last_rows joining executed)) same
+      ∙ ap (λ (rest : List ℕ). header_text query.select ++ rest) (
       ap (flat_map (choice_record joining)) last_is
-      ∙ sym (flat_map-map row_text (selected_in joining.query.now joining.db.now joining.order.now) (query_level joining.query.now joining.db.now joining.order.now (length joining.order.now)))
+      ∙ sym (flat_map-map row_text (selected_in query db order) (query_level query db order (length order)))
       )

@@ -98,9 +98,11 @@ pub fn write_rows<N: Sink>(
 ) -> Result<(), Failed>
     requires database { IsDatabaseOf query.now db.now }
     requires order { IsOrderOf query.now order.now }
-    requires levels { (k : ℕ) → k < length order.now → rows_at executed.now k ≡ query_level query.now db.now order.now (k + 1) }
+    requires levels { (k : ℕ) → k < length order.now
+        → rows_at executed.now k ≡ query_level query.now db.now order.now (k + 1) }
     requires count { length executed.now ≡ length order.now }
-    ensures { Wrote (growth N.taken N.faults sink.old sink.new) (rows_lines query.now.select (printed_rows query.now db.now order.now)) result }
+    ensures { Wrote (growth N.taken N.faults sink.old sink.new)
+        (rows_lines query.now.select (printed_rows query.now db.now order.now)) result }
 {
     let joining = Joining { query, db, order };
     let mut buffer = Buffer::new();

@@ -18,7 +18,7 @@ refusal_in (status.Query cause at) = Some (refusal.Query cause at)
 refusal_in (status.Table number cause) = Some (refusal.Table number cause)
 refusal_in (status.Limit which file found) = Some (refusal.Limit which file found)
 refusal_in (status.Budget least) = Some (refusal.Budget least)
-refusal_in (status.Unbuilt file) = Some (refusal.Unbuilt file)
+refusal_in status.PastBits = Some refusal.PastBits
 refusal_in (status.ReadFault file) = None
 refusal_in (status.WriteFault sink) = None
 refusal_in status.Done = None
@@ -32,7 +32,7 @@ back (refusal.Query cause at) h = refl
 back (refusal.Table number cause) h = refl
 back (refusal.Limit which file found) h = refl
 back (refusal.Budget least) h = refl
-back (refusal.Unbuilt file) h = refl
+back refusal.PastBits h = refl
 
 only_one : (e : Ending) (r : Refusal) → refusal_in (ended e) ≡ Some r → e ≡ ending.Refused r
 only_one (ending.Refused refusal.Usage) r h = cc
@@ -42,7 +42,7 @@ only_one (ending.Refused (refusal.Query cause at)) r h = cc
 only_one (ending.Refused (refusal.Table number cause)) r h = cc
 only_one (ending.Refused (refusal.Limit which file found)) r h = cc
 only_one (ending.Refused (refusal.Budget least)) r h = cc
-only_one (ending.Refused (refusal.Unbuilt file)) r h = cc
+only_one (ending.Refused refusal.PastBits) r h = cc
 only_one (ending.Fault file) r h = cc
 only_one ending.NoMemory r h = cc
 
@@ -59,7 +59,7 @@ ended_fault (ending.Refused (refusal.Query cause at)) file h = cc
 ended_fault (ending.Refused (refusal.Table number cause)) file h = cc
 ended_fault (ending.Refused (refusal.Limit which f found)) file h = cc
 ended_fault (ending.Refused (refusal.Budget least)) file h = cc
-ended_fault (ending.Refused (refusal.Unbuilt f)) file h = cc
+ended_fault (ending.Refused refusal.PastBits) file h = cc
 ended_fault (ending.Fault f) file h = inr (cc)
 ended_fault ending.NoMemory file h = cc
 
@@ -71,7 +71,7 @@ ended_memory (ending.Refused (refusal.Query cause at)) h = cc
 ended_memory (ending.Refused (refusal.Table number cause)) h = cc
 ended_memory (ending.Refused (refusal.Limit which f found)) h = cc
 ended_memory (ending.Refused (refusal.Budget least)) h = cc
-ended_memory (ending.Refused (refusal.Unbuilt f)) h = cc
+ended_memory (ending.Refused refusal.PastBits) h = cc
 ended_memory (ending.Fault f) h = cc
 ended_memory ending.NoMemory h = refl
 
@@ -84,7 +84,7 @@ ended_not_done (ending.Refused (refusal.Query cause at)) h = cc
 ended_not_done (ending.Refused (refusal.Table number cause)) h = cc
 ended_not_done (ending.Refused (refusal.Limit which f found)) h = cc
 ended_not_done (ending.Refused (refusal.Budget least)) h = cc
-ended_not_done (ending.Refused (refusal.Unbuilt f)) h = cc
+ended_not_done (ending.Refused refusal.PastBits) h = cc
 ended_not_done (ending.Fault f) h = cc
 ended_not_done ending.NoMemory h = cc
 
@@ -96,7 +96,7 @@ ended_not_cut (ending.Refused (refusal.Query cause at)) sink h = cc
 ended_not_cut (ending.Refused (refusal.Table number cause)) sink h = cc
 ended_not_cut (ending.Refused (refusal.Limit which f found)) sink h = cc
 ended_not_cut (ending.Refused (refusal.Budget least)) sink h = cc
-ended_not_cut (ending.Refused (refusal.Unbuilt f)) sink h = cc
+ended_not_cut (ending.Refused refusal.PastBits) sink h = cc
 ended_not_cut (ending.Fault f) sink h = cc
 ended_not_cut ending.NoMemory sink h = cc
 

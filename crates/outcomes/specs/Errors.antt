@@ -8,6 +8,8 @@ use Rattle.schema_types.specs.declared.errors.SchemaError.{SchemaError}
 use Rattle.schema_types.specs.declared.errors.SchemaError.TheVariants as schema
 use Rattle.sql_parse.specs.declared.errors.QueryError.{QueryError}
 use Rattle.sql_parse.specs.declared.errors.QueryError.TheVariants as query
+use Rattle.order_search.specs.declared.refusal.PlanError.{PlanError}
+use Rattle.order_search.specs.declared.refusal.PlanError.TheVariants as plan
 use Rattle.csv_tables.specs.declared.types.TableError.{TableError}
 use Rattle.csv_tables.specs.declared.types.TableError.TheVariants as table
 use Rattle.outcomes.specs.declared.ending.Ending.{Ending}
@@ -43,6 +45,12 @@ table_refusal number (table.Key row earlier) = refusal.Table number (table_cause
 table_refusal number (table.Limit found) = refusal.Limit limit.Rows (file.Table number) found
 table_refusal number table.NoMemory = refusal.Usage
 
+-- of a plan
+abbrev pub plan_refusal : PlanError → Refusal
+plan_refusal (plan.Budget least) = refusal.Budget least
+plan_refusal plan.PastBits = refusal.PastBits
+plan_refusal plan.NoMemory = refusal.Usage
+
 abbrev pub schema_ending : SchemaError → Ending
 schema_ending schema.NoMemory = ending.NoMemory
 schema_ending e = ending.Refused (schema_refusal e)
@@ -50,6 +58,10 @@ schema_ending e = ending.Refused (schema_refusal e)
 abbrev pub query_ending : QueryError → Ending
 query_ending query.NoMemory = ending.NoMemory
 query_ending e = ending.Refused (query_refusal e)
+
+abbrev pub plan_ending : PlanError → Ending
+plan_ending plan.NoMemory = ending.NoMemory
+plan_ending e = ending.Refused (plan_refusal e)
 
 abbrev pub table_ending : ℕ → TableError → Ending
 table_ending number table.NoMemory = ending.NoMemory

@@ -16,7 +16,7 @@ refused (refusal.Query cause at) = status.Query cause at
 refused (refusal.Table table cause) = status.Table table cause
 refused (refusal.Limit which file found) = status.Limit which file found
 refused (refusal.Budget least) = status.Budget least
-refused (refusal.Unbuilt file) = status.Unbuilt file
+refused refusal.PastBits = status.PastBits
 
 -- the status of an ending: an absent file and a failed read are told alike
 abbrev pub ended : Ending → Status
@@ -33,6 +33,6 @@ code_of (status.Query cause at) = 5
 code_of (status.Table table cause) = 6
 code_of (status.Limit which file found) = 7
 code_of (status.Budget least) = 8
+code_of status.PastBits = 9
 code_of (status.WriteFault sink) = 10
 code_of status.NoMemory = 11
-code_of (status.Unbuilt file) = 13

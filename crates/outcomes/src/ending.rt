@@ -1,11 +1,12 @@
 //! How a reading ends before its end.
 ghost use Rattle.std.specs.Prelude.{◌≡◌};
-ghost use Rattle.outcomes.specs.Errors.{query_ending, schema_ending, table_ending as ending_of};
+ghost use Rattle.outcomes.specs.Errors.{plan_ending, query_ending, schema_ending, table_ending as ending_of};
 ghost use Rattle.outcomes.specs.declared.ending.Ending.TheVariants as ending;
 
 use crate::{FileId, QueryCause, Refusal, SchemaCause, TableCause};
 use base_io::NoMemory;
 use csv_tables::TableError;
+use order_search::PlanError;
 use schema_types::{LimitKind, SchemaError};
 use sql_parse::QueryError;
 use std::alloc::AllocFailed;
@@ -96,6 +97,19 @@ impl From<QueryError> for Ending {
                 found,
             },
             QueryError::NoMemory => return Ending::NoMemory,
+        };
+        Ending::Refused(refusal)
+    }
+}
+
+impl From<PlanError> for Ending {
+    ghost from_gives = { λ error e. e ≡ plan_ending error };
+
+    fn from(error: PlanError) -> Self {
+        let refusal = match error {
+            PlanError::Budget { least } => Refusal::Budget { least },
+            PlanError::PastBits => Refusal::PastBits,
+            PlanError::NoMemory => return Ending::NoMemory,
         };
         Ending::Refused(refusal)
     }

@@ -64,8 +64,6 @@ pub enum Refusal {
     Budget {
         least: u128,
     },
-    /// The file asks for what isn't built today.
-    Unbuilt {
-        file: FileId,
-    },
+    /// 128 bits don't tell the least cost of an order.
+    PastBits,
 }

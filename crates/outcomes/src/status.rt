@@ -42,10 +42,8 @@ pub enum Status {
     Budget {
         least: u128,
     },
-    /// The file asks for what isn't built today.
-    Unbuilt {
-        file: FileId,
-    },
+    /// 128 bits don't tell the least cost of an order.
+    PastBits,
     /// A write failed.
     WriteFault {
         sink: SinkId,
@@ -68,9 +66,9 @@ impl Status {
             Status::Table { .. } => 6,
             Status::Limit { .. } => 7,
             Status::Budget { .. } => 8,
+            Status::PastBits => 9,
             Status::WriteFault { .. } => 10,
             Status::NoMemory => 11,
-            Status::Unbuilt { .. } => 13,
         }
     }
 }
@@ -87,7 +85,7 @@ impl From<Refusal> for Status {
             Refusal::Table { table, cause } => Status::Table { table, cause },
             Refusal::Limit { which, file, found } => Status::Limit { which, file, found },
             Refusal::Budget { least } => Status::Budget { least },
-            Refusal::Unbuilt { file } => Status::Unbuilt { file },
+            Refusal::PastBits => Status::PastBits,
         }
     }
 }

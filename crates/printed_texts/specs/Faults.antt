@@ -117,7 +117,7 @@ fault (status.Query cause at) names = codes "query" ∷ (query_cause cause ∷ (
 fault (status.Table number cause) names = table_words (table_in names.schema number) cause
 fault (status.Limit which id found) names = limit_words which (file_name id names) found
 fault (status.Budget least) names = codes "budget" ∷ (decimal least ∷ [])
-fault (status.Unbuilt id) names = codes "unbuilt" ∷ (file_name id names ∷ [])
+fault status.PastBits names = codes "past-bits" ∷ []
 fault (status.WriteFault cut) names = codes "write" ∷ (sink_name cut ∷ [])
 fault status.NoMemory names = codes "memory" ∷ []
 

@@ -132,7 +132,7 @@ const LIMIT: &[u8] = b"limit";
 
 const BUDGET: &[u8] = b"budget";
 
-const UNBUILT: &[u8] = b"unbuilt";
+const PAST_BITS: &[u8] = b"past-bits";
 
 const WRITE: &[u8] = b"write";
 
@@ -245,9 +245,7 @@ pub fn write_line<N: Sink>(status: Status, names: Named, sink: &mut N) -> Result
             write_limit(which, file_word(file, names), found, sink)
         }
         Status::Budget { least } => write_budget(least, sink),
-        Status::Unbuilt { file } => {
-            write_words_about(&[UNBUILT], file_word(file, names), &[], sink)
-        }
+        Status::PastBits => write_words(&[PAST_BITS], sink),
         Status::WriteFault { sink: cut } => write_words(&[WRITE, sink_word(cut)], sink),
         Status::NoMemory => write_words(&[MEMORY], sink),
     }

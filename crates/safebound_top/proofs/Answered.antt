@@ -1,5 +1,5 @@
 -- What the readers of texts answer, as endings of the one answer that a text has.
-use Rattle.std.proofs.Common.{◌≡◌, ◌⊎◌, ℕ, List, Result, Ok, Err, inl, inr, ap, sym}
+use Rattle.std.proofs.Common.{◌≡◌, ◌⊎◌, ℕ, List, Result, Ok, Err, inl, inr, refl, ap, sym, subst}
 use Rattle.schema_types.specs.Texts.{IsSchemaOf}
 use Rattle.schema_types.specs.declared.errors.SchemaError.{SchemaError}
 use Rattle.schema_types.specs.declared.errors.SchemaError.TheVariants as schema
@@ -12,14 +12,19 @@ use Rattle.text_answers.specs.QueryTexts.{query_answer}
 use Rattle.text_answers.specs.SchemaTexts.{schema_answer}
 use Rattle.text_answers.proofs.QueryAnswers as queries
 use Rattle.text_answers.proofs.SchemaAnswers as schemas
-use Rattle.csv_tables.specs.Files.{rows_of_file}
-use Rattle.csv_tables.specs.Refused.{Refuses}
 use Rattle.csv_tables.specs.Rows.{Row}
-use Rattle.csv_tables.specs.declared.types.TableError.{TableError}
-use Rattle.csv_tables.specs.declared.types.TableError.TheVariants as table
-use Rattle.outcomes.specs.Errors.{query_ending, query_refusal, schema_ending, schema_refusal, table_ending, table_refusal}
-use Rattle.safebound_top.specs.Verdict.{Placed, rows_of_bytes}
-use Rattle.outcomes.specs.Reads.{Tells, told}
+use Rattle.order_search.specs.declared.refusal.PlanError.{PlanError}
+use Rattle.order_search.specs.declared.refusal.PlanError.TheVariants as plan
+use Rattle.plans.specs.declared.left_deep.Plan.{Plan}
+use Rattle.outcomes.specs.Errors.{plan_ending, plan_refusal, query_ending, query_refusal, schema_ending, schema_refusal}
+use Rattle.outcomes.specs.Reads.{◌>>=◌, Tells, told}
+use Rattle.outcomes.specs.declared.refusal.Refusal.{Refusal}
+use Rattle.planning.specs.Plans.{planned}
+use Rattle.sql_meaning.specs.Tables.{Tables}
+use Rattle.table_files.specs.Found.{tables_in}
+use Rattle.safebound_top.specs.Accepted.{Accepted}
+use Rattle.safebound_top.specs.Asks.{Ask}
+use Rattle.safebound_top.specs.Verdict.{plan_stage}
 
 -- a value that is read is the answer's
 same_value : {A E : Type 0} (memory : E) (answer : Result A E) (x : A) → (Ok x ≡ Err memory) ⊎ (Ok x ≡ answer) → answer ≡ Ok x
@@ -60,14 +65,36 @@ query_tells answer (query.Limit which found) (inr e) = (ap (told query_refusal) 
 pub query_told : (s : Schema) (text : List ℕ) (e : QueryError) → IsAnswer s text (Err e) → Tells (told query_refusal (query_answer s text)) (query_ending e)
 query_told s text e is = query_tells (query_answer s text) e (queries.only s text (Err e) is)
 
-table_tells : (number : ℕ) (answer : Result (List Row) TableError) (e : TableError) → Refuses answer e → Tells (told (table_refusal number) answer) (table_ending number e)
-table_tells number answer table.NoMemory h = tt
-table_tells number answer (table.Utf8 at) h = (ap (told (table_refusal number)) h, (λ file e. cc), (λ e. cc))
-table_tells number answer (table.Header column) h = (ap (told (table_refusal number)) h, (λ file e. cc), (λ e. cc))
-table_tells number answer (table.Width row found) h = (ap (told (table_refusal number)) h, (λ file e. cc), (λ e. cc))
-table_tells number answer (table.Field row column) h = (ap (told (table_refusal number)) h, (λ file e. cc), (λ e. cc))
-table_tells number answer (table.Key row earlier) h = (ap (told (table_refusal number)) h, (λ file e. cc), (λ e. cc))
-table_tells number answer (table.Limit found) h = (ap (told (table_refusal number)) h, (λ file e. cc), (λ e. cc))
+-- ---- plans
 
-pub table_told : (placed : Placed) (bytes : List ℕ) (e : TableError) → Refuses (rows_of_file placed.table bytes) e → Tells (rows_of_bytes placed bytes) (table_ending placed.number e)
-table_told placed bytes e h = table_tells placed.number (rows_of_file placed.table bytes) e h
+-- a plan that was made is the planned one
+pub was_made : (query : Query) (tables : Tables) (accuracy budget : ℕ) (p : Plan) → (Ok p ≡ Err plan.NoMemory) ⊎ (Ok p ≡ planned query tables accuracy budget) → planned query tables accuracy budget ≡ Ok p
+was_made query tables accuracy budget p h = same_value plan.NoMemory (planned query tables accuracy budget) p h
+
+module _ (next : Plan → Result Accepted Refusal) where
+  plan_tells : (answer : Result Plan PlanError) (e : PlanError) → (◌≡◌ {A = Result Plan PlanError} (Err e) (Err plan.NoMemory)) ⊎ (Err e ≡ answer)
+      → Tells (told plan_refusal answer >>= next) (plan_ending e)
+  plan_tells answer plan.NoMemory h = tt
+  plan_tells answer (plan.Budget least) (inl e) = cc
+  plan_tells answer (plan.Budget least) (inr e) = (ap (λ (r : Result Plan PlanError). told plan_refusal r >>= next) (sym e), (λ file h. cc), (λ h. cc))
+  plan_tells answer plan.PastBits (inl e) = cc
+  plan_tells answer plan.PastBits (inr e) = (ap (λ (r : Result Plan PlanError). told plan_refusal r >>= next) (sym e), (λ file h. cc), (λ h. cc))
+
+module _ (ask : Ask) (query : Query) (rows : List (List Row)) where
+  abbrev answer : Result Plan PlanError
+  answer = planned query (tables_in rows) ask.accuracy ask.budget
+
+  -- over the tables that a database has
+  pub over_rows : (t : Tables) (r : Result Plan PlanError) → tables_in rows ≡ t → (r ≡ Err plan.NoMemory) ⊎ (r ≡ planned query t ask.accuracy ask.budget) → (r ≡ Err plan.NoMemory) ⊎ (r ≡ answer)
+  over_rows t r same h = subst (λ (u : Tables). (r ≡ Err plan.NoMemory) ⊎ (r ≡ planned query u ask.accuracy ask.budget)) (sym same) h
+
+  pub was_planned : (t : Tables) (p : Plan) → tables_in rows ≡ t → (Ok p ≡ Err plan.NoMemory) ⊎ (Ok p ≡ planned query t ask.accuracy ask.budget) → answer ≡ Ok p
+  was_planned t p same h = same_value plan.NoMemory answer p (over_rows t (Ok p) same h)
+
+  pub plan_stage_ok : (p : Plan) → answer ≡ Ok p → plan_stage ask query rows ≡ Ok (record { query = query; rows = rows; plan = p; out = ask.out })
+  unfolding plan_stage
+  plan_stage_ok p is = rw is refl
+
+  pub plan_told : (e : PlanError) → (◌≡◌ {A = Result Plan PlanError} (Err e) (Err plan.NoMemory)) ⊎ (Err e ≡ answer) → Tells (plan_stage ask query rows) (plan_ending e)
+  unfolding plan_stage
+  plan_told e h = plan_tells (λ p. Ok (record { query = query; rows = rows; plan = p; out = ask.out })) answer e h

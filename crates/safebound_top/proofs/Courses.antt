@@ -3,7 +3,7 @@ use Rattle.std.proofs.Common.{◌≡◌, ◌≢◌, ◌↔◌, ◌⊎◌, ℕ, i
 use Rattle.std.specs.Prelude.{IfOk, IsOk, IsOkAnd, codes}
 use Rattle.base_io.specs.Causes.{Rose}
 use Rattle.base_io.specs.Files.{Files}
-use Rattle.base_io.specs.Sinks.{GrewByPrefix, appended}
+use Rattle.base_io.specs.Sinks.{appended}
 use Rattle.outcomes.specs.Devices.{Growth, Reading}
 use Rattle.outcomes.specs.Reads.{◌>>=◌, Ends, IsOfWhatIsThere, MissesNothing, Reads}
 use Rattle.outcomes.specs.Statuses.{ended, refused}
@@ -17,16 +17,15 @@ use Rattle.outcomes.specs.declared.refusal.Refusal.TheVariants as refusal
 use Rattle.outcomes.specs.declared.status.Status.{Status}
 use Rattle.outcomes.specs.declared.status.Status.TheVariants as status
 use Rattle.outcomes.proofs.StatusFacts.{ended_fault, ended_memory, ended_not_cut, ended_not_done, ended_refused, refused_not_cut, refused_not_done}
-use Rattle.safebound_top.specs.Accepted.{Accepted, BoundsHold, RowsAreTheAnswer}
+use Rattle.safebound_top.specs.Accepted.{Accepted}
+use Rattle.safebound_top.specs.Asks.{command_stage}
 use Rattle.safebound_top.specs.Call.{Call, CutThenTold, Tells}
 use Rattle.safebound_top.specs.Course.{Course, Ended, Done, CutInNotes, CutInOut, How, Unasked, Asked, IsAsked, IsUnasked, Ran, Stopped, Went, Told}
 use Rattle.safebound_top.specs.Faults.{fault_text}
 use Rattle.safebound_top.specs.Headline as say
-use Rattle.safebound_top.specs.Texts.{plan_text, rows_text}
-use Rattle.safebound_top.specs.Verdict.{IsReached, ask_run, command_stage, verdict}
-use Rattle.safebound_top.specs.Words.{Ask}
-use Rattle.safebound_top.proofs.Meanings.{bounds_hold, rows_are_the_answer}
-use Rattle.safebound_top.proofs.Runs.{holds_of_all, holds_of_run, verdict_ok}
+use Rattle.safebound_top.specs.Texts.{out_text_of, plan_text}
+use Rattle.safebound_top.specs.Verdict.{IsReached, verdict}
+use Rattle.safebound_top.proofs.Runs.{bounds_hold, rows_are_the_answer}
 
 -- words that are no command are refused at once
 unasked_verdict : (words : List (List ℕ)) (files : Files) → command_stage words ≡ Err refusal.Usage → verdict words files ≡ Err refusal.Usage
@@ -110,11 +109,11 @@ module _ (call : Call) (course : Course call) where
         by (CutInOut e rose out line) = ended_not_cut ending.NoMemory sink.Out (sym is ∙ e)
 
     went_done : call.status ≡ status.Done → (files : Files) → call.store.files ≡ Some files
-        → IsOkAnd (verdict call.words files) (λ run. say.Grew call.notes (plan_text run) × say.Grew call.out (rows_text run))
+        → IsOkAnd (verdict call.words files) (λ run. say.Grew call.notes (plan_text run) × say.GrewWhole call.out (out_text_of run))
     went_done is files told =
-        subst (λ (v : Result Accepted Refusal). IsOkAnd v (λ run. say.Grew call.notes (plan_text run) × say.Grew call.out (rows_text run))) (sym (went_verdict files told)) (by written)
+        subst (λ (v : Result Accepted Refusal). IsOkAnd v (λ run. say.Grew call.notes (plan_text run) × say.GrewWhole call.out (out_text_of run))) (sym (went_verdict files told)) (by written)
       where
-        by : Ended call.status call.out call.notes run course.line → say.Grew call.notes (plan_text run) × say.Grew call.out (rows_text run)
+        by : Ended call.status call.out call.notes run course.line → say.Grew call.notes (plan_text run) × say.GrewWhole call.out (out_text_of run)
         by (Done e notes out) = (notes, out)
         by (CutInNotes e rose out line) = absurd (let no : status.Done ≡ status.WriteFault sink.Notes = sym is ∙ e in cc)
         by (CutInOut e rose out line) = absurd (let no : status.Done ≡ status.WriteFault sink.Out = sym is ∙ e in cc)
@@ -136,19 +135,19 @@ module _ (call : Call) (course : Course call) where
         by (CutInOut e rose out line) = absurd (let no : status.WriteFault sink.Out ≡ status.WriteFault sink.Notes = sym e ∙ is in cc)
 
     went_cut_out : call.status ≡ status.WriteFault sink.Out → say.FaultsRose call.out
-        × say.OverFiles call (λ files v. IsOkAnd v (λ run. GrewByPrefix call.out.taken_before call.out.taken_after (rows_text run)
+        × say.OverFiles call (λ files v. IsOkAnd v (λ run. say.WasCut call.out (out_text_of run)
         × Tells (appended call.notes.taken_before (plan_text run)) call.notes.taken_after call.notes.faults_before call.notes.faults_after (fault_text call.status call.words files)))
     went_cut_out is = by written
       where
         by : Ended call.status call.out call.notes run course.line → say.FaultsRose call.out
-            × say.OverFiles call (λ files v. IsOkAnd v (λ run. GrewByPrefix call.out.taken_before call.out.taken_after (rows_text run)
+            × say.OverFiles call (λ files v. IsOkAnd v (λ run. say.WasCut call.out (out_text_of run)
             × Tells (appended call.notes.taken_before (plan_text run)) call.notes.taken_after call.notes.faults_before call.notes.faults_after (fault_text call.status call.words files)))
         by (Done e notes out) = absurd (let no : status.Done ≡ status.WriteFault sink.Out = sym e ∙ is in cc)
         by (CutInNotes e rose out line) = absurd (let no : status.WriteFault sink.Notes ≡ status.WriteFault sink.Out = sym e ∙ is in cc)
         by (CutInOut e rose out line) = (
           rose,
           (λ files told.
-              subst (λ (v : Result Accepted Refusal). IsOkAnd v (λ run. GrewByPrefix call.out.taken_before call.out.taken_after (rows_text run)
+              subst (λ (v : Result Accepted Refusal). IsOkAnd v (λ run. say.WasCut call.out (out_text_of run)
               × Tells (appended call.notes.taken_before (plan_text run)) call.notes.taken_after call.notes.faults_before call.notes.faults_after (fault_text call.status call.words files)))
               (sym (went_verdict files told))
               (out, subst (Tells (appended call.notes.taken_before (plan_text run)) call.notes.taken_after call.notes.faults_before call.notes.faults_after) (course.is_line files told) line)),
@@ -184,7 +183,7 @@ module _ (call : Call) (course : Course call) where
   done (Asked h) is = by h.ran
     where
       by : Ran call.status call.store call.out call.notes (verdict call.words) (IsReached call.words) course.line
-          → say.OverFiles call (λ files v. IsOkAnd v (λ run. say.Grew call.notes (plan_text run) × say.Grew call.out (rows_text run)))
+          → say.OverFiles call (λ files v. IsOkAnd v (λ run. say.Grew call.notes (plan_text run) × say.GrewWhole call.out (out_text_of run)))
       by (Stopped e s reads out told) = absurd (ended_not_done e (sym s ∙ is))
       by (Went run reads written) = went_done run reads written is
 
@@ -273,8 +272,8 @@ module _ (call : Call) (course : Course call) where
   pub headline : say.Headline call
   headline = record {
     done_is_exact = done course.how;
-    every_bound_holds = λ files told. holds_of_all (verdict call.words files) BoundsHold bounds_hold;
-    the_rows_are_the_answer = λ files told. holds_of_run (verdict call.words files) RowsAreTheAnswer (verdict_ok call.words files) rows_are_the_answer;
+    every_bound_holds = λ files told. bounds_hold call.words files;
+    the_rows_are_the_answer = λ files told. rows_are_the_answer call.words files;
     want_of_memory_leaves_its_line = memory course.how;
     write_faults_have_their_cause = cuts course.how;
     refusals_are_the_verdict = refusals course.how;

@@ -21,8 +21,8 @@ use Rattle.safebound_top.specs.Call.{Call}
 use Rattle.safebound_top.specs.Course.{Asked, Course, Ran, Stopped, Told, Unasked, Went}
 use Rattle.safebound_top.specs.Faults.{fault_text, status_line, where_ok}
 use Rattle.safebound_top.specs.Headline.{DidNotGrow}
-use Rattle.safebound_top.specs.Verdict.{IsFileOf, IsReached, Placed, ask_run, command_stage, schema_read, schema_run, schema_stage, table_from, table_reached, verdict}
-use Rattle.safebound_top.specs.Words.{Ask, schema_file}
+use Rattle.safebound_top.specs.Asks.{Ask, command_stage}
+use Rattle.safebound_top.specs.Verdict.{Asked as AskedFor, IsReached, IsTableOf, ask_run, query_from, query_read, schema_read, schema_run, schema_stage, verdict}
 use Rattle.safebound_top.proofs.Stages.{AtQueryOrTable}
 
 -- the line of want of memory names nothing
@@ -56,13 +56,13 @@ module _ (ask : Ask) (words : List (List ℕ)) (command : command_stage words �
   unfolding verdict
   verdict_of files = rw command refl
 
-  schema_of : (files : Files) → schema_read words files ≡ schema_stage (schema_file ask) files
+  schema_of : (files : Files) → schema_read words files ≡ schema_stage ask.schema_file files
   unfolding schema_read
   schema_of files = rw command refl
 
-  table_of : (files : Files) (schema : Schema) → schema_stage (schema_file ask) files ≡ Ok schema → table_reached words files ≡ table_from ask schema files
-  unfolding table_reached
-  table_of files schema is = rw (command, is) refl
+  query_of : (files : Files) (schema : Schema) → schema_stage ask.schema_file files ≡ Ok schema → query_read words files ≡ query_from ask schema files
+  unfolding query_read
+  query_of files schema is = rw (command, is) refl
 
   no_usage : command_stage words ≡ Err refusal.Usage → ⊥
   no_usage is = let no : ◌≡◌ {A = Result Ask Refusal} (Ok ask) (Err refusal.Usage) = sym command ∙ is in cc
@@ -72,36 +72,36 @@ module _ (ask : Ask) (words : List (List ℕ)) (command : command_stage words �
   reached_schema : (files : Files) (id : FileId) → id ≡ file.Schema → IsReached words files id
   reached_schema files id at' = subst (IsReached words files) (sym at') (subst IsOk (sym command) refl)
 
-  reached_table : (files : Files) (r : Result Placed Refusal) (id : FileId) → table_reached words files ≡ r → IsFileOf r id → IsReached words files id
-  reached_table files (Ok placed) (file.Table number) is h = subst (λ (v : Result Placed Refusal). IsFileOf v (file.Table number)) (sym is) h
-  reached_table files (Ok placed) file.Schema is h = absurd h
-  reached_table files (Ok placed) file.Query is h = absurd h
+  reached_table : (files : Files) (r : Result AskedFor Refusal) (id : FileId) → query_read words files ≡ r → IsTableOf r files id → IsReached words files id
+  reached_table files (Ok asked) (file.Table number) is h = subst (λ (v : Result AskedFor Refusal). IsTableOf v files (file.Table number)) (sym is) h
+  reached_table files (Ok asked) file.Schema is h = absurd (let no : file.Schema ≡ file.Table h.number = h.file in cc)
+  reached_table files (Ok asked) file.Query is h = absurd (let no : file.Query ≡ file.Table h.number = h.file in cc)
   reached_table files (Err r) id is h = absurd h
 
-  reached_later : (schema : Schema) (files : Files) (id : FileId) → schema_stage (schema_file ask) files ≡ Ok schema → AtQueryOrTable ask schema files id → IsReached words files id
+  reached_later : (schema : Schema) (files : Files) (id : FileId) → schema_stage ask.schema_file files ≡ Ok schema → AtQueryOrTable ask schema files id → IsReached words files id
   reached_later schema files id is (inl at') = subst (IsReached words files) (sym at') (subst IsOk (sym (schema_of files ∙ is)) refl)
-  reached_later schema files id is (inr at') = reached_table files (table_from ask schema files) id (table_of files schema is) at'
+  reached_later schema files id is (inr at') = reached_table files (query_from ask schema files) id (query_of files schema is) at'
 
   -- ---- the fault text
 
-  line_of : (s : Status) (files : Files) (r : Result Schema Refusal) → schema_stage (schema_file ask) files ≡ r → status_line s (Some ask) (where_ok r) ≡ fault_text s words files
+  line_of : (s : Status) (files : Files) (r : Result Schema Refusal) → schema_stage ask.schema_file files ≡ r → status_line s (Some ask) (where_ok r) ≡ fault_text s words files
   line_of s files r is =
       ap (λ (v : Result Schema Refusal). status_line s (Some ask) (where_ok v)) (sym (schema_of files ∙ is))
       ∙ ap (λ (v : Result Ask Refusal). status_line s (where_ok v) (where_ok (schema_read words files))) (sym command)
 
   -- ---- the schema's reading ended
 
-  module _ (s : Status) (store : Reading) (out notes : Growth) (e : Ending) (is : s ≡ ended e) (reads : Reads store (schema_stage (schema_file ask)) (AtFile file.Schema) (Err e)) where
+  module _ (s : Status) (store : Reading) (out notes : Growth) (e : Ending) (is : s ≡ ended e) (reads : Reads store (schema_stage ask.schema_file) (AtFile file.Schema) (Err e)) where
     stopped_line : (files : Files) → store.files ≡ Some files → status_line s (Some ask) None ≡ fault_text s words files
     stopped_line files told = by e refl
       where
-        ends_as : (f : Ending) → e ≡ f → Ends store (schema_stage (schema_file ask)) (AtFile file.Schema) f
-        ends_as f same = subst (Ends store (schema_stage (schema_file ask)) (AtFile file.Schema)) same reads.gives
+        ends_as : (f : Ending) → e ≡ f → Ends store (schema_stage ask.schema_file) (AtFile file.Schema) f
+        ends_as f same = subst (Ends store (schema_stage ask.schema_file) (AtFile file.Schema)) same reads.gives
 
         any : (t : Status) → s ≡ t → ((r : Option Schema) → status_line t (Some ask) None ≡ status_line t (Some ask) r) → status_line s (Some ask) None ≡ fault_text s words files
         any t same_as none =
-            ap (λ (x : Status). status_line x (Some ask) None) same_as ∙ none (where_ok (schema_stage (schema_file ask) files))
-            ∙ line_of t files (schema_stage (schema_file ask) files) refl ∙ ap (λ (x : Status). fault_text x words files) (sym same_as)
+            ap (λ (x : Status). status_line x (Some ask) None) same_as ∙ none (where_ok (schema_stage ask.schema_file files))
+            ∙ line_of t files (schema_stage ask.schema_file files) refl ∙ ap (λ (x : Status). fault_text x words files) (sym same_as)
 
         by : (f : Ending) → e ≡ f → status_line s (Some ask) None ≡ fault_text s words files
         by (ending.Refused r) same = line_of s files (Err r) ((ends_as (ending.Refused r) same).0 files told)
@@ -114,7 +114,7 @@ module _ (ask : Ask) (words : List (List ℕ)) (command : command_stage words �
     unfolding ask_run
     stopped_reads =
         reads_as store (ask_run ask) (verdict words) (IsReached words) (IsReached words) (Err e) verdict_of (λ files id at'. at')
-        (then_stops (schema_stage (schema_file ask)) (schema_run ask) store (AtFile file.Schema) (IsReached words) e reached_schema reads)
+        (then_stops (schema_stage ask.schema_file) (schema_run ask) store (AtFile file.Schema) (IsReached words) e reached_schema reads)
 
     pub course_stopped : DidNotGrow out → Told notes (status_line s (Some ask) None) → Course (record { words = words; status = s; store = store; out = out; notes = notes })
     course_stopped still told = record {
@@ -127,12 +127,12 @@ module _ (ask : Ask) (words : List (List ℕ)) (command : command_stage words �
   -- ---- the schema was read
 
   module _ (s : Status) (first second : Reading) (out notes : Growth) (schema : Schema) (meets : Meets first second)
-      (reads : Reads first (schema_stage (schema_file ask)) (AtFile file.Schema) (Ok schema)) where
+      (reads : Reads first (schema_stage ask.schema_file) (AtFile file.Schema) (Ok schema)) where
     ran_reads : (answer : Result Accepted Ending) → Reads second (schema_run ask schema) (AtQueryOrTable ask schema) answer → Reads (joined first second) (verdict words) (IsReached words) answer
     unfolding ask_run
     ran_reads answer h =
         reads_as (joined first second) (ask_run ask) (verdict words) (IsReached words) (IsReached words) answer verdict_of (λ files id at'. at')
-        (then_reads (schema_stage (schema_file ask)) (schema_run ask) first second (AtFile file.Schema) (AtQueryOrTable ask schema) (IsReached words) schema answer meets
+        (then_reads (schema_stage ask.schema_file) (schema_run ask) first second (AtFile file.Schema) (AtQueryOrTable ask schema) (IsReached words) schema answer meets
         (reached_later schema) reads h)
 
     ran_so : Ran s second out notes (schema_run ask schema) (AtQueryOrTable ask schema) (status_line s (Some ask) (Some schema))

@@ -1,25 +1,38 @@
--- What a run is over: a query of one entry, whose conditions name no other.
-use Rattle.std.proofs.Common.{◌≡◌, ℕ, List, [], ◌∷◌, length, Bool, true, false, Option, None, Some, Result, Ok, Err, refl}
-use Rattle.std.specs.Prelude.{IfOk, nat_lt, slice_get, if◌then◌else◌}
+-- What holds of every run that the verdict gives.
+use Rattle.std.proofs.Common.{◌≡◌, ℕ, ◌≤◌, List, Result, Ok, Err, length, map, take, refl, ap, sym, ◌∙◌, subst}
+use Rattle.std.specs.Prelude.{IfOk, IsPermutation}
+use Rattle.std.proofs.Math.Seq.{take-length}
 use Rattle.base_io.specs.Files.{Files}
 use Rattle.csv_tables.specs.Rows.{Row}
 use Rattle.schema_types.specs.declared.types.Schema.{Schema}
-use Rattle.schema_types.specs.declared.types.Table.{Table}
+use Rattle.query_types.specs.Named.{NamesItsEntries}
 use Rattle.query_types.specs.Validity.{IsOf}
 use Rattle.query_types.specs.declared.types.Query.{Query}
-use Rattle.query_types.specs.declared.types.Source.{Source}
-use Rattle.query_types.specs.Named.{NamesItsEntries}
+use Rattle.sql_meaning.specs.Answers.{answer, conjuncts_of, entries_of, selected}
+use Rattle.sql_meaning.specs.Levels.{level_of, row_in}
+use Rattle.sql_meaning.specs.Tables.{Tables, row_counts}
+use Rattle.level_bounds.specs.Orders.{IsOrderOfSet}
+use Rattle.level_bounds.proofs.LastLevel.{last_level_is_answer}
+use Rattle.level_bounds.proofs.SetNumbers.{order_of_all}
+use Rattle.plans.specs.declared.left_deep.Plan.{Plan}
+use Rattle.order_search.specs.declared.refusal.PlanError.{PlanError}
 use Rattle.text_answers.specs.QueryTexts.{query_answer}
 use Rattle.text_answers.proofs.QueryAnswers as queries
-use Rattle.outcomes.specs.Errors.{query_refusal}
+use Rattle.outcomes.specs.Errors.{plan_refusal, query_refusal}
 use Rattle.outcomes.specs.Reads.{◌>>=◌, told}
 use Rattle.outcomes.specs.declared.names.FileId.TheVariants as file
 use Rattle.outcomes.specs.declared.refusal.Refusal.{Refusal}
-use Rattle.outcomes.specs.declared.refusal.Refusal.TheVariants as refusal
-use Rattle.safebound_top.specs.Accepted.{Accepted}
-use Rattle.safebound_top.specs.Verdict.{Placed, ask_run, command_stage, only_table, placed_at, query_of_text, query_run, query_stage, read, rows_stage, schema_run, schema_stage, table_run, verdict}
-use Rattle.safebound_top.specs.Words.{Ask, budget_of, query_file, schema_file}
-use Rattle.safebound_top.proofs.Askable.{names_own}
+use Rattle.table_files.specs.Found.{tables_in}
+use Rattle.table_files.specs.Stage.{tables_stage}
+use Rattle.table_files.specs.TableFile.{read}
+use Rattle.planned_joins.specs.PlansOf.{IsPlanOf}
+use Rattle.planning.specs.Plans.{planned}
+use Rattle.safebound_top.specs.Accepted.{Accepted, BoundsHold, RowsAreTheAnswer, tables}
+use Rattle.safebound_top.specs.Asks.{Ask, command_stage}
+use Rattle.safebound_top.specs.Verdict.{ask_run, plan_stage, query_of_text, query_run, query_stage, schema_run, schema_stage, verdict}
+use Rattle.safebound_top.proofs.NamedEntries.{names_own}
+use Rattle.safebound_top.proofs.Plans.{plan_holds}
+use Rattle.safebound_top.proofs.Ranges.{InRange, in_range}
 
 -- what holds of the first step's value, and then of the second's
 then_ok : {A B : Type 0} (P : A → Type 0) (Q : B → Type 0) (r : Result A Refusal) (f : A → Result B Refusal) → IfOk r P → ((x : A) → P x → IfOk (f x) Q) → IfOk (r >>= f) Q
@@ -29,6 +42,10 @@ then_ok P Q (Err s) f first next = tt
 any_ok : {A B : Type 0} (Q : B → Type 0) (r : Result A Refusal) (f : A → Result B Refusal) → ((x : A) → IfOk (f x) Q) → IfOk (r >>= f) Q
 any_ok Q (Ok x) f next = next x
 any_ok Q (Err s) f next = tt
+
+is_ok : {A : Type 0} (r : Result A Refusal) → IfOk r (λ x. r ≡ Ok x)
+is_ok (Ok x) = refl
+is_ok (Err s) = tt
 
 -- what holds of each value that an answer may be
 ok_so : {A E : Type 0} (P : A → Type 0) (f : E → Refusal) (r : Result A E) → ((x : A) → r ≡ Ok x → P x) → IfOk (told f r) P
@@ -41,55 +58,58 @@ query_ok name schema files =
     any_ok (IsOf schema) (read file.Query 1048576 name files) (query_of_text schema)
     (λ text. ok_so (IsOf schema) query_refusal (query_answer schema text) (λ query e. queries.of_schema schema text query e))
 
--- a query of one entry, whose conditions name no other
+-- a query that names its own entries, and its plan
 pub record IsRun (run : Accepted) : Type 0 where
-  pub one : length run.query.from ≡ 1
   pub own : NamesItsEntries run.query
+  pub plan : IsPlanOf run.query (tables run) run.plan
 
-placed_ok : (schema : Schema) (from : List Source) → IfOk (only_table schema from) (λ placed. length from ≡ 1)
-placed_ok schema [] = tt
-placed_ok schema (source ∷ []) = found source.table (slice_get schema.tables source.table)
-  where
-    found : (number : ℕ) (table : Option Table) → IfOk (placed_at number table) (λ placed. ◌≡◌ {A = ℕ} 1 1)
-    found number None = tt
-    found number (Some table) = refl
-placed_ok schema (first ∷ second ∷ sources) = tt
+plan_ok : (ask : Ask) (query : Query) (rows : List (List Row)) → InRange ask.budget ask.accuracy → length query.from ≤ 12 → NamesItsEntries query → IfOk (plan_stage ask query rows) IsRun
+unfolding plan_stage
+plan_ok ask query rows range few own =
+    then_ok (IsPlanOf query (tables_in rows)) IsRun (told plan_refusal (planned query (tables_in rows) ask.accuracy ask.budget)) _
+    (ok_so (IsPlanOf query (tables_in rows)) plan_refusal (planned query (tables_in rows) ask.accuracy ask.budget)
+    (λ plan made. plan_holds query (tables_in rows) ask.accuracy ask.budget plan few range.budget_most made))
+    (λ plan holds. record { own = own; plan = holds })
 
-abbrev budget_if : Bool → Query → List Row → Result Accepted Refusal
-budget_if past query rows = if past then Err (refusal.Budget (length rows)) else Ok (record { query = query; rows = rows })
-
-budget_ok : (past : Bool) (query : Query) (rows : List Row) → length query.from ≡ 1 → NamesItsEntries query → IfOk (budget_if past query rows) IsRun
-budget_ok true query rows one own = tt
-budget_ok false query rows one own = record { one = one; own = own }
-
-table_ok : (budget : ℕ) (query : Query) (placed : Placed) (files : Files) → length query.from ≡ 1 → NamesItsEntries query → IfOk (table_run budget query placed files) IsRun
-unfolding table_run
-table_ok budget query placed files one own = any_ok IsRun (rows_stage placed files) _ (λ rows. budget_ok (nat_lt budget (length rows)) query rows one own)
-
-query_run_ok : (budget : ℕ) (schema : Schema) (query : Query) (files : Files) → IsOf schema query → IfOk (query_run budget schema query files) IsRun
+query_run_ok : (ask : Ask) (schema : Schema) (query : Query) (files : Files) → InRange ask.budget ask.accuracy → IsOf schema query → IfOk (query_run ask schema query files) IsRun
 unfolding query_run
-query_run_ok budget schema query files of =
-    then_ok (λ placed. length query.from ≡ 1) IsRun (only_table schema query.from) _ (placed_ok schema query.from)
-    (λ placed one. table_ok budget query placed files one (names_own schema query of))
+query_run_ok ask schema query files range of =
+    any_ok IsRun (tables_stage schema query.from files) (plan_stage ask query) (λ rows. plan_ok ask query rows range of.few (names_own schema query of))
 
-schema_run_ok : (ask : Ask) (schema : Schema) (files : Files) → IfOk (schema_run ask schema files) IsRun
+schema_run_ok : (ask : Ask) (schema : Schema) (files : Files) → InRange ask.budget ask.accuracy → IfOk (schema_run ask schema files) IsRun
 unfolding schema_run
-schema_run_ok ask schema files =
-    then_ok (IsOf schema) IsRun (query_stage (query_file ask) schema files) _ (query_ok (query_file ask) schema files)
-    (λ query of. query_run_ok (budget_of ask) schema query files of)
+schema_run_ok ask schema files range =
+    then_ok (IsOf schema) IsRun (query_stage ask.query_file schema files) _ (query_ok ask.query_file schema files)
+    (λ query of. query_run_ok ask schema query files range of)
 
-ask_run_ok : (ask : Ask) (files : Files) → IfOk (ask_run ask files) IsRun
+ask_run_ok : (ask : Ask) (files : Files) → InRange ask.budget ask.accuracy → IfOk (ask_run ask files) IsRun
 unfolding ask_run
-ask_run_ok ask files = any_ok IsRun (schema_stage (schema_file ask) files) _ (λ schema. schema_run_ok ask schema files)
+ask_run_ok ask files range = any_ok IsRun (schema_stage ask.schema_file files) _ (λ schema. schema_run_ok ask schema files range)
 
-pub verdict_ok : (words : List (List ℕ)) (files : Files) → IfOk (verdict words files) IsRun
+verdict_ok : (words : List (List ℕ)) (files : Files) → IfOk (verdict words files) IsRun
 unfolding verdict
-verdict_ok words files = any_ok IsRun (command_stage words) _ (λ ask. ask_run_ok ask files)
+verdict_ok words files =
+    then_ok (λ ask. command_stage words ≡ Ok ask) IsRun (command_stage words) _ (is_ok (command_stage words)) (λ ask is. ask_run_ok ask files (in_range words ask is))
 
-pub holds_of_run : (r : Result Accepted Refusal) (P : Accepted → Type 0) → IfOk r IsRun → ((run : Accepted) → length run.query.from ≡ 1 → NamesItsEntries run.query → P run) → IfOk r P
-holds_of_run (Ok run) P is holds = holds run is.one is.own
-holds_of_run (Err s) P is holds = tt
+-- ---- two sentences
 
-pub holds_of_all : (r : Result Accepted Refusal) (P : Accepted → Type 0) → ((run : Accepted) → P run) → IfOk r P
-holds_of_all (Ok run) P holds = holds run
-holds_of_all (Err s) P holds = tt
+run_bounds : (run : Accepted) → IsRun run → BoundsHold run
+run_bounds run is = record { plan = is.plan.for_each_entry; scans = is.plan.scans; levels = is.plan.levels }
+
+run_rows : (run : Accepted) → IsRun run → RowsAreTheAnswer run
+run_rows run is =
+    let order : List ℕ = run.plan.order in
+    let all : IsOrderOfSet (entries_of run.query) order =
+    order_of_all (length run.query.from) order is.plan.for_each_entry.order.entries is.plan.for_each_entry.order.once is.plan.for_each_entry.order.all in
+    subst (λ (placed : List ℕ). IsPermutation (map (λ choice. selected run.query (tables run) (row_in order choice)) (level_of (conjuncts_of run.query (tables run)) (row_counts (tables run)) placed)) (answer run.query (tables run)))
+    (sym (take-length order)) (last_level_is_answer run.query (tables run) order is.own all)
+
+so : (P : Accepted → Type 0) → ((run : Accepted) → IsRun run → P run) → (r : Result Accepted Refusal) → IfOk r IsRun → IfOk r P
+so P holds (Ok run) is = holds run is
+so P holds (Err s) is = tt
+
+pub bounds_hold : (words : List (List ℕ)) (files : Files) → IfOk (verdict words files) BoundsHold
+bounds_hold words files = so BoundsHold run_bounds (verdict words files) (verdict_ok words files)
+
+pub rows_are_the_answer : (words : List (List ℕ)) (files : Files) → IfOk (verdict words files) RowsAreTheAnswer
+rows_are_the_answer words files = so RowsAreTheAnswer run_rows (verdict words files) (verdict_ok words files)

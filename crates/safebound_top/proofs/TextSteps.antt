@@ -1,5 +1,5 @@
 -- The texts, one after the other, and what is told of a failed write.
-use Rattle.std.proofs.Common.{◌≡◌, ℕ, ◌<◌, ◌≤◌, inl, inr, eqb, Bool, true, false, List, Option, Result, Ok, Err, refl, ap, sym, ◌∙◌, subst, arith}
+use Rattle.std.proofs.Common.{◌≡◌, ℕ, ◌<◌, ◌≤◌, inl, inr, eqb, Bool, true, false, List, Option, None, Some, Result, Ok, Err, refl, ap, sym, ◌∙◌, subst, arith}
 use Rattle.std.specs.Prelude.{nat_lt}
 use Rattle.std.proofs.lemmas.Bool.{cases_Bool}
 use Rattle.std.proofs.lemmas.Bool.Decides.{nat_tests}
@@ -14,8 +14,9 @@ use Rattle.outcomes.specs.declared.status.Status.{Status}
 use Rattle.outcomes.specs.declared.status.Status.TheVariants as status
 use Rattle.safebound_top.specs.Accepted.{Accepted}
 use Rattle.safebound_top.specs.Call.{CutThenTold, Tells}
-use Rattle.safebound_top.specs.Course.{AreWritten, CutInNotes, CutInOut, Ended, Told, Written}
-use Rattle.safebound_top.specs.Texts.{plan_text, rows_text}
+use Rattle.safebound_top.specs.Course.{CutInNotes, CutInOut, Ended, Told, Written, WroteIfAny}
+use Rattle.safebound_top.specs.Headline.{GrewWhole, WasCut}
+use Rattle.safebound_top.specs.Texts.{out_text_of, plan_text}
 
 abbrev between : Option (List ℕ) → Option (List ℕ) → ℕ → ℕ → Growth
 between t0 t1 f0 f1 = record { taken_before = t0; taken_after = t1; faults_before = f0; faults_after = f1 }
@@ -37,7 +38,7 @@ rose_earlier : (f0 f1 f2 : ℕ) → f0 ≤ f1 → Rose f1 f2 → Rose f0 f2
 rose_earlier f0 f1 f2 le (inl lt) = inl (omega arith)
 rose_earlier f0 f1 f2 le (inr last) = inr last
 
--- ---- the plan text, and then the rows text
+-- ---- the plan text, and then the other text, if any
 
 pub notes_cut : (t0 t1 o : Option (List ℕ)) (f0 f1 g : ℕ) (run : Accepted) (text : List ℕ) (e : Failed) → text ≡ plan_text run → Wrote (between t0 t1 f0 f1) text (Err e)
     → Written (between o o g g) (between t0 t1 f0 f1) run (Err sink.Notes)
@@ -47,18 +48,24 @@ notes_cut t0 t1 o f0 f1 g run text e is h = record {
   later_notes = h.later;
 }
 
-pub out_wrote : (t0 t1 o0 o1 : Option (List ℕ)) (f0 f1 g0 g1 : ℕ) (run : Accepted) (text rows : List ℕ) (u v : Unit {0}) → text ≡ plan_text run → rows ≡ rows_text run
-    → Wrote (between t0 t1 f0 f1) text (Ok u) → Wrote (between o0 o1 g0 g1) rows (Ok v) → Written (between o0 o1 g0 g1) (between t0 t1 f0 f1) run (Ok tt)
-out_wrote t0 t1 o0 o1 f0 f1 g0 g1 run text rows u v is are h k = record {
-  texts = (h.ok ∙ ap (appended t0) is, k.ok ∙ ap (appended o0) are);
+pub both_wrote : (t0 t1 o0 o1 : Option (List ℕ)) (f0 f1 g0 g1 : ℕ) (run : Accepted) (text : List ℕ) (other : Option (List ℕ)) (u v : Unit {0}) → text ≡ plan_text run → out_text_of run ≡ other
+    → Wrote (between t0 t1 f0 f1) text (Ok u) → WroteIfAny (between o0 o1 g0 g1) other (Ok v) → Written (between o0 o1 g0 g1) (between t0 t1 f0 f1) run (Ok tt)
+both_wrote t0 t1 o0 o1 f0 f1 g0 g1 run text None u v is out h k = record {
+  texts = (h.ok ∙ ap (appended t0) is, subst (GrewWhole (between o0 o1 g0 g1)) (sym out) k.0);
+  later_out = omega (arith, k.0.1);
+  later_notes = h.later;
+}
+both_wrote t0 t1 o0 o1 f0 f1 g0 g1 run text (Some other) u v is out h k = record {
+  texts = (h.ok ∙ ap (appended t0) is, subst (GrewWhole (between o0 o1 g0 g1)) (sym out) k.ok);
   later_out = k.later;
   later_notes = h.later;
 }
 
-pub out_cut : (t0 t1 o0 o1 : Option (List ℕ)) (f0 f1 g0 g1 : ℕ) (run : Accepted) (text rows : List ℕ) (u : Unit {0}) (e : Failed) → text ≡ plan_text run → rows ≡ rows_text run
-    → Wrote (between t0 t1 f0 f1) text (Ok u) → Wrote (between o0 o1 g0 g1) rows (Err e) → Written (between o0 o1 g0 g1) (between t0 t1 f0 f1) run (Err sink.Out)
-out_cut t0 t1 o0 o1 f0 f1 g0 g1 run text rows u e is are h k = record {
-  texts = (k.failed, h.ok ∙ ap (appended t0) is, subst (GrewByPrefix o0 o1) are k.prefix);
+pub out_cut : (t0 t1 o0 o1 : Option (List ℕ)) (f0 f1 g0 g1 : ℕ) (run : Accepted) (text : List ℕ) (other : Option (List ℕ)) (u : Unit {0}) (e : Failed) → text ≡ plan_text run → out_text_of run ≡ other
+    → Wrote (between t0 t1 f0 f1) text (Ok u) → WroteIfAny (between o0 o1 g0 g1) other (Err e) → Written (between o0 o1 g0 g1) (between t0 t1 f0 f1) run (Err sink.Out)
+out_cut t0 t1 o0 o1 f0 f1 g0 g1 run text None u e is out h k = absurd (let no : ◌≡◌ {A = Result (Unit {0}) Failed} (Err e) (Ok tt) = k.1 in cc)
+out_cut t0 t1 o0 o1 f0 f1 g0 g1 run text (Some other) u e is out h k = record {
+  texts = (k.failed, h.ok ∙ ap (appended t0) is, subst (WasCut (between o0 o1 g0 g1)) (sym out) k.prefix);
   later_out = k.later;
   later_notes = h.later;
 }

@@ -1,10 +1,12 @@
 -- The course of a call, from its words to its answer.
-use Rattle.std.specs.Prelude.{ℕ, ◌≡◌, ◌≤◌, List, codes, Some, Result, Ok, Err}
+use Rattle.std.specs.Prelude.{ℕ, ◌≡◌, ◌≤◌, List, codes, Option, None, Some, Result, Ok, Err}
 use Rattle.base_io.specs.Files.{Files}
 use Rattle.base_io.specs.Sinks.{appended, GrewByPrefix}
+use Rattle.base_io.specs.declared.errors.Failed.{Failed}
 use Rattle.outcomes.specs.Devices.{Growth, Reading}
 use Rattle.outcomes.specs.Reads.{Reads}
 use Rattle.outcomes.specs.Statuses.{ended}
+use Rattle.outcomes.specs.Writes.{Wrote}
 use Rattle.outcomes.specs.declared.ending.Ending.{Ending}
 use Rattle.outcomes.specs.declared.names.FileId.{FileId}
 use Rattle.outcomes.specs.declared.names.SinkId.{SinkId}
@@ -14,34 +16,40 @@ use Rattle.outcomes.specs.declared.refusal.Refusal.TheVariants as refusal
 use Rattle.outcomes.specs.declared.status.Status.{Status}
 use Rattle.outcomes.specs.declared.status.Status.TheVariants as status
 use Rattle.safebound_top.specs.Accepted.{Accepted}
+use Rattle.safebound_top.specs.Asks.{command_stage}
 use Rattle.safebound_top.specs.Call.{Call, CutThenTold, Tells}
 use Rattle.safebound_top.specs.Faults.{fault_text}
-use Rattle.safebound_top.specs.Headline.{DidNotGrow, FaultsRose, Grew, GrewByLine}
-use Rattle.safebound_top.specs.Texts.{plan_text, rows_text}
-use Rattle.safebound_top.specs.Verdict.{IsReached, command_stage, verdict}
+use Rattle.safebound_top.specs.Headline.{DidNotGrow, FaultsRose, Grew, GrewByLine, GrewWhole, WasCut}
+use Rattle.safebound_top.specs.Texts.{out_text_of, plan_text}
+use Rattle.safebound_top.specs.Verdict.{IsReached, verdict}
 
 -- a status was told in the notes
 pub record Told (notes : Growth) (line : List ℕ) : Type 0 where
   pub tells : GrewByLine notes line
   pub later : notes.faults_before ≤ notes.faults_after
 
--- both texts were handed to the sinks, the plan text to the notes and then the rows text to out; the first failure ends it
+-- both texts were handed to the sinks, the plan text to the notes and then the other one, if any, to out; the first failure ends it
 abbrev pub AreWritten : Growth → Growth → Accepted → Result (Unit {0}) SinkId → Type 0
-AreWritten out notes run (Ok u) = Grew notes (plan_text run) × Grew out (rows_text run)
+AreWritten out notes run (Ok u) = Grew notes (plan_text run) × GrewWhole out (out_text_of run)
 AreWritten out notes run (Err sink.Notes) = FaultsRose notes × DidNotGrow out × GrewByPrefix notes.taken_before notes.taken_after (plan_text run)
-AreWritten out notes run (Err sink.Out) = FaultsRose out × Grew notes (plan_text run) × GrewByPrefix out.taken_before out.taken_after (rows_text run)
+AreWritten out notes run (Err sink.Out) = FaultsRose out × Grew notes (plan_text run) × WasCut out (out_text_of run)
 
 pub record Written (out notes : Growth) (run : Accepted) (result : Result (Unit {0}) SinkId) : Type 0 where
   pub texts : AreWritten out notes run result
   pub later_out : out.faults_before ≤ out.faults_after
   pub later_notes : notes.faults_before ≤ notes.faults_after
 
+-- a text was handed to a sink, where there is one
+abbrev pub WroteIfAny : Growth → Option (List ℕ) → Result (Unit {0}) Failed → Type 0
+WroteIfAny out None result = DidNotGrow out × (result ≡ Ok tt)
+WroteIfAny out (Some text) result = Wrote out text result
+
 -- the same, and a failed write told in the notes
 pub data Ended (s : Status) (out notes : Growth) (run : Accepted) (line : List ℕ) : Type 0 where
-  Done : s ≡ status.Done → Grew notes (plan_text run) → Grew out (rows_text run) → Ended s out notes run line
+  Done : s ≡ status.Done → Grew notes (plan_text run) → GrewWhole out (out_text_of run) → Ended s out notes run line
   CutInNotes : s ≡ status.WriteFault sink.Notes → FaultsRose notes → DidNotGrow out
       → CutThenTold notes.taken_before notes.taken_after (plan_text run) line → Ended s out notes run line
-  CutInOut : s ≡ status.WriteFault sink.Out → FaultsRose out → GrewByPrefix out.taken_before out.taken_after (rows_text run)
+  CutInOut : s ≡ status.WriteFault sink.Out → FaultsRose out → WasCut out (out_text_of run)
       → Tells (appended notes.taken_before (plan_text run)) notes.taken_after notes.faults_before notes.faults_after line → Ended s out notes run line
 
 -- a stage was read to its end and its texts were handed to the sinks, or its reading ended and that was told

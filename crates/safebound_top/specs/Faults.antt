@@ -1,21 +1,16 @@
 -- The line that tells a status of these words over these files.
-use Rattle.std.specs.Prelude.{ℕ, List, [], Option, None, Some, Result, Ok, Err, option_map}
-use Rattle.std.proofs.Common.{Bor}
+use Rattle.std.specs.Prelude.{ℕ, List, [], Option, None, Some, Result, Ok, Err}
 use Rattle.base_io.specs.Files.{Files}
 use Rattle.schema_types.specs.declared.types.Schema.{Schema}
 use Rattle.outcomes.specs.declared.status.Status.{Status}
 use Rattle.printed_texts.specs.Faults.{Names, fault_line}
-use Rattle.safebound_top.specs.Verdict.{command_stage, schema_read}
-use Rattle.safebound_top.specs.Words.{Ask, asked, query_file, schema_file}
-use Rattle.safebound_top.specs.declared.words.Command.{Command}
+use Rattle.safebound_top.specs.Asks.{Ask, command_stage}
+use Rattle.safebound_top.specs.Verdict.{schema_read}
 
 -- what a line names, where there is a command and a schema: the two files of the command, and the schema's tables
 abbrev pub names_of : Option Ask → Option Schema → Names
 names_of None schema = record { schema_file = []; query_file = []; schema = schema }
-names_of (Some ask) schema = record { schema_file = schema_file ask; query_file = query_file ask; schema = schema }
-
-abbrev pub ask_of : Option (Bor Command) → Option Ask
-ask_of command = option_map (λ c. asked c.now) command
+names_of (Some ask) schema = record { schema_file = ask.schema_file; query_file = ask.query_file; schema = schema }
 
 abbrev pub where_ok : {A E : Type 0} → Result A E → Option A
 where_ok (Ok x) = Some x

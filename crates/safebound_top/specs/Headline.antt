@@ -1,5 +1,5 @@
 -- What a call of the program answers, and why: eight sentences about the words, the files and the two streams.
-use Rattle.std.specs.Prelude.{ℕ, ◌≡◌, ◌↔◌, ◌⊎◌, List, codes, None, Some, Result, Ok, Err, IfOk, IsOkAnd}
+use Rattle.std.specs.Prelude.{ℕ, ◌≡◌, ◌↔◌, ◌⊎◌, List, codes, Option, None, Some, Result, Ok, Err, IfOk, IsOkAnd}
 use Rattle.base_io.specs.Causes.{Rose}
 use Rattle.base_io.specs.Files.{Files}
 use Rattle.base_io.specs.Sinks.{appended, GrewByPrefix}
@@ -14,10 +14,11 @@ use Rattle.outcomes.specs.declared.refusal.Refusal.TheVariants as refusal
 use Rattle.outcomes.specs.declared.status.Status.{Status}
 use Rattle.outcomes.specs.declared.status.Status.TheVariants as status
 use Rattle.safebound_top.specs.Accepted.{Accepted, BoundsHold, RowsAreTheAnswer}
+use Rattle.safebound_top.specs.Asks.{command_stage}
 use Rattle.safebound_top.specs.Call.{Call, CutThenTold, Tells}
 use Rattle.safebound_top.specs.Faults.{fault_text}
-use Rattle.safebound_top.specs.Texts.{plan_text, rows_text}
-use Rattle.safebound_top.specs.Verdict.{IsReached, command_stage, verdict}
+use Rattle.safebound_top.specs.Texts.{out_text_of, plan_text}
+use Rattle.safebound_top.specs.Verdict.{IsReached, verdict}
 
 -- for the files that the store tells, and the verdict of the words over them
 abbrev pub OverFiles : Call → (Files → Result Accepted Refusal → Type 0) → Type 0
@@ -30,6 +31,16 @@ Grew sink text = sink.taken_after ≡ appended sink.taken_before text
 abbrev pub DidNotGrow : Growth → Type 0
 DidNotGrow sink = (sink.taken_after ≡ sink.taken_before) × (sink.faults_after ≡ sink.faults_before)
 
+-- it grew by exactly the text, where there is one, and else it wasn't called
+abbrev pub GrewWhole : Growth → Option (List ℕ) → Type 0
+GrewWhole sink None = DidNotGrow sink
+GrewWhole sink (Some text) = Grew sink text
+
+-- there is a text, and the sink grew by a prefix of it
+abbrev pub WasCut : Growth → Option (List ℕ) → Type 0
+WasCut sink None = ⊥
+WasCut sink (Some text) = GrewByPrefix sink.taken_before sink.taken_after text
+
 abbrev pub FaultsRose : Growth → Type 0
 FaultsRose sink = Rose sink.faults_before sink.faults_after
 
@@ -37,16 +48,18 @@ FaultsRose sink = Rose sink.faults_before sink.faults_after
 abbrev pub GrewByLine : Growth → List ℕ → Type 0
 GrewByLine sink line = Tells sink.taken_before sink.taken_after sink.faults_before sink.faults_after line
 
--- 1. Done comes only where the verdict is that. The notes grew by exactly its plan text, and out by exactly its rows text.
+-- 1. Done comes only where the verdict is that. The notes grew by exactly its plan text. For `run`, out grew by exactly its rows text; for
+--    `plan`, out took nothing.
 abbrev pub DoneIsExact : Call → Type 0
 DoneIsExact call = call.status ≡ status.Done
-    → OverFiles call (λ files v. IsOkAnd v (λ run. Grew call.notes (plan_text run) × Grew call.out (rows_text run)))
+    → OverFiles call (λ files v. IsOkAnd v (λ run. Grew call.notes (plan_text run) × GrewWhole call.out (out_text_of run)))
 
--- 2. Where the verdict is done, the scan and each level have at most as many rows as the bound that the text of 1 prints for it.
+-- 2. Where the verdict is done, the scan of each FROM entry and each level of the plan's order have at most as many rows as the plan text
+--    of 1 prints for it; for `plan` too, though they are never listed.
 abbrev pub EveryBoundHolds : Call → Type 0
 EveryBoundHolds call = OverFiles call (λ files v. IfOk v BoundsHold)
 
--- 3. Where the verdict is done, the rows that the text of 1 prints are, as a multiset, the answer of the query.
+-- 3. Where the verdict is done, the rows that the rows text of 1 prints are, as a multiset, the answer of the query.
 abbrev pub TheRowsAreTheAnswer : Call → Type 0
 TheRowsAreTheAnswer call = OverFiles call (λ files v. IfOk v RowsAreTheAnswer)
 
@@ -60,13 +73,13 @@ pub record WriteFaultsHaveTheirCause (call : Call) : Type 0 where
   pub of_notes : call.status ≡ status.WriteFault sink.Notes → FaultsRose call.notes × DidNotGrow call.out
       × OverFiles call (λ files v. IsOkAnd v (λ run. CutThenTold call.notes.taken_before call.notes.taken_after
       (plan_text run) (fault_text call.status call.words files)))
-  -- of out: the plan text stands in the notes, and then the line; in out a prefix of the rows text
+  -- of out: the plan text stands in the notes, and then the line; in out a prefix of its text
   pub of_out : call.status ≡ status.WriteFault sink.Out → FaultsRose call.out
-      × OverFiles call (λ files v. IsOkAnd v (λ run. GrewByPrefix call.out.taken_before call.out.taken_after (rows_text run)
+      × OverFiles call (λ files v. IsOkAnd v (λ run. WasCut call.out (out_text_of run)
       × Tells (appended call.notes.taken_before (plan_text run)) call.notes.taken_after call.notes.faults_before call.notes.faults_after
       (fault_text call.status call.words files)))
 
--- 6. Usage, Schema, Query, Table, Limit, Budget and Unbuilt come only where the verdict is that status with these fields. The notes grew
+-- 6. Usage, Schema, Query, Table, Limit, Budget and PastBits come only where the verdict is that status with these fields. The notes grew
 --    by its line, and out didn't grow. Usage is a matter of the words alone.
 pub record RefusalsAreTheVerdict (call : Call) : Type 0 where
   pub usage : (call.status ≡ status.Usage) ↔ (command_stage call.words ≡ Err refusal.Usage)

@@ -1,10 +1,9 @@
 pub mod Accepted
+pub mod Asks
 pub mod Call
 pub mod Course
 pub mod Faults
 pub mod Headline
-pub mod Places
 pub mod Prepared
 pub mod Texts
 pub mod Verdict
-pub mod Words

@@ -1,25 +1,48 @@
--- What was read, as what a run is over.
-use Rattle.std.specs.Prelude.{◌≡◌, ℕ, List, [], ◌∷◌, length, slice_index}
-use Rattle.std.specs.List.{filter, range_with_len}
+-- What was read and planned, as what a run is over.
+use Rattle.std.specs.Prelude.{ℕ, ◌≡◌, ◌≤◌, List, length, Option, None, Some, ⊤}
 use Rattle.query_types.specs.declared.types.Query.{Query}
-use Rattle.sql_meaning.specs.Answers.{query_holds}
+use Rattle.csv_tables.specs.declared.types.Database.{Database}
+use Rattle.plans.specs.declared.left_deep.Plan.{Plan}
+use Rattle.joined_texts.specs.Printed.{printed_rows}
+use Rattle.planned_joins.specs.PlansOf.{IsPlanOf, IsReadyFor}
+use Rattle.printed_texts.specs.Texts.{rows_lines}
 use Rattle.sql_meaning.specs.Databases.{IsDatabaseOf}
-use Rattle.sql_meaning.specs.Tables.{Tables, row_counts, tables_of}
-use Rattle.safebound_top.specs.Accepted.{Accepted, plan_of}
+use Rattle.sql_meaning.specs.Tables.{tables_of}
+use Rattle.table_files.specs.Found.{entry_rows, tables_in}
+use Rattle.safebound_top.specs.Accepted.{Accepted}
 use Rattle.safebound_top.specs.declared.prepare.Prepared.{Prepared}
+use Rattle.safebound_top.specs.declared.prepare.Rest.{Rest}
+use Rattle.safebound_top.specs.declared.prepare.Rest.TheVariants as rest
+use Rattle.safebound_top.specs.declared.task.OutText.{OutText}
+use Rattle.safebound_top.specs.declared.task.OutText.TheVariants as out_text
 
--- the rows of the one entry for which all conditions hold
-abbrev pub kept_of : Query → Tables → List ℕ
-kept_of query tables = filter (λ row. query_holds query tables (slice_index (row ∷ []))) (range_with_len 0 (row_counts tables 0))
+-- the text for which something is left to do
+abbrev pub text_left : Rest → OutText
+text_left (rest.Rows reserved) = out_text.Rows
+text_left rest.Nothing = out_text.Nothing
+
+-- the text that is left to write, if any
+abbrev pub text_from : Rest → Query → Database → Plan → Option (List ℕ)
+text_from (rest.Rows reserved) query db plan = Some (rows_lines query.select (printed_rows query db plan.order))
+text_from rest.Nothing query db plan = None
+
+-- the buffers have room for all that is left to do
+abbrev pub HasRoom : Query → Database → Plan → Rest → Type 0
+HasRoom query db plan (rest.Rows reserved) = IsReadyFor query db plan.order reserved
+HasRoom query db plan rest.Nothing = ⊤
 
 abbrev pub accepted_of : Prepared → Accepted
-accepted_of prepared = record { query = prepared.query; rows = tables_of prepared.db 0 }
+accepted_of prepared = record {
+  query = prepared.query;
+  rows = entry_rows prepared.db;
+  plan = prepared.plan;
+  out = text_left prepared.rest;
+}
 
--- a query of one entry, the database of its table, its plan, and the rows for which all conditions hold
+-- a query, the database of its tables, a plan of which no bound is too low, and the room for what is left to do
 pub record IsReady (prepared : Prepared) : Type 0 where
-  pub one : length prepared.query.from ≡ 1
-  pub slots : prepared.db.slots ≡ 0 ∷ []
-  pub cells : length prepared.db.cells ≡ 1
   pub database : IsDatabaseOf prepared.query prepared.db
-  pub plan : prepared.plan ≡ plan_of (accepted_of prepared)
-  pub kept : prepared.kept.items ≡ kept_of prepared.query (tables_of prepared.db)
+  pub few : length prepared.query.conjuncts ≤ 256
+  pub plan : IsPlanOf prepared.query (tables_of prepared.db) prepared.plan
+  pub tables : tables_in (entry_rows prepared.db) ≡ tables_of prepared.db
+  pub room : HasRoom prepared.query prepared.db prepared.plan prepared.rest

@@ -1,12 +1,23 @@
 -- The texts of an accepted run.
-use Rattle.std.specs.Prelude.{ℕ, List}
+use Rattle.std.specs.Prelude.{ℕ, List, Option, None, Some}
 use Rattle.printed_texts.specs.Plans.{plan_lines}
 use Rattle.printed_texts.specs.Texts.{rows_lines}
-use Rattle.safebound_top.specs.Accepted.{Accepted, plan_of, printed}
+use Rattle.safebound_top.specs.Accepted.{Accepted, printed}
+use Rattle.safebound_top.specs.declared.task.OutText.{OutText}
+use Rattle.safebound_top.specs.declared.task.OutText.TheVariants as out_text
 
+-- for notes: a line for each scan, and then one for each level of the plan's order, with their bounds
 abbrev pub plan_text : Accepted → List ℕ
-plan_text run = plan_lines run.query.from (plan_of run)
+plan_text run = plan_lines run.query.from run.plan
 
 -- the header, and then a record for each row that is printed
 abbrev pub rows_text : Accepted → List ℕ
 rows_text run = rows_lines run.query.select (printed run)
+
+-- the text for out, where there is one
+abbrev pub text_for : OutText → Accepted → Option (List ℕ)
+text_for out_text.Rows run = Some (rows_text run)
+text_for out_text.Nothing run = None
+
+abbrev pub out_text_of : Accepted → Option (List ℕ)
+out_text_of run = text_for run.out run

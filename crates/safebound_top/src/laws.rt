@@ -1,27 +1,34 @@
 //! What holds of every run.
-ghost use Rattle.std.specs.Prelude.{◌≡◌, ◌≢◌, ℕ, List, length, Err};
+ghost use Rattle.std.specs.Prelude.{◌≡◌, ◌≢◌, ℕ, List, Err, IfOk};
+ghost use Rattle.base_io.specs.Files.{Files};
 ghost use Rattle.csv_tables.specs.Files.{rows_of_file};
 ghost use Rattle.csv_tables.specs.declared.types.TableError.TheVariants as table_error;
-ghost use Rattle.query_types.specs.Named.{NamesItsEntries};
+ghost use Rattle.order_search.specs.declared.refusal.PlanError.TheVariants as plan_error;
+ghost use Rattle.planning.specs.Plans.{planned};
+ghost use Rattle.query_types.specs.declared.types.Query.{Query};
 ghost use Rattle.schema_types.specs.declared.errors.SchemaError.TheVariants as schema_error;
 ghost use Rattle.schema_types.specs.declared.types.Schema.{Schema};
 ghost use Rattle.schema_types.specs.declared.types.Table.{Table};
+ghost use Rattle.sql_meaning.specs.Tables.{Tables};
 ghost use Rattle.sql_parse.specs.declared.errors.QueryError.TheVariants as query_error;
 ghost use Rattle.text_answers.specs.QueryTexts.{query_answer};
 ghost use Rattle.text_answers.specs.SchemaTexts.{schema_answer};
-ghost use Rattle.safebound_top.specs.Accepted.{Accepted, BoundsHold, RowsAreTheAnswer};
+ghost use Rattle.safebound_top.specs.Accepted.{BoundsHold, RowsAreTheAnswer};
+ghost use Rattle.safebound_top.specs.Verdict.{verdict};
 
-/// No scan and no level has more rows than its bound. Where the conditions name no other entries than the one,
-/// the rows printed are the answer of the query. It does nothing.
+/// What the words and the files give is a run of which no bound is too low, and whose printed rows are the answer of
+/// the query. It does nothing.
 pub fn run_law()
-    ensures bounds { (run : Accepted) → BoundsHold run }
-    ensures rows { (run : Accepted) → length run.query.from ≡ 1 → NamesItsEntries run.query → RowsAreTheAnswer run }
+    ensures bounds { (words : List (List ℕ)) (files : Files) → IfOk (verdict words files) BoundsHold }
+    ensures rows { (words : List (List ℕ)) (files : Files) → IfOk (verdict words files) RowsAreTheAnswer }
 {}
 
-/// Of the errors of the three readers the verdict meets none that is want of memory: no text and no table's bytes
-/// answer it. So each refusal of the verdict tells something of the words or of a file. It does nothing.
+/// Of the errors of the three readers and of the plan the verdict meets none that is want of memory: no text, no
+/// table's bytes and no plan answers it. So each refusal of the verdict tells something of the words or of a file. It
+/// does nothing.
 pub fn no_reader_wants_memory()
     ensures schemas { (text : List ℕ) → schema_answer text ≢ Err schema_error.NoMemory }
     ensures queries { (schema : Schema) (text : List ℕ) → query_answer schema text ≢ Err query_error.NoMemory }
     ensures tables { (table : Table) (bytes : List ℕ) → rows_of_file table bytes ≢ Err table_error.NoMemory }
+    ensures plans { (query : Query) (tables : Tables) (accuracy budget : ℕ) → planned query tables accuracy budget ≢ Err plan_error.NoMemory }
 {}

@@ -1,7 +1,7 @@
 //! The top call: from the words of a command line to the bytes of two streams.
 //!
-//! It only sequences. `read_words` finds the command; `load_schema` and `prepare` read every file, take all memory
-//! of the run and write nothing; `write_texts` writes the plan text and then the rows text, and takes no memory.
+//! It only sequences. `read_task` finds what is asked for; `load_schema` and `prepare` read every file, plan, take all
+//! memory of the run and write nothing; `write_texts` writes the plan text and then the rows text, and takes no memory.
 //! On every status but `Done`, `write_fault` tells the status in one line.
 //!
 //! What comes out, and why, is `Headline` (in `specs/Headline.antt`), the one clause of `safebound`. It
@@ -11,20 +11,19 @@
 #![tactic(auto)]
 
 mod files;
-mod keep;
 mod laws;
 mod prepare;
 mod report;
-mod tables;
+mod task;
 mod texts;
 mod top_call;
-mod words;
 
 pub use laws::{no_reader_wants_memory, run_law};
 pub use outcomes::{FileId, QueryCause, SchemaCause, SinkId, Status, TableCause};
 pub use report::write_fault;
+pub use safebound_words::{Command, WordsError, read_words};
+pub use task::{OutText, Task, read_task};
 pub use top_call::safebound;
-pub use words::{Command, WordsError, read_words};
 
 #[cfg(test)]
 mod tests;

@@ -1,162 +1,129 @@
 //! Everything that a run takes memory for, before it writes.
-ghost use Rattle.std.specs.Prelude.{ℕ, ◌≡◌, ◌⊎◌, ◌∷◌, [], List, length, Ok, IfErr, IfOk};
-ghost use Rattle.csv_tables.specs.Cells.{AreCellsOf, rows_of_cells};
-ghost use Rattle.csv_tables.specs.declared.types.Cells.{Cells as CellsOf};
+ghost use Rattle.std.specs.Prelude.{ℕ, ◌≡◌, ◌⊎◌, ◌<◌, ◌≤◌, IfErr, IfOk, Ok, length};
+ghost use Rattle.level_bounds.specs.Keys.{HaveDifferentCharacters};
 ghost use Rattle.outcomes.specs.Devices.{reading};
-ghost use Rattle.outcomes.specs.Reads.{AtFile, Reads, Tells, seen};
+ghost use Rattle.outcomes.specs.Reads.{Reads, Tells, seen};
+ghost use Rattle.planned_joins.specs.PlansOf.{HaveFewRows, IsPlanOf};
 ghost use Rattle.query_types.specs.Validity.{IsOf};
-ghost use Rattle.schema_types.specs.Validity.{IsValid, IsValidTable};
+ghost use Rattle.schema_types.specs.Validity.{IsValid};
 ghost use Rattle.sql_meaning.specs.Databases.{IsDatabaseOf};
-ghost use Rattle.safebound_top.specs.Accepted.{plan_of_rows};
-ghost use Rattle.safebound_top.specs.Places.{placed};
-ghost use Rattle.safebound_top.specs.Prepared.{IsReady, accepted_of};
-ghost use Rattle.safebound_top.specs.Verdict.{IsFileOf, only_table, query_run, query_stage, schema_run, table_from, table_run, within_budget};
-ghost use Rattle.safebound_top.specs.Words.{asked, budget_of};
+ghost use Rattle.sql_meaning.specs.Tables.{tables_of};
+ghost use Rattle.table_files.specs.Found.{entry_rows, tables_in};
+ghost use Rattle.table_files.specs.Stage.{IsReached, tables_of_query};
+ghost use Rattle.safebound_top.specs.Asks.{asked};
+ghost use Rattle.safebound_top.specs.Prepared.{HasRoom, IsReady, accepted_of, text_left};
+ghost use Rattle.safebound_top.specs.Verdict.{IsTableOf, plan_stage, query_from, query_run, schema_run};
 
 use crate::files::load_query;
-use crate::keep::kept_rows;
-use crate::tables::{Place, load_table, only_place};
-use crate::words::Command;
-use base_io::{NoMemory, Seq, Store};
-use csv_tables::{Cells, Database, Pool};
-use outcomes::{Ending, FileId, Refusal};
+use crate::task::{OutText, Task};
+use base_io::{NoMemory, Store};
+use csv_tables::Database;
+use outcomes::{Ending, FileId};
+use planned_joins::reserve_plan;
+use planning::plan_query;
 use plans::Plan;
 use query_types::Query;
+use reserve_plan::Reserved;
 use schema_types::Schema;
 use std::alloc::Global;
+use table_files::read_tables;
 
-/// A query, the cells of its table, its plan, and the rows for which all conditions hold.
+/// What is left to do once the plan text is written, with all memory for it.
+#[derive(Drop)]
+pub enum Rest {
+    /// Lists the rows and writes them.
+    Rows(Reserved),
+    /// Nothing.
+    Nothing,
+}
+
+/// A query, the database of its tables, its plan, and what is left to do.
 #[derive(Drop)]
 pub struct Prepared {
     pub query: Query,
     pub db: Database,
     pub plan: Plan,
-    pub kept: Vec<u32>,
+    pub rest: Rest,
 }
 
-// The database of one table.
-fn database_of(alloc: Global, pool: Pool, cells: Cells) -> Result<Database, NoMemory>
-    ensures { IfOk result (λ db. db ≡ record { pool = pool; cells = cells ∷ []; slots = 0 ∷ [] }) }
+// Takes the memory for what is left to do.
+fn make_room(
+    alloc: Global,
+    out: OutText,
+    query: &Query,
+    db: &Database,
+    plan: &Plan,
+) -> Result<Rest, NoMemory>
+    requires database { IsDatabaseOf query.now db.now }
+    requires few_rows { HaveFewRows (tables_of db.now) (length query.now.from) }
+    requires plan { IsPlanOf query.now (tables_of db.now) plan.now }
+    ensures room { IfOk result (HasRoom query.now db.now plan.now) }
+    ensures out { IfOk result (λ rest. text_left rest ≡ out) }
 {
-    let slots = Seq::one(alloc, 0)?;
-    let cells = Seq::one(alloc, cells)?;
-    Ok(Database { pool, cells, slots })
+    match out {
+        OutText::Rows => Ok(Rest::Rows(reserve_plan(alloc, query, db, plan)?)),
+        OutText::Nothing => Ok(Rest::Nothing),
+    }
 }
 
-// The plan of one entry, whose bounds are the number of its rows.
-fn only_plan(alloc: Global, rows: u64) -> Result<Plan, NoMemory>
-    ensures { IfOk result (λ plan. plan ≡ plan_of_rows rows) }
-{
-    let order = Seq::one(alloc, 0)?;
-    let scans = Seq::one(alloc, rows)?;
-    let levels = Seq::one(alloc, rows)?;
-    Ok(Plan {
-        order,
-        scans,
-        levels,
-    })
-}
-
-// What is written of a query and its table.
-fn prepared_of(alloc: Global, query: Query, pool: Pool, cells: Cells) -> Result<Prepared, NoMemory>
-    requires one { length query.from ≡ 1 }
-    requires database { IsDatabaseOf query (record { pool = pool; cells = cells ∷ []; slots = 0 ∷ [] }) }
+// Plans a query over its database, and takes the memory for what is left to do.
+fn prepare_plan(alloc: Global, task: &Task, query: Query, db: Database) -> Result<Prepared, Ending>
+    requires database { IsDatabaseOf query db }
+    requires few { length query.conjuncts ≤ 256 }
+    requires few_rows { HaveFewRows (tables_of db) (length query.from) }
+    requires texts { HaveDifferentCharacters db.pool }
+    requires tables { tables_in (entry_rows db) ≡ tables_of db }
+    requires accuracy { (0 < task.now.accuracy) × (task.now.accuracy ≤ 64) }
+    requires budget { task.now.budget ≤ 20000000 }
     ensures ready { IfOk result IsReady }
-    ensures run { IfOk result (λ p. accepted_of p ≡ record { query = query; rows = rows_of_cells pool cells }) }
+    ensures run { IfOk result (λ p. plan_stage (asked task.now) query (entry_rows db) ≡ Ok (accepted_of p)) }
+    ensures refused { IfErr result (Tells (plan_stage (asked task.now) query (entry_rows db))) }
 {
-    let rows = cells.rows as u64;
-    let plan = only_plan(alloc, rows)?;
-    let db = database_of(alloc, pool, cells)?;
-    let kept = kept_rows(alloc, &query, &db)?;
+    let plan = plan_query(alloc, &query, &db, task.accuracy, task.budget)?;
+    let rest = make_room(alloc, task.out, &query, &db, &plan)?;
     Ok(Prepared {
         query,
         db,
         plan,
-        kept,
+        rest,
     })
 }
 
-#[tactic(auto, using(crate::proofs::Ready::in_budget, crate::proofs::Ready::past_tells))]
-// The same, where the plan is within the budget.
-fn ready(
-    alloc: Global,
-    budget: u64,
-    query: Query,
-    pool: Pool,
-    cells: Cells,
-) -> Result<Prepared, Ending>
-    requires one { length query.from ≡ 1 }
-    requires database { IsDatabaseOf query (record { pool = pool; cells = cells ∷ []; slots = 0 ∷ [] }) }
-    ensures ready { IfOk result IsReady }
-    ensures run { IfOk result (λ p. within_budget budget query (rows_of_cells pool cells) ≡ Ok (accepted_of p)) }
-    ensures refused { IfErr result (Tells (within_budget budget query (rows_of_cells pool cells))) }
-{
-    let rows = cells.rows;
-    if rows as u64 > budget {
-        return Err(Ending::Refused(Refusal::Budget {
-            least: rows as u128,
-        }));
-    }
-    match prepared_of(alloc, query, pool, cells) {
-        Ok(prepared) => Ok(prepared),
-        Err(NoMemory) => Err(Ending::NoMemory),
-    }
-}
-
-// Reads the table of a query's one entry.
-fn prepare_table<S: Store>(
-    alloc: Global,
-    store: &mut S,
-    budget: u64,
-    query: Query,
-    place: Place,
-) -> Result<Prepared, Ending>
-    requires valid { IsValidTable place.table.now }
-    requires one { length query.from ≡ 1 }
-    requires askable { (texts : List (List ℕ)) (cells : CellsOf) → AreCellsOf place.table.now texts cells
-        → IsDatabaseOf query (record { pool = texts; cells = cells ∷ []; slots = 0 ∷ [] }) }
-    ensures ready { IfOk result IsReady }
-    ensures reads { Reads (reading S.files S.faults S.misses store.old store.new) (table_run budget query (placed place.entry))
-        (AtFile (FileId.Table place.entry.number)) (seen accepted_of result) }
-{
-    let mut pool = Pool::new(alloc);
-    let cells = load_table(alloc, store, place, &mut pool)?;
-    ready(alloc, budget, query, pool, cells)
-}
-
-// Reads the table of a query, or refuses a query of more entries.
+// Reads the tables of a query and plans it.
 fn prepare_query<S: Store>(
     alloc: Global,
     store: &mut S,
-    budget: u64,
+    task: &Task,
     schema: &Schema,
     query: Query,
 ) -> Result<Prepared, Ending>
     requires schema { IsValid schema.now }
     requires query { IsOf schema.now query }
+    requires few { length query.conjuncts ≤ 256 }
+    requires accuracy { (0 < task.now.accuracy) × (task.now.accuracy ≤ 64) }
+    requires budget { task.now.budget ≤ 20000000 }
     ensures ready { IfOk result IsReady }
-    ensures reads { Reads (reading S.files S.faults S.misses store.old store.new) (query_run budget schema.now query)
-        (λ _ file. IsFileOf (only_table schema.now query.from) file) (seen accepted_of result) }
+    ensures reads { Reads (reading S.files S.faults S.misses store.old store.new) (query_run (asked task.now) schema.now query)
+        (IsReached schema.now (tables_of_query query.from)) (seen accepted_of result) }
 {
-    let Some(place) = only_place(schema, &query) else {
-        let file = FileId::Query;
-        return Err(Ending::Refused(Refusal::Unbuilt { file }));
-    };
-    prepare_table(alloc, store, budget, query, place)
+    let db = read_tables(alloc, store, schema, &query)?;
+    prepare_plan(alloc, task, query, db)
 }
 
-/// Reads the query and its table, and takes all memory of the run. It writes nothing.
+/// Reads the query and its tables, plans it, and takes all memory of the run. It writes nothing.
 pub fn prepare<S: Store>(
     alloc: Global,
     store: &mut S,
-    command: &Command,
+    task: &Task,
     schema: &Schema,
 ) -> Result<Prepared, Ending>
-    requires { IsValid schema.now }
+    requires schema { IsValid schema.now }
+    requires accuracy { (0 < task.now.accuracy) × (task.now.accuracy ≤ 64) }
+    requires budget { task.now.budget ≤ 20000000 }
     ensures ready { IfOk result IsReady }
-    ensures reads { Reads (reading S.files S.faults S.misses store.old store.new) (schema_run (asked command.now) schema.now)
-        (λ files file. (file ≡ FileId.Query) ⊎ IsFileOf (table_from (asked command.now) schema.now files) file) (seen accepted_of result) }
+    ensures reads { Reads (reading S.files S.faults S.misses store.old store.new) (schema_run (asked task.now) schema.now)
+        (λ files file. (file ≡ FileId.Query) ⊎ IsTableOf (query_from (asked task.now) schema.now files) files file) (seen accepted_of result) }
 {
-    let query = load_query(alloc, store, command.query_file(), schema)?;
-    prepare_query(alloc, store, command.budget(), schema, query)
+    let query = load_query(alloc, store, task.query_file, schema)?;
+    prepare_query(alloc, store, task, schema, query)
 }

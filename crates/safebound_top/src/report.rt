@@ -2,24 +2,25 @@
 ghost use Rattle.std.specs.Prelude.{◌≡◌, ◌≢◌, option_copied};
 ghost use Rattle.outcomes.specs.Devices.{growth};
 ghost use Rattle.outcomes.specs.Writes.{Wrote};
+ghost use Rattle.safebound_top.specs.Asks.{ask_of};
 ghost use Rattle.safebound_top.specs.Course.{Told};
 ghost use Rattle.printed_texts.specs.Words.{named};
-ghost use Rattle.safebound_top.specs.Faults.{ask_of, names_of as names_told, status_line};
+ghost use Rattle.safebound_top.specs.Faults.{names_of as names_told, status_line};
 
-use crate::words::Command;
+use crate::task::Task;
 use base_io::{Failed, Sink};
 use outcomes::Status;
 use printed_texts::{Named, write_line};
 use schema_types::Schema;
 
 // The files of the texts, as a command names them.
-fn names_of<'a>(command: Option<&'a Command<'a>>, schema: Option<&'a Schema>) -> Named<'a>
-    ensures { named result ≡ names_told (ask_of command.entry) (option_copied schema.entry) }
+fn names_of<'a>(task: Option<&'a Task<'a>>, schema: Option<&'a Schema>) -> Named<'a>
+    ensures { named result ≡ names_told (ask_of task.entry) (option_copied schema.entry) }
 {
-    match command {
-        Some(command) => Named {
-            schema_file: command.schema_file(),
-            query_file: command.query_file(),
+    match task {
+        Some(task) => Named {
+            schema_file: task.schema_file,
+            query_file: task.query_file,
             schema,
         },
         None => Named {
@@ -34,27 +35,22 @@ fn names_of<'a>(command: Option<&'a Command<'a>>, schema: Option<&'a Schema>) ->
 /// file and a column by its name, as the schema has them.
 pub fn write_fault<N: Sink>(
     status: Status,
-    command: Option<&Command>,
+    task: Option<&Task>,
     schema: Option<&Schema>,
     sink: &mut N,
 ) -> Result<(), Failed>
     requires { status ≢ Status.Done }
-    ensures { Wrote (growth N.taken N.faults sink.old sink.new) (status_line status (ask_of command.entry) (option_copied schema.entry)) result }
+    ensures { Wrote (growth N.taken N.faults sink.old sink.new) (status_line status (ask_of task.entry) (option_copied schema.entry)) result }
 {
-    write_line(status, names_of(command, schema), sink)
+    write_line(status, names_of(task, schema), sink)
 }
 
 /// Tells a status as the last act of a call. A failure of this write changes nothing else.
-pub fn report<N: Sink>(
-    status: Status,
-    command: Option<&Command>,
-    schema: Option<&Schema>,
-    notes: &mut N,
-)
+pub fn report<N: Sink>(status: Status, task: Option<&Task>, schema: Option<&Schema>, notes: &mut N)
     requires { status ≢ Status.Done }
-    ensures { Told (growth N.taken N.faults notes.old notes.new) (status_line status (ask_of command.entry) (option_copied schema.entry)) }
+    ensures { Told (growth N.taken N.faults notes.old notes.new) (status_line status (ask_of task.entry) (option_copied schema.entry)) }
 {
-    match write_fault(status, command, schema, notes) {
+    match write_fault(status, task, schema, notes) {
         Ok(()) => {}
         Err(Failed) => {}
     }

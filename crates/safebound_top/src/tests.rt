@@ -1,4 +1,4 @@
-use crate::{WordsError, read_words, safebound};
+use crate::{read_task, safebound};
 use base_io::{MemSink, MemStore, Name, NoMemory, Seq};
 use std::alloc::Global;
 use std::test::Fail;
@@ -7,9 +7,12 @@ const NUMBERS: &str = "CREATE TABLE R (X INTEGER NOT NULL);";
 
 const SIX_ROWS: &str = "X\r\n1\r\n1\r\n1\r\n2\r\n2\r\n3\r\n";
 
-// The texts that a run reads.
+const JOINED: &str = "scan A 6\nscan B 3\nlevel 1 B 3\nlevel 2 A 9\n";
+
+// The command and the texts of a run.
 #[derive(Clone, Copy)]
 struct Texts<'a> {
+    command: &'a str,
     schema: &'a str,
     query: &'a str,
     table_file: &'a str,
@@ -42,6 +45,7 @@ struct Ran {
 
 fn over<'a>(query: &'a str) -> Texts<'a> {
     Texts {
+        command: "run",
         schema: NUMBERS,
         query,
         table_file: "r.csv",
@@ -66,7 +70,7 @@ fn run(alloc: Global, texts: Texts, devices: Devices) -> Result<Ran, NoMemory> {
     let mut store = MemStore::new(files(alloc, texts)?, Seq::one(alloc, devices.store)?);
     let mut out = MemSink::new(alloc, devices.room, Seq::one(alloc, devices.out)?)?;
     let mut notes = MemSink::new(alloc, 1000, Seq::one(alloc, devices.notes)?)?;
-    let words = ["run", "schema.sql", "query.sql"];
+    let words = [texts.command, "schema.sql", "query.sql", "--budget=20"];
     let status = safebound(alloc, &words, &mut store, &mut out, &mut notes);
     Ok(Ran {
         code: status.code(),
@@ -91,25 +95,47 @@ fn is_refused(alloc: Global, texts: Texts, code: u8, line: &str) -> Result<bool,
     Ok(ran.code == code && ran.notes.as_slice() == line.as_bytes() && ran.out.len() == 0)
 }
 
-// Rows of six pass filters, in the table's order, each as often as there.
+// Rows of six pass filters, in the table's order, each as often as there. The bounds follow the conditions.
 #[test]
 fn filters(rt: HostRuntime) -> Result<(), Fail> {
     let cases = [
-        ("SELECT X FROM R WHERE NOT (X IN (1, 3))", "X\r\n2\r\n2\r\n"),
         (
-            "SELECT X FROM R WHERE X = 1 OR X = 1 OR X = 1",
-            "X\r\n1\r\n1\r\n1\r\n",
+            "SELECT X FROM R WHERE NOT (X IN (1, 3))",
+            "scan R 6\nlevel 1 R 6\n",
+            "X\r\n2\r\n2\r\n",
         ),
-        ("SELECT X FROM R WHERE X > 5 AND X < 2", "X\r\n"),
-        ("SELECT X FROM R WHERE X = 99", "X\r\n"),
+        (
+            "SELECT X FROM R WHERE X > 5 AND X < 2",
+            "scan R 3\nlevel 1 R 3\n",
+            "X\r\n",
+        ),
         (
             "SELECT X AS \"a\"\"b\", X FROM R WHERE X >= 3",
+            "scan R 1\nlevel 1 R 1\n",
             "\"a\"\"b\",X\r\n3,3\r\n",
         ),
+        (
+            "SELECT A.X, B.X AS Y FROM R AS A, R AS B WHERE A.X = B.X AND B.X >= 2",
+            JOINED,
+            "X,Y\r\n2,2\r\n2,2\r\n2,2\r\n2,2\r\n3,3\r\n",
+        ),
     ];
-    for (query, rows) in cases {
-        assert!(rt; is_done(rt.alloc(), over(query), "scan R 6\nlevel 1 R 6\n", rows)?);
+    for (query, notes, rows) in cases {
+        assert!(rt; is_done(rt.alloc(), over(query), notes, rows)?);
     }
+    Ok(())
+}
+
+// The plan alone, and the least cost where it is above the budget.
+#[test]
+fn plans(rt: HostRuntime) -> Result<(), Fail> {
+    let plan = Texts {
+        command: "plan",
+        ..over("SELECT A.X, B.X AS Y FROM R AS A, R AS B WHERE A.X = B.X AND B.X >= 2")
+    };
+    assert!(rt; is_done(rt.alloc(), plan, JOINED, "")?);
+    let product = over("SELECT A.X FROM R AS A, R AS B");
+    assert!(rt; is_refused(rt.alloc(), product, 8, "error budget 36\n")?);
     Ok(())
 }
 
@@ -118,6 +144,7 @@ fn filters(rt: HostRuntime) -> Result<(), Fail> {
 fn texts_are_printed_as_they_are_read(rt: HostRuntime) -> Result<(), Fail> {
     let table = "V\r\n\"a,\"\"b\"\"\r\nc\"\r\n\"\"\r\n";
     let texts = Texts {
+        command: "run",
         schema: "CREATE TABLE N (V VARCHAR(20) NOT NULL)",
         query: "SELECT V FROM N",
         table_file: "n.csv",
@@ -139,11 +166,6 @@ fn wrong_texts_are_refused(rt: HostRuntime) -> Result<(), Fail> {
         ("SELECT X FROM Q", 5, "error query name 14\n"),
         ("SELECT X FROM R WHERE X = 'a'", 5, "error query kind 26\n"),
         ("SELECT", 5, "error query syntax 6\n"),
-        (
-            "SELECT A.X FROM R AS A, R AS B",
-            13,
-            "error unbuilt query.sql\n",
-        ),
     ];
     for (query, code, line) in cases {
         assert!(rt; is_refused(rt.alloc(), over(query), code, line)?);
@@ -195,27 +217,11 @@ fn a_full_stream_cuts_the_rows(rt: HostRuntime) -> Result<(), Fail> {
     Ok(())
 }
 
-fn is_usage(words: &[&str]) -> bool {
-    matches!(read_words(words), Err(WordsError::Usage))
-}
-
-fn runs_two_files(words: &[&str]) -> bool {
-    match read_words(words) {
-        Ok(command) => {
-            command.schema_file() == "s"
-                && command.query_file() == "q"
-                && command.budget() == 1_000_000
-        }
-        Err(WordsError::Usage) => false,
-    }
-}
-
 #[test]
 fn other_words_are_usage(rt: HostRuntime) -> Result<(), Fail> {
-    assert!(rt; is_usage(&["run", "schema.sql"]));
-    assert!(rt; is_usage(&["run", "-s", "q"]));
-    assert!(rt; is_usage(&["plan", "s", "q"]));
-    assert!(rt; runs_two_files(&["run", "s", "q"]));
+    assert!(rt; read_task(&["run", "schema.sql"]).is_none());
+    assert!(rt; read_task(&["audit", "s", "q"]).is_none());
+    assert!(rt; read_task(&["plan", "s", "q", "--accuracy", "3"]).is_some());
     Ok(())
 }
 

@@ -1,28 +1,84 @@
 //! The texts that a run leaves in its two streams. Nothing here takes memory.
+ghost use Rattle.std.specs.Prelude.{◌≤◌, length};
 ghost use Rattle.outcomes.specs.Devices.{growth};
-ghost use Rattle.safebound_top.specs.Course.{Written};
-ghost use Rattle.safebound_top.specs.Prepared.{IsReady, accepted_of};
+ghost use Rattle.outcomes.specs.Writes.{Wrote};
+ghost use Rattle.planned_joins.specs.PlansOf.{IsPlanOf, IsReadyFor};
+ghost use Rattle.printed_texts.specs.Texts.{rows_lines};
+ghost use Rattle.sql_meaning.specs.Databases.{IsDatabaseOf};
+ghost use Rattle.sql_meaning.specs.Tables.{tables_of};
+ghost use Rattle.joined_texts.specs.Printed.{printed_rows};
+ghost use Rattle.safebound_top.specs.Course.{Written, WroteIfAny};
+ghost use Rattle.safebound_top.specs.Prepared.{HasRoom, IsReady, accepted_of, text_from};
 
-use crate::prepare::Prepared;
+use crate::prepare::{Prepared, Rest};
 use base_io::{Failed, Sink};
+use csv_tables::Database;
+use joined_texts::write_rows;
 use outcomes::SinkId;
-use printed_texts::{write_plan, write_rows};
+use planned_joins::execute_plan;
+use plans::Plan;
+use printed_texts::write_plan;
+use query_types::Query;
+use reserve_plan::Reserved;
 
-/// Writes the plan text to `notes`, and then the rows text to `out`.
+// Lists the rows of a plan, and writes them.
+fn list_rows<O: Sink>(
+    reserved: Reserved,
+    plan: &Plan,
+    query: &Query,
+    db: &Database,
+    out: &mut O,
+) -> Result<(), Failed>
+    requires database { IsDatabaseOf query.now db.now }
+    requires few { length query.now.conjuncts ≤ 256 }
+    requires plan { IsPlanOf query.now (tables_of db.now) plan.now }
+    requires ready { IsReadyFor query.now db.now plan.now.order reserved }
+    ensures { Wrote (growth O.taken O.faults out.old out.new) (rows_lines query.now.select (printed_rows query.now db.now plan.now.order)) result }
+{
+    let executed = execute_plan(reserved, plan, query, db);
+    write_rows(&executed, plan.order.as_slice(), query, db, out)
+}
+
+// Does what is left to do.
+fn write_rest<O: Sink>(
+    rest: Rest,
+    plan: &Plan,
+    query: &Query,
+    db: &Database,
+    out: &mut O,
+) -> Result<(), Failed>
+    requires database { IsDatabaseOf query.now db.now }
+    requires few { length query.now.conjuncts ≤ 256 }
+    requires plan { IsPlanOf query.now (tables_of db.now) plan.now }
+    requires room { HasRoom query.now db.now plan.now rest }
+    ensures { WroteIfAny (growth O.taken O.faults out.old out.new) (text_from rest query.now db.now plan.now) result }
+{
+    match rest {
+        Rest::Rows(reserved) => list_rows(reserved, plan, query, db, out),
+        Rest::Nothing => Ok(()),
+    }
+}
+
+/// Writes the plan text to `notes`, and then what is left to do to `out`.
 pub fn write_texts<O: Sink, N: Sink>(
-    prepared: &Prepared,
+    prepared: Prepared,
     out: &mut O,
     notes: &mut N,
 ) -> Result<(), SinkId>
-    requires { IsReady prepared.now }
-    ensures { Written (growth O.taken O.faults out.old out.new) (growth N.taken N.faults notes.old notes.new) (accepted_of prepared.now) result }
+    requires { IsReady prepared }
+    ensures { Written (growth O.taken O.faults out.old out.new) (growth N.taken N.faults notes.old notes.new) (accepted_of prepared) result }
 {
-    match write_plan(&prepared.plan, prepared.query.from.as_slice(), notes) {
+    let Prepared {
+        query,
+        db,
+        plan,
+        rest,
+    } = prepared;
+    match write_plan(&plan, query.from.as_slice(), notes) {
         Ok(()) => {}
         Err(Failed) => return Err(SinkId::Notes),
     }
-    let outs = prepared.query.select.as_slice();
-    match write_rows(outs, prepared.kept.as_slice(), &prepared.db, out) {
+    match write_rest(rest, &plan, &query, &db, out) {
         Ok(()) => Ok(()),
         Err(Failed) => Err(SinkId::Out),
     }

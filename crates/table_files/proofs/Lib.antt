@@ -6,4 +6,5 @@ pub mod FewRows
 pub mod Loads
 pub mod OneTable
 pub mod PlaceFacts
+pub mod SameTables
 pub mod StageFacts

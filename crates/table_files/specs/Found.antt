@@ -1,5 +1,5 @@
 -- What was read, as rows.
-use Rattle.std.specs.Prelude.{ℕ, ◌<◌, List, [], ◌∷◌, length, map, slice_index, ⊤}
+use Rattle.std.specs.Prelude.{ℕ, ◌<◌, List, [], ◌∷◌, length, map, slice_index, slice_index_or, ⊤}
 use Rattle.std.specs.List.{range_with_len}
 use Rattle.schema_types.specs.declared.types.Schema.{Schema}
 use Rattle.csv_tables.specs.Cells.{AreCellsOf, rows_of_cells}
@@ -7,12 +7,16 @@ use Rattle.csv_tables.specs.Rows.{Row}
 use Rattle.csv_tables.specs.declared.types.Cells.{Cells}
 use Rattle.csv_tables.specs.declared.types.Database.{Database}
 use Rattle.query_types.specs.declared.types.Source.{Source}
-use Rattle.sql_meaning.specs.Tables.{cells_of, tables_of}
+use Rattle.sql_meaning.specs.Tables.{Tables, cells_of, tables_of}
 use Rattle.table_files.specs.Stage.{numbers_of, table_at}
 
 -- for each FROM entry of a database the rows of its table
 abbrev pub entry_rows : Database → List (List Row)
 entry_rows db = map (tables_of db) (range_with_len 0 (length db.slots))
+
+-- the rows of each entry as tables. No query asks past its last entry; there stand the first entry's
+abbrev pub tables_in : List (List Row) → Tables
+tables_in rows entry = slice_index_or rows entry (slice_index_or rows 0 [])
 
 -- each FROM entry has the cells of its table
 abbrev pub HasCells : Schema → List Source → Database → Type 0

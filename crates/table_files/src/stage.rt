@@ -7,7 +7,7 @@ ghost use Rattle.query_types.specs.Validity.{IsOf};
 ghost use Rattle.schema_types.specs.Validity.{IsValid};
 ghost use Rattle.sql_meaning.specs.Databases.{IsDatabaseOf};
 ghost use Rattle.sql_meaning.specs.Tables.{row_counts, tables_of};
-ghost use Rattle.table_files.specs.Found.{HasCells, entry_rows};
+ghost use Rattle.table_files.specs.Found.{HasCells, entry_rows, tables_in};
 ghost use Rattle.table_files.specs.Stage.{IsReached, tables_of_query, tables_stage};
 
 use crate::each::read_each;
@@ -46,6 +46,9 @@ pub fn read_tables<S: Store>(
     // Its texts are UTF-8, and no two are equal.
     ensures texts { IfOk result (λ db. All IsUtf8 db.pool) }
     ensures different { IfOk result (λ db. AreDifferent db.pool) }
+
+    // Its tables are those of its rows.
+    ensures tables { IfOk result (λ db. tables_in (entry_rows db) ≡ tables_of db) }
 
     // Its rows are those of the stage, or the ending has its cause.
     ensures reads { Reads (reading S.files S.faults S.misses store.old store.new) (tables_stage schema.now query.now.from)

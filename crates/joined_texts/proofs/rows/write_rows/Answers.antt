@@ -21,8 +21,8 @@ returns-in_err-put_line g c =
     let ordered : IsOrdered joining = record { database = c.requires.database; entries = c.requires.order } in
     wrote_err c.new-buffer.ensures p.1
     (put_as (rows_lines c.args.query.now.select (printed_rows c.args.query.now c.args.db.now c.args.order.now))
-    (whole_text joining ordered c.args.executed.now c.requires.levels c.requires.count)
-    (put_cut (flat_map (choice_record joining) (last_rows joining c.args.executed.now)) (rw c.as_slice.ensures at c.in_err-put_line.ensures)))
+    (whole_text joining ordered c.args.executed.now c.requires.levels c.requires.count c.as_slice.result.now c.as_slice.ensures)
+    (put_cut (flat_map (choice_record joining) (last_rows joining c.args.executed.now)) c.in_err-put_line.ensures))
 
 pub returns-in_err-put_rows : goal.returns-in_err-put_rows
 returns-in_err-put_rows g c =
@@ -31,8 +31,8 @@ returns-in_err-put_rows g c =
     let ordered : IsOrdered joining = record { database = c.requires.database; entries = c.requires.order } in
     wrote_err c.new-buffer.ensures p.1
     (put_as (rows_lines c.args.query.now.select (printed_rows c.args.query.now c.args.db.now c.args.order.now))
-    (whole_text joining ordered c.args.executed.now c.requires.levels c.requires.count)
-    (put_then (rw c.as_slice.ensures at c.in_ok-put_line.ensures) c.in_err-put_rows.ensures))
+    (whole_text joining ordered c.args.executed.now c.requires.levels c.requires.count c.as_slice.result.now c.as_slice.ensures)
+    (put_then c.in_ok-put_line.ensures c.in_err-put_rows.ensures))
 
 pub returns : goal.returns
 returns g c =
@@ -41,6 +41,6 @@ returns g c =
     let ordered : IsOrdered joining = record { database = c.requires.database; entries = c.requires.order } in
     flushed c.flush.result c.new-buffer.ensures
     (put_as (rows_lines c.args.query.now.select (printed_rows c.args.query.now c.args.db.now c.args.order.now))
-    (whole_text joining ordered c.args.executed.now c.requires.levels c.requires.count)
-    (put_then (rw c.as_slice.ensures at c.in_ok-put_line.ensures) c.in_ok-put_rows.ensures))
+    (whole_text joining ordered c.args.executed.now c.requires.levels c.requires.count c.as_slice.result.now c.as_slice.ensures)
+    (put_then c.in_ok-put_line.ensures c.in_ok-put_rows.ensures))
     f.ok f.prefix f.later f.failed

@@ -1,4 +1,5 @@
 use Rattle.std.proofs.lemmas.Result.{err_from_is_err_and}
+use Rattle.text_answers.proofs.QueryLimits.{answer_keeps}
 use Rattle.safebound_top.proofs.Answered.{query_read, query_told}
 use Rattle.safebound_top.proofs.Stages.{query_refused, query_spelled, query_stops}
 use Rattle.safebound_top.proofs.files.load_query.Goals as goal
@@ -17,3 +18,6 @@ pub returns-clause-reads : goal.returns-clause-reads
 returns-clause-reads g c =
     rw c.from.ensures (query_refused c.args.name.now c.args.schema.now _ c.as_slice.result.now _ c.as_slice.ensures
     (query_told c.args.schema.now c.as_slice.result.now c.in-Err.error c.in-Err.ensures.meaning) c.in_ok-text.ensures.reads)
+
+pub returns-in-Ok-clause-few : goal.returns-in-Ok-clause-few
+returns-in-Ok-clause-few g c = (answer_keeps c.args.schema.now c.as_slice.result.now c.in-Ok.query c.in-Ok.ensures.meaning).conjuncts

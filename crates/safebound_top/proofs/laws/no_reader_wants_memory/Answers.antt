@@ -1,5 +1,6 @@
 use Rattle.text_answers.proofs.QueryAnswers as queries
 use Rattle.text_answers.proofs.SchemaAnswers as schemas
+use Rattle.planning.proofs.PlanFacts.{never_memory_planned}
 use Rattle.safebound_top.proofs.TableErrors as tables
 use Rattle.safebound_top.proofs.laws.no_reader_wants_memory.Goals as goal
 
@@ -11,3 +12,6 @@ returns-clause-queries c = queries.never_memory
 
 pub returns-clause-tables : goal.returns-clause-tables
 returns-clause-tables c = tables.never_memory
+
+pub returns-clause-plans : goal.returns-clause-plans
+returns-clause-plans c = never_memory_planned

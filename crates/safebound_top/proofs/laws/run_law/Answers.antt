@@ -1,4 +1,4 @@
-use Rattle.safebound_top.proofs.Meanings.{bounds_hold, rows_are_the_answer}
+use Rattle.safebound_top.proofs.Runs.{bounds_hold, rows_are_the_answer}
 use Rattle.safebound_top.proofs.laws.run_law.Goals as goal
 
 pub returns-clause-bounds : goal.returns-clause-bounds

@@ -1,17 +1,17 @@
 use Rattle.std.proofs.Common.{refl}
 use Rattle.std.proofs.lemmas.Result.{err_from_is_err_and}
 use Rattle.outcomes.specs.Reads.{seen}
+use Rattle.safebound_top.specs.Asks.{asked}
 use Rattle.safebound_top.specs.Prepared.{accepted_of}
-use Rattle.safebound_top.specs.Words.{asked}
 use Rattle.safebound_top.proofs.Stages.{schema_not_run, schema_ran}
 use Rattle.safebound_top.proofs.prepare.prepare.Goals as goal
 
 pub returns-in_err-query-clause-reads : goal.returns-in_err-query-clause-reads
 returns-in_err-query-clause-reads g c =
     let p = err_from_is_err_and c.from_residual.result c.from_residual.ensures.1 in
-    rw (p.1, p.2) (schema_not_run (asked c.args.command.now) c.args.schema.now c.in_err-query.field-0.0 (rw c.query_file.ensures at c.in_err-query.ensures.reads))
+    rw (p.1, p.2) (schema_not_run (asked c.args.task.now) c.args.schema.now c.in_err-query.field-0.0 c.in_err-query.ensures.reads)
 
 pub returns-clause-reads : goal.returns-clause-reads
 returns-clause-reads g c =
-    schema_ran (asked c.args.command.now) c.args.schema.now _ _ c.in_ok-query.query (seen accepted_of c.prepare_query.result) (record { files = refl; faults = refl; misses = refl })
-    (rw c.query_file.ensures at c.in_ok-query.ensures.reads) (rw c.budget.ensures at c.prepare_query.ensures.reads)
+    schema_ran (asked c.args.task.now) c.args.schema.now _ _ c.in_ok-query.query (seen accepted_of c.prepare_query.result) (record { files = refl; faults = refl; misses = refl })
+    c.in_ok-query.ensures.reads c.prepare_query.ensures.reads

@@ -12,4 +12,4 @@ pub report-requires : goal.report-requires
 report-requires g c h = let no : status.WriteFault c.in-Err.sink ≡ status.Done = sym c.from-status.ensures ∙ h in cc
 
 pub returns-in-Err : goal.returns-in-Err
-returns-in-Err g c = ended_cut c.in-Err.sink c.from-status.result _ _ _ _ _ _ _ _ _ _ (accepted_of c.args.prepared.now) _ c.from-status.ensures c.in-Err.ensures c.report.ensures
+returns-in-Err g c = ended_cut c.in-Err.sink c.from-status.result _ _ _ _ _ _ _ _ _ _ (accepted_of c.args.prepared) _ c.from-status.ensures c.in-Err.ensures c.report.ensures

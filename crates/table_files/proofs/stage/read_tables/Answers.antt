@@ -1,4 +1,4 @@
-use Rattle.std.proofs.Common.{◌≡◌, ◌∙◌, ◌<◌, ℕ, List, ap, arith, length, map, sym, subst}
+use Rattle.std.proofs.Common.{◌≡◌, ◌∙◌, ◌<◌, ℕ, List, ap, arith, get_or, length, map, sym, subst}
 use Rattle.std.specs.List.{All}
 use Rattle.std.proofs.lemmas.Result.{err_from_is_err_and}
 use Rattle.query_types.specs.declared.types.Source.{Source}
@@ -6,6 +6,7 @@ use Rattle.table_files.specs.Stage.{numbers_of, place_of, tables_of_query}
 use Rattle.table_files.proofs.Asked.{numbers_few, numbers_low}
 use Rattle.table_files.proofs.EntryRows.{each_long}
 use Rattle.table_files.proofs.FewRows.{tables_are_few}
+use Rattle.table_files.proofs.SameTables.{first_place, same_tables, some_slot}
 use Rattle.table_files.proofs.StageFacts.{found_cells, found_database, made, stage_read, stage_stops}
 use Rattle.table_files.proofs.stage.read_tables.Goals as goal
 
@@ -58,6 +59,17 @@ pub returns-clause-once : goal.returns-clause-once
 returns-clause-once g c =
     let named : c.as_slice-2.result.now ≡ tables_of_query c.args.query.now.from = c.as_slice-2.ensures ∙ c.in-Ok.ensures ∙ ap tables_of_query c.as_slice-from.ensures in
     each_long c.args.schema.now c.read_each.new.pool c.as_slice-2.result.now c.in_ok-cells.cells c.in_ok-cells.ensures.cells ∙ ap length named
+
+pub returns-clause-tables : goal.returns-clause-tables
+returns-clause-tables g c =
+    let named : c.as_slice-2.result.now ≡ tables_of_query c.args.query.now.from = c.as_slice-2.ensures ∙ c.in-Ok.ensures ∙ ap tables_of_query c.as_slice-from.ensures in
+    let placed : c.in-Ok-slots.slots ≡ map (place_of c.as_slice-2.result.now) (numbers_of c.args.query.now.from) =
+    c.in-Ok-slots.ensures ∙ ap (λ (l : List ℕ). map (place_of l) (numbers_of c.as_slice-from.result.now)) (c.as_slice.ensures ∙ sym c.as_slice-2.ensures)
+    ∙ ap (λ (f : List Source). map (place_of c.as_slice-2.result.now) (numbers_of f)) c.as_slice-from.ensures in
+    let there : c.in-Ok-slots.slots ≡ map (place_of (tables_of_query c.args.query.now.from)) (numbers_of c.args.query.now.from) =
+    placed ∙ ap (λ (l : List ℕ). map (place_of l) (numbers_of c.args.query.now.from)) named in
+    same_tables (made c.read_each.new.pool c.in_ok-cells.cells c.in-Ok-slots.slots) (some_slot c.args.query.now.from c.in-Ok-slots.slots there c.requires.query.some)
+    (ap (λ (slots : List ℕ). get_or slots 0 0) there ∙ first_place c.args.query.now.from)
 
 pub returns-clause-few_rows : goal.returns-clause-few_rows
 returns-clause-few_rows g c entry low = tables_are_few (made c.read_each.new.pool c.in_ok-cells.cells c.in-Ok-slots.slots) c.in_ok-cells.ensures.few_rows entry

@@ -1,0 +1,141 @@
+-- The columns of an entry that statistics are asked for.
+use Rattle.std.proofs.Common.{◌≡◌, ◌⊎◌, ℕ, zero, suc, ◌+◌, ◌<◌, Bool, true, false, not, ◌&&◌, cond, eqb, List, [], ◌∷◌, ◌++◌, map, length, take, get_or, Some, refl, ap, sym, ◌∙◌, subst, inl, inr, arith}
+use Rattle.std.specs.Prelude.{if◌then◌else◌}
+use Rattle.std.specs.List.{All, AllByRecursion, Contains, filter, list_any}
+use Rattle.std.proofs.lemmas.Bool.{cases_Bool, cases_eq, eq-eqb, eqb-true, ne_eqb}
+use Rattle.std.proofs.lemmas.List.{append-nil, map-append}
+use Rattle.std.proofs.lemmas.List.Elements.{All-contains, filter-append}
+use Rattle.berge_tree.specs.declared.edges.Edge.{Edge}
+use Rattle.berge_tree.specs.declared.edges.Place.{Place}
+use Rattle.berge_tree.specs.Equalities.{place, places_of}
+use Rattle.csv_tables.specs.declared.types.Database.{Database}
+use Rattle.degree_lists.proofs.OneMoreKey.{different-push}
+use Rattle.degree_sequences.specs.Degrees.{different}
+use Rattle.degree_sequences.proofs.Counting.{is_in-filter}
+use Rattle.entry_sets.proofs.Listing.{in_front, in_none, in_rest, one_in}
+use Rattle.join_graph.specs.Conjuncts.{equalities_of, equality_of}
+use Rattle.level_bounds.proofs.EqualityFacts.{IsJoin, is_join}
+use Rattle.level_bounds.proofs.Lists.{from_filter, from_filter_map, from_map, in_filter, in_map, in_true, is_in, true_in}
+use Rattle.query_bounds.proofs.Holding.{places_more}
+use Rattle.query_types.specs.declared.types.ColumnRef.{ColumnRef}
+use Rattle.query_types.specs.declared.types.Operand.TheVariants as operand
+use Rattle.query_types.specs.declared.types.Cond.{Cond, every_here-Cond}
+use Rattle.query_types.specs.declared.types.Cond.TheViews.{out-Cond}
+use Rattle.query_types.specs.declared.types.Query.{Query}
+use Rattle.sql_meaning.specs.Databases.{CanAskLayer, CanCompare, IsAskable, IsColumnOf, IsDatabaseOf}
+use Rattle.gathered_stats.specs.Asked.{asked_columns, joined_columns, or_the_first, with_place}
+
+-- ---- one place more
+
+abbrev is_of : ℕ → Place → Bool
+is_of entry p = eqb p.entry entry
+
+abbrev columns_at : ℕ → List Place → List ℕ
+columns_at entry places = map (λ p. p.column) (filter (is_of entry) places)
+
+turned : {X : Type 0} (b : Bool) (x y : X) → (if (true && not b) then x else y) ≡ cond b y x
+turned true x y = refl
+turned false x y = refl
+
+one_more : (entry : ℕ) (places : List Place) (p : Place) → with_place entry (different (columns_at entry places)) p ≡ different (columns_at entry (places ++ p ∷ []))
+one_more entry places p =
+    let L : List ℕ = columns_at entry places in
+    let parts : filter (is_of entry) (places ++ p ∷ []) ≡ filter (is_of entry) places ++ filter (is_of entry) (p ∷ []) = filter-append (is_of entry) places (p ∷ []) in
+    let mapped : columns_at entry (places ++ p ∷ []) ≡ L ++ map (λ q. q.column) (filter (is_of entry) (p ∷ [])) =
+    ap (map (λ q. q.column)) parts ∙ map-append (λ (q : Place). q.column) (filter (is_of entry) places) (filter (is_of entry) (p ∷ [])) in
+    elim (cases_Bool (eqb p.entry entry)) [
+      | inl t ↦ (let kept : map (λ q. q.column) (filter (is_of entry) (p ∷ [])) ≡ p.column ∷ [] = rw t refl in
+          let all : different (columns_at entry (places ++ p ∷ [])) ≡ cond (is_in (different L) p.column) (different L) (different L ++ p.column ∷ []) =
+          ap different (mapped ∙ ap (λ (s : List ℕ). L ++ s) kept) ∙ different-push L p.column in
+          rw t (turned (is_in (different L) p.column) (different L ++ p.column ∷ []) (different L) ∙ sym all))
+      | inr n ↦ (let dropped : map (λ q. q.column) (filter (is_of entry) (p ∷ [])) ≡ [] = rw n refl in
+          rw n (ap different (sym (mapped ∙ ap (λ (s : List ℕ). L ++ s) dropped ∙ append-nil L))))
+    ]
+
+pub pair_more : (entry : ℕ) (es items : List Edge) (i : ℕ) (d : Edge) (old mid new : List ℕ) → items ≡ es → i < length items → old ≡ joined_columns entry (take i es)
+    → mid ≡ with_place entry old (get_or items i d).left → new ≡ with_place entry mid (get_or items i d).right → new ≡ joined_columns entry (take (i + 1) es)
+pair_more entry es items i d old mid new is low before first second =
+    let left : Place = (get_or items i d).left in
+    let right : Place = (get_or items i d).right in
+    let places : List Place = places_of (take i es) in
+    let one : mid ≡ different (columns_at entry (places ++ left ∷ [])) = first ∙ ap (λ (s : List ℕ). with_place entry s left) before ∙ one_more entry places left in
+    second ∙ ap (λ (s : List ℕ). with_place entry s right) one ∙ one_more entry (places ++ left ∷ []) right ∙ ap (λ (s : List Place). different (columns_at entry s)) (sym (places_more es items i d is low))
+
+-- ---- which they are
+
+in_different : (L : List ℕ) (x : ℕ) → Contains L x → Contains (different L) x
+in_different [] x k = absurd (in_none x k)
+in_different (y ∷ L) x k = elim (cases_eq x y) [
+  | inl same ↦ in_front y (filter (λ z. not (eqb z y)) (different L)) x same
+  | inr apart ↦ elim (one_in y L x k) [
+    | inl later ↦ (let passes : not (eqb x y) ≡ true = rw (ne_eqb x y apart) refl in
+        in_rest y (filter (λ z. not (eqb z y)) (different L)) x
+        (true_in (filter (λ z. not (eqb z y)) (different L)) x (is_in-filter (λ z. not (eqb z y)) (different L) x passes (in_true (different L) x (in_different L x later)))))
+    | inr is ↦ absurd (apart is)
+  ]
+]
+
+from_different : (L : List ℕ) (x : ℕ) → Contains (different L) x → Contains L x
+from_different [] x k = absurd (in_none x k)
+from_different (y ∷ L) x k = elim (one_in y (filter (λ z. not (eqb z y)) (different L)) x k) [
+  | inl later ↦ in_rest y L x (from_different L x (from_filter (λ z. not (eqb z y)) (different L) x later).0)
+  | inr is ↦ in_front y L x is
+]
+
+or_more : (L : List ℕ) (x : ℕ) → Contains L x → Contains (or_the_first L) x
+or_more [] x k = absurd (in_none x k)
+or_more (y ∷ L) x k = k
+
+-- each column of an entry that an equality names is asked for
+pub place_asked : (es : List Edge) (p : Place) → Contains (places_of es) p → Contains (asked_columns p.entry es) p.column
+place_asked es p k =
+    or_more (joined_columns p.entry es) p.column (in_different (columns_at p.entry (places_of es)) p.column
+    (in_map (λ (q : Place). q.column) (filter (is_of p.entry) (places_of es)) p (in_filter (is_of p.entry) (places_of es) p k (eq-eqb p.entry p.entry refl))))
+
+-- a column that is asked for is one that an equality names, or the first one
+pub asked_place : (entry : ℕ) (es : List Edge) (column : ℕ) → Contains (asked_columns entry es) column
+    → ((p : Place) × Contains (places_of es) p × (p.entry ≡ entry) × (column ≡ p.column)) ⊎ (column ≡ 0)
+asked_place entry es column k = by (joined_columns entry es) refl k
+  where
+    by : (L : List ℕ) → L ≡ joined_columns entry es → Contains (or_the_first L) column
+        → ((p : Place) × Contains (places_of es) p × (p.entry ≡ entry) × (column ≡ p.column)) ⊎ (column ≡ 0)
+    by [] is k = elim (one_in 0 [] column k) [ inl later ↦ absurd (in_none column later) | inr first ↦ inr first ]
+    by (c ∷ L) is k =
+        let named : Contains (columns_at entry (places_of es)) column = from_different (columns_at entry (places_of es)) column (subst (λ (s : List ℕ). Contains s column) is k) in
+        let at : (p : Place) × Contains (filter (is_of entry) (places_of es)) p × (column ≡ p.column) = from_map (λ (q : Place). q.column) (filter (is_of entry) (places_of es)) column named in
+        let kept : Contains (places_of es) at.0 × (is_of entry at.0 ≡ true) = from_filter (is_of entry) (places_of es) at.0 at.1 in
+        inl (at.0, kept.0, eqb-true at.0.entry entry kept.1, at.2)
+
+pub some_asked : (entry : ℕ) (es : List Edge) → 0 < length (asked_columns entry es)
+some_asked entry es = by (joined_columns entry es)
+  where
+    by : (L : List ℕ) → 0 < length (or_the_first L)
+    by [] = omega arith
+    by (c ∷ L) = omega arith
+
+-- ---- that they exist
+
+edge_of : (es : List Edge) (p : Place) → Contains (places_of es) p → (e : Edge) × Contains es e × ((p ≡ e.left) ⊎ (p ≡ e.right))
+edge_of [] p k = absurd (in_none p k)
+edge_of (e ∷ es) p k = elim (one_in e.left (e.right ∷ places_of es) p k) [
+  | inl later ↦ elim (one_in e.right (places_of es) p later) [
+    | inl rest ↦ (let found = edge_of es p rest in (found.0, in_rest e es found.0 found.1, found.2))
+    | inr is ↦ (e, in_front e es e refl, inr is)
+  ]
+  | inr is ↦ (e, in_front e es e refl, inl is)
+]
+
+abbrev pub ref_of : Place → ColumnRef
+ref_of p = record { from = p.entry; column = p.column }
+
+pub place_exists : (query : Query) (db : Database) → IsDatabaseOf query db → (p : Place) → Contains (places_of (equalities_of query)) p → IsColumnOf db (ref_of p)
+place_exists query db of p k =
+    let found : (e : Edge) × Contains (equalities_of query) e × ((p ≡ e.left) ⊎ (p ≡ e.right)) = edge_of (equalities_of query) p k in
+    let from : (cond : Cond) × Contains query.conjuncts cond × (equality_of cond ≡ Some found.0) = from_filter_map equality_of query.conjuncts found.0 found.1 in
+    let j : IsJoin (out-Cond from.0) found.0 = is_join from.0 found.0 from.2 in
+    let asked : IsAskable db from.0 = All-contains (IsAskable db) query.conjuncts from.0 of.conjuncts from.1 in
+    let can : CanCompare db (operand.Column j.left) (operand.Column j.right) = subst (CanAskLayer db) j.compares (every_here-Cond (CanAskLayer db) from.0 asked) in
+    elim found.2 [
+      | inl is ↦ subst (λ (q : Place). IsColumnOf db (ref_of q)) (sym (is ∙ ap (λ (e : Edge). e.left) j.joins)) can.left_kind.exists
+      | inr is ↦ subst (λ (q : Place). IsColumnOf db (ref_of q)) (sym (is ∙ ap (λ (e : Edge). e.right) j.joins)) can.right_kind.exists
+    ]

@@ -1,0 +1,9 @@
+pub mod Standing
+pub mod Sizes
+pub mod Known
+pub mod Serving
+pub mod Asking
+pub mod Joined
+pub mod Entries
+pub mod Telling
+pub mod SixRows

@@ -1,0 +1,27 @@
+-- Filter columns for steps.
+use Rattle.std.proofs.Common.{◌≡◌, ℕ, ◌+◌, ◌<◌, ◌≤◌, List, length, take, get_or, sym, subst}
+use Rattle.std.specs.List.{All}
+use Rattle.std.proofs.lemmas.List.{take_all}
+use Rattle.std.proofs.lemmas.List.Elements.{All-more, All-weaker}
+use Rattle.predicate_bounds.specs.declared.steps.Step.{Step}
+use Rattle.gathered_stats.specs.declared.filters.Filter.{Filter}
+use Rattle.gathered_stats.specs.Filters.{Serve}
+
+-- ---- what holds along a list
+
+module _ {X : Type 0} (P : X → Type 0) where
+  pub at_item : (xs : List X) (i : ℕ) (x : X) → i < length xs → x ≡ get_or xs i x → All P xs → P x
+  at_item xs i x low is all = subst P (sym is) (all i x low)
+
+  pub one_item_more : (xs : List X) (i : ℕ) (x : X) → i < length xs → x ≡ get_or xs i x → All P (take i xs) → P x → All P (take (i + 1) xs)
+  one_item_more xs i x low is before here = All-more P xs i x low before (subst P is here)
+
+  pub all_items : (xs : List X) (i : ℕ) → length xs ≤ i → All P (take i xs) → All P xs
+  all_items xs i end all = subst (All P) (take_all i xs end) all
+
+-- ---- one step more
+
+pub serve_all : (old new : List Filter) (steps : List Step) (i : ℕ) (step : Step) → i < length steps → step ≡ get_or steps i step
+    → ((other : Step) → Serve old other → Serve new other) → Serve new step → All (Serve old) (take i steps) → All (Serve new) (take (i + 1) steps)
+serve_all old new steps i step low is kept here before =
+    one_item_more (Serve new) steps i step low is (All-weaker (Serve old) (Serve new) kept (take i steps) before) here

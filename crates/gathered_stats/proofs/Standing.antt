@@ -1,0 +1,75 @@
+-- What stands for a literal in a column of cells.
+use Rattle.std.proofs.Common.{◌≡◌, ℕ, zero, suc, ℤ, ◌+◌, ◌<◌, ◌≤◌, ◌^◌, Bool, true, false, List, [], ◌∷◌, length, get_or, Option, None, Some, refl, ap, sym, ◌∙◌, subst, inl, inr, arith}
+use Rattle.std.specs.Prelude.{All, position}
+use Rattle.std.specs.Cmp.{int_cmp_is}
+use Rattle.std.specs.Cmp.Lexicographic.{slice_cmp}
+use Rattle.std.specs.List.{position_or_len}
+use Rattle.std.specs.Ordering.{int_cmp, is_eq, nat_cmp}
+use Rattle.std.specs.Str.{IsUtf8, bytes_eq, chars}
+use Rattle.std.specs.declared.cmp.Ordering.{Ordering}
+use Rattle.std.specs.declared.cmp.Ordering.TheVariants.{Equal}
+use Rattle.std.proofs.Math.Utf8.{encodes}
+use Rattle.std.proofs.lemmas.Bool.{cases_Bool, cases_lt, false≢true, false_from_ne_true, lt-ltb}
+use Rattle.std.proofs.lemmas.List.Quantifiers.{position-Some}
+use Rattle.std.proofs.lemmas.Map.Text.{is_eq-slice_cmp}
+use Rattle.std.proofs.lemmas.Slice.Eq.{bytes_eq-Decides}
+use Rattle.std.proofs.lemmas.Str.{encodes-chars}
+use Rattle.schema_types.specs.declared.types.Kind.TheVariants as kind
+use Rattle.csv_tables.specs.Numbers.{number_in}
+use Rattle.csv_tables.specs.Values.{Int, Text}
+use Rattle.table_stats.specs.Cells.{StandsFor}
+
+-- the cell of a number
+pub number_stands : (texts : List (List ℕ)) (n : ℤ) (cell : ℕ) → cell < 2 ^ 64 → number_in cell ≡ n → StandsFor texts kind.Int (Int n) (Some cell)
+number_stands texts n cell small is = (small, ap is_eq (sym (int_cmp_is (number_in cell) n Equal is)))
+
+-- no text is a number, and no number a text
+pub no_number : (texts : List (List ℕ)) (most : ℕ) (n : ℤ) → StandsFor texts (kind.Text most) (Int n) None
+no_number texts most n = λ cell is. refl
+
+pub no_text : (texts : List (List ℕ)) (text : List ℕ) → StandsFor texts kind.Int (Text text) None
+no_text texts text = λ cell is. refl
+
+-- ---- the place of a text
+
+module _ {X : Type 0} (p : X → Bool) (d : X) where
+  passed : (xs : List X) (k : ℕ) → k < position_or_len p xs → p (get_or xs k d) ≡ false
+  passed [] k h = absurd (omega (arith, h))
+  passed (x ∷ xs) zero h = elim (cases_Bool (p x)) [
+    | inl t ↦ (let none : 0 < 0 = rw t at h in absurd (omega (arith, none)))
+    | inr n ↦ n
+  ]
+  passed (x ∷ xs) (suc k) h = elim (cases_Bool (p x)) [
+    | inl t ↦ (let none : suc k < 0 = rw t at h in absurd (omega (arith, none)))
+    | inr n ↦ (let more : suc k < 1 + position_or_len p xs = rw n at h in passed xs k (omega (arith, more)))
+  ]
+
+  nowhere : (xs : List X) (k : ℕ) → position p xs ≡ None → k < length xs → p (get_or xs k d) ≡ false
+  nowhere xs k h low = elim (cases_lt (position_or_len p xs) (length xs)) [
+    | inl l ↦ (let some : Some (position_or_len p xs) ≡ None = rw (lt-ltb (position_or_len p xs) (length xs) l) at h in absurd (cc))
+    | inr far ↦ passed xs k (omega (arith, far, low))
+  ]
+
+-- ---- texts of the pool
+
+same_chars : (a b : List ℕ) → is_eq (slice_cmp nat_cmp (chars a) (chars b)) ≡ bytes_eq (chars a) (chars b)
+same_chars a b = is_eq-slice_cmp (chars a) (chars b)
+
+-- a text has its cell
+pub found_stands : (texts : List (List ℕ)) (most : ℕ) (text : List ℕ) (cell : ℕ) → position (bytes_eq text) texts ≡ Some cell
+    → StandsFor texts (kind.Text most) (Text text) (Some cell)
+found_stands texts most text cell h =
+    let at = position-Some (bytes_eq text) texts cell [] h in
+    let is : text ≡ get_or texts cell [] = (bytes_eq-Decides text (get_or texts cell [])).0 at.1 in
+    (at.0, same_chars (get_or texts cell []) text ∙ (bytes_eq-Decides (chars (get_or texts cell [])) (chars text)).1 (ap chars (sym is)))
+
+-- a text that the pool hasn't has none
+pub absent_stands : (texts : List (List ℕ)) (most : ℕ) (text : List ℕ) → All IsUtf8 texts → IsUtf8 text → position (bytes_eq text) texts ≡ None
+    → StandsFor texts (kind.Text most) (Text text) None
+absent_stands texts most text utf8 own h = λ cell low.
+    let other : List ℕ = get_or texts cell [] in
+    let apart : bytes_eq text other ≡ false = nowhere (bytes_eq text) [] texts cell h low in
+    false_from_ne_true (is_eq (slice_cmp nat_cmp (chars other) (chars text))) (λ same.
+    let chars_are : chars other ≡ chars text = (bytes_eq-Decides (chars other) (chars text)).0 (sym (same_chars other text) ∙ same) in
+    let texts_are : text ≡ other = sym (encodes-chars text own) ∙ ap encodes (sym chars_are) ∙ encodes-chars other (utf8 cell [] low) in
+    false≢true (sym apart ∙ (bytes_eq-Decides text other).1 texts_are))

@@ -1,0 +1,213 @@
+-- What is gathered for each entry tells the statistics of the tables.
+use Rattle.std.proofs.Common.{◌≡◌, ◌⊎◌, ℕ, zero, suc, ◌+◌, ◌<◌, ◌≤◌, ◌^◌, Bool, true, false, eqb, pos, List, [], ◌∷◌, map, length, get_or, replicate, Option, None, Some, option_map, slice_get, find, refl, ap, sym, ◌∙◌, subst, inl, inr, arith}
+use Rattle.std.specs.List.{All, AllByRecursion, Contains, range_with_len}
+use Rattle.std.proofs.lemmas.List.{get_or_past, length-map}
+use Rattle.std.proofs.lemmas.Bool.{cases_Bool, cases_eq, cases_lt, eq-eqb, eqb-true, false≢true}
+use Rattle.std.proofs.lemmas.List.Elements.{All-nil, All-push, recursion_from_All}
+use Rattle.berge_tree.specs.declared.edges.Place.{Place}
+use Rattle.berge_tree.specs.Equalities.{places_of}
+use Rattle.schema_types.specs.declared.types.Kind.{Kind}
+use Rattle.csv_tables.specs.declared.types.Cells.{Cells}
+use Rattle.csv_tables.specs.declared.types.Database.{Database}
+use Rattle.csv_tables.specs.Cells.{rows_of_columns}
+use Rattle.csv_tables.specs.Rows.{Row}
+use Rattle.csv_tables.specs.Values.{Value, Int}
+use Rattle.cond_stats.specs.Lists.{compressed_degrees}
+use Rattle.entry_sets.proofs.Listing.{in_front, in_none, in_rest, one_in}
+use Rattle.filtered_lists.specs.Lists.{ColumnLists}
+use Rattle.filtered_lists.specs.Standing.{SumTo, value_in_row}
+use Rattle.join_graph.specs.Conjuncts.{equalities_of}
+use Rattle.level_bounds.specs.Keys.{HaveDifferentCharacters}
+use Rattle.level_bounds.proofs.Lists.{all_from}
+use Rattle.predicate_bounds.specs.declared.columns.ColumnSteps.{ColumnSteps}
+use Rattle.predicate_bounds.specs.declared.columns.EntryStats.{EntryStats}
+use Rattle.predicate_bounds.specs.declared.columns.QueryStats.{QueryStats}
+use Rattle.predicate_bounds.specs.declared.running.ListStep.{ListStep}
+use Rattle.predicate_bounds.specs.declared.steps.Step.{Step}
+use Rattle.predicate_bounds.specs.Steps.{steps_of}
+use Rattle.predicate_bounds.specs.Told.{TellsList, TellsRows, asked_lists, column_steps, columns_of, first_steps, no_columns}
+use Rattle.query_bounds.specs.Statistics.{Tells, TellsColumn, TellsEntry}
+use Rattle.query_types.specs.declared.types.ColumnRef.{ColumnRef}
+use Rattle.query_types.specs.declared.types.Query.{Query}
+use Rattle.sql_meaning.specs.Databases.{AreCells, AreTables, IsColumnOf, IsDatabaseOf}
+use Rattle.sql_meaning.specs.Tables.{Tables, cells_of, no_cells, row_counts, tables_of}
+use Rattle.sql_meaning.proofs.ColumnFacts.{column_count, row_count}
+use Rattle.sql_meaning.proofs.LoopFacts.{rows_are}
+use Rattle.table_stats.specs.Columns.{column_values, first_row, numbered}
+use Rattle.table_stats.proofs.DatabaseColumns.{cells_equal, cells_range, cells_whole}
+use Rattle.table_stats.specs.Statistics.{column_lists, entry_counts}
+use Rattle.gathered_stats.specs.Asked.{AreStepsOf, IsGathered, asked_columns}
+use Rattle.gathered_stats.specs.Columns.{HaveLists, cells_in, keys_in}
+use Rattle.gathered_stats.specs.Statistics.{statistics_of}
+use Rattle.gathered_stats.proofs.Joined.{asked_place, place_asked, place_exists, ref_of, some_asked}
+
+-- ---- the first of some, and the one of a column
+
+found_one : (P : ColumnSteps → Type 0) (columns : List ColumnSteps) (x : ℕ) → Contains (map (λ g. g.column) columns) x → All P columns
+    → (g : ColumnSteps) × (find (λ g. eqb g.column x) columns ≡ Some g) × (g.column ≡ x) × P g
+found_one P columns x k all = by columns k (recursion_from_All P columns all)
+  where
+    by : (columns : List ColumnSteps) → Contains (map (λ g. g.column) columns) x → AllByRecursion P columns
+        → (g : ColumnSteps) × (find (λ g. eqb g.column x) columns ≡ Some g) × (g.column ≡ x) × P g
+    by [] k h = absurd (in_none x k)
+    by (g ∷ columns) k h = elim (cases_Bool (eqb g.column x)) [
+      | inl t ↦ (g, rw t refl, eqb-true g.column x t, h.0)
+      | inr n ↦ elim (one_in g.column (map (λ g. g.column) columns) x k) [
+        | inl later ↦ (let rest = by columns later h.1 in (rest.0, rw n rest.1, rest.2, rest.3))
+        | inr is ↦ absurd (false≢true (sym n ∙ eq-eqb g.column x (sym is)))
+      ]
+    ]
+
+first_one : (P : ColumnSteps → Type 0) (columns : List ColumnSteps) → 0 < length columns → All P columns
+    → (g : ColumnSteps) × (slice_get columns 0 ≡ Some g) × Contains (map (λ g. g.column) columns) g.column × P g
+first_one P [] some all = absurd (omega (arith, some))
+first_one P (g ∷ columns) some all = (g, refl, in_front g.column (map (λ g. g.column) columns) g.column refl, all 0 g (omega arith))
+
+-- ---- a table without columns has one value in all its rows
+
+alike_rows : {Y : Type 0} (f : ℕ → Y) (v : Y) (a n : ℕ) → ((row : ℕ) → f row ≡ v) → map f (range_with_len a n) ≡ replicate n v
+alike_rows f v a zero h = refl
+alike_rows f v a (suc n) h = rw (h a, alike_rows f v (a + 1) n h) refl
+
+all_same : {X Y : Type 0} (f : X → Y) (v : X) (n : ℕ) → map f (replicate n v) ≡ replicate n (f v)
+all_same f v zero = refl
+all_same f v (suc n) = ap (λ s. f v ∷ s) (all_same f v n)
+
+one_number : (n : ℕ) → numbered (replicate n (Int (pos 0))) ≡ replicate n 0
+one_number zero = refl
+one_number (suc n) = all_same (first_row (replicate (suc n) (Int (pos 0)))) (Int (pos 0)) (suc n)
+
+module _ (db : Database) (entry : ℕ) where
+  abbrev cells : Cells
+  cells = cells_of db entry
+
+  bare_rows : cells.kinds ≡ [] → All (λ (r : Row). r ≡ []) (rows_of_columns db.pool cells.kinds cells.columns cells.rows)
+  bare_rows none = subst (λ kinds. All (λ (r : Row). r ≡ []) (rows_of_columns db.pool kinds cells.columns cells.rows)) (sym none) (by cells.rows)
+    where
+      by : (n : ℕ) → All (λ (r : Row). r ≡ []) (rows_of_columns db.pool [] cells.columns n)
+      by zero = All-nil (λ (r : Row). r ≡ [])
+      by (suc n) = All-push (λ (r : Row). r ≡ []) (rows_of_columns db.pool [] cells.columns n) [] (by n) refl
+
+  bare_value : cells.kinds ≡ [] → (column row : ℕ) → value_in_row (tables_of db) entry column row ≡ Int (pos 0)
+  bare_value none column row = elim (cases_lt row cells.rows) [
+    | inl low ↦ ap (λ (r : Row). get_or r column (Int (pos 0)))
+        (bare_rows none row [] (omega (arith, low, row_count db.pool cells.kinds cells.columns cells.rows)))
+    | inr high ↦ ap (λ (r : Row). get_or r column (Int (pos 0)))
+        (get_or_past (rows_of_columns db.pool cells.kinds cells.columns cells.rows) row [] (omega (arith, high, row_count db.pool cells.kinds cells.columns cells.rows)))
+  ]
+
+  bare_keys : cells.kinds ≡ [] → (column : ℕ) → numbered (column_values (tables_of db) entry column) ≡ replicate cells.rows 0
+  bare_keys none column =
+      ap numbered (alike_rows (value_in_row (tables_of db) entry column) (Int (pos 0)) 0 (row_counts (tables_of db) entry) (bare_value none column))
+      ∙ one_number (row_counts (tables_of db) entry) ∙ ap (λ (n : ℕ). replicate n 0) (rows_are db entry)
+
+  no_columns_there : AreCells db.pool cells → cells.kinds ≡ [] → (column : ℕ) → keys_in cells column ≡ replicate cells.rows 0
+  no_columns_there are none column =
+      get_or_past cells.columns column (replicate cells.rows 0) (omega (arith, column_count db.pool cells.rows cells.kinds cells.columns are, ap (λ (s : List Kind). length s) none))
+
+  nothing : cells.kinds ≡ [] → (column : ℕ) → column < length cells.kinds → ⊥
+  nothing none column low = omega (arith, low, ap (λ (s : List Kind). length s) none)
+
+  bare_lists : (accuracy : ℕ) → AreCells db.pool cells → cells.kinds ≡ [] → (column : ℕ) → HaveLists db.pool cells accuracy (keys_in cells column) (column_lists (tables_of db) accuracy entry column)
+  bare_lists accuracy are none column = record {
+    whole = ap (compressed_degrees accuracy) (no_columns_there are none column ∙ sym (bare_keys none column));
+    equal = λ filter value cell low stands. absurd (nothing none filter low);
+    range = λ range low. absurd (nothing none range.column low);
+  }
+
+-- ---- the lists of each column that is asked for
+
+abbrev pub HaveTheirLists : Database → ℕ → Type 0
+HaveTheirLists db accuracy = (joined : ColumnRef) → IsColumnOf db joined
+    → HaveLists db.pool (cells_of db joined.from) accuracy (cells_in (cells_of db joined.from) joined.column) (column_lists (tables_of db) accuracy joined.from joined.column)
+
+pub their_lists : (db : Database) (accuracy : ℕ) → AreTables db → HaveDifferentCharacters db.pool → HaveTheirLists db accuracy
+their_lists db accuracy are differ joined is = record {
+  whole = cells_whole db joined accuracy are differ is;
+  equal = λ column value cell low stands. cells_equal db (record { from = joined.from; column = column }) joined accuracy value cell are differ (record { entry = is.entry; exists = low }) is refl stands;
+  range = λ range low. cells_range db (record { from = joined.from; column = range.column }) joined accuracy range.low range.high are differ (record { entry = is.entry; exists = low }) is refl;
+}
+
+same_default : {X : Type 0} (xs : List X) (i : ℕ) (a b : X) → i < length xs → get_or xs i a ≡ get_or xs i b
+same_default [] i a b low = absurd (omega (arith, low))
+same_default (x ∷ xs) zero a b low = refl
+same_default (x ∷ xs) (suc i) a b low = same_default xs i a b (omega (arith, low))
+
+module _ (query : Query) (db : Database) (accuracy : ℕ) (of : IsDatabaseOf query db) (laws : HaveTheirLists db accuracy) where
+  cells_there : (entry : ℕ) → entry < length query.from → AreCells db.pool (cells_of db entry)
+  cells_there entry low =
+      let here : entry < length db.slots = omega (arith, low, of.entries) in
+      of.tables.cells (get_or db.slots entry 0) no_cells (of.tables.slots entry 0 here)
+
+  of_column : (joined : ColumnRef) → IsColumnOf db joined → AreCells db.pool (cells_of db joined.from)
+      → HaveLists db.pool (cells_of db joined.from) accuracy (keys_in (cells_of db joined.from) joined.column) (column_lists (tables_of db) accuracy joined.from joined.column)
+  of_column joined is are =
+      let cells : Cells = cells_of db joined.from in
+      subst (λ (keys : List ℕ). HaveLists db.pool cells accuracy keys (column_lists (tables_of db) accuracy joined.from joined.column))
+      (same_default cells.columns joined.column [] (replicate cells.rows 0) (omega (arith, is.exists, column_count db.pool cells.rows cells.kinds cells.columns are)))
+      (laws joined is)
+
+  asked_lists_there : (entry column : ℕ) → entry < length query.from → Contains (asked_columns entry (equalities_of query)) column
+      → HaveLists db.pool (cells_of db entry) accuracy (keys_in (cells_of db entry) column) (column_lists (tables_of db) accuracy entry column)
+  asked_lists_there entry column low k = elim (asked_place entry (equalities_of query) column k) [
+    | inl named ↦ (let p : Place = named.0 in
+        let is : IsColumnOf db (record { from = entry; column = column }) =
+        subst (λ (ref : ColumnRef). IsColumnOf db ref) (same_ref p.entry p.column entry column named.2 (sym named.3)) (place_exists query db of p named.1) in
+        of_column (record { from = entry; column = column }) is (cells_there entry low))
+    | inr first ↦ by_kinds (cells_of db entry).kinds refl first
+  ]
+    where
+      same_ref : (a b c d : ℕ) → a ≡ c → b ≡ d → (let r : ColumnRef = record { from = a; column = b } in r) ≡ record { from = c; column = d }
+      same_ref a b c d h k = rw (h, k) refl
+
+      by_kinds : (kinds : List Kind) → kinds ≡ (cells_of db entry).kinds → column ≡ 0
+          → HaveLists db.pool (cells_of db entry) accuracy (keys_in (cells_of db entry) column) (column_lists (tables_of db) accuracy entry column)
+      by_kinds [] none first = bare_lists db entry accuracy (cells_there entry low) (sym none) column
+      by_kinds (kind ∷ kinds) some first =
+          of_column (record { from = entry; column = column })
+          (record { entry = omega (arith, low, of.entries); exists = omega (arith, first, ap (λ (s : List Kind). length s) some) })
+          (cells_there entry low)
+
+  -- ---- what is told
+
+  module _ (sums : (entry column : ℕ) → SumTo (column_lists (tables_of db) accuracy entry column) (entry_counts (tables_of db) entry))
+      (stats : QueryStats) (gathered : (entry : ℕ) → entry < length query.from → IsGathered query db accuracy entry (get_or stats.entries entry no_columns)) where
+    asked_steps : (entry : ℕ) → entry < length query.from → (g : ColumnSteps) → Contains (asked_columns entry (equalities_of query)) g.column
+        → AreStepsOf db.pool (cells_of db entry) accuracy (steps_of entry query.conjuncts) g
+        → g.steps ≡ asked_lists query entry (column_lists (tables_of db) accuracy entry g.column)
+    asked_steps entry low g k are = are (column_lists (tables_of db) accuracy entry g.column) (asked_lists_there entry g.column low k)
+
+    tells_entry : (entry : ℕ) → entry < length query.from → TellsEntry query stats (statistics_of (tables_of db) accuracy) entry
+    tells_entry entry low =
+        let here : IsGathered query db accuracy entry (get_or stats.entries entry no_columns) = gathered entry low in
+        let columns : List ColumnSteps = columns_of stats entry in
+        let some : 0 < length columns = omega (arith, some_asked entry (equalities_of query), ap (λ (s : List ℕ). length s) here.columns, length-map columns (λ (g : ColumnSteps). g.column)) in
+        let first = first_one (AreStepsOf db.pool (cells_of db entry) accuracy (steps_of entry query.conjuncts)) columns some here.steps in
+        record {
+          column = first.0.column;
+          lists = ap (option_map (λ (g : ColumnSteps). g.steps)) first.1
+              ∙ ap Some (asked_steps entry low first.0 (subst (λ (s : List ℕ). Contains s first.0.column) here.columns first.2) first.3);
+          sums = sums entry first.0.column;
+          small = omega (arith, here.rows, rows_are db entry);
+        }
+
+    tells_column : (p : Place) → Contains (places_of (equalities_of query)) p → TellsColumn query stats (statistics_of (tables_of db) accuracy) p.entry p.column
+    tells_column p k =
+        let low : p.entry < length query.from = omega (arith, (place_exists query db of p k).entry, of.entries) in
+        let here : IsGathered query db accuracy p.entry (get_or stats.entries p.entry no_columns) = gathered p.entry low in
+        let asked : Contains (asked_columns p.entry (equalities_of query)) p.column = place_asked (equalities_of query) p k in
+        let one = found_one (AreStepsOf db.pool (cells_of db p.entry) accuracy (steps_of p.entry query.conjuncts)) (columns_of stats p.entry) p.column
+        (subst (λ (s : List ℕ). Contains s p.column) (sym here.columns) asked) here.steps in
+        record {
+          lists = ap (option_map (λ (g : ColumnSteps). g.steps)) one.1
+              ∙ ap Some (asked_steps p.entry low one.0 (subst (λ (c : ℕ). Contains (asked_columns p.entry (equalities_of query)) c) (sym one.2) asked) one.3
+              ∙ ap (λ (c : ℕ). asked_lists query p.entry (column_lists (tables_of db) accuracy p.entry c)) one.2);
+          sums = sums p.entry p.column;
+        }
+
+    pub all_told : length stats.entries ≡ length query.from → Tells query stats (statistics_of (tables_of db) accuracy)
+    all_told as_many = record {
+      one_each = as_many;
+      entries = tells_entry;
+      columns = all_from (λ (p : Place). TellsColumn query stats (statistics_of (tables_of db) accuracy) p.entry p.column) (places_of (equalities_of query)) tells_column;
+    }

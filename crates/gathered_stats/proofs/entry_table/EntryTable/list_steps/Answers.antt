@@ -1,0 +1,17 @@
+use Rattle.std.proofs.Common.{List, map, ap, ◌∙◌}
+use Rattle.std.proofs.lemmas.List.{take_all}
+use Rattle.predicate_bounds.specs.ListRuns.{listed}
+use Rattle.predicate_bounds.specs.declared.steps.Step.{Step}
+use Rattle.gathered_stats.proofs.Asking.{one_listed}
+use Rattle.gathered_stats.proofs.entry_table.EntryTable.list_steps.Goals as goal
+
+pub loop-step-preserved : goal.loop-step-preserved
+loop-step-preserved c = (
+  c.in_ok-push.ensures.column ∙ c.loop-step.invariant.0,
+  λ lists have. one_listed lists c.args.steps.now c.loop-step.step-index c.step-item.result c.loop-step.gathered.steps c.push.new.self.steps c.in_ok-listed.listed
+      c.loop-step-test.true c.step-item.is (c.loop-step.invariant.1 lists have) (c.in_ok-listed.ensures.list lists have) c.in_ok-push.ensures.steps,
+)
+
+pub returns-clause-steps : goal.returns-clause-steps
+returns-clause-steps c = λ lists have.
+    c.loop-step.invariant.1 lists have ∙ ap (λ (s : List Step). map (listed lists) s) (take_all c.loop-step.step-index c.args.steps.now c.loop-step-test.false)

@@ -1,0 +1,13 @@
+use Rattle.gathered_stats.specs.Filters.{Serve}
+use Rattle.gathered_stats.proofs.Serving.{all_items, serve_all}
+use Rattle.gathered_stats.proofs.filters.filters_of.Goals as goal
+
+pub loop-step-preserved : goal.loop-step-preserved
+loop-step-preserved c = (
+  c.in_ok-add_filter.ensures.filters,
+  serve_all c.loop-step.filters c.add_filter.new.filters c.args.steps.now c.loop-step.step-index c.step-item.result c.loop-step-test.true c.step-item.is
+      c.in_ok-add_filter.ensures.kept c.in_ok-add_filter.ensures.served c.loop-step.invariant.1,
+)
+
+pub returns-clause-served : goal.returns-clause-served
+returns-clause-served c = all_items (Serve c.loop-step.filters) c.args.steps.now c.loop-step.step-index c.loop-step-test.false c.loop-step.invariant.1

@@ -1,0 +1,9 @@
+use Rattle.std.proofs.Common.{Option, Some, ap, sym, ◌∙◌}
+use Rattle.gathered_stats.proofs.Standing.{absent_stands, found_stands}
+use Rattle.gathered_stats.proofs.literals.find_text.Goals as goal
+
+pub returns-in-Some : goal.returns-in-Some
+returns-in-Some c = λ most. found_stands c.args.pool.now most c.args.text.now c.from.result (sym c.find.ensures ∙ c.in-Some.is ∙ ap Some (sym c.from.ensures))
+
+pub returns-in-None : goal.returns-in-None
+returns-in-None c = λ most. absent_stands c.args.pool.now most c.args.text.now c.len-texts.ensures.texts c.utf8.text (sym c.find.ensures ∙ c.in-None.is)

@@ -1,0 +1,68 @@
+-- What is asked of an entry's table: columns that are joined, and columns that steps compare with literals.
+use Rattle.std.specs.Prelude.{◌≡◌, ℕ, ◌==◌, ◌<◌, ◌^◌, ◌&&◌, not, if◌then◌else◌, All, List, [], ◌∷◌, ◌++◌, map, length, Option, None, Some, IfSome}
+use Rattle.std.specs.List.{filter, list_any}
+use Rattle.berge_tree.specs.declared.edges.Edge.{Edge}
+use Rattle.berge_tree.specs.declared.edges.Place.{Place}
+use Rattle.berge_tree.specs.Equalities.{places_of}
+use Rattle.csv_tables.specs.declared.types.Cells.{Cells}
+use Rattle.csv_tables.specs.declared.types.Database.{Database}
+use Rattle.degree_sequences.specs.Degrees.{different}
+use Rattle.filtered_lists.specs.Lists.{ColumnLists}
+use Rattle.join_graph.specs.Conjuncts.{equalities_of}
+use Rattle.predicate_bounds.specs.declared.columns.ColumnSteps.{ColumnSteps}
+use Rattle.predicate_bounds.specs.declared.columns.EntryStats.{EntryStats}
+use Rattle.predicate_bounds.specs.declared.steps.Step.{Step}
+use Rattle.predicate_bounds.specs.declared.steps.Step.TheVariants as step
+use Rattle.predicate_bounds.specs.ListRuns.{listed}
+use Rattle.predicate_bounds.specs.Steps.{steps_of}
+use Rattle.query_types.specs.declared.types.Query.{Query}
+use Rattle.sql_meaning.specs.Tables.{cells_of}
+use Rattle.gathered_stats.specs.Columns.{HaveLists, keys_in}
+
+-- ---- joined columns
+
+-- the columns of an entry that equalities name, each once
+abbrev pub joined_columns : ℕ → List Edge → List ℕ
+joined_columns entry es = different (map (λ p. p.column) (filter (λ p. p.entry == entry) (places_of es)))
+
+-- the first column where there is no other
+abbrev pub or_the_first : List ℕ → List ℕ
+or_the_first [] = 0 ∷ []
+or_the_first (column ∷ columns) = column ∷ columns
+
+-- an entry that joins no column has its first column for its row bound
+abbrev pub asked_columns : ℕ → List Edge → List ℕ
+asked_columns entry es = or_the_first (joined_columns entry es)
+
+-- a place's column at the end of a list, where the place is of the entry and the column isn't there yet
+abbrev pub with_place : ℕ → List ℕ → Place → List ℕ
+with_place entry columns place = if place.entry == entry && not (list_any (λ column. place.column == column) columns)
+    then columns ++ place.column ∷ [] else columns
+
+-- ---- filter columns
+
+-- the column that a step compares with literals
+abbrev pub column_asked : Step → Option ℕ
+column_asked step.Whole = None
+column_asked (step.Equal column literal) = Some column
+column_asked (step.Within range) = Some range.column
+column_asked step.And = None
+column_asked step.Nothing = None
+column_asked step.Or = None
+
+-- it is one of the table
+abbrev pub AsksWithin : Cells → Step → Type 0
+AsksWithin cells step = IfSome (column_asked step) (λ column. column < length cells.kinds)
+
+-- ---- the answer
+
+-- the steps, each with its list among those of the column's keys
+abbrev pub AreStepsOf : List (List ℕ) → Cells → ℕ → List Step → ColumnSteps → Type 0
+AreStepsOf texts cells accuracy steps gathered = (lists : ColumnLists)
+    → HaveLists texts cells accuracy (keys_in cells gathered.column) lists → gathered.steps ≡ map (listed lists) steps
+
+-- an entry has the steps of its own conjuncts for each column that is asked for
+pub record IsGathered (query : Query) (db : Database) (accuracy entry : ℕ) (stats : EntryStats) : Type 0 where
+  pub columns : map (λ gathered. gathered.column) stats.columns ≡ asked_columns entry (equalities_of query)
+  pub steps : All (AreStepsOf db.pool (cells_of db entry) accuracy (steps_of entry query.conjuncts)) stats.columns
+  pub rows : (cells_of db entry).rows < 2 ^ 32

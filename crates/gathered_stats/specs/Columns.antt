@@ -1,0 +1,34 @@
+-- The columns of a table as cells, and the lists that a column has.
+use Rattle.std.specs.Prelude.{◌≡◌, ℕ, ◌<◌, List, [], length, replicate, Option, slice_index_or}
+use Rattle.std.specs.List.{zip}
+use Rattle.schema_types.specs.declared.types.Kind.{Kind}
+use Rattle.schema_types.specs.declared.types.Kind.TheVariants as kind
+use Rattle.csv_tables.specs.declared.types.Cells.{Cells}
+use Rattle.csv_tables.specs.Values.{Value}
+use Rattle.cond_stats.specs.Columns.{list_between}
+use Rattle.cond_stats.specs.Lists.{compressed_degrees, list_of_value}
+use Rattle.filtered_lists.specs.Lists.{ColumnLists}
+use Rattle.filtered_lists.specs.Ranges.{Range}
+use Rattle.table_stats.specs.Cells.{StandsFor}
+
+-- the kind of a column, and its cells
+abbrev pub kind_in : Cells → ℕ → Kind
+kind_in cells column = slice_index_or cells.kinds column kind.Int
+
+abbrev pub cells_in : Cells → ℕ → List ℕ
+cells_in cells column = slice_index_or cells.columns column []
+
+-- the keys of a joined column: its cells, or one key for all rows where the table has no such column
+abbrev pub keys_in : Cells → ℕ → List ℕ
+keys_in cells column = slice_index_or cells.columns column (replicate cells.rows 0)
+
+-- keys, one for each row of a table, have these lists: for all rows, for the rows that have a value in a column of the table,
+-- and for those in a range of such a column
+pub record HaveLists (texts : List (List ℕ)) (cells : Cells) (accuracy : ℕ) (keys : List ℕ) (lists : ColumnLists) : Type 0 where
+  pub whole : compressed_degrees accuracy keys ≡ lists.whole
+  pub equal : (column : ℕ) (value : Value) (cell : Option ℕ) → column < length cells.kinds
+      → StandsFor texts (kind_in cells column) value cell
+      → list_of_value accuracy (zip (cells_in cells column) keys) cell ≡ lists.equal column value
+  pub range : (range : Range) → range.column < length cells.kinds
+      → list_between texts (kind_in cells range.column) accuracy (zip (cells_in cells range.column) keys) range.low range.high
+      ≡ lists.range range

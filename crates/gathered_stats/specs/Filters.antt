@@ -1,0 +1,35 @@
+-- The filter columns of an entry's table, each sorted.
+use Rattle.std.specs.Prelude.{◌≡◌, ℕ, ◌==◌, ◌<◌, ◌≤◌, ◌^◌, Bool, true, List, length, All, IfSome}
+use Rattle.std.specs.List.{list_any}
+use Rattle.cond_stats.specs.Columns.{CellColumn}
+use Rattle.csv_tables.specs.declared.types.Cells.{Cells}
+use Rattle.predicate_bounds.specs.declared.steps.Step.{Step}
+use Rattle.sql_meaning.specs.Databases.{AreCells}
+use Rattle.gathered_stats.specs.declared.entry_table.EntryTable.{EntryTable}
+use Rattle.gathered_stats.specs.declared.filters.Filter.{Filter}
+use Rattle.gathered_stats.specs.Asked.{column_asked}
+use Rattle.gathered_stats.specs.Columns.{cells_in, kind_in}
+
+-- a sorted column is the one of a table with this number
+pub record IsColumnIn (texts : List (List ℕ)) (cells : Cells) (column : ℕ) (sorted : CellColumn) : Type 0 where
+  pub exists : column < length cells.kinds
+  pub is : sorted ≡ record { texts = texts; kind = kind_in cells column; cells = cells_in cells column }
+
+-- a filter column is one of the table's
+abbrev pub IsFilterOf : List (List ℕ) → Cells → Filter → Type 0
+IsFilterOf texts cells filter = IsColumnIn texts cells filter.column filter.sorted
+
+-- there is one for a column
+abbrev pub is_sorted : List Filter → ℕ → Bool
+is_sorted filters column = list_any (λ filter. filter.column == column) filters
+
+-- there is one for a step
+abbrev pub Serve : List Filter → Step → Type 0
+Serve filters step = IfSome (column_asked step) (λ column. is_sorted filters column ≡ true)
+
+-- cells in order, filter columns of this table, and an accuracy from 1 to 64
+pub record IsReady (table : EntryTable) : Type 0 where
+  pub cells : AreCells table.pool.now table.cells.now
+  pub rows : table.cells.now.rows < 2 ^ 32
+  pub filters : All (IsFilterOf table.pool.now table.cells.now) table.filters
+  pub accuracy : (0 < table.accuracy) × (table.accuracy ≤ 64)

@@ -1,0 +1,5 @@
+pub mod Statistics
+pub mod Asked
+pub mod Columns
+pub mod Filters
+pub mod Examples

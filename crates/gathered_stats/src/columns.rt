@@ -1,0 +1,52 @@
+//! The columns of an entry that statistics are asked for.
+ghost use Rattle.std.specs.Prelude.{◌≡◌, ◌==◌, IfOk, OnOk};
+ghost use Rattle.std.specs.List.{list_any};
+ghost use Rattle.gathered_stats.specs.Asked.{asked_columns, joined_columns, with_place};
+
+use base_io::{NoMemory, Seq};
+use berge_tree::{Edge, Place};
+use std::alloc::Global;
+
+// Whether a column is there.
+fn has(columns: &[u32], column: u32) -> bool
+    ensures { result ≡ list_any (λ other. column == other) columns.now }
+{
+    columns.iter().any(|other| column == *other)
+}
+
+// Puts a place's column at the end of a list, where the place is of the entry and the column isn't there yet.
+fn add(columns: &mut Seq<u32>, place: Place, entry: u8) -> Result<(), NoMemory>
+    ensures { OnOk result (columns.new ≡ with_place entry columns.old place) }
+{
+    if place.entry != entry || has(columns.as_slice(), place.column) {
+        return Ok(());
+    }
+    columns.push(place.column)
+}
+
+// The columns of an entry that equalities name, each once.
+fn joined_columns(alloc: Global, equalities: &[Edge], entry: u8) -> Result<Seq<u32>, NoMemory>
+    ensures { IfOk result (λ columns. columns ≡ joined_columns entry equalities.now) }
+{
+    let mut columns = Seq::new(alloc);
+    for edge in equalities {
+        add(&mut columns, edge.left, entry)?;
+        add(&mut columns, edge.right, entry)?;
+    }
+    Ok(columns)
+}
+
+/// The columns of an entry that equalities name, each once, or its first column where they name none.
+pub(crate) fn asked_columns(
+    alloc: Global,
+    equalities: &[Edge],
+    entry: u8,
+) -> Result<Seq<u32>, NoMemory>
+    ensures { IfOk result (λ columns. columns ≡ asked_columns entry equalities.now) }
+{
+    let columns = joined_columns(alloc, equalities, entry)?;
+    if columns.len() == 0 {
+        return Seq::one(alloc, 0);
+    }
+    Ok(columns)
+}

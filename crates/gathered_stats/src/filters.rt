@@ -1,0 +1,113 @@
+//! The filter columns of an entry: those that its own conjuncts compare with literals, each sorted once.
+ghost use Rattle.std.specs.Prelude.{◌≡◌, ◌<◌, ℕ, List, All, length, true, IfOk, OnOk};
+ghost use Rattle.predicate_bounds.specs.declared.steps.Step.{Step};
+ghost use Rattle.sql_meaning.specs.Databases.{AreCells};
+ghost use Rattle.gathered_stats.specs.Asked.{AsksWithin, column_asked};
+ghost use Rattle.gathered_stats.specs.Filters.{IsColumnIn, IsFilterOf, Serve, is_sorted};
+
+use crate::entry_table::row_count;
+use base_io::{NoMemory, Seq};
+use cond_stats::FilterColumn;
+use csv_tables::{Cells, Pool};
+use predicate_bounds::Step;
+use std::alloc::Global;
+
+/// A filter column by its number in its table.
+#[derive(Drop)]
+pub(crate) struct Filter<'a> {
+    pub column: u32,
+    pub sorted: FilterColumn<'a>,
+}
+
+// The column that a step compares with literals.
+fn column_asked(step: &Step) -> Option<u32>
+    ensures { result ≡ column_asked step.now }
+{
+    match step {
+        Step::Equal { column, .. } => Some(*column),
+        Step::Within(range) => Some(range.column),
+        Step::Whole | Step::And | Step::Nothing | Step::Or => None,
+    }
+}
+
+// Whether a column is there.
+fn is_sorted(filters: &[Filter<'_>], column: u32) -> bool
+    ensures { result ≡ is_sorted filters.now column }
+{
+    filters.iter().any(|filter| filter.column == column)
+}
+
+// A column of a table, sorted.
+fn sorted<'a>(
+    alloc: Global,
+    pool: &'a Pool,
+    cells: &'a Cells,
+    column: u32,
+) -> Result<Filter<'a>, NoMemory>
+    requires cells { AreCells pool.now cells.now }
+    requires exists { column < length cells.now.kinds }
+    ensures { IfOk result (λ filter. (filter.column ≡ column) × IsFilterOf pool.now cells.now filter) }
+{
+    let _rows = row_count(cells);
+    let at = column as usize;
+    let kind = *cells.kinds.get(at);
+    let sorted = FilterColumn::new(alloc, pool, kind, cells.columns.get(at).as_slice())?;
+    Ok(Filter { column, sorted })
+}
+
+// Adds the column of a step, if the step asks for one and it isn't there yet.
+fn add_filter<'a>(
+    alloc: Global,
+    pool: &'a Pool,
+    cells: &'a Cells,
+    step: &Step,
+    filters: &mut Seq<Filter<'a>>,
+) -> Result<(), NoMemory>
+    requires cells { AreCells pool.now cells.now }
+    requires exists { AsksWithin cells.now step.now }
+    requires filters { All (IsFilterOf pool.now cells.now) filters.old }
+    ensures filters { OnOk result (All (IsFilterOf pool.now cells.now) filters.new) }
+    ensures served { OnOk result (Serve filters.new step.now) }
+    ensures kept { OnOk result ((other : Step) → Serve filters.old other → Serve filters.new other) }
+{
+    let Some(column) = column_asked(step) else {
+        return Ok(());
+    };
+    if is_sorted(filters.as_slice(), column) {
+        return Ok(());
+    }
+    filters.push(sorted(alloc, pool, cells, column)?)
+}
+
+/// The columns that steps compare with literals.
+pub(crate) fn filters_of<'a>(
+    alloc: Global,
+    pool: &'a Pool,
+    cells: &'a Cells,
+    steps: &[Step],
+) -> Result<Seq<Filter<'a>>, NoMemory>
+    requires cells { AreCells pool.now cells.now }
+    requires exist { All (AsksWithin cells.now) steps.now }
+    ensures filters { IfOk result (λ filters. All (IsFilterOf pool.now cells.now) filters) }
+    ensures served { IfOk result (λ filters. All (Serve filters) steps.now) }
+{
+    let mut filters = Seq::new(alloc);
+    for step in steps {
+        add_filter(alloc, pool, cells, step, &mut filters)?;
+    }
+    Ok(filters)
+}
+
+/// The sorted column of this number.
+pub(crate) fn find<'a, 'b>(filters: &'b [Filter<'a>], column: u32) -> &'b FilterColumn<'a>
+    requires { is_sorted filters.now column ≡ true }
+    ensures { (texts : List (List ℕ)) (cells : Cells) → All (IsFilterOf texts cells) filters.now
+        → IsColumnIn texts cells column result.now }
+{
+    for filter in filters {
+        if filter.column == column {
+            return &filter.sorted;
+        }
+    }
+    unreachable!()
+}

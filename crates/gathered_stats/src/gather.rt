@@ -1,0 +1,130 @@
+//! The statistics of each column, of each entry, and of a query.
+ghost use Rattle.std.specs.Prelude.{◌≡◌, ◌<◌, ◌≤◌, All, length, map, replicate, IfOk};
+ghost use Rattle.join_graph.specs.Conjuncts.{equalities_of};
+ghost use Rattle.level_bounds.specs.Keys.{HaveDifferentCharacters};
+ghost use Rattle.query_bounds.specs.Statistics.{Tells};
+ghost use Rattle.sql_meaning.specs.Databases.{IsDatabaseOf};
+ghost use Rattle.sql_meaning.specs.Tables.{tables_of};
+ghost use Rattle.gathered_stats.specs.Asked.{AreStepsOf, IsGathered};
+ghost use Rattle.gathered_stats.specs.Filters.{IsReady, Serve};
+ghost use Rattle.gathered_stats.specs.Statistics.{statistics_of};
+
+use crate::columns::asked_columns;
+use crate::entry_table::{EntryTable, row_count};
+use crate::filters::filters_of;
+use base_io::{NoMemory, Seq};
+use berge_tree::Edge;
+use csv_tables::{Cells, Database};
+use join_graph::split;
+use predicate_bounds::{ColumnSteps, EntryStats, QueryStats, Step, read_steps};
+use query_types::Query;
+use std::alloc::Global;
+
+// One key for each row of a table.
+fn one_key(alloc: Global, cells: &Cells) -> Result<Vec<u64>, NoMemory>
+    ensures { IfOk result (λ keys. keys.items ≡ replicate cells.now.rows 0) }
+{
+    let mut keys = Vec::new(alloc);
+    keys.resize(cells.rows as usize, 0)?;
+    Ok(keys)
+}
+
+// The steps of a joined column. Where the table has no such column, all its rows have one key.
+fn gather_column(
+    alloc: Global,
+    table: &EntryTable<'_>,
+    steps: &[Step],
+    column: u32,
+) -> Result<ColumnSteps, NoMemory>
+    requires ready { IsReady table.now }
+    requires served { All (Serve table.now.filters) steps.now }
+    ensures column { IfOk result (λ gathered. gathered.column ≡ column) }
+    ensures steps { IfOk result (AreStepsOf table.now.pool.now table.now.cells.now table.now.accuracy steps.now) }
+{
+    let at = column as usize;
+    if at < table.cells.columns.len() {
+        let cells = table.cells.columns.get(at);
+        return table.list_steps(alloc, cells.as_slice(), column, steps);
+    }
+    let keys = one_key(alloc, table.cells)?;
+    table.list_steps(alloc, keys.as_slice(), column, steps)
+}
+
+// The steps of each joined column.
+fn gather_columns(
+    alloc: Global,
+    table: &EntryTable<'_>,
+    steps: &[Step],
+    columns: &[u32],
+) -> Result<EntryStats, NoMemory>
+    requires ready { IsReady table.now }
+    requires served { All (Serve table.now.filters) steps.now }
+    ensures columns { IfOk result (λ stats. map (λ gathered. gathered.column) stats.columns ≡ columns.now) }
+    ensures steps { IfOk result (λ stats. All (AreStepsOf table.now.pool.now table.now.cells.now table.now.accuracy steps.now) stats.columns) }
+{
+    let mut gathered = Seq::new(alloc);
+    for column in columns {
+        gathered.push(gather_column(alloc, table, steps, *column)?)?;
+    }
+    Ok(EntryStats { columns: gathered })
+}
+
+// The statistics of an entry.
+fn gather_entry(
+    alloc: Global,
+    query: &Query,
+    db: &Database,
+    equalities: &[Edge],
+    entry: u8,
+    accuracy: u8,
+) -> Result<EntryStats, NoMemory>
+    requires database { IsDatabaseOf query.now db.now }
+    requires equalities { equalities.now ≡ equalities_of query.now }
+    requires entry { entry < length query.now.from }
+    requires accuracy { (0 < accuracy) × (accuracy ≤ 64) }
+    ensures { IfOk result (IsGathered query.now db.now accuracy entry) }
+{
+    let steps = read_steps(alloc, query, entry)?;
+    let steps = steps.as_slice();
+    let slot = *db.slots.get(usize::from(entry));
+    let cells = db.cells.get(slot as usize);
+    let _rows = row_count(cells);
+    let table = EntryTable {
+        pool: &db.pool,
+        cells,
+        filters: filters_of(alloc, &db.pool, cells, steps)?,
+        accuracy,
+    };
+    let columns = asked_columns(alloc, equalities, entry)?;
+    gather_columns(alloc, &table, steps, columns.as_slice())
+}
+
+/// The statistics that the bounds of a query ask for (SafeBound, SIGMOD 2023): for each FROM entry and each column that it joins,
+/// the steps of the entry's own conjuncts, each with its list. The accuracy is that of compression, from 1 to 64: the larger it is,
+/// the nearer are the lists and the more runs they have. Where memory is wanting nothing is kept.
+pub fn gather_query(
+    alloc: Global,
+    query: &Query,
+    db: &Database,
+    accuracy: u8,
+) -> Result<QueryStats, NoMemory>
+    requires database { IsDatabaseOf query.now db.now }
+    requires texts { HaveDifferentCharacters db.now.pool }
+    requires accuracy { (0 < accuracy) × (accuracy ≤ 64) }
+    ensures tells { IfOk result (λ stats. Tells query.now stats (statistics_of (tables_of db.now) accuracy)) }
+{
+    let parts = split(alloc, query)?;
+    let mut entries = Seq::new(alloc);
+    for entry in 0..query.from.len() as u8 {
+        let stats = gather_entry(
+            alloc,
+            query,
+            db,
+            parts.equalities.as_slice(),
+            entry,
+            accuracy,
+        )?;
+        entries.push(stats)?;
+    }
+    Ok(QueryStats { entries })
+}

@@ -1,0 +1,24 @@
+//! From a query and its tables to the statistics that its bounds ask for.
+//!
+//! The stage between the tables and the bounds. In: a query, its database and an accuracy. Out: for each FROM entry and each
+//! column that the entry joins, the steps of the entry's own conjuncts, each with its list (SafeBound, SIGMOD 2023). A list is made
+//! only where a step asks for it. A filter column is sorted once an entry, and an entry without conditions sorts none.
+//!
+//! Callers cite `statistics_of` (in `specs/Statistics.antt`) for what the answer tells.
+//!
+//! ```text
+//! let stats = gather_query(alloc, &query, &db, 1)?;    // Tells query stats (statistics_of (tables_of db) 1)
+//! let rows = stats.row_bound(alloc, 0)?;
+//! ```
+#![tactic(auto)]
+
+mod columns;
+mod entry_table;
+mod filters;
+mod gather;
+mod lists;
+mod literals;
+#[cfg(test)]
+mod tests;
+
+pub use gather::gather_query;

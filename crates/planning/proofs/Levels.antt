@@ -1,0 +1,54 @@
+-- The bounds along an order: which set each is of, and that none passes the cost.
+use Rattle.std.proofs.Common.{◌≡◌, ℕ, zero, suc, ◌+◌, ◌-◌, ◌^◌, ◌<◌, ◌≤◌, List, [], ◌∷◌, length, take, get_or, ap, sym, ◌∙◌, add-one, arith}
+use Rattle.std.proofs.lemmas.Nat.{pow_pos}
+use Rattle.entry_sets.specs.Sets.{entries_of_set, set_of}
+use Rattle.entry_sets.proofs.Bits.{power_within}
+use Rattle.plans.specs.LeftDeep.{IsOrder}
+use Rattle.order_search.specs.Orders.{cost, greatest, levels}
+use Rattle.order_search.specs.Ways.{IsWay}
+use Rattle.order_search.proofs.Prefixes.{levels_after, levels_are}
+use Rattle.order_search.proofs.WholeWays.{way_from_order}
+use Rattle.level_bounds.specs.Orders.{IsOrderOfSet}
+use Rattle.level_bounds.proofs.Lists.{all_from, each_of}
+use Rattle.level_bounds.proofs.SetNumbers.{prefix_of_order}
+
+level_after : (bounds : List ℕ) (placed : ℕ) (order : List ℕ) (k : ℕ) → k < length order → get_or (levels_after bounds placed order) k 0 ≡ get_or bounds (placed + set_of (take (suc k) order)) 0
+level_after bounds placed [] k low = absurd (omega arith)
+level_after bounds placed (entry ∷ entries) zero low = ap (λ (n : ℕ). get_or bounds n 0) (omega arith)
+level_after bounds placed (entry ∷ entries) (suc k) low =
+    level_after bounds (placed + 2 ^ entry) entries k (omega arith) ∙ ap (λ (n : ℕ). get_or bounds n 0) (omega arith)
+
+-- the bound at each place is that of the first entries up to there
+pub level_at : (bounds order : List ℕ) (k : ℕ) → k < length order → get_or (levels bounds order) k 0 ≡ get_or bounds (set_of (take (k + 1) order)) 0
+level_at bounds order k low =
+    ap (λ (s : List ℕ). get_or s k 0) (levels_are bounds order)
+    ∙ level_after bounds 0 order k low
+    ∙ ap (λ (n : ℕ). get_or bounds n 0) none
+    ∙ ap (λ (n : ℕ). get_or bounds (set_of (take n order)) 0) (sym (add-one k))
+  where
+    none : 0 + set_of (take (suc k) order) ≡ set_of (take (suc k) order)
+    none = omega arith
+
+within_greatest : (xs : List ℕ) (k : ℕ) → get_or xs k 0 ≤ greatest xs
+within_greatest [] k = omega arith
+within_greatest (x ∷ xs) zero = omega arith
+within_greatest (x ∷ xs) (suc k) = omega (arith, within_greatest xs k)
+
+pub level_within_cost : (bounds order : List ℕ) (k : ℕ) → get_or (levels bounds order) k 0 ≤ cost bounds order
+level_within_cost bounds order k = within_greatest (levels bounds order) k
+
+-- ---- the first entries of an order as a set
+
+on_way : (k left : ℕ) (entries : List ℕ) → IsWay left entries → set_of (take k entries) ≤ left
+on_way zero left entries way = omega arith
+on_way (suc k) left [] way = omega arith
+on_way (suc k) left (entry ∷ entries) way =
+    omega (arith, on_way k (left - 2 ^ entry) entries way.1, power_within entry left way.0)
+
+pub prefix_below : (n k : ℕ) (order : List ℕ) → IsOrder n order → set_of (take k order) < 2 ^ n
+prefix_below n k order is = omega (arith, on_way k (2 ^ n - 1) order (way_from_order n order is), pow_pos n)
+
+pub prefix_of : (n k : ℕ) (order : List ℕ) → n ≤ 12 → IsOrder n order → IsOrderOfSet (entries_of_set (set_of (take k order))) (take k order)
+prefix_of n k order few is =
+    prefix_of_order order k
+    (all_from (λ entry. entry < 16) order (λ entry here. omega (arith, each_of (λ entry. entry < n) order is.entries entry here, few))) is.once

@@ -1,0 +1,61 @@
+//! The bounds of a query over its database.
+ghost use Rattle.std.specs.Prelude.{◌≡◌, ◌⊎◌, ◌<◌, ◌≤◌, ◌^◌, ℕ, List, length, slice_index, IfOk};
+ghost use Rattle.limits.specs.Profile.{top_bound};
+ghost use Rattle.entry_sets.specs.Sets.{entries_of_set};
+ghost use Rattle.sql_meaning.specs.Databases.{IsDatabaseOf};
+ghost use Rattle.sql_meaning.specs.Tables.{tables_of};
+ghost use Rattle.level_bounds.specs.Keys.{HaveDifferentCharacters};
+ghost use Rattle.level_bounds.specs.Orders.{IsOrderOfSet};
+ghost use Rattle.level_bounds.specs.Scans.{query_level, query_scan};
+ghost use Rattle.planning.specs.Bounds.{scan_bounds_of, set_bounds_of};
+
+use base_io::{NoMemory, Seq};
+use csv_tables::Database;
+use gathered_stats::gather_query;
+use query_bounds::{bounds_of, scans_of};
+use query_types::Query;
+use std::alloc::Global;
+
+/// The bound of the scan of each entry, in FROM order, in rows. No scan has more.
+///
+/// The accuracy of compressed lists is from 1 to 64 (SafeBound, SIGMOD 2023).
+#[tactic(auto, using(crate::proofs::Stages::is_told))]
+pub fn scan_bounds(
+    alloc: Global,
+    query: &Query,
+    db: &Database,
+    accuracy: u8,
+) -> Result<Seq<u64>, NoMemory>
+    requires database { IsDatabaseOf query.now db.now }
+    requires texts { HaveDifferentCharacters db.now.pool }
+    requires accuracy { (0 < accuracy) × (accuracy ≤ 64) }
+    ensures exact { IfOk result (λ scans. scans ≡ scan_bounds_of query.now (tables_of db.now) accuracy) }
+    ensures never_under { IfOk result (λ scans. (entry : ℕ) → entry < length query.now.from
+        → length (query_scan query.now (tables_of db.now) entry) ≤ slice_index scans entry) }
+{
+    let stats = gather_query(alloc, query, db, accuracy)?;
+    scans_of(alloc, query, &stats)
+}
+
+/// The bound of each set of entries, at the number whose bits are the set, in rows; `u128::MAX` where it is larger, and 1 for the empty
+/// set. No level over just these entries has more rows, in whatever order they stand.
+///
+/// The accuracy of compressed lists is from 1 to 64 (SafeBound, SIGMOD 2023).
+#[tactic(auto, using(crate::proofs::Stages::is_told))]
+pub fn subset_bounds(
+    alloc: Global,
+    query: &Query,
+    db: &Database,
+    accuracy: u8,
+) -> Result<Seq<u128>, NoMemory>
+    requires database { IsDatabaseOf query.now db.now }
+    requires texts { HaveDifferentCharacters db.now.pool }
+    requires accuracy { (0 < accuracy) × (accuracy ≤ 64) }
+    ensures exact { IfOk result (λ bounds. bounds ≡ set_bounds_of query.now (tables_of db.now) accuracy) }
+    ensures never_under { IfOk result (λ bounds. (subset : ℕ) (order : List ℕ)
+        → subset < 2 ^ length query.now.from → IsOrderOfSet (entries_of_set subset) order
+        → (length (query_level query.now (tables_of db.now) order) ≤ slice_index bounds subset) ⊎ (slice_index bounds subset ≡ top_bound)) }
+{
+    let stats = gather_query(alloc, query, db, accuracy)?;
+    bounds_of(alloc, query, &stats)
+}

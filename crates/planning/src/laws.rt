@@ -1,0 +1,84 @@
+//! What holds of the bounds and plans of a query over its tables: no law computes anything, and the contract is the law.
+//!
+//! The tables are plain rows, with no cells and no pool of texts.
+ghost use Rattle.std.specs.Prelude.{◌≡◌, ◌≢◌, ◌⊎◌, ◌+◌, ◌*◌, ◌^◌, ◌<◌, ◌≤◌, ℕ, List, [], Ok, Err, length, slice_index, take};
+ghost use Rattle.limits.specs.Profile.{most_budget, most_entries, top_bound};
+ghost use Rattle.entry_sets.specs.Sets.{entries_of_set};
+ghost use Rattle.plans.specs.declared.left_deep.Plan.{Plan};
+ghost use Rattle.plans.specs.LeftDeep.{IsPlan};
+ghost use Rattle.order_search.specs.Orders.{IsBest};
+ghost use Rattle.order_search.specs.declared.refusal.PlanError.TheVariants as error;
+ghost use Rattle.query_types.specs.declared.types.Query.{Query};
+ghost use Rattle.join_graph.specs.Conjuncts.{equalities_of};
+ghost use Rattle.tree_bounds.specs.SetBounds.{bound_of_set};
+ghost use Rattle.sql_meaning.specs.Answers.{conjuncts_of};
+ghost use Rattle.sql_meaning.specs.Levels.{level};
+ghost use Rattle.sql_meaning.specs.Tables.{Tables, row_counts};
+ghost use Rattle.level_bounds.specs.Keys.{AreKeys, Keys};
+ghost use Rattle.level_bounds.specs.Orders.{IsOrderOfSet};
+ghost use Rattle.level_bounds.specs.Scans.{query_level, query_scan};
+ghost use Rattle.filtered_lists.specs.Filters.{own_conjuncts};
+ghost use Rattle.query_bounds.specs.Statistics.{StandFor};
+ghost use Rattle.gathered_stats.specs.Statistics.{statistics_of};
+ghost use Rattle.planning.specs.Bounds.{scan_bounds_of, set_bounds_of, whole_columns};
+ghost use Rattle.planning.specs.Plans.{planned};
+
+/// The statistics of any tables stand for them, over keys that rows share where an equality joins them.
+pub fn statistics_stand()
+    ensures { (query : Query) (tables : Tables) (accuracy : ℕ)
+        → (key : Keys) × StandFor query (statistics_of tables accuracy) tables key × AreKeys tables key (equalities_of query) }
+{}
+
+/// No scan has more rows than its bound says, and no level over the entries of a set more than the bound of the set, in whatever order
+/// they stand. The top bound stands for all from there on.
+pub fn bounds_are_never_under()
+    ensures scans { (query : Query) (tables : Tables) (accuracy entry : ℕ) → entry < length query.from
+        → length (query_scan query tables entry) ≤ slice_index (scan_bounds_of query tables accuracy) entry }
+    ensures sets { (query : Query) (tables : Tables) (accuracy subset : ℕ) (order : List ℕ)
+        → subset < 2 ^ length query.from → IsOrderOfSet (entries_of_set subset) order
+        → (length (query_level query tables order) ≤ slice_index (set_bounds_of query tables accuracy) subset)
+        ⊎ (slice_index (set_bounds_of query tables accuracy) subset ≡ top_bound) }
+{}
+
+/// Near, where no conjunct names just one entry: at accuracy K, K^n times the bound of a set of n entries is at most (K + 1)^n times the
+/// bound of the same set from the degree lists of whole columns.
+pub fn bounds_are_near()
+    ensures { (query : Query) (tables : Tables) (accuracy subset : ℕ)
+        → ((entry : ℕ) → own_conjuncts entry query.conjuncts ≡ []) → subset < 2 ^ length query.from
+        → accuracy ^ length (entries_of_set subset) * slice_index (set_bounds_of query tables accuracy) subset
+        ≤ (accuracy + 1) ^ length (entries_of_set subset) * bound_of_set (whole_columns tables) (equalities_of query) subset }
+{}
+
+/// The plan of a query over its tables is never want of memory.
+pub fn plans_want_no_memory()
+    ensures { (query : Query) (tables : Tables) (accuracy budget : ℕ) → planned query tables accuracy budget ≢ Err error.NoMemory }
+{}
+
+/// What holds of a plan: its order is the best one, and no bound in it is too low. A scan's bound is at most the number of rows of its
+/// table, and a level's bound at most the budget.
+pub fn plans_are_never_under()
+    ensures plan { (query : Query) (tables : Tables) (accuracy budget : ℕ) (plan : Plan)
+        → planned query tables accuracy budget ≡ Ok plan → IsPlan (length query.from) plan }
+    ensures best { (query : Query) (tables : Tables) (accuracy budget : ℕ) (plan : Plan)
+        → planned query tables accuracy budget ≡ Ok plan
+        → IsBest (set_bounds_of query tables accuracy) (length query.from) plan.order }
+    ensures scans { (query : Query) (tables : Tables) (accuracy budget : ℕ) (plan : Plan) (entry : ℕ)
+        → planned query tables accuracy budget ≡ Ok plan → entry < length query.from
+        → length (query_scan query tables entry) ≤ slice_index plan.scans entry }
+    // the level of the first k + 1 entries of the order
+    ensures levels { (query : Query) (tables : Tables) (accuracy budget : ℕ) (plan : Plan) (k : ℕ)
+        → length query.from ≤ most_entries → budget ≤ most_budget
+        → planned query tables accuracy budget ≡ Ok plan → k < length query.from
+        → length (query_level query tables (take (k + 1) plan.order)) ≤ slice_index plan.levels k }
+    // the same, as a level of the order
+    ensures levels_of_order { (query : Query) (tables : Tables) (accuracy budget : ℕ) (plan : Plan) (k : ℕ)
+        → length query.from ≤ most_entries → budget ≤ most_budget
+        → planned query tables accuracy budget ≡ Ok plan → k < length query.from
+        → length (level (conjuncts_of query tables) (row_counts tables) plan.order (k + 1)) ≤ slice_index plan.levels k }
+    ensures small_scans { (query : Query) (tables : Tables) (accuracy budget : ℕ) (plan : Plan) (entry : ℕ)
+        → planned query tables accuracy budget ≡ Ok plan → entry < length query.from
+        → slice_index plan.scans entry ≤ row_counts tables entry }
+    ensures small_levels { (query : Query) (tables : Tables) (accuracy budget : ℕ) (plan : Plan) (k : ℕ)
+        → planned query tables accuracy budget ≡ Ok plan → k < length query.from
+        → slice_index plan.levels k ≤ budget }
+{}

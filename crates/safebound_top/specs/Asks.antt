@@ -1,0 +1,43 @@
+-- What words ask of a run.
+use Rattle.std.specs.Prelude.{ℕ, List, Option, None, Some, option_map, Result, Ok, Err}
+use Rattle.std.specs.Borrow.{Bor}
+use Rattle.safebound_words.specs.Answer.{command_of}
+use Rattle.safebound_words.specs.Requests.{Request, Run, Plan, Audit, Demo}
+use Rattle.outcomes.specs.declared.refusal.Refusal.{Refusal}
+use Rattle.outcomes.specs.declared.refusal.Refusal.TheVariants as refusal
+use Rattle.safebound_top.specs.declared.task.OutText.{OutText}
+use Rattle.safebound_top.specs.declared.task.OutText.TheVariants as out_text
+use Rattle.safebound_top.specs.declared.task.Task.{Task}
+
+-- the names of two files, the most rows that a plan may cost, how closely lists of degrees are compressed, and which text goes to out
+pub record Ask : Type 0 where
+  pub schema_file : List ℕ
+  pub query_file : List ℕ
+  pub budget : ℕ
+  pub accuracy : ℕ
+  pub out : OutText
+
+abbrev pub ask_for : OutText → List ℕ → List ℕ → ℕ → ℕ → Ask
+ask_for out schema query budget accuracy = record { schema_file = schema; query_file = query; budget = budget; accuracy = accuracy; out = out }
+
+-- one line for each command: `audit` and `demo` aren't taken up
+abbrev pub taken_up : Request → Result Ask Refusal
+taken_up (Run schema query budget accuracy) = Ok (ask_for out_text.Rows schema query budget accuracy)
+taken_up (Plan schema query budget accuracy) = Ok (ask_for out_text.Nothing schema query budget accuracy)
+taken_up (Audit schema query budget accuracy) = Err refusal.Usage
+taken_up (Demo number) = Err refusal.Usage
+
+abbrev pub request_stage : Option Request → Result Ask Refusal
+request_stage None = Err refusal.Usage
+request_stage (Some request) = taken_up request
+
+-- what the words ask for
+abbrev pub command_stage : List (List ℕ) → Result Ask Refusal
+command_stage words = request_stage (command_of words)
+
+-- what a task of the code asks for
+abbrev pub asked : Task → Ask
+asked task = ask_for task.out task.schema_file.now task.query_file.now task.budget task.accuracy
+
+abbrev pub ask_of : Option (Bor Task) → Option Ask
+ask_of task = option_map (λ t. asked t.now) task
