@@ -4,7 +4,7 @@ PROGRAM := crates/safebound_cli/out/safebound_cli
 
 # Proves and builds the program, and runs it over the example.
 run: build
-	cd examples/first && ../../$(PROGRAM) run schema.sql query.sql
+	cd examples/trips && ../../$(PROGRAM) run schema.sql query.sql
 
 # The program alone, proved. It is run without words, which it answers with its usage line.
 build:
@@ -13,8 +13,9 @@ build:
 
 # The program over the example at once, compiled with checks and nothing proved.
 try:
-	cd crates/safebound_cli && rt try --data schema.sql=../../examples/first/schema.sql \
-	    --data query.sql=../../examples/first/query.sql --data city.csv=../../examples/first/city.csv \
+	cd crates/safebound_cli && rt try --data schema.sql=../../examples/trips/schema.sql \
+	    --data query.sql=../../examples/trips/query.sql --data city.csv=../../examples/trips/city.csv \
+	    --data trip.csv=../../examples/trips/trip.csv --data guide.csv=../../examples/trips/guide.csv \
 	    -- run schema.sql query.sql
 
 # Everything: each proof that this machine hasn't kept, the edits that must fail, the tests, the stored runs, random ones.
