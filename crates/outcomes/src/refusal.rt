@@ -33,7 +33,7 @@ pub enum TableCause {
 /// What the words and the files alone refuse. Places are offsets in bytes from 0.
 #[derive(Clone, Copy, Debug, PartialEq, Eq)]
 pub enum Refusal {
-    /// The words are no command.
+    /// The words are no command that the program takes up.
     Usage,
     /// The file isn't there.
     Missing {
@@ -64,6 +64,6 @@ pub enum Refusal {
     Budget {
         least: u128,
     },
-    /// 128 bits don't tell the least cost of an order.
+    /// The least cost of an order is 2^128 - 1, the top bound, which stands for all from there on.
     PastBits,
 }

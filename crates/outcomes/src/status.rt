@@ -9,9 +9,9 @@ use schema_types::LimitKind;
 /// How a run ended. Places are offsets in bytes from 0.
 #[derive(Clone, Copy, Debug, PartialEq, Eq)]
 pub enum Status {
-    /// Both texts were written whole.
+    /// Each text of the command was written whole.
     Done,
-    /// The words are no command.
+    /// The words are no command that the program takes up.
     Usage,
     /// The file isn't there, or a read of it failed.
     ReadFault {
@@ -42,7 +42,7 @@ pub enum Status {
     Budget {
         least: u128,
     },
-    /// 128 bits don't tell the least cost of an order.
+    /// The least cost of an order is 2^128 - 1, the top bound, which stands for all from there on.
     PastBits,
     /// A write failed.
     WriteFault {

@@ -58,7 +58,7 @@ pub data Ran (s : Status) (store : Reading) (out notes : Growth) (stage : Files 
   Stopped : (e : Ending) → s ≡ ended e → Reads store stage ComesTo (Err e) → DidNotGrow out → Told notes line → Ran s store out notes stage ComesTo line
   Went : (run : Accepted) → Reads store stage ComesTo (Ok run) → Ended s out notes run line → Ran s store out notes stage ComesTo line
 
--- the words are no command: nothing was read, and that was told
+-- the words are refused: no name was missed, and that was told
 pub record IsUnasked (call : Call) (line : List ℕ) : Type 0 where
   pub status : call.status ≡ status.Usage
   pub words : command_stage call.words ≡ Err refusal.Usage

@@ -1,4 +1,7 @@
 -- What a call of the program answers, and why: eight sentences about the words, the files and the two streams.
+--
+-- Where a sentence speaks of the verdict, the store tells its files: of a store that tells none it says nothing. Where one speaks of
+-- what a stream took, the stream tells that.
 use Rattle.std.specs.Prelude.{ℕ, ◌≡◌, ◌↔◌, ◌⊎◌, List, codes, Option, None, Some, Result, Ok, Err, IfOk, IsOkAnd}
 use Rattle.base_io.specs.Causes.{Rose}
 use Rattle.base_io.specs.Files.{Files}
@@ -27,11 +30,11 @@ OverFiles call P = (files : Files) → call.store.files ≡ Some files → P fil
 abbrev pub Grew : Growth → List ℕ → Type 0
 Grew sink text = sink.taken_after ≡ appended sink.taken_before text
 
--- it took nothing, and nothing failed: it wasn't called
+-- it has the bytes that it had, where it tells them, and its count of faults is as before
 abbrev pub DidNotGrow : Growth → Type 0
 DidNotGrow sink = (sink.taken_after ≡ sink.taken_before) × (sink.faults_after ≡ sink.faults_before)
 
--- it grew by exactly the text, where there is one, and else it wasn't called
+-- it grew by exactly the text, where there is one, and else it took nothing
 abbrev pub GrewWhole : Growth → Option (List ℕ) → Type 0
 GrewWhole sink None = DidNotGrow sink
 GrewWhole sink (Some text) = Grew sink text
@@ -48,18 +51,18 @@ FaultsRose sink = Rose sink.faults_before sink.faults_after
 abbrev pub GrewByLine : Growth → List ℕ → Type 0
 GrewByLine sink line = Tells sink.taken_before sink.taken_after sink.faults_before sink.faults_after line
 
--- 1. Done comes only where the verdict is that. The notes grew by exactly its plan text. For `run`, out grew by exactly its rows text; for
+-- 1. Done comes only where the verdict is accepted. The notes grew by exactly its plan text. For `run`, out grew by exactly its rows text; for
 --    `plan`, out took nothing.
 abbrev pub DoneIsExact : Call → Type 0
 DoneIsExact call = call.status ≡ status.Done
     → OverFiles call (λ files v. IsOkAnd v (λ run. Grew call.notes (plan_text run) × GrewWhole call.out (out_text_of run)))
 
--- 2. Where the verdict is done, the scan of each FROM entry and each level of the plan's order have at most as many rows as the plan text
+-- 2. Where the verdict is accepted, the scan of each FROM entry and each level of the plan's order have at most as many rows as the plan text
 --    of 1 prints for it; for `plan` too, though they are never listed.
 abbrev pub EveryBoundHolds : Call → Type 0
 EveryBoundHolds call = OverFiles call (λ files v. IfOk v BoundsHold)
 
--- 3. Where the verdict is done, the rows that the rows text of 1 prints are, as a multiset, the answer of the query.
+-- 3. Where the verdict is accepted, the rows that `run` prints are, as a multiset, the answer of the query.
 abbrev pub TheRowsAreTheAnswer : Call → Type 0
 TheRowsAreTheAnswer call = OverFiles call (λ files v. IfOk v RowsAreTheAnswer)
 
@@ -67,7 +70,7 @@ TheRowsAreTheAnswer call = OverFiles call (λ files v. IfOk v RowsAreTheAnswer)
 abbrev pub WantOfMemoryLeavesItsLine : Call → Type 0
 WantOfMemoryLeavesItsLine call = call.status ≡ status.NoMemory → GrewByLine call.notes (codes "error memory\n") × DidNotGrow call.out
 
--- 5. A write fault comes only where the verdict is done and the named sink's count rose.
+-- 5. A write fault comes only where the verdict is accepted and the named sink's count rose.
 pub record WriteFaultsHaveTheirCause (call : Call) : Type 0 where
   -- of notes: a prefix of the plan text stands in them, and then a prefix of the line; out didn't grow
   pub of_notes : call.status ≡ status.WriteFault sink.Notes → FaultsRose call.notes × DidNotGrow call.out

@@ -16,11 +16,12 @@ end_leaf values end = option_map (leaf_of_value values) end
 
 -- ---- lists
 
--- the list of a joined column for the rows that have a value in a filter column
+-- the list of a joined column for a value of a filter column: that of its rows where it is frequent, else the rest list
 abbrev pub list_with : ℕ → List Value → List Value → Value → List ℕ
 list_with accuracy filter joined value = list_of_value accuracy (paired filter joined) (Some (first_row filter value))
 
--- and for the rows whose value lies between two ends, either of which may be missing. The ends may be crossed
+-- and for two ends of a range, either of which may be missing: that of the rows in the least node that holds the leaves of both. The
+-- ends may be crossed
 abbrev pub list_between : ℕ → List Value → List Value → Option Value → Option Value → List ℕ
 list_between accuracy filter joined low high =
     list_of_range (row_le filter) accuracy (paired filter joined) (end_leaf filter low) (end_leaf filter high)
