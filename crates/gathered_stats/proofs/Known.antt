@@ -1,5 +1,5 @@
 -- The steps of an entry's own conjuncts ask for columns that the entry's table has.
-use Rattle.std.proofs.Common.{◌≡◌, ℕ, ◌<◌, Bool, true, false, not, ◌||◌, eqb, List, [], ◌∷◌, ◌++◌, map, length, Option, None, Some, refl, ap, sym, ◌∙◌, subst, inl, inr}
+use Rattle.std.proofs.Common.{◌≡◌, ℕ, ◌<◌, Bool, true, false, not, ◌||◌, eqb, List, [], ◌∷◌, ◌++◌, map, length, None, sym, subst, inl, inr}
 use Rattle.std.specs.List.{All, AllByRecursion, flat_map}
 use Rattle.std.proofs.lemmas.Bool.{and_parts, cases_Bool, eqb-true, false≢true, or_cases}
 use Rattle.std.proofs.lemmas.List.Elements.{All-from_recursion, recursion_from_All}
@@ -14,7 +14,6 @@ use Rattle.query_grammar.specs.declared.tree.Op.TheVariants as op
 use Rattle.query_types.specs.declared.types.ColumnRef.{ColumnRef}
 use Rattle.query_types.specs.declared.types.Operand.{Operand}
 use Rattle.query_types.specs.declared.types.Operand.TheVariants as operand
-use Rattle.query_types.specs.declared.types.Query.{Query}
 use Rattle.query_types.specs.declared.types.Cond.{Cond, every-Cond, map-Cond, roll-Cond}
 use Rattle.query_types.specs.declared.types.Cond.TheFolds.{fold-roll-Cond, ind-Cond}
 use Rattle.query_types.specs.declared.types.Cond.TheOpen.{Cond-F}
@@ -22,10 +21,10 @@ use Rattle.query_types.specs.declared.types.Cond.TheOpen as layer
 use Rattle.query_types.specs.declared.types.Cond.TheVariants.{rolls-And, rolls-Or, rolls-Not, rolls-Compare}
 use Rattle.query_types.specs.Named.{entries_named, entries_of_operand, entries_step}
 use Rattle.join_graph.specs.Conjuncts.{names_just}
-use Rattle.sql_meaning.specs.Databases.{CanAskLayer, CanCompare, IsAskable, IsColumnOf, IsDatabaseOf}
+use Rattle.sql_meaning.specs.Databases.{CanAskLayer, CanCompare, IsAskable, IsColumnOf}
 use Rattle.sql_meaning.specs.Tables.{cells_of}
 use Rattle.sql_meaning.proofs.ConditionFacts.{every_and, every_compare, every_not, every_or}
-use Rattle.filtered_lists.specs.Comparisons.{Comparison, comparison_of, opposite}
+use Rattle.filtered_lists.specs.Comparisons.{comparison_of, opposite}
 use Rattle.filtered_lists.specs.Filters.{Conjunction, all_of, and_answer, and_more, conjunction_of, conjunction_step, joined, of_answer, of_comparison, of_comparison_or_whole, or_answer, or_more, own_conjuncts}
 use Rattle.filtered_lists.specs.Ranges.{Range, from_value, one_range, range_for_each_column, up_to_value}
 use Rattle.predicate_bounds.specs.declared.steps.Step.{Step}

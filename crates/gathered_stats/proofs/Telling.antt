@@ -1,8 +1,8 @@
 -- What is gathered for each entry tells the statistics of the tables.
-use Rattle.std.proofs.Common.{◌≡◌, ◌⊎◌, ℕ, zero, suc, ◌+◌, ◌<◌, ◌≤◌, ◌^◌, Bool, true, false, eqb, pos, List, [], ◌∷◌, map, length, get_or, replicate, Option, None, Some, option_map, slice_get, find, refl, ap, sym, ◌∙◌, subst, inl, inr, arith}
+use Rattle.std.proofs.Common.{◌≡◌, ℕ, zero, suc, ◌+◌, ◌<◌, eqb, pos, List, [], ◌∷◌, map, length, get_or, replicate, Some, option_map, slice_get, find, refl, ap, sym, ◌∙◌, subst, inl, inr, arith}
 use Rattle.std.specs.List.{All, AllByRecursion, Contains, range_with_len}
 use Rattle.std.proofs.lemmas.List.{get_or_past, length-map}
-use Rattle.std.proofs.lemmas.Bool.{cases_Bool, cases_eq, cases_lt, eq-eqb, eqb-true, false≢true}
+use Rattle.std.proofs.lemmas.Bool.{cases_Bool, cases_lt, eq-eqb, eqb-true, false≢true}
 use Rattle.std.proofs.lemmas.List.Elements.{All-nil, All-push, recursion_from_All}
 use Rattle.berge_tree.specs.declared.edges.Place.{Place}
 use Rattle.berge_tree.specs.Equalities.{places_of}
@@ -11,26 +11,22 @@ use Rattle.csv_tables.specs.declared.types.Cells.{Cells}
 use Rattle.csv_tables.specs.declared.types.Database.{Database}
 use Rattle.csv_tables.specs.Cells.{rows_of_columns}
 use Rattle.csv_tables.specs.Rows.{Row}
-use Rattle.csv_tables.specs.Values.{Value, Int}
+use Rattle.csv_tables.specs.Values.{Int}
 use Rattle.cond_stats.specs.Lists.{compressed_degrees}
-use Rattle.entry_sets.proofs.Listing.{in_front, in_none, in_rest, one_in}
-use Rattle.filtered_lists.specs.Lists.{ColumnLists}
+use Rattle.entry_sets.proofs.Listing.{in_front, in_none, one_in}
 use Rattle.filtered_lists.specs.Standing.{SumTo, value_in_row}
 use Rattle.join_graph.specs.Conjuncts.{equalities_of}
 use Rattle.level_bounds.specs.Keys.{HaveDifferentCharacters}
 use Rattle.level_bounds.proofs.Lists.{all_from}
 use Rattle.predicate_bounds.specs.declared.columns.ColumnSteps.{ColumnSteps}
-use Rattle.predicate_bounds.specs.declared.columns.EntryStats.{EntryStats}
 use Rattle.predicate_bounds.specs.declared.columns.QueryStats.{QueryStats}
-use Rattle.predicate_bounds.specs.declared.running.ListStep.{ListStep}
-use Rattle.predicate_bounds.specs.declared.steps.Step.{Step}
 use Rattle.predicate_bounds.specs.Steps.{steps_of}
-use Rattle.predicate_bounds.specs.Told.{TellsList, TellsRows, asked_lists, column_steps, columns_of, first_steps, no_columns}
+use Rattle.predicate_bounds.specs.Told.{asked_lists, columns_of, no_columns}
 use Rattle.query_bounds.specs.Statistics.{Tells, TellsColumn, TellsEntry}
 use Rattle.query_types.specs.declared.types.ColumnRef.{ColumnRef}
 use Rattle.query_types.specs.declared.types.Query.{Query}
 use Rattle.sql_meaning.specs.Databases.{AreCells, AreTables, IsColumnOf, IsDatabaseOf}
-use Rattle.sql_meaning.specs.Tables.{Tables, cells_of, no_cells, row_counts, tables_of}
+use Rattle.sql_meaning.specs.Tables.{cells_of, no_cells, row_counts, tables_of}
 use Rattle.sql_meaning.proofs.ColumnFacts.{column_count, row_count}
 use Rattle.sql_meaning.proofs.LoopFacts.{rows_are}
 use Rattle.table_stats.specs.Columns.{column_values, first_row, numbered}
@@ -39,7 +35,7 @@ use Rattle.table_stats.specs.Statistics.{column_lists, entry_counts}
 use Rattle.gathered_stats.specs.Asked.{AreStepsOf, IsGathered, asked_columns}
 use Rattle.gathered_stats.specs.Columns.{HaveLists, cells_in, keys_in}
 use Rattle.gathered_stats.specs.Statistics.{statistics_of}
-use Rattle.gathered_stats.proofs.Joined.{asked_place, place_asked, place_exists, ref_of, some_asked}
+use Rattle.gathered_stats.proofs.Joined.{asked_place, place_asked, place_exists, some_asked}
 
 -- ---- the first of some, and the one of a column
 

@@ -39,13 +39,17 @@ pub each_column : (Q : ℕ → ℕ → Type 0) (es : List Edge) → ((entry colu
 each_column Q [] h = tt
 each_column Q (e ∷ es) h = (h e.left.entry e.left.column, (h e.right.entry e.right.column, each_column Q es h))
 
-pub stand_for : (query : Query) (tables : Tables) (accuracy : ℕ) (f : Facts tables accuracy) → StandFor query (statistics_of tables accuracy) tables f.key
+pub stand_for : (query : Query) (tables : Tables) (accuracy : ℕ) (f : Facts tables accuracy)
+    → StandFor query (statistics_of tables accuracy) tables f.key
 stand_for query tables accuracy f = record {
   counts = λ entry low. f.counts entry;
-  lists = each_column (λ entry column. ListsStandFor (column_lists tables accuracy entry column) tables entry (f.key entry column)) (equalities_of query) f.lists;
+  lists =
+      each_column (λ entry column. ListsStandFor (column_lists tables accuracy entry column) tables entry (f.key entry column))
+      (equalities_of query) f.lists;
 }
 
-pub some_keys : (query : Query) (tables : Tables) (accuracy : ℕ) → (key : Keys) × StandFor query (statistics_of tables accuracy) tables key × AreKeys tables key (equalities_of query)
+pub some_keys : (query : Query) (tables : Tables) (accuracy : ℕ)
+    → (key : Keys) × StandFor query (statistics_of tables accuracy) tables key × AreKeys tables key (equalities_of query)
 some_keys query tables accuracy =
     let f : Facts tables accuracy = facts tables accuracy in
     (f.key, stand_for query tables accuracy f, f.joins (equalities_of query))

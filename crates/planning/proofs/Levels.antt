@@ -12,14 +12,16 @@ use Rattle.level_bounds.specs.Orders.{IsOrderOfSet}
 use Rattle.level_bounds.proofs.Lists.{all_from, each_of}
 use Rattle.level_bounds.proofs.SetNumbers.{prefix_of_order}
 
-level_after : (bounds : List ℕ) (placed : ℕ) (order : List ℕ) (k : ℕ) → k < length order → get_or (levels_after bounds placed order) k 0 ≡ get_or bounds (placed + set_of (take (suc k) order)) 0
+level_after : (bounds : List ℕ) (placed : ℕ) (order : List ℕ) (k : ℕ) → k < length order
+    → get_or (levels_after bounds placed order) k 0 ≡ get_or bounds (placed + set_of (take (suc k) order)) 0
 level_after bounds placed [] k low = absurd (omega arith)
 level_after bounds placed (entry ∷ entries) zero low = ap (λ (n : ℕ). get_or bounds n 0) (omega arith)
 level_after bounds placed (entry ∷ entries) (suc k) low =
     level_after bounds (placed + 2 ^ entry) entries k (omega arith) ∙ ap (λ (n : ℕ). get_or bounds n 0) (omega arith)
 
 -- the bound at each place is that of the first entries up to there
-pub level_at : (bounds order : List ℕ) (k : ℕ) → k < length order → get_or (levels bounds order) k 0 ≡ get_or bounds (set_of (take (k + 1) order)) 0
+pub level_at : (bounds order : List ℕ) (k : ℕ) → k < length order
+    → get_or (levels bounds order) k 0 ≡ get_or bounds (set_of (take (k + 1) order)) 0
 level_at bounds order k low =
     ap (λ (s : List ℕ). get_or s k 0) (levels_are bounds order)
     ∙ level_after bounds 0 order k low
@@ -48,7 +50,9 @@ on_way (suc k) left (entry ∷ entries) way =
 pub prefix_below : (n k : ℕ) (order : List ℕ) → IsOrder n order → set_of (take k order) < 2 ^ n
 prefix_below n k order is = omega (arith, on_way k (2 ^ n - 1) order (way_from_order n order is), pow_pos n)
 
-pub prefix_of : (n k : ℕ) (order : List ℕ) → n ≤ 12 → IsOrder n order → IsOrderOfSet (entries_of_set (set_of (take k order))) (take k order)
+pub prefix_of : (n k : ℕ) (order : List ℕ) → n ≤ 12 → IsOrder n order
+    → IsOrderOfSet (entries_of_set (set_of (take k order))) (take k order)
 prefix_of n k order few is =
     prefix_of_order order k
-    (all_from (λ entry. entry < 16) order (λ entry here. omega (arith, each_of (λ entry. entry < n) order is.entries entry here, few))) is.once
+    (all_from (λ entry. entry < 16) order
+    (λ entry here. omega (arith, each_of (λ entry. entry < n) order is.entries entry here, few))) is.once

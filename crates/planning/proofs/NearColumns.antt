@@ -34,23 +34,29 @@ module _ (tables : Tables) where
 
   keys_are_numbers : (entry column : ℕ) → numbered (column_values tables entry column) ≡ keys_of tables row_number entry column
   keys_are_numbers entry column =
-      fill_by_all (row_number entry column) (numbered (column_values tables entry column)) (row_counts tables entry) 0 (length-numbered entry column) (λ k low. refl)
+      fill_by_all (row_number entry column) (numbered (column_values tables entry column)) (row_counts tables entry) 0
+      (length-numbered entry column) (λ k low. refl)
 
   whole_columns_are : uncompressed tables row_number ≡ whole_columns tables
-  whole_columns_are = ap made (fun_ext (λ (entry : ℕ). fun_ext (λ (column : ℕ). ap (λ (s : List ℕ). degree_list s) (sym (keys_are_numbers entry column)))))
+  whole_columns_are =
+      ap made (fun_ext (λ (entry : ℕ). fun_ext (λ (column : ℕ). ap (λ (s : List ℕ). degree_list s) (sym (keys_are_numbers entry column)))))
     where
       made : (ℕ → ℕ → List ℕ) → EntryBounds
       made list = record { rows = row_counts tables; list = list }
 
-  are_whole : (query : Query) (accuracy : ℕ) → ((entry : ℕ) → own_conjuncts entry query.conjuncts ≡ []) → AreWhole query (statistics_of tables accuracy) tables row_number accuracy
+  are_whole : (query : Query) (accuracy : ℕ) → ((entry : ℕ) → own_conjuncts entry query.conjuncts ≡ [])
+      → AreWhole query (statistics_of tables accuracy) tables row_number accuracy
   are_whole query accuracy none = record {
     unfiltered = none;
     counts = λ entry low. refl;
-    lists = each_column (λ entry column. (column_lists tables accuracy entry column).whole ≡ compressed accuracy (degree_list (keys_of tables row_number entry column))) (equalities_of query)
+    lists =
+        each_column (λ entry column. (column_lists tables accuracy entry column).whole
+        ≡ compressed accuracy (degree_list (keys_of tables row_number entry column))) (equalities_of query)
         (λ entry column. ap (λ (s : List ℕ). compressed accuracy (degree_list s)) (keys_are_numbers entry column));
   }
 
-  pub near_columns : (query : Query) (accuracy subset : ℕ) → ((entry : ℕ) → own_conjuncts entry query.conjuncts ≡ []) → subset < 2 ^ length query.from
+  pub near_columns : (query : Query) (accuracy subset : ℕ) → ((entry : ℕ) → own_conjuncts entry query.conjuncts ≡ [])
+      → subset < 2 ^ length query.from
       → accuracy ^ length (entries_of_set subset) * get_or (set_bounds_of query tables accuracy) subset 0
       ≤ (accuracy + 1) ^ length (entries_of_set subset) * bound_of_set (whole_columns tables) (equalities_of query) subset
   near_columns query accuracy subset none fits =

@@ -28,13 +28,16 @@ capped rows bound told fits is = elim (cases_lt bound (2 ^ 128 - 1)) [
 ]
 
 module _ (query : Query) (tables : Tables) (accuracy : ℕ) where
-  pub scan_never_under : (entry : ℕ) → entry < length query.from → length (query_scan query tables entry) ≤ get_or (scan_bounds_of query tables accuracy) entry 0
+  pub scan_never_under : (entry : ℕ) → entry < length query.from
+      → length (query_scan query tables entry) ≤ get_or (scan_bounds_of query tables accuracy) entry 0
   scan_never_under entry low =
       let f : Facts tables accuracy = facts tables accuracy in
-      scan_within query (statistics_of tables accuracy) tables f.key entry (scan_bounds_of query tables accuracy) refl (stand_for query tables accuracy f) low
+      scan_within query (statistics_of tables accuracy) tables f.key entry (scan_bounds_of query tables accuracy)
+      refl (stand_for query tables accuracy f) low
 
   -- the bound of a scan is at most the number of rows of the table
-  pub scan_small : (entry : ℕ) → entry < length query.from → get_or (scan_bounds_of query tables accuracy) entry 0 ≤ row_counts tables entry
+  pub scan_small : (entry : ℕ) → entry < length query.from
+      → get_or (scan_bounds_of query tables accuracy) entry 0 ≤ row_counts tables entry
   scan_small entry low =
       omega (
         arith,
@@ -43,11 +46,14 @@ module _ (query : Query) (tables : Tables) (accuracy : ℕ) where
       )
 
   pub level_never_under : (subset : ℕ) (order : List ℕ) → subset < 2 ^ length query.from → IsOrderOfSet (entries_of_set subset) order
-      → (length (query_level query tables order) ≤ get_or (set_bounds_of query tables accuracy) subset 0) ⊎ (get_or (set_bounds_of query tables accuracy) subset 0 ≡ 2 ^ 128 - 1)
+      → (length (query_level query tables order) ≤ get_or (set_bounds_of query tables accuracy) subset 0)
+      ⊎ (get_or (set_bounds_of query tables accuracy) subset 0 ≡ 2 ^ 128 - 1)
   level_never_under subset order fits o =
       let f : Facts tables accuracy = facts tables accuracy in
-      capped (length (query_level query tables order)) (bound_of_set (entry_bounds query (statistics_of tables accuracy)) (equalities_of query) subset)
+      capped (length (query_level query tables order))
+      (bound_of_set (entry_bounds query (statistics_of tables accuracy)) (equalities_of query) subset)
       (get_or (set_bounds_of query tables accuracy) subset 0)
       (within query tables f.key (entry_bounds query (statistics_of tables accuracy)) subset order (f.joins (equalities_in query subset))
       (bounds_scans query (statistics_of tables accuracy) tables f.key (stand_for query tables accuracy f) f.falls f.sums subset fits) o)
-      (told_at (entry_bounds query (statistics_of tables accuracy)) (equalities_of query) (length query.from) subset (set_bounds_of query tables accuracy) refl fits)
+      (told_at (entry_bounds query (statistics_of tables accuracy)) (equalities_of query) (length query.from) subset
+      (set_bounds_of query tables accuracy) refl fits)

@@ -32,7 +32,8 @@ module _ (query : Query) (tables : Tables) (accuracy budget : ℕ) where
   scans = scan_bounds_of query tables accuracy
 
   -- a plan that is promised over these bounds is the planned one
-  pub is_planned : (answer : Result Plan PlanError) → budget ≤ 20000000 → IsPromised bounds scans budget answer → (answer ≡ Err error.NoMemory) ⊎ (answer ≡ planned query tables accuracy budget)
+  pub is_planned : (answer : Result Plan PlanError) → budget ≤ 20000000 → IsPromised bounds scans budget answer
+      → (answer ≡ Err error.NoMemory) ⊎ (answer ≡ planned query tables accuracy budget)
   unfolding planned
   is_planned answer few is = only bounds scans budget answer few is
 
@@ -65,16 +66,19 @@ module _ (query : Query) (tables : Tables) (accuracy budget : ℕ) where
     -- ---- levels
 
     pub level_within : (k : ℕ) → get_or plan.levels k 0 ≤ budget
-    level_within k = omega (arith, ap (λ (s : List ℕ). get_or s k 0) promised.levels, level_within_cost bounds plan.order k, promised.within)
+    level_within k =
+        omega (arith, ap (λ (s : List ℕ). get_or s k 0) promised.levels, level_within_cost bounds plan.order k, promised.within)
 
     level_is : (k : ℕ) → k < length query.from → get_or plan.levels k 0 ≡ get_or bounds (set_of (take (k + 1) plan.order)) 0
     level_is k low =
         ap (λ (s : List ℕ). get_or s k 0) promised.levels ∙ level_at bounds plan.order k (omega (arith, is_best.is_order.all))
 
-    pub level_fits : (k : ℕ) → length query.from ≤ 12 → budget ≤ 20000000 → k < length query.from → length (query_level query tables (take (k + 1) plan.order)) ≤ get_or plan.levels k 0
+    pub level_fits : (k : ℕ) → length query.from ≤ 12 → budget ≤ 20000000 → k < length query.from
+        → length (query_level query tables (take (k + 1) plan.order)) ≤ get_or plan.levels k 0
     level_fits k few small low =
         elim (level_never_under query tables accuracy (set_of (take (k + 1) plan.order)) (take (k + 1) plan.order)
-        (prefix_below (length query.from) (k + 1) plan.order is_best.is_order) (prefix_of (length query.from) (k + 1) plan.order few is_best.is_order)) [
+        (prefix_below (length query.from) (k + 1) plan.order is_best.is_order)
+        (prefix_of (length query.from) (k + 1) plan.order few is_best.is_order)) [
           | inl fits ↦ omega (arith, level_is k low)
           | inr top ↦ absurd (omega (arith, level_is k low, level_within k))
         ]

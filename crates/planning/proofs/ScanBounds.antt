@@ -28,35 +28,43 @@ module _ (query : Query) (known : Statistics) where
   rows_at : (entry : ℕ) → entry < length query.from → (entry_bounds query known).rows entry ≡ scan_rows query known entry
   rows_at entry low = ap (λ (t : Bool). if t then scan_rows query known entry else 0) (lt-ltb entry (length query.from) low)
 
-  list_at : (entry column : ℕ) → is_among (joined_columns query) entry column ≡ true → (entry_bounds query known).list entry column ≡ scan_list query known entry column
+  list_at : (entry column : ℕ) → is_among (joined_columns query) entry column ≡ true
+      → (entry_bounds query known).list entry column ≡ scan_list query known entry column
   list_at entry column among = ap (λ (t : Bool). if t then scan_list query known entry column else []) among
 
-  has_list : (entry column : ℕ) → ListsFall (known.lists entry column) → SumTo (known.lists entry column) (known.counts entry) → entry < length query.from
+  has_list : (entry column : ℕ) → ListsFall (known.lists entry column) → SumTo (known.lists entry column) (known.counts entry)
+      → entry < length query.from
       → is_among (joined_columns query) entry column ≡ true → HasList (entry_bounds query known) entry column
   has_list entry column falls sums low among = record {
     falls = subst IsFalling (sym (list_at entry column among)) (filtered_falls (known.lists entry column) entry query.conjuncts falls);
-    total = ap (λ (s : List ℕ). sum s) (list_at entry column among) ∙ sum-filtered (known.lists entry column) (known.counts entry) entry query.conjuncts sums ∙ sym (rows_at entry low);
+    total =
+        ap (λ (s : List ℕ). sum s) (list_at entry column among)
+        ∙ sum-filtered (known.lists entry column) (known.counts entry) entry query.conjuncts sums ∙ sym (rows_at entry low);
   }
 
   -- the entries of an equality of a set of FROM entries
-  both_below : (subset : ℕ) (e : Edge) → subset < 2 ^ length query.from → joins_within subset e ≡ true → (e.left.entry < length query.from) × (e.right.entry < length query.from)
+  both_below : (subset : ℕ) (e : Edge) → subset < 2 ^ length query.from → joins_within subset e ≡ true
+      → (e.left.entry < length query.from) × (e.right.entry < length query.from)
   both_below subset e fits joins =
       let both = and_parts (has_entry subset e.left.entry) (has_entry subset e.right.entry) joins in
       (entry_below (length query.from) subset e.left.entry fits both.0, entry_below (length query.from) subset e.right.entry fits both.1)
 
   module _ (tables : Tables) (key : Keys) (stands : StandFor query known tables key) where
-    dominates : (entry column : ℕ) → is_among (joined_columns query) entry column ≡ true → ListsStandFor (known.lists entry column) tables entry (key entry column)
+    dominates : (entry column : ℕ) → is_among (joined_columns query) entry column ≡ true
+        → ListsStandFor (known.lists entry column) tables entry (key entry column)
         → DominatesScan (entry_bounds query known) query tables key entry column
     dominates entry column among stand =
         subst (λ (s : List ℕ). DominatesKeys s (map (key entry column) (query_scan query tables entry))) (sym (list_at entry column among))
         (list_dominates (known.lists entry column) tables entry (key entry column) query.conjuncts stand)
 
-    pub bounds_scans : ((entry column : ℕ) → ListsFall (known.lists entry column)) → ((entry column : ℕ) → SumTo (known.lists entry column) (known.counts entry))
+    pub bounds_scans : ((entry column : ℕ) → ListsFall (known.lists entry column))
+        → ((entry column : ℕ) → SumTo (known.lists entry column) (known.counts entry))
         → (subset : ℕ) → subset < 2 ^ length query.from → BoundsScans (entry_bounds query known) query tables key subset
     bounds_scans falls sums subset fits = record {
       rows = each_in_set (ScanFits (entry_bounds query known) query tables) subset (λ k low has.
           let there : k < length query.from = entry_below (length query.from) subset k fits has in
-          subst (λ (n : ℕ). length (query_scan query tables k) ≤ n) (sym (rows_at k there)) (scan_fits query known tables key k stands there));
+          subst (λ (n : ℕ). length (query_scan query tables k) ≤ n) (sym (rows_at k there))
+          (scan_fits query known tables key k stands there));
       lists = each_named (HasList (entry_bounds query known)) subset (equalities_of query) (λ k d low joins.
           let among = both_among (equalities_of query) k d low in
           let below = both_below subset (get_or (equalities_of query) k d) fits joins in
@@ -67,7 +75,9 @@ module _ (query : Query) (known : Statistics) where
           ));
       columns = each_named (DominatesScan (entry_bounds query known) query tables key) subset (equalities_of query) (λ k d low joins.
           let among = both_among (equalities_of query) k d low in
-          let stand = pair_at (λ entry column. ListsStandFor (known.lists entry column) tables entry (key entry column)) (equalities_of query) stands.lists k d low in
+          let stand =
+          pair_at (λ entry column. ListsStandFor (known.lists entry column) tables entry (key entry column))
+          (equalities_of query) stands.lists k d low in
           let l : Place = (get_or (equalities_of query) k d).left in
           let r : Place = (get_or (equalities_of query) k d).right in (
             dominates l.entry l.column among.0 stand.0,

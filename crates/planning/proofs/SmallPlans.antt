@@ -19,11 +19,13 @@ small_scans = rw (entries_compare op.Eq (column_operand 0 0) (column_operand 1 0
 
 pub small_sets : set_bounds_of pair small_tables 1 ≡ 1 ∷ 6 ∷ 5 ∷ 12 ∷ []
 unfolding entries_of_set
-small_sets = rw (entries_compare op.Eq (column_operand 0 0) (column_operand 1 0), equality_two 0 0 1 0 (λ e. absurd (omega (arith, e)))) refl
+small_sets =
+    rw (entries_compare op.Eq (column_operand 0 0) (column_operand 1 0), equality_two 0 0 1 0 (λ e. absurd (omega (arith, e)))) refl
 
 pub finer_sets : set_bounds_of pair small_tables 3 ≡ 1 ∷ 6 ∷ 5 ∷ 9 ∷ []
 unfolding entries_of_set
-finer_sets = rw (entries_compare op.Eq (column_operand 0 0) (column_operand 1 0), equality_two 0 0 1 0 (λ e. absurd (omega (arith, e)))) refl
+finer_sets =
+    rw (entries_compare op.Eq (column_operand 0 0) (column_operand 1 0), equality_two 0 0 1 0 (λ e. absurd (omega (arith, e)))) refl
 
 -- the choice over these bounds, within a budget that is enough and within one that isn't
 chosen : plan_answer (1 ∷ 6 ∷ 5 ∷ 12 ∷ []) (6 ∷ 5 ∷ []) 12 ≡ Ok (plan_of (1 ∷ 0 ∷ []) (6 ∷ 5 ∷ []) (5 ∷ 12 ∷ []))

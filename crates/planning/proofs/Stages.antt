@@ -39,18 +39,25 @@ module _ (query : Query) (stats : QueryStats) (tables : Tables) (accuracy : ℕ)
   AreSetBounds bounds = bounds ≡ set_bounds_of query tables accuracy
 
   module _ {E : Type 0} (r : Result (List ℕ) E) where
-    pub scans_exact : Tells query stats (statistics_of tables accuracy) → IfOk r (λ scans. (known : Statistics) → Tells query stats known → scans ≡ scan_bounds query known) → IfOk r AreScanBounds
+    pub scans_exact : Tells query stats (statistics_of tables accuracy)
+        → IfOk r (λ scans. (known : Statistics) → Tells query stats known → scans ≡ scan_bounds query known) → IfOk r AreScanBounds
     scans_exact tells h =
-        IfOk-weaker r (λ scans. (known : Statistics) → Tells query stats known → scans ≡ scan_bounds query known) AreScanBounds (λ scans exact. exact (statistics_of tables accuracy) tells) h
+        IfOk-weaker r (λ scans. (known : Statistics) → Tells query stats known → scans ≡ scan_bounds query known) AreScanBounds
+        (λ scans exact. exact (statistics_of tables accuracy) tells) h
 
-    pub scans_fit : IfOk r AreScanBounds → IfOk r (λ scans. (entry : ℕ) → entry < length query.from → length (query_scan query tables entry) ≤ get_or scans entry 0)
+    pub scans_fit : IfOk r AreScanBounds
+        → IfOk r (λ scans. (entry : ℕ) → entry < length query.from → length (query_scan query tables entry) ≤ get_or scans entry 0)
     scans_fit h =
-        IfOk-weaker r AreScanBounds (λ scans. (entry : ℕ) → entry < length query.from → length (query_scan query tables entry) ≤ get_or scans entry 0)
-        (λ scans is entry low. subst (λ (s : List ℕ). length (query_scan query tables entry) ≤ get_or s entry 0) (sym is) (scan_never_under query tables accuracy entry low)) h
+        IfOk-weaker r AreScanBounds
+        (λ scans. (entry : ℕ) → entry < length query.from → length (query_scan query tables entry) ≤ get_or scans entry 0)
+        (λ scans is entry low. subst (λ (s : List ℕ). length (query_scan query tables entry) ≤ get_or s entry 0) (sym is)
+        (scan_never_under query tables accuracy entry low)) h
 
-    pub sets_exact : Tells query stats (statistics_of tables accuracy) → IfOk r (λ bounds. (known : Statistics) → Tells query stats known → bounds ≡ set_bounds query known) → IfOk r AreSetBounds
+    pub sets_exact : Tells query stats (statistics_of tables accuracy)
+        → IfOk r (λ bounds. (known : Statistics) → Tells query stats known → bounds ≡ set_bounds query known) → IfOk r AreSetBounds
     sets_exact tells h =
-        IfOk-weaker r (λ bounds. (known : Statistics) → Tells query stats known → bounds ≡ set_bounds query known) AreSetBounds (λ bounds exact. exact (statistics_of tables accuracy) tells) h
+        IfOk-weaker r (λ bounds. (known : Statistics) → Tells query stats known → bounds ≡ set_bounds query known) AreSetBounds
+        (λ bounds exact. exact (statistics_of tables accuracy) tells) h
 
     abbrev LevelsFit : List ℕ → Type 0
     LevelsFit bounds = (subset : ℕ) (order : List ℕ) → subset < 2 ^ length query.from → IsOrderOfSet (entries_of_set subset) order
@@ -62,7 +69,8 @@ module _ (query : Query) (stats : QueryStats) (tables : Tables) (accuracy : ℕ)
         (λ bounds is. subst LevelsFit (sym is) (λ subset order fits o. level_never_under query tables accuracy subset order fits o)) h
 
 -- a choice over these bounds is the planned one
-pub chosen_is_planned : (query : Query) (tables : Tables) (accuracy budget : ℕ) (bounds scans : List ℕ) (answer : Result Plan PlanError) → budget ≤ 20000000
+pub chosen_is_planned : (query : Query) (tables : Tables) (accuracy budget : ℕ) (bounds scans : List ℕ)
+    (answer : Result Plan PlanError) → budget ≤ 20000000
     → bounds ≡ set_bounds_of query tables accuracy → scans ≡ scan_bounds_of query tables accuracy → IsPromised bounds scans budget answer
     → (answer ≡ Err error.NoMemory) ⊎ (answer ≡ planned query tables accuracy budget)
 chosen_is_planned query tables accuracy budget bounds scans answer few same like is =

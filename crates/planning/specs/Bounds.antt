@@ -18,4 +18,7 @@ set_bounds_of query tables accuracy = set_bounds query (statistics_of tables acc
 
 -- what whole tables tell without any compression: the number of rows of each, and the degree list of each column
 abbrev pub whole_columns : Tables → EntryBounds
-whole_columns tables = record { rows = row_counts tables; list = λ entry column. degree_list (numbered (column_values tables entry column)) }
+whole_columns tables = record {
+  rows = row_counts tables;
+  list = λ entry column. degree_list (numbered (column_values tables entry column));
+}

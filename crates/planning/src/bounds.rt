@@ -54,7 +54,8 @@ pub fn subset_bounds(
     ensures exact { IfOk result (λ bounds. bounds ≡ set_bounds_of query.now (tables_of db.now) accuracy) }
     ensures never_under { IfOk result (λ bounds. (subset : ℕ) (order : List ℕ)
         → subset < 2 ^ length query.now.from → IsOrderOfSet (entries_of_set subset) order
-        → (length (query_level query.now (tables_of db.now) order) ≤ slice_index bounds subset) ⊎ (slice_index bounds subset ≡ top_bound)) }
+        → (length (query_level query.now (tables_of db.now) order) ≤ slice_index bounds subset)
+        ⊎ (slice_index bounds subset ≡ top_bound)) }
 {
     let stats = gather_query(alloc, query, db, accuracy)?;
     bounds_of(alloc, query, &stats)

@@ -17,7 +17,8 @@ use std::alloc::Global;
 
 /// The best order of the FROM entries, with the bounds of its scans and levels, in rows; or why there is none within the budget.
 ///
-/// The accuracy of compressed lists is from 1 to 64 (SafeBound, SIGMOD 2023), the budget at most 20,000,000 rows. Statistics are gathered once.
+/// The accuracy of compressed lists is from 1 to 64 (SafeBound, SIGMOD 2023), the budget at most 20,000,000 rows. Statistics are
+/// gathered once.
 ///
 /// `Budget` and `PastBits` come exactly where `planned` says; `NoMemory` where memory is wanting.
 #[tactic(auto, using(crate::proofs::Stages::is_told))]

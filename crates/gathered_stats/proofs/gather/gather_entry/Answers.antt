@@ -1,5 +1,4 @@
-use Rattle.std.proofs.Common.{◌≡◌, ℕ, List, Some, ap, sym, ◌∙◌, slice_get, arith}
-use Rattle.csv_tables.specs.declared.types.Cells.{Cells}
+use Rattle.std.proofs.Common.{◌≡◌, Some, ap, sym, ◌∙◌, slice_get, arith}
 use Rattle.sql_meaning.specs.Tables.{cells_of}
 use Rattle.gathered_stats.proofs.Entries.{cells_read, cells_sound, entry_gathered, steps_sound}
 use Rattle.gathered_stats.proofs.gather.gather_entry.Goals as goal

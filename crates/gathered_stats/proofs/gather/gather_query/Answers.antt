@@ -1,4 +1,4 @@
-use Rattle.std.proofs.Common.{◌∙◌, arith}
+use Rattle.std.proofs.Common.{arith}
 use Rattle.predicate_bounds.specs.declared.columns.QueryStats.{QueryStats}
 use Rattle.table_stats.proofs.Summing.{lists_sum}
 use Rattle.sql_meaning.specs.Tables.{tables_of}

@@ -1,4 +1,4 @@
-use Rattle.std.proofs.Common.{Option, Some, ap, sym, ◌∙◌}
+use Rattle.std.proofs.Common.{Some, ap, sym, ◌∙◌}
 use Rattle.gathered_stats.proofs.Standing.{absent_stands, found_stands}
 use Rattle.gathered_stats.proofs.literals.find_text.Goals as goal
 

@@ -4,7 +4,8 @@ use Rattle.planning.proofs.bounds.subset_bounds.Goals as goal
 
 pub returns-clause-exact : goal.returns-clause-exact
 returns-clause-exact c =
-    sets_exact c.args.query.now c.in_ok-stats.stats (tables_of c.args.db.now) c.args.accuracy c.bounds_of.result c.in_ok-stats.ensures.tells c.bounds_of.ensures.exact
+    sets_exact c.args.query.now c.in_ok-stats.stats (tables_of c.args.db.now) c.args.accuracy c.bounds_of.result
+    c.in_ok-stats.ensures.tells c.bounds_of.ensures.exact
 
 pub returns-clause-never_under : goal.returns-clause-never_under
 returns-clause-never_under c =

@@ -11,13 +11,16 @@ pub returns-clause-scans : goal.returns-clause-scans
 returns-clause-scans c = λ query tables accuracy budget plan entry made low. scan_fits query tables accuracy budget plan made entry low
 
 pub returns-clause-levels : goal.returns-clause-levels
-returns-clause-levels c = λ query tables accuracy budget plan k few small made low. level_fits query tables accuracy budget plan made k few small low
+returns-clause-levels c =
+    λ query tables accuracy budget plan k few small made low. level_fits query tables accuracy budget plan made k few small low
 
 pub returns-clause-levels_of_order : goal.returns-clause-levels_of_order
-returns-clause-levels_of_order c = λ query tables accuracy budget plan k few small made low. level_fits query tables accuracy budget plan made k few small low
+returns-clause-levels_of_order c =
+    λ query tables accuracy budget plan k few small made low. level_fits query tables accuracy budget plan made k few small low
 
 pub returns-clause-small_scans : goal.returns-clause-small_scans
-returns-clause-small_scans c = λ query tables accuracy budget plan entry made low. scan_within query tables accuracy budget plan made entry low
+returns-clause-small_scans c =
+    λ query tables accuracy budget plan entry made low. scan_within query tables accuracy budget plan made entry low
 
 pub returns-clause-small_levels : goal.returns-clause-small_levels
 returns-clause-small_levels c = λ query tables accuracy budget plan k made low. level_within query tables accuracy budget plan made k

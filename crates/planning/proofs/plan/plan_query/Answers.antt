@@ -19,7 +19,8 @@ choose-requires-clause-bounds c =
 
 pub returns : goal.returns
 returns c =
-    chosen_is_planned c.args.query.now (tables_of c.args.db.now) c.args.accuracy c.args.budget c.in_ok-bounds.bounds c.in_ok-scans.scans c.choose.result c.requires.budget
+    chosen_is_planned c.args.query.now (tables_of c.args.db.now) c.args.accuracy c.args.budget
+    c.in_ok-bounds.bounds c.in_ok-scans.scans c.choose.result c.requires.budget
     (c.in_ok-bounds.ensures.exact (statistics_of (tables_of c.args.db.now) c.args.accuracy) c.in_ok-stats.ensures.tells)
     (c.in_ok-scans.ensures.exact (statistics_of (tables_of c.args.db.now) c.args.accuracy) c.in_ok-stats.ensures.tells)
     (record {

@@ -1,4 +1,4 @@
-use Rattle.std.proofs.Common.{◌≡◌, ◌≤◌, ◌^◌, ℕ, List, sum, subst, sym}
+use Rattle.std.proofs.Common.{◌≡◌, ◌≤◌, ◌^◌, List, sum, subst, sym}
 use Rattle.std.specs.List.{All, zip}
 use Rattle.std.proofs.lemmas.Result.{IfOk-weaker}
 use Rattle.cond_stats.specs.Columns.{cell_le}
