@@ -28,7 +28,8 @@ pub struct Task<'a> {
 
 // The task of a command, where the program takes it up.
 fn taken_up<'a>(command: Command<'a>) -> Option<Task<'a>>
-    ensures { MatchOption result (request_taken_up (request_of command.entry) ≡ Err refusal.Usage) (λ task. request_taken_up (request_of command.entry) ≡ Ok (asked task)) }
+    ensures { MatchOption result (request_taken_up (request_of command.entry) ≡ Err refusal.Usage)
+        (λ task. request_taken_up (request_of command.entry) ≡ Ok (asked task)) }
 {
     match command {
         Command::Run {
@@ -61,7 +62,8 @@ fn taken_up<'a>(command: Command<'a>) -> Option<Task<'a>>
 
 /// The task that the words ask for, if any. It takes no memory.
 pub fn read_task<'a>(words: &[&'a str]) -> Option<Task<'a>>
-    ensures task { MatchOption result (command_stage (map (λ w. w.now) words.now) ≡ Err refusal.Usage) (λ task. command_stage (map (λ w. w.now) words.now) ≡ Ok (asked task)) }
+    ensures task { MatchOption result (command_stage (map (λ w. w.now) words.now) ≡ Err refusal.Usage)
+        (λ task. command_stage (map (λ w. w.now) words.now) ≡ Ok (asked task)) }
     ensures accuracy { IfSome result (λ task. (0 < task.accuracy) × (task.accuracy ≤ 64)) }
     ensures budget { IfSome result (λ task. task.budget ≤ 20000000) }
 {
