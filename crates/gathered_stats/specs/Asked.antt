@@ -1,5 +1,6 @@
 -- What is asked of an entry's table: columns that are joined, and columns that steps compare with literals.
-use Rattle.std.specs.Prelude.{◌≡◌, ℕ, ◌==◌, ◌<◌, ◌^◌, ◌&&◌, not, if◌then◌else◌, All, List, [], ◌∷◌, ◌++◌, map, length, Option, None, Some, IfSome}
+use Rattle.std.specs.Prelude.{◌≡◌, ℕ, ◌==◌, ◌<◌, ◌^◌, ◌&&◌, not, if◌then◌else◌}
+use Rattle.std.specs.Prelude.{All, List, [], ◌∷◌, ◌++◌, map, length, Option, None, Some, IfSome}
 use Rattle.std.specs.List.{filter, list_any}
 use Rattle.berge_tree.specs.declared.edges.Edge.{Edge}
 use Rattle.berge_tree.specs.declared.edges.Place.{Place}

@@ -3,12 +3,13 @@ use Rattle.std.specs.Prelude.{◌≡◌, ℕ, ◌==◌, ◌<◌, ◌≤◌, ◌^
 use Rattle.std.specs.List.{list_any}
 use Rattle.cond_stats.specs.Columns.{CellColumn}
 use Rattle.csv_tables.specs.declared.types.Cells.{Cells}
+use Rattle.filtered_lists.specs.Lists.{ColumnLists}
 use Rattle.predicate_bounds.specs.declared.steps.Step.{Step}
 use Rattle.sql_meaning.specs.Databases.{AreCells}
 use Rattle.gathered_stats.specs.declared.entry_table.EntryTable.{EntryTable}
 use Rattle.gathered_stats.specs.declared.filters.Filter.{Filter}
 use Rattle.gathered_stats.specs.Asked.{column_asked}
-use Rattle.gathered_stats.specs.Columns.{cells_in, kind_in}
+use Rattle.gathered_stats.specs.Columns.{HaveLists, cells_in, kind_in}
 
 -- a sorted column is the one of a table with this number
 pub record IsColumnIn (texts : List (List ℕ)) (cells : Cells) (column : ℕ) (sorted : CellColumn) : Type 0 where
@@ -33,3 +34,7 @@ pub record IsReady (table : EntryTable) : Type 0 where
   pub rows : table.cells.now.rows < 2 ^ 32
   pub filters : All (IsFilterOf table.pool.now table.cells.now) table.filters
   pub accuracy : (0 < table.accuracy) × (table.accuracy ≤ 64)
+
+-- keys, one for each row of the table, have these lists
+abbrev pub AreListsOf : EntryTable → List ℕ → ColumnLists → Type 0
+AreListsOf table keys lists = HaveLists table.pool.now table.cells.now table.accuracy keys lists

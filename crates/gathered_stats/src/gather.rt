@@ -60,7 +60,8 @@ fn gather_columns(
     requires ready { IsReady table.now }
     requires served { All (Serve table.now.filters) steps.now }
     ensures columns { IfOk result (λ stats. map (λ gathered. gathered.column) stats.columns ≡ columns.now) }
-    ensures steps { IfOk result (λ stats. All (AreStepsOf table.now.pool.now table.now.cells.now table.now.accuracy steps.now) stats.columns) }
+    ensures steps { IfOk result (λ stats.
+        All (AreStepsOf table.now.pool.now table.now.cells.now table.now.accuracy steps.now) stats.columns) }
 {
     let mut gathered = Seq::new(alloc);
     for column in columns {

@@ -5,8 +5,7 @@ ghost use Rattle.cond_stats.specs.Lists.{compressed_degrees};
 ghost use Rattle.filtered_lists.specs.Lists.{ColumnLists};
 ghost use Rattle.predicate_bounds.specs.ListRuns.{is_small, listed};
 ghost use Rattle.predicate_bounds.specs.Steps.{range_of, value_of};
-ghost use Rattle.gathered_stats.specs.Columns.{HaveLists};
-ghost use Rattle.gathered_stats.specs.Filters.{IsReady, Serve, is_sorted};
+ghost use Rattle.gathered_stats.specs.Filters.{AreListsOf, IsReady, Serve, is_sorted};
 
 use crate::entry_table::EntryTable;
 use crate::filters::find;
@@ -28,7 +27,7 @@ impl EntryTable<'_> {
         requires ready { IsReady self.now }
         requires keys { length keys.now ≡ self.now.cells.now.rows }
         requires sorted { is_sorted self.now.filters column ≡ true }
-        ensures list { IfOk result (λ list. (lists : ColumnLists) → HaveLists self.now.pool.now self.now.cells.now self.now.accuracy keys.now lists
+        ensures list { IfOk result (λ list. (lists : ColumnLists) → AreListsOf self.now keys.now lists
             → list ≡ lists.equal column (value_of literal.now)) }
         ensures small { IfOk result (λ list. sum list ≤ 2 ^ 32) }
     {
@@ -43,7 +42,7 @@ impl EntryTable<'_> {
         requires ready { IsReady self.now }
         requires keys { length keys.now ≡ self.now.cells.now.rows }
         requires sorted { is_sorted self.now.filters range.now.column ≡ true }
-        ensures list { IfOk result (λ list. (lists : ColumnLists) → HaveLists self.now.pool.now self.now.cells.now self.now.accuracy keys.now lists
+        ensures list { IfOk result (λ list. (lists : ColumnLists) → AreListsOf self.now keys.now lists
             → list ≡ lists.range (range_of range.now)) }
         ensures small { IfOk result (λ list. sum list ≤ 2 ^ 32) }
     {
@@ -61,7 +60,7 @@ impl EntryTable<'_> {
         requires rows { sum whole.now ≤ 2 ^ 32 }
         requires served { Serve self.now.filters step.now }
         ensures list { IfOk result (λ listed_step. (lists : ColumnLists)
-            → HaveLists self.now.pool.now self.now.cells.now self.now.accuracy keys.now lists → listed_step ≡ listed lists step.now) }
+            → AreListsOf self.now keys.now lists → listed_step ≡ listed lists step.now) }
         ensures small { IfOk result (λ listed_step. IsTrue (is_small listed_step)) }
     {
         match step {
@@ -89,7 +88,7 @@ impl EntryTable<'_> {
         requires served { All (Serve self.now.filters) steps.now }
         ensures column { IfOk result (λ gathered. gathered.column ≡ column) }
         ensures steps { IfOk result (λ gathered. (lists : ColumnLists)
-            → HaveLists self.now.pool.now self.now.cells.now self.now.accuracy keys.now lists → gathered.steps ≡ map (listed lists) steps.now) }
+            → AreListsOf self.now keys.now lists → gathered.steps ≡ map (listed lists) steps.now) }
     {
         let whole = whole_list(alloc, keys, self.accuracy)?;
         let mut gathered = ColumnSteps::new(alloc, column);
