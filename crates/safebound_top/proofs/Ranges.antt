@@ -106,7 +106,7 @@ command_in words r is = read_in (reading_of words) r is
 taken_in : (r : Request) (ask : Ask) → HasRanges r → taken_up r ≡ Ok ask → InRange ask.budget ask.accuracy
 taken_in (Run schema query budget accuracy) ask h is = let same : ask_for out_text.Rows schema query budget accuracy ≡ ask = cc in subst (λ (a : Ask). InRange a.budget a.accuracy) same h
 taken_in (Plan schema query budget accuracy) ask h is = let same : ask_for out_text.Nothing schema query budget accuracy ≡ ask = cc in subst (λ (a : Ask). InRange a.budget a.accuracy) same h
-taken_in (Audit schema query budget accuracy) ask h is = absurd (cc)
+taken_in (Audit schema query budget accuracy) ask h is = let same : ask_for out_text.Audit schema query budget accuracy ≡ ask = cc in subst (λ (a : Ask). InRange a.budget a.accuracy) same h
 taken_in (Demo number) ask h is = absurd (cc)
 
 stage_in : (request : Option Request) (ask : Ask) → ((r : Request) → request ≡ Some r → HasRanges r) → request_stage request ≡ Ok ask → InRange ask.budget ask.accuracy

@@ -1,5 +1,6 @@
 -- What a run is over, and what it means.
 use Rattle.std.specs.Prelude.{ℕ, ◌+◌, ◌<◌, ◌≤◌, List, map, length, slice_index, IsPermutation}
+use Rattle.std.specs.List.{range_with_len}
 use Rattle.csv_tables.specs.Rows.{Row}
 use Rattle.plans.specs.LeftDeep.{IsPlan}
 use Rattle.plans.specs.declared.left_deep.Plan.{Plan}
@@ -27,6 +28,10 @@ scan_rows run entry = scan (conjuncts_of run.query (tables run)) (row_counts (ta
 -- the rows of a level of the plan's order: the choices for its first k entries for which every conjunct holds that names only these
 abbrev pub level_rows : Accepted → ℕ → List (List ℕ)
 level_rows run k = level (conjuncts_of run.query (tables run)) (row_counts (tables run)) run.plan.order k
+
+-- how many rows each level of the plan's order has, from the first entry's on
+abbrev pub level_counts : Accepted → List ℕ
+level_counts run = map (λ k. length (level_rows run (k + 1))) (range_with_len 0 (length run.plan.order))
 
 -- the rows that are printed: the outputs of each choice of the last level, in its order
 abbrev pub printed : Accepted → List Row

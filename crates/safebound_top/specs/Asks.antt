@@ -20,11 +20,11 @@ pub record Ask : Type 0 where
 abbrev pub ask_for : OutText → List ℕ → List ℕ → ℕ → ℕ → Ask
 ask_for out schema query budget accuracy = record { schema_file = schema; query_file = query; budget = budget; accuracy = accuracy; out = out }
 
--- one line for each command: `audit` and `demo` aren't taken up
+-- one line for each command: `demo` isn't taken up
 abbrev pub taken_up : Request → Result Ask Refusal
 taken_up (Run schema query budget accuracy) = Ok (ask_for out_text.Rows schema query budget accuracy)
 taken_up (Plan schema query budget accuracy) = Ok (ask_for out_text.Nothing schema query budget accuracy)
-taken_up (Audit schema query budget accuracy) = Err refusal.Usage
+taken_up (Audit schema query budget accuracy) = Ok (ask_for out_text.Audit schema query budget accuracy)
 taken_up (Demo number) = Err refusal.Usage
 
 abbrev pub request_stage : Option Request → Result Ask Refusal

@@ -52,13 +52,13 @@ abbrev pub GrewByLine : Growth → List ℕ → Type 0
 GrewByLine sink line = Tells sink.taken_before sink.taken_after sink.faults_before sink.faults_after line
 
 -- 1. Done comes only where the verdict is accepted. The notes grew by exactly its plan text. For `run`, out grew by exactly its rows text; for
---    `plan`, out took nothing.
+--    `audit`, by exactly its audit text; for `plan`, out took nothing.
 abbrev pub DoneIsExact : Call → Type 0
 DoneIsExact call = call.status ≡ status.Done
     → OverFiles call (λ files v. IsOkAnd v (λ run. Grew call.notes (plan_text run) × GrewWhole call.out (out_text_of run)))
 
 -- 2. Where the verdict is accepted, the scan of each FROM entry and each level of the plan's order have at most as many rows as the plan text
---    of 1 prints for it; for `plan` too, though they are never listed.
+--    of 1 prints for it; for `plan` too, though they are never listed. The audit text of 1 prints beside each level's bound its number of rows.
 abbrev pub EveryBoundHolds : Call → Type 0
 EveryBoundHolds call = OverFiles call (λ files v. IfOk v BoundsHold)
 

@@ -3,8 +3,10 @@ use Rattle.std.specs.Prelude.{ℕ, ◌≡◌, ◌≤◌, List, length, Option, N
 use Rattle.query_types.specs.declared.types.Query.{Query}
 use Rattle.csv_tables.specs.declared.types.Database.{Database}
 use Rattle.plans.specs.declared.left_deep.Plan.{Plan}
+use Rattle.hash_join.specs.Levels.{level_sizes}
 use Rattle.joined_texts.specs.Printed.{printed_rows}
 use Rattle.planned_joins.specs.PlansOf.{IsPlanOf, IsReadyFor}
+use Rattle.printed_texts.specs.Plans.{audit_lines}
 use Rattle.printed_texts.specs.Texts.{rows_lines}
 use Rattle.sql_meaning.specs.Databases.{IsDatabaseOf}
 use Rattle.sql_meaning.specs.Tables.{tables_of}
@@ -19,16 +21,19 @@ use Rattle.safebound_top.specs.declared.task.OutText.TheVariants as out_text
 -- the text for which something is left to do
 abbrev pub text_left : Rest → OutText
 text_left (rest.Rows reserved) = out_text.Rows
+text_left (rest.Audit reserved) = out_text.Audit
 text_left rest.Nothing = out_text.Nothing
 
 -- the text that is left to write, if any
 abbrev pub text_from : Rest → Query → Database → Plan → Option (List ℕ)
 text_from (rest.Rows reserved) query db plan = Some (rows_lines query.select (printed_rows query db plan.order))
+text_from (rest.Audit reserved) query db plan = Some (audit_lines query.from plan (level_sizes query db plan.order))
 text_from rest.Nothing query db plan = None
 
 -- the buffers have room for all that is left to do
 abbrev pub HasRoom : Query → Database → Plan → Rest → Type 0
 HasRoom query db plan (rest.Rows reserved) = IsReadyFor query db plan.order reserved
+HasRoom query db plan (rest.Audit reserved) = IsReadyFor query db plan.order reserved
 HasRoom query db plan rest.Nothing = ⊤
 
 abbrev pub accepted_of : Prepared → Accepted

@@ -1,8 +1,8 @@
 -- The texts of an accepted run.
 use Rattle.std.specs.Prelude.{ℕ, List, Option, None, Some}
-use Rattle.printed_texts.specs.Plans.{plan_lines}
+use Rattle.printed_texts.specs.Plans.{audit_lines, plan_lines}
 use Rattle.printed_texts.specs.Texts.{rows_lines}
-use Rattle.safebound_top.specs.Accepted.{Accepted, printed}
+use Rattle.safebound_top.specs.Accepted.{Accepted, level_counts, printed}
 use Rattle.safebound_top.specs.declared.task.OutText.{OutText}
 use Rattle.safebound_top.specs.declared.task.OutText.TheVariants as out_text
 
@@ -14,9 +14,14 @@ plan_text run = plan_lines run.query.from run.plan
 abbrev pub rows_text : Accepted → List ℕ
 rows_text run = rows_lines run.query.select (printed run)
 
+-- a line for each level of the plan's order: its bound, and how many rows it has
+abbrev pub audit_text : Accepted → List ℕ
+audit_text run = audit_lines run.query.from run.plan (level_counts run)
+
 -- the text for out, where there is one
 abbrev pub text_for : OutText → Accepted → Option (List ℕ)
 text_for out_text.Rows run = Some (rows_text run)
+text_for out_text.Audit run = Some (audit_text run)
 text_for out_text.Nothing run = None
 
 abbrev pub out_text_of : Accepted → Option (List ℕ)

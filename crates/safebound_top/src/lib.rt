@@ -1,7 +1,8 @@
 //! The top call: from the words of a command line to the bytes of two streams.
 //!
 //! It only sequences. `read_task` finds what is asked for; `load_schema` and `prepare` read every file, plan, take all
-//! memory of the run and write nothing; `write_texts` writes the plan text and then the rows text, and takes no memory.
+//! memory of the run and write nothing; `write_texts` writes the plan text and then the rows text or the audit text, and
+//! takes no memory.
 //! On every status but `Done`, `write_fault` tells the status in one line.
 //!
 //! What comes out, and why, is `Headline` (in `specs/Headline.antt`), the one clause of `safebound`. It

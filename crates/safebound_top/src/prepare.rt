@@ -33,6 +33,8 @@ use table_files::read_tables;
 pub enum Rest {
     /// Lists the rows and writes them.
     Rows(Reserved),
+    /// Lists the rows, and writes how many each level has.
+    Audit(Reserved),
     /// Nothing.
     Nothing,
 }
@@ -62,6 +64,7 @@ fn make_room(
 {
     match out {
         OutText::Rows => Ok(Rest::Rows(reserve_plan(alloc, query, db, plan)?)),
+        OutText::Audit => Ok(Rest::Audit(reserve_plan(alloc, query, db, plan)?)),
         OutText::Nothing => Ok(Rest::Nothing),
     }
 }

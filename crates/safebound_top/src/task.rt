@@ -2,7 +2,7 @@
 ghost use Rattle.std.specs.Prelude.{◌≡◌, ◌<◌, ◌≤◌, Err, IfSome, MatchOption, Ok, map};
 ghost use Rattle.outcomes.specs.declared.refusal.Refusal.TheVariants as refusal;
 ghost use Rattle.safebound_words.specs.Requests.{request_of};
-ghost use Rattle.safebound_top.specs.Asks.{asked, command_stage, taken_up as request_taken_up};
+ghost use Rattle.safebound_top.specs.Asks.{ask_for, asked, command_stage, taken_up as request_taken_up};
 
 use safebound_words::{Command, read_words};
 
@@ -11,6 +11,8 @@ use safebound_words::{Command, read_words};
 pub enum OutText {
     /// The rows of the query.
     Rows,
+    /// For each level of the plan's order its bound and its number of rows.
+    Audit,
     /// None: `out` isn't written.
     Nothing,
 }
@@ -26,6 +28,19 @@ pub struct Task<'a> {
     pub out: OutText,
 }
 
+// The task of two files, and the text that it writes to `out`.
+fn over<'a>(schema: &'a str, query: &'a str, budget: u64, accuracy: u8, out: OutText) -> Task<'a>
+    ensures { asked result ≡ ask_for out schema.now query.now budget accuracy }
+{
+    Task {
+        schema_file: schema,
+        query_file: query,
+        budget,
+        accuracy,
+        out,
+    }
+}
+
 // The task of a command, where the program takes it up.
 fn taken_up<'a>(command: Command<'a>) -> Option<Task<'a>>
     ensures { MatchOption result (request_taken_up (request_of command.entry) ≡ Err refusal.Usage)
@@ -37,26 +52,20 @@ fn taken_up<'a>(command: Command<'a>) -> Option<Task<'a>>
             query,
             budget,
             accuracy,
-        } => Some(Task {
-            schema_file: schema,
-            query_file: query,
-            budget,
-            accuracy,
-            out: OutText::Rows,
-        }),
+        } => Some(over(schema, query, budget, accuracy, OutText::Rows)),
         Command::Plan {
             schema,
             query,
             budget,
             accuracy,
-        } => Some(Task {
-            schema_file: schema,
-            query_file: query,
+        } => Some(over(schema, query, budget, accuracy, OutText::Nothing)),
+        Command::Audit {
+            schema,
+            query,
             budget,
             accuracy,
-            out: OutText::Nothing,
-        }),
-        Command::Audit { .. } | Command::Demo { .. } => None,
+        } => Some(over(schema, query, budget, accuracy, OutText::Audit)),
+        Command::Demo { .. } => None,
     }
 }
 

@@ -126,7 +126,7 @@ fn filters(rt: HostRuntime) -> Result<(), Fail> {
     Ok(())
 }
 
-// The plan alone, and the least cost where it is above the budget.
+// The plan alone, or beside each level's bound its number of rows; and the least cost where it is above the budget.
 #[test]
 fn plans(rt: HostRuntime) -> Result<(), Fail> {
     let plan = Texts {
@@ -134,6 +134,11 @@ fn plans(rt: HostRuntime) -> Result<(), Fail> {
         ..over("SELECT A.X, B.X AS Y FROM R AS A, R AS B WHERE A.X = B.X AND B.X >= 2")
     };
     assert!(rt; is_done(rt.alloc(), plan, JOINED, "")?);
+    let audit = Texts {
+        command: "audit",
+        ..plan
+    };
+    assert!(rt; is_done(rt.alloc(), audit, JOINED, "level 1 B 3 3\nlevel 2 A 9 5\n")?);
     let product = over("SELECT A.X FROM R AS A, R AS B");
     assert!(rt; is_refused(rt.alloc(), product, 8, "error budget 36\n")?);
     Ok(())
@@ -220,7 +225,8 @@ fn a_full_stream_cuts_the_rows(rt: HostRuntime) -> Result<(), Fail> {
 #[test]
 fn other_words_are_usage(rt: HostRuntime) -> Result<(), Fail> {
     assert!(rt; read_task(&["run", "schema.sql"]).is_none());
-    assert!(rt; read_task(&["audit", "s", "q"]).is_none());
+    assert!(rt; read_task(&["demo", "7"]).is_none());
+    assert!(rt; read_task(&["audit", "s", "q"]).is_some());
     assert!(rt; read_task(&["plan", "s", "q", "--accuracy", "3"]).is_some());
     Ok(())
 }

@@ -3,6 +3,8 @@ ghost use Rattle.std.specs.Prelude.{◌≤◌, length};
 ghost use Rattle.outcomes.specs.Devices.{growth};
 ghost use Rattle.outcomes.specs.Writes.{Wrote};
 ghost use Rattle.planned_joins.specs.PlansOf.{IsPlanOf, IsReadyFor};
+ghost use Rattle.hash_join.specs.Levels.{level_sizes};
+ghost use Rattle.printed_texts.specs.Plans.{audit_lines};
 ghost use Rattle.printed_texts.specs.Texts.{rows_lines};
 ghost use Rattle.sql_meaning.specs.Databases.{IsDatabaseOf};
 ghost use Rattle.sql_meaning.specs.Tables.{tables_of};
@@ -13,7 +15,7 @@ ghost use Rattle.safebound_top.specs.Prepared.{HasRoom, IsReady, accepted_of, te
 use crate::prepare::{Prepared, Rest};
 use base_io::{Failed, Sink};
 use csv_tables::Database;
-use joined_texts::write_rows;
+use joined_texts::{write_audit, write_rows};
 use outcomes::SinkId;
 use planned_joins::execute_plan;
 use plans::Plan;
@@ -39,6 +41,25 @@ fn list_rows<O: Sink>(
     write_rows(&executed, plan.order.as_slice(), query, db, out)
 }
 
+// Lists the levels of a plan, and writes how many rows each has.
+fn audit_levels<O: Sink>(
+    reserved: Reserved,
+    plan: &Plan,
+    query: &Query,
+    db: &Database,
+    out: &mut O,
+) -> Result<(), Failed>
+    requires database { IsDatabaseOf query.now db.now }
+    requires few { length query.now.conjuncts ≤ 256 }
+    requires plan { IsPlanOf query.now (tables_of db.now) plan.now }
+    requires ready { IsReadyFor query.now db.now plan.now.order reserved }
+    ensures { Wrote (growth O.taken O.faults out.old out.new)
+        (audit_lines query.now.from plan.now (level_sizes query.now db.now plan.now.order)) result }
+{
+    let executed = execute_plan(reserved, plan, query, db);
+    write_audit(&executed, plan, query.from.as_slice(), out)
+}
+
 // Does what is left to do.
 fn write_rest<O: Sink>(
     rest: Rest,
@@ -55,6 +76,7 @@ fn write_rest<O: Sink>(
 {
     match rest {
         Rest::Rows(reserved) => list_rows(reserved, plan, query, db, out),
+        Rest::Audit(reserved) => audit_levels(reserved, plan, query, db, out),
         Rest::Nothing => Ok(()),
     }
 }

@@ -99,8 +99,8 @@ fn run<S: Store, O: Sink, N: Sink>(
     }
 }
 
-/// Runs a command: reads the words' files, plans, takes all memory, writes the plan text to `notes` and, where the
-/// rows are asked for, the rows text to `out`; or tells in one line of `notes` why not.
+/// Runs a command: reads the words' files, plans, takes all memory, writes the plan text to `notes` and the rows text or
+/// the audit text, where one is asked for, to `out`; or tells in one line of `notes` why not.
 ///
 /// The contract is the project's headline, sentence by sentence in `specs/Headline.antt`.
 pub fn safebound<S: Store, O: Sink, N: Sink>(
