@@ -1,11 +1,10 @@
 -- The course of a call has the headline.
-use Rattle.std.proofs.Common.{◌≡◌, ◌≢◌, ◌↔◌, ◌⊎◌, ℕ, inl, inr, List, Option, None, Some, Result, Ok, Err, refl, ap, sym, ◌∙◌, subst}
-use Rattle.std.specs.Prelude.{IfOk, IsOk, IsOkAnd, codes}
+use Rattle.std.proofs.Common.{◌≡◌, ◌⊎◌, ℕ, inl, inr, List, None, Some, Result, Ok, Err, refl, ap, sym, ◌∙◌, subst}
+use Rattle.std.specs.Prelude.{IsOkAnd, codes}
 use Rattle.base_io.specs.Causes.{Rose}
 use Rattle.base_io.specs.Files.{Files}
 use Rattle.base_io.specs.Sinks.{appended}
-use Rattle.outcomes.specs.Devices.{Growth, Reading}
-use Rattle.outcomes.specs.Reads.{◌>>=◌, Ends, IsOfWhatIsThere, MissesNothing, Reads}
+use Rattle.outcomes.specs.Reads.{Ends, IsOfWhatIsThere, Reads}
 use Rattle.outcomes.specs.Statuses.{ended, refused}
 use Rattle.outcomes.specs.declared.ending.Ending.{Ending}
 use Rattle.outcomes.specs.declared.ending.Ending.TheVariants as ending
@@ -14,13 +13,12 @@ use Rattle.outcomes.specs.declared.names.SinkId.{SinkId}
 use Rattle.outcomes.specs.declared.names.SinkId.TheVariants as sink
 use Rattle.outcomes.specs.declared.refusal.Refusal.{Refusal}
 use Rattle.outcomes.specs.declared.refusal.Refusal.TheVariants as refusal
-use Rattle.outcomes.specs.declared.status.Status.{Status}
 use Rattle.outcomes.specs.declared.status.Status.TheVariants as status
-use Rattle.outcomes.proofs.StatusFacts.{ended_fault, ended_memory, ended_not_cut, ended_not_done, ended_refused, refused_not_cut, refused_not_done}
+use Rattle.outcomes.proofs.StatusFacts.{ended_fault, ended_not_cut, ended_not_done, ended_refused, refused_not_cut, refused_not_done}
 use Rattle.safebound_top.specs.Accepted.{Accepted}
 use Rattle.safebound_top.specs.Asks.{command_stage}
 use Rattle.safebound_top.specs.Call.{Call, CutThenTold, Tells}
-use Rattle.safebound_top.specs.Course.{Course, Ended, Done, CutInNotes, CutInOut, How, Unasked, Asked, IsAsked, IsUnasked, Ran, Stopped, Went, Told}
+use Rattle.safebound_top.specs.Course.{Course, Ended, Done, CutInNotes, CutInOut, How, Unasked, Asked, Ran, Stopped, Went, Told}
 use Rattle.safebound_top.specs.Faults.{fault_text}
 use Rattle.safebound_top.specs.Headline as say
 use Rattle.safebound_top.specs.Texts.{out_text_of, plan_text}

@@ -1,5 +1,5 @@
 -- A query of a schema names its own entries.
-use Rattle.std.proofs.Common.{◌<◌, ℕ, Bool, List, length, get_or}
+use Rattle.std.proofs.Common.{◌<◌, Bool, List, length, get_or}
 use Rattle.std.specs.List.{All, AllByRecursion}
 use Rattle.std.proofs.lemmas.List.Elements.{All-from_recursion}
 use Rattle.std.proofs.lemmas.Option.{slice_get_within}

@@ -1,5 +1,5 @@
 -- The values of a command's options are in their ranges.
-use Rattle.std.proofs.Common.{◌≡◌, ◌≤◌, ◌<◌, ◌&&◌, ℕ, Bool, true, false, inl, inr, List, [], ◌∷◌, Option, None, Some, Result, Ok, Err, refl, subst, arith}
+use Rattle.std.proofs.Common.{◌≡◌, ◌≤◌, ◌<◌, ◌&&◌, ℕ, Bool, true, false, inl, inr, List, [], ◌∷◌, Option, None, Some, Ok, refl, subst, arith}
 use Rattle.std.specs.Prelude.{nat_le, if◌then◌else◌, option_map, ⊤}
 use Rattle.std.proofs.lemmas.Bool.{cases_Bool}
 use Rattle.std.proofs.lemmas.Bool.Decides.{nat_tests}
@@ -7,15 +7,12 @@ use Rattle.safebound_words.specs.Answer.{command_of, reading_of}
 use Rattle.safebound_words.specs.CommandLines.{Reading, requested}
 use Rattle.safebound_words.specs.Numbers.{is_number, number_of, number_within}
 use Rattle.safebound_words.specs.Requests.{Request, Run, Plan, Audit, Demo}
-use Rattle.safebound_words.specs.Table.{Given, command_row, of_number, option_row, over_files, value_of, ◌>>=◌}
+use Rattle.safebound_words.specs.Table.{Given, command_row, of_number, over_files, value_of, ◌>>=◌}
 use Rattle.safebound_words.specs.Words.{Word}
 use Rattle.safebound_words.specs.declared.table.CommandName.{CommandName}
 use Rattle.safebound_words.specs.declared.table.CommandName.TheVariants as command
-use Rattle.safebound_words.specs.declared.table.OptionName.{OptionName}
 use Rattle.safebound_words.specs.declared.table.OptionName.TheVariants as option
-use Rattle.outcomes.specs.declared.refusal.Refusal.{Refusal}
-use Rattle.safebound_top.specs.Asks.{Ask, ask_for, command_stage, request_stage, taken_up}
-use Rattle.safebound_top.specs.declared.task.OutText.TheVariants as out_text
+use Rattle.safebound_top.specs.Asks.{Ask, asks, command_stage, request_stage}
 
 -- a budget and an accuracy
 pub record InRange (budget accuracy : ℕ) : Type 0 where
@@ -103,15 +100,15 @@ command_in : (words : List Word) (r : Request) → command_of words ≡ Some r �
 unfolding command_of
 command_in words r is = read_in (reading_of words) r is
 
-taken_in : (r : Request) (ask : Ask) → HasRanges r → taken_up r ≡ Ok ask → InRange ask.budget ask.accuracy
-taken_in (Run schema query budget accuracy) ask h is = let same : ask_for out_text.Rows schema query budget accuracy ≡ ask = cc in subst (λ (a : Ask). InRange a.budget a.accuracy) same h
-taken_in (Plan schema query budget accuracy) ask h is = let same : ask_for out_text.Nothing schema query budget accuracy ≡ ask = cc in subst (λ (a : Ask). InRange a.budget a.accuracy) same h
-taken_in (Audit schema query budget accuracy) ask h is = let same : ask_for out_text.Audit schema query budget accuracy ≡ ask = cc in subst (λ (a : Ask). InRange a.budget a.accuracy) same h
-taken_in (Demo number) ask h is = absurd (cc)
+asks_within : (r : Request) → HasRanges r → InRange (asks r).budget (asks r).accuracy
+asks_within (Run schema query budget accuracy) h = h
+asks_within (Plan schema query budget accuracy) h = h
+asks_within (Audit schema query budget accuracy) h = h
+asks_within (Demo number) h = record { budget_most = omega arith; accuracy_least = omega arith; accuracy_most = omega arith }
 
 stage_in : (request : Option Request) (ask : Ask) → ((r : Request) → request ≡ Some r → HasRanges r) → request_stage request ≡ Ok ask → InRange ask.budget ask.accuracy
 stage_in None ask h is = absurd (cc)
-stage_in (Some r) ask h is = taken_in r ask (h r refl) is
+stage_in (Some r) ask h is = let same : asks r ≡ ask = cc in subst (λ (a : Ask). InRange a.budget a.accuracy) same (asks_within r (h r refl))
 
 pub in_range : (words : List Word) (ask : Ask) → command_stage words ≡ Ok ask → InRange ask.budget ask.accuracy
 in_range words ask is = stage_in (command_of words) ask (command_in words) is

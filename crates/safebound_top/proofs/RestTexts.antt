@@ -1,5 +1,5 @@
 -- What is left to write is the text that the run has for out.
-use Rattle.std.proofs.Common.{◌≡◌, ◌+◌, List, length, map, refl, ap}
+use Rattle.std.proofs.Common.{◌≡◌, ◌+◌, length, map, refl, ap}
 use Rattle.std.specs.Prelude.{Some}
 use Rattle.std.specs.List.{range_with_len}
 use Rattle.csv_tables.specs.declared.types.Database.{Database}

@@ -1,10 +1,10 @@
 -- The course of a command, from its schema's reading and what came of it.
-use Rattle.std.proofs.Common.{◌≡◌, ◌⊎◌, ℕ, inl, inr, List, Option, None, Some, Result, Ok, Err, refl, ap, sym, ◌∙◌, subst}
+use Rattle.std.proofs.Common.{◌≡◌, ℕ, inl, inr, List, Option, None, Some, Result, Ok, Err, refl, ap, sym, ◌∙◌, subst}
 use Rattle.std.specs.Prelude.{IsOk, codes}
 use Rattle.base_io.specs.Files.{Files}
 use Rattle.schema_types.specs.declared.types.Schema.{Schema}
 use Rattle.outcomes.specs.Devices.{Growth, Reading}
-use Rattle.outcomes.specs.Reads.{◌>>=◌, AtFile, Ends, Reads}
+use Rattle.outcomes.specs.Reads.{AtFile, Ends, Reads}
 use Rattle.outcomes.specs.Statuses.{ended}
 use Rattle.outcomes.specs.declared.ending.Ending.{Ending}
 use Rattle.outcomes.specs.declared.ending.Ending.TheVariants as ending
@@ -64,7 +64,7 @@ module _ (ask : Ask) (words : List (List ℕ)) (command : command_stage words �
   unfolding query_read
   query_of files schema is = rw (command, is) refl
 
-  no_usage : command_stage words ≡ Err refusal.Usage → ⊥
+  pub no_usage : command_stage words ≡ Err refusal.Usage → ⊥
   no_usage is = let no : ◌≡◌ {A = Result Ask Refusal} (Ok ask) (Err refusal.Usage) = sym command ∙ is in cc
 
   -- ---- the verdict comes to these files

@@ -1,5 +1,5 @@
 -- What holds of every run that the verdict gives.
-use Rattle.std.proofs.Common.{◌≡◌, ℕ, ◌≤◌, List, Result, Ok, Err, length, map, take, refl, ap, sym, ◌∙◌, subst}
+use Rattle.std.proofs.Common.{◌≡◌, ℕ, ◌≤◌, List, Result, Ok, Err, length, map, refl, sym, subst}
 use Rattle.std.specs.Prelude.{IfOk, IsPermutation}
 use Rattle.std.proofs.Math.Seq.{take-length}
 use Rattle.base_io.specs.Files.{Files}
@@ -10,12 +10,10 @@ use Rattle.query_types.specs.Validity.{IsOf}
 use Rattle.query_types.specs.declared.types.Query.{Query}
 use Rattle.sql_meaning.specs.Answers.{answer, conjuncts_of, entries_of, selected}
 use Rattle.sql_meaning.specs.Levels.{level_of, row_in}
-use Rattle.sql_meaning.specs.Tables.{Tables, row_counts}
+use Rattle.sql_meaning.specs.Tables.{row_counts}
 use Rattle.level_bounds.specs.Orders.{IsOrderOfSet}
 use Rattle.level_bounds.proofs.LastLevel.{last_level_is_answer}
 use Rattle.level_bounds.proofs.SetNumbers.{order_of_all}
-use Rattle.plans.specs.declared.left_deep.Plan.{Plan}
-use Rattle.order_search.specs.declared.refusal.PlanError.{PlanError}
 use Rattle.text_answers.specs.QueryTexts.{query_answer}
 use Rattle.text_answers.proofs.QueryAnswers as queries
 use Rattle.outcomes.specs.Errors.{plan_refusal, query_refusal}

@@ -1,8 +1,10 @@
 -- What words ask of a run.
-use Rattle.std.specs.Prelude.{ℕ, List, Option, None, Some, option_map, Result, Ok, Err}
+use Rattle.std.specs.Prelude.{ℕ, List, codes, Option, None, Some, option_map, Result, Ok, Err}
 use Rattle.std.specs.Borrow.{Bor}
 use Rattle.safebound_words.specs.Answer.{command_of}
 use Rattle.safebound_words.specs.Requests.{Request, Run, Plan, Audit, Demo}
+use Rattle.safebound_words.specs.Table.{option_row}
+use Rattle.safebound_words.specs.declared.table.OptionName.TheVariants as option
 use Rattle.outcomes.specs.declared.refusal.Refusal.{Refusal}
 use Rattle.outcomes.specs.declared.refusal.Refusal.TheVariants as refusal
 use Rattle.safebound_top.specs.declared.task.OutText.{OutText}
@@ -18,18 +20,26 @@ pub record Ask : Type 0 where
   pub out : OutText
 
 abbrev pub ask_for : OutText → List ℕ → List ℕ → ℕ → ℕ → Ask
-ask_for out schema query budget accuracy = record { schema_file = schema; query_file = query; budget = budget; accuracy = accuracy; out = out }
+ask_for out schema query budget accuracy = record {
+  schema_file = schema;
+  query_file = query;
+  budget = budget;
+  accuracy = accuracy;
+  out = out;
+}
 
--- one line for each command: `demo` isn't taken up
-abbrev pub taken_up : Request → Result Ask Refusal
-taken_up (Run schema query budget accuracy) = Ok (ask_for out_text.Rows schema query budget accuracy)
-taken_up (Plan schema query budget accuracy) = Ok (ask_for out_text.Nothing schema query budget accuracy)
-taken_up (Audit schema query budget accuracy) = Ok (ask_for out_text.Audit schema query budget accuracy)
-taken_up (Demo number) = Err refusal.Usage
+-- one line for each command: `demo` asks what `audit schema.sql query.sql` asks, of other files
+abbrev pub asks : Request → Ask
+asks (Run schema query budget accuracy) = ask_for out_text.Rows schema query budget accuracy
+asks (Plan schema query budget accuracy) = ask_for out_text.Nothing schema query budget accuracy
+asks (Audit schema query budget accuracy) = ask_for out_text.Audit schema query budget accuracy
+asks (Demo number) =
+    ask_for out_text.Audit (codes "schema.sql") (codes "query.sql")
+    (option_row option.Budget).otherwise (option_row option.Accuracy).otherwise
 
 abbrev pub request_stage : Option Request → Result Ask Refusal
 request_stage None = Err refusal.Usage
-request_stage (Some request) = taken_up request
+request_stage (Some request) = Ok (asks request)
 
 -- what the words ask for
 abbrev pub command_stage : List (List ℕ) → Result Ask Refusal

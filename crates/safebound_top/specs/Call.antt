@@ -16,7 +16,7 @@ pub record CutThenTold (old new : Option (List ℕ)) (text line : List ℕ) : Ty
   pub cut : GrewByPrefix old mid text
   pub told : GrewByPrefix mid new line
 
--- a call: its words, the store that it read, the two sinks that it wrote, and its answer
+-- a call: its words, the store that it read (for `demo` its own), the two sinks that it wrote, and its answer
 pub record Call : Type 0 where
   pub words : List (List ℕ)
   pub status : Status

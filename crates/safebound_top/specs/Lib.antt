@@ -5,5 +5,6 @@ pub mod Course
 pub mod Faults
 pub mod Headline
 pub mod Prepared
+pub mod Shops
 pub mod Texts
 pub mod Verdict

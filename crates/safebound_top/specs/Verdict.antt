@@ -1,5 +1,5 @@
 -- What the words and the files determine, in stages: the words, the schema, the query, the tables, the plan.
-use Rattle.std.specs.Prelude.{ℕ, ◌≡◌, List, Result, Ok, Err, IsOk}
+use Rattle.std.specs.Prelude.{ℕ, List, Result, Ok, Err, IsOk}
 use Rattle.base_io.specs.Files.{Files}
 use Rattle.text_answers.specs.SchemaTexts.{schema_answer}
 use Rattle.schema_types.specs.declared.types.Schema.{Schema}

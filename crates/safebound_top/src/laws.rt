@@ -1,5 +1,5 @@
 //! What holds of every run.
-ghost use Rattle.std.specs.Prelude.{◌≡◌, ◌≢◌, ℕ, List, Err, IfOk};
+ghost use Rattle.std.specs.Prelude.{◌≡◌, ◌≢◌, ◌∷◌, [], ℕ, List, Err, IfOk, Some, codes};
 ghost use Rattle.base_io.specs.Files.{Files};
 ghost use Rattle.csv_tables.specs.Files.{rows_of_file};
 ghost use Rattle.csv_tables.specs.declared.types.TableError.TheVariants as table_error;
@@ -13,6 +13,8 @@ ghost use Rattle.sql_meaning.specs.Tables.{Tables};
 ghost use Rattle.sql_parse.specs.declared.errors.QueryError.TheVariants as query_error;
 ghost use Rattle.text_answers.specs.QueryTexts.{query_answer};
 ghost use Rattle.text_answers.specs.SchemaTexts.{schema_answer};
+ghost use Rattle.safebound_words.specs.Answer.{command_of};
+ghost use Rattle.safebound_words.specs.Requests.{Demo};
 ghost use Rattle.safebound_top.specs.Accepted.{BoundsHold, RowsAreTheAnswer};
 ghost use Rattle.safebound_top.specs.Verdict.{verdict};
 
@@ -21,6 +23,12 @@ ghost use Rattle.safebound_top.specs.Verdict.{verdict};
 pub fn run_law()
     ensures bounds { (words : List (List ℕ)) (files : Files) → IfOk (verdict words files) BoundsHold }
     ensures rows { (words : List (List ℕ)) (files : Files) → IfOk (verdict words files) RowsAreTheAnswer }
+{}
+
+/// What `demo NUMBER` answers over any files is what `audit schema.sql query.sql` answers over them. It does nothing.
+pub fn demo_is_an_audit()
+    ensures { (number : ℕ) (words : List (List ℕ)) (files : Files) → command_of words ≡ Some (Demo number)
+        → verdict words files ≡ verdict (codes "audit" ∷ codes "schema.sql" ∷ codes "query.sql" ∷ []) files }
 {}
 
 /// Of the errors of the three readers and of the plan the verdict meets none that is want of memory: no text, no

@@ -15,11 +15,12 @@ mod files;
 mod laws;
 mod prepare;
 mod report;
+mod shop;
 mod task;
 mod texts;
 mod top_call;
 
-pub use laws::{no_reader_wants_memory, run_law};
+pub use laws::{demo_is_an_audit, no_reader_wants_memory, run_law};
 pub use outcomes::{FileId, QueryCause, SchemaCause, SinkId, Status, TableCause};
 pub use report::write_fault;
 pub use safebound_words::{Command, WordsError, read_words};

@@ -1,10 +1,16 @@
 //! What the words of a command line ask of a run.
-ghost use Rattle.std.specs.Prelude.{◌≡◌, ◌<◌, ◌≤◌, Err, IfSome, MatchOption, Ok, map};
+ghost use Rattle.std.specs.Prelude.{◌≡◌, ◌<◌, ◌≤◌, Err, IfSome, MatchOption, None, Ok, map};
 ghost use Rattle.outcomes.specs.declared.refusal.Refusal.TheVariants as refusal;
 ghost use Rattle.safebound_words.specs.Requests.{request_of};
-ghost use Rattle.safebound_top.specs.Asks.{ask_for, asked, command_stage, taken_up as request_taken_up};
+ghost use Rattle.safebound_top.specs.Asks.{ask_for, asked, asks, command_stage};
+ghost use Rattle.safebound_top.specs.Shops.{shop_asked, shop_of};
 
 use safebound_words::{Command, read_words};
+
+// The budget and the accuracy where none is given.
+const BUDGET: u64 = 1_000_000;
+
+const ACCURACY: u8 = 1;
 
 /// Which text a run writes to `out`.
 #[derive(Clone, Copy, Debug, PartialEq, Eq)]
@@ -17,8 +23,8 @@ pub enum OutText {
     Nothing,
 }
 
-/// The names of two files, the most rows that a plan may cost, how closely lists of degrees are compressed, and
-/// which text goes to `out`.
+/// The names of two files, the most rows that a plan may cost, how closely lists of degrees are compressed, which
+/// text goes to `out`, and the number of the shop whose files are made and read, if one is.
 #[derive(Clone, Copy, Debug)]
 pub struct Task<'a> {
     pub schema_file: &'a str,
@@ -26,11 +32,13 @@ pub struct Task<'a> {
     pub budget: u64,
     pub accuracy: u8,
     pub out: OutText,
+    pub shop: Option<u32>,
 }
 
-// The task of two files, and the text that it writes to `out`.
+// The task of two files of the store, and the text that it writes to `out`.
 fn over<'a>(schema: &'a str, query: &'a str, budget: u64, accuracy: u8, out: OutText) -> Task<'a>
-    ensures { asked result ≡ ask_for out schema.now query.now budget accuracy }
+    ensures asked { asked result ≡ ask_for out schema.now query.now budget accuracy }
+    ensures shop { result.shop ≡ None }
 {
     Task {
         schema_file: schema,
@@ -38,13 +46,14 @@ fn over<'a>(schema: &'a str, query: &'a str, budget: u64, accuracy: u8, out: Out
         budget,
         accuracy,
         out,
+        shop: None,
     }
 }
 
-// The task of a command, where the program takes it up.
-fn taken_up<'a>(command: Command<'a>) -> Option<Task<'a>>
-    ensures { MatchOption result (request_taken_up (request_of command.entry) ≡ Err refusal.Usage)
-        (λ task. request_taken_up (request_of command.entry) ≡ Ok (asked task)) }
+// The task of a command.
+fn task_of<'a>(command: Command<'a>) -> Task<'a>
+    ensures asked { asked result ≡ asks (request_of command.entry) }
+    ensures shop { result.shop ≡ shop_asked (request_of command.entry) }
 {
     match command {
         Command::Run {
@@ -52,20 +61,23 @@ fn taken_up<'a>(command: Command<'a>) -> Option<Task<'a>>
             query,
             budget,
             accuracy,
-        } => Some(over(schema, query, budget, accuracy, OutText::Rows)),
+        } => over(schema, query, budget, accuracy, OutText::Rows),
         Command::Plan {
             schema,
             query,
             budget,
             accuracy,
-        } => Some(over(schema, query, budget, accuracy, OutText::Nothing)),
+        } => over(schema, query, budget, accuracy, OutText::Nothing),
         Command::Audit {
             schema,
             query,
             budget,
             accuracy,
-        } => Some(over(schema, query, budget, accuracy, OutText::Audit)),
-        Command::Demo { .. } => None,
+        } => over(schema, query, budget, accuracy, OutText::Audit),
+        Command::Demo { number } => Task {
+            shop: Some(number),
+            ..over("schema.sql", "query.sql", BUDGET, ACCURACY, OutText::Audit)
+        },
     }
 }
 
@@ -73,11 +85,13 @@ fn taken_up<'a>(command: Command<'a>) -> Option<Task<'a>>
 pub fn read_task<'a>(words: &[&'a str]) -> Option<Task<'a>>
     ensures task { MatchOption result (command_stage (map (λ w. w.now) words.now) ≡ Err refusal.Usage)
         (λ task. command_stage (map (λ w. w.now) words.now) ≡ Ok (asked task)) }
+    ensures shop { MatchOption result (shop_of (map (λ w. w.now) words.now) ≡ None)
+        (λ task. shop_of (map (λ w. w.now) words.now) ≡ task.shop) }
     ensures accuracy { IfSome result (λ task. (0 < task.accuracy) × (task.accuracy ≤ 64)) }
     ensures budget { IfSome result (λ task. task.budget ≤ 20000000) }
 {
     match read_words(words) {
-        Ok(command) => taken_up(command),
+        Ok(command) => Some(task_of(command)),
         Err(_) => None,
     }
 }

@@ -225,7 +225,8 @@ fn a_full_stream_cuts_the_rows(rt: HostRuntime) -> Result<(), Fail> {
 #[test]
 fn other_words_are_usage(rt: HostRuntime) -> Result<(), Fail> {
     assert!(rt; read_task(&["run", "schema.sql"]).is_none());
-    assert!(rt; read_task(&["demo", "7"]).is_none());
+    assert!(rt; read_task(&["demo", "x"]).is_none());
+    assert!(rt; read_task(&["demo", "7"]).is_some());
     assert!(rt; read_task(&["audit", "s", "q"]).is_some());
     assert!(rt; read_task(&["plan", "s", "q", "--accuracy", "3"]).is_some());
     Ok(())

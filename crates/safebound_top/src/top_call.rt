@@ -1,5 +1,5 @@
 //! The top call, stage by stage.
-ghost use Rattle.std.specs.Prelude.{◌≡◌, ◌⊎◌, ◌<◌, ◌≤◌, List, ℕ, Ok, Some, map, option_copied};
+ghost use Rattle.std.specs.Prelude.{◌≡◌, ◌⊎◌, ◌<◌, ◌≤◌, IfSome, List, ℕ, Ok, Some, map, option_copied};
 ghost use Rattle.outcomes.specs.Devices.{growth, reading};
 ghost use Rattle.outcomes.specs.Statuses.{ended};
 ghost use Rattle.schema_types.specs.Validity.{IsValid};
@@ -8,14 +8,16 @@ ghost use Rattle.safebound_top.specs.Course.{Course, Ended, Ran, Told};
 ghost use Rattle.safebound_top.specs.Faults.{status_line};
 ghost use Rattle.safebound_top.specs.Headline.{Headline};
 ghost use Rattle.safebound_top.specs.Prepared.{IsReady, accepted_of};
+ghost use Rattle.safebound_top.specs.Shops.{shop_of, shop_store, store_read};
 ghost use Rattle.safebound_top.specs.Verdict.{IsTableOf, query_from, schema_run};
 
 use crate::files::load_schema;
 use crate::prepare::{Prepared, prepare};
 use crate::report::report;
+use crate::shop::open_shop;
 use crate::task::{Task, read_task};
 use crate::texts::write_texts;
-use base_io::{Sink, Store};
+use base_io::{NoMemory, Sink, Store};
 use outcomes::{Ending, FileId, Status};
 use schema_types::Schema;
 use std::alloc::Global;
@@ -75,7 +77,7 @@ fn run_over<S: Store, O: Sink, N: Sink>(
     }
 }
 
-// Runs a task.
+// Runs a task over the files of this store.
 fn run<S: Store, O: Sink, N: Sink>(
     alloc: Global,
     task: &Task,
@@ -99,8 +101,58 @@ fn run<S: Store, O: Sink, N: Sink>(
     }
 }
 
+// Runs a task over the files of a shop.
+fn run_shop<O: Sink, N: Sink>(
+    alloc: Global,
+    number: u32,
+    task: &Task,
+    out: &mut O,
+    notes: &mut N,
+) -> Status
+    requires accuracy { (0 < task.now.accuracy) × (task.now.accuracy ≤ 64) }
+    requires budget { task.now.budget ≤ 20000000 }
+    ensures { (words : List (List ℕ)) → command_stage words ≡ Ok (asked task.now) → Course (record {
+      words = words;
+      status = result;
+      store = shop_store number;
+      out = growth O.taken O.faults out.old out.new;
+      notes = growth N.taken N.faults notes.old notes.new;
+    }) }
+{
+    match open_shop(alloc, number) {
+        Ok(mut shop) => run(alloc, task, &mut shop, out, notes),
+        Err(NoMemory) => stopped(Ending::NoMemory, task, None, notes),
+    }
+}
+
+// Runs a task over the files that it asks for.
+fn run_task<S: Store, O: Sink, N: Sink>(
+    alloc: Global,
+    task: &Task,
+    store: &mut S,
+    out: &mut O,
+    notes: &mut N,
+) -> Status
+    requires accuracy { (0 < task.now.accuracy) × (task.now.accuracy ≤ 64) }
+    requires budget { task.now.budget ≤ 20000000 }
+    ensures course { (words : List (List ℕ)) → command_stage words ≡ Ok (asked task.now) → Course (record {
+      words = words;
+      status = result;
+      store = store_read task.now.shop (reading S.files S.faults S.misses store.old store.new);
+      out = growth O.taken O.faults out.old out.new;
+      notes = growth N.taken N.faults notes.old notes.new;
+    }) }
+    ensures untouched { IfSome task.now.shop (λ number. store.new ≡ store.old) }
+{
+    match task.shop {
+        Some(number) => run_shop(alloc, number, task, out, notes),
+        None => run(alloc, task, store, out, notes),
+    }
+}
+
 /// Runs a command: reads the words' files, plans, takes all memory, writes the plan text to `notes` and the rows text or
-/// the audit text, where one is asked for, to `out`; or tells in one line of `notes` why not.
+/// the audit text, where one is asked for, to `out`; or tells in one line of `notes` why not. `demo` reads files that it
+/// makes in memory, and leaves `store` as it is.
 ///
 /// The contract is the project's headline, sentence by sentence in `specs/Headline.antt`.
 pub fn safebound<S: Store, O: Sink, N: Sink>(
@@ -110,16 +162,17 @@ pub fn safebound<S: Store, O: Sink, N: Sink>(
     out: &mut O,
     notes: &mut N,
 ) -> Status
-    ensures { Headline (record {
+    ensures headline { Headline (record {
       words = map (λ w. w.now) words.now;
       status = result;
-      store = reading S.files S.faults S.misses store.old store.new;
+      store = store_read (shop_of (map (λ w. w.now) words.now)) (reading S.files S.faults S.misses store.old store.new);
       out = growth O.taken O.faults out.old out.new;
       notes = growth N.taken N.faults notes.old notes.new;
     }) }
+    ensures untouched { IfSome (shop_of (map (λ w. w.now) words.now)) (λ number. store.new ≡ store.old) }
 {
     match read_task(words) {
-        Some(task) => run(alloc, &task, store, out, notes),
+        Some(task) => run_task(alloc, &task, store, out, notes),
         None => {
             report(Status::Usage, None, None, notes);
             Status::Usage

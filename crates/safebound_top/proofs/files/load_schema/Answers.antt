@@ -1,4 +1,3 @@
-use Rattle.std.proofs.Common.{◌≡◌}
 use Rattle.std.proofs.lemmas.Result.{err_from_is_err_and}
 use Rattle.safebound_top.proofs.Answered.{schema_read, schema_told}
 use Rattle.safebound_top.proofs.Stages.{schema_refused, schema_spelled, schema_stops}

@@ -8,5 +8,6 @@ pub returns : goal.returns
 returns g c =
     let done = c.execute_plan-executed in
     let order : List ℕ = c.args.plan.now.order in
-    let sizes : level_counts done.result ≡ level_sizes c.args.query.now c.args.db.now order = counts_are_sizes c.args.query.now c.args.db.now order done.result done.ensures.levels done.ensures.count in
+    let sizes : level_counts done.result ≡ level_sizes c.args.query.now c.args.db.now order =
+    counts_are_sizes c.args.query.now c.args.db.now order done.result done.ensures.levels done.ensures.count in
     rw (c.as_slice.ensures, sizes) at c.write_audit.ensures

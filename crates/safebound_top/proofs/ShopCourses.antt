@@ -1,0 +1,101 @@
+-- The course of a command that reads the files of a shop.
+use Rattle.std.proofs.Common.{◌≡◌, ℕ, List, Option, None, Some, Result, Ok, Err, refl, sym, ◌∙◌, subst, arith}
+use Rattle.base_io.specs.Causes.{Rose}
+use Rattle.base_io.specs.Files.{Files}
+use Rattle.demo_files.specs.Files.{demo_files}
+use Rattle.outcomes.specs.Devices.{Growth, Reading}
+use Rattle.outcomes.specs.Reads.{Ends, Gives, Reads}
+use Rattle.outcomes.specs.declared.ending.Ending.{Ending}
+use Rattle.outcomes.specs.declared.ending.Ending.TheVariants as ending
+use Rattle.outcomes.specs.declared.names.FileId.{FileId}
+use Rattle.outcomes.specs.declared.refusal.Refusal.{Refusal}
+use Rattle.outcomes.specs.declared.status.Status.{Status}
+use Rattle.outcomes.specs.declared.status.Status.TheVariants as status
+use Rattle.safebound_top.specs.Accepted.{Accepted}
+use Rattle.safebound_top.specs.Asks.{Ask, command_stage}
+use Rattle.safebound_top.specs.Call.{Call}
+use Rattle.safebound_top.specs.Course.{Asked, Course, How, Ran, Stopped, Told, Unasked, Went}
+use Rattle.safebound_top.specs.Faults.{status_line, where_ok}
+use Rattle.safebound_top.specs.Headline.{DidNotGrow}
+use Rattle.safebound_top.specs.Shops.{shop_of, shop_store, store_read}
+use Rattle.safebound_top.specs.Verdict.{IsReached, schema_read, verdict}
+use Rattle.safebound_top.proofs.RunCourses.{memory_told, no_usage}
+
+-- ---- a store that tells the shop's files and counts no fault
+
+module _ (number : ℕ) (store : Reading) (is : store.files ≡ Some (demo_files number))
+    (calm : Rose store.faults_before store.faults_after → ⊥) where
+  reads_shop : {A : Type 0} (stage : Files → Result A Refusal) (C : Files → FileId → Type 0) (answer : Result A Ending)
+      → Reads store stage C answer → Reads (shop_store number) stage C answer
+  reads_shop {A} stage C answer h = record {
+    gives = given answer h.gives;
+    misses = λ files told missed. refl;
+    later = omega arith;
+    same = refl;
+  }
+    where
+      ends : (e : Ending) → Ends store stage C e → Ends (shop_store number) stage C e
+      ends (ending.Refused r) w = (
+        (λ files told. w.0 files (is ∙ told)),
+        (λ none. absurd (let no : ◌≡◌ {A = Option Files} (Some (demo_files number)) None = none in cc)),
+        w.2,
+      )
+      ends (ending.Fault file) w = absurd (calm w.0)
+      ends ending.NoMemory w = tt
+
+      given : (answer : Result A Ending) → Gives store stage C answer → Gives (shop_store number) stage C answer
+      given (Ok x) w = λ files told. w files (is ∙ told)
+      given (Err e) w = ends e w
+
+  ran_shop : (s : Status) (out notes : Growth) (stage : Files → Result Accepted Refusal) (C : Files → FileId → Type 0) (line : List ℕ)
+      → Ran s store out notes stage C line → Ran s (shop_store number) out notes stage C line
+  ran_shop s out notes stage C line (Stopped e ended reads still told) = Stopped e ended (reads_shop stage C (Err e) reads) still told
+  ran_shop s out notes stage C line (Went run reads written) = Went run (reads_shop stage C (Ok run) reads) written
+
+  pub course_shop : (words : List (List ℕ)) (s : Status) (out notes : Growth)
+      → Course (record { words = words; status = s; store = store; out = out; notes = notes })
+      → Course (record { words = words; status = s; store = shop_store number; out = out; notes = notes })
+  course_shop words s out notes h = record {
+    line = h.line;
+    is_line = λ files told. h.is_line files (is ∙ told);
+    memory = h.memory;
+    how = by h.how;
+  }
+    where
+      by : How (record { words = words; status = s; store = store; out = out; notes = notes }) h.line
+          → How (record { words = words; status = s; store = shop_store number; out = out; notes = notes }) h.line
+      by (Unasked u) = Unasked (record { status = u.status; words = u.words; misses = refl; out = u.out; told = u.told })
+      by (Asked a) = Asked (record { words = a.words; ran = ran_shop s out notes (verdict words) (IsReached words) h.line a.ran })
+
+-- ---- no memory for the files
+
+pub course_unmade : (ask : Ask) (words : List (List ℕ)) → command_stage words ≡ Ok ask → (number : ℕ) (s : Status) (out notes : Growth)
+    → s ≡ status.NoMemory → DidNotGrow out → Told notes (status_line s (Some ask) None)
+    → Course (record { words = words; status = s; store = shop_store number; out = out; notes = notes })
+course_unmade ask words command number s out notes is still told = record {
+  line = status_line s (Some ask) None;
+  is_line = λ files _.
+      memory_told s (Some ask) None is ∙ sym (memory_told s (where_ok (command_stage words)) (where_ok (schema_read words files)) is);
+  memory = memory_told s (Some ask) None;
+  how = Asked (record {
+    words = no_usage ask words command;
+    ran = Stopped ending.NoMemory is (record { gives = tt; misses = λ files _ missed. refl; later = omega arith; same = refl }) still told;
+  });
+}
+
+-- ---- of the words, and of the task that they ask for
+
+abbrev of_words : List (List ℕ) → Status → Reading → Growth → Growth → Option ℕ → Call
+of_words words s handed_in out notes shop = record {
+  words = words;
+  status = s;
+  store = store_read shop handed_in;
+  out = out;
+  notes = notes;
+}
+
+pub course_of_words : (words : List (List ℕ)) (s : Status) (handed_in : Reading) (out notes : Growth) (shop : Option ℕ)
+    → shop_of words ≡ shop → Course (of_words words s handed_in out notes shop)
+    → Course (of_words words s handed_in out notes (shop_of words))
+course_of_words words s handed_in out notes shop is h =
+    subst (λ (made : Option ℕ). Course (of_words words s handed_in out notes made)) (sym is) h
