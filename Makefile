@@ -38,6 +38,7 @@ bench: build
 	bench/queries
 	bench/fold
 	bench/joins
+	bench/demo
 
 clean:
 	rm -rf crates/*/out
