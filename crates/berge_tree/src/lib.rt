@@ -19,6 +19,3 @@ pub use laws::{
 };
 pub use tree::{Children, Node, NodeKind, Tree};
 pub use walk::rooted;
-
-#[cfg(test)]
-mod tests;

@@ -9,4 +9,3 @@ mod OneNode
 mod Listing
 mod Folded
 pub mod Determined
-mod Alone

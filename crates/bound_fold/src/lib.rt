@@ -16,6 +16,3 @@ pub use listed::is_listed;
 pub use lists::EntryLists;
 pub use over_nodes::fold;
 pub use sets::{set_bound, turn_bound};
-
-#[cfg(test)]
-mod tests;

@@ -75,6 +75,3 @@ pub fn set_bound(
     }
     Ok(least)
 }
-
-#[cfg(test)]
-mod tests;

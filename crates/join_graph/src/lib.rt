@@ -18,6 +18,3 @@ pub use laws::{
 };
 pub use parts::Parts;
 pub use splitting::split;
-
-#[cfg(test)]
-mod tests;

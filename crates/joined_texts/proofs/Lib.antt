@@ -1,4 +1,3 @@
 pub mod AuditLines
 pub mod Placing
 pub mod Printing
-pub mod Shown

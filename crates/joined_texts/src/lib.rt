@@ -17,6 +17,3 @@ mod rows;
 pub use audit::write_audit;
 pub use laws::counts_are_level_sizes;
 pub use rows::write_rows;
-
-#[cfg(test)]
-mod tests;

@@ -20,6 +20,3 @@ mod weight;
 pub use laws::{examples, one_answer, one_best_order, sets_have_their_bits};
 pub use refusal::PlanError;
 pub use search::choose;
-
-#[cfg(test)]
-mod tests;

@@ -26,6 +26,3 @@ mod weights;
 pub use blocks::compose;
 pub use pieces::{Piece, Pieces};
 pub use weights::{Child, root_total};
-
-#[cfg(test)]
-mod tests;

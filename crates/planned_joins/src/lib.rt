@@ -19,6 +19,3 @@ mod reserving;
 
 pub use executing::execute_plan;
 pub use reserving::reserve_plan;
-
-#[cfg(test)]
-mod tests;

@@ -6,4 +6,3 @@ pub mod Levels
 pub mod PlanFacts
 pub mod Stages
 pub mod SmallPlans
-pub mod SmallDatabase

@@ -20,6 +20,3 @@ mod plan;
 pub use bounds::{scan_bounds, subset_bounds};
 pub use examples::small_plans;
 pub use plan::plan_query;
-
-#[cfg(test)]
-mod tests;

@@ -23,6 +23,3 @@ pub use tree::{
     ColumnText, CondText, JoinText, LiteralText, Op, OperandText, OutText, OutsText, PartText,
     QueryText, SourceText, TestText,
 };
-
-#[cfg(test)]
-mod tests;

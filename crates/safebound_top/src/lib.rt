@@ -5,10 +5,10 @@
 //! takes no memory.
 //! On every status but `Done`, `write_fault` tells the status in one line.
 //!
-//! What comes out, and why, is `Headline` (in `specs/Headline.antt`), the one clause of `safebound`. It
-//! stands on `verdict` (in `specs/Verdict.antt`): what the words and the files determine. A step that reads
-//! has the clause `Reads` over its stage of the verdict, and `Ran` and `Course` (in `specs/Course.antt`)
-//! compose them.
+//! `safebound` has two clauses. `headline` says what comes out, and why (`Headline` in `specs/Headline.antt`), and
+//! `untouched` that `demo` leaves the store that was handed in as it was. The headline stands on `verdict` (in
+//! `specs/Verdict.antt`): what the words and the files determine. A step that reads has the clause `Reads` over its
+//! stage of the verdict, and `Ran` and `Course` (in `specs/Course.antt`) compose them.
 #![tactic(auto)]
 
 mod files;
@@ -26,6 +26,3 @@ pub use report::write_fault;
 pub use safebound_words::{Command, WordsError, read_words};
 pub use task::{OutText, Task, read_task};
 pub use top_call::safebound;
-
-#[cfg(test)]
-mod tests;

@@ -62,6 +62,3 @@ pub fn read_tables(
 pub fn one_meaning()
     ensures { (tokens : List Token) (a b : List Table) → SchemaText tokens a → SchemaText tokens b → a ≡ b }
 {}
-
-#[cfg(test)]
-mod tests;

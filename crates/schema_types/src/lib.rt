@@ -28,6 +28,3 @@ pub use laws::{one_answer, schemas_are_valid};
 pub use read::read_schema;
 pub use sql_tokens::{LexError, Token, TokenKind, tokens};
 pub use types::{Column, Kind, Reference, Schema, Table};
-
-#[cfg(test)]
-mod tests;

@@ -43,6 +43,3 @@ pub fn bounds_of_sets(
     }
     Ok(Seq::from_vec(bounds))
 }
-
-#[cfg(test)]
-mod tests;

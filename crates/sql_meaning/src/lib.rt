@@ -13,8 +13,6 @@ mod columns;
 mod conditions;
 pub mod examples;
 pub mod laws;
-#[cfg(test)]
-mod tests;
 mod values;
 
 pub use answer::{all_hold, answer_slow};

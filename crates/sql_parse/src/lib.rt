@@ -43,6 +43,3 @@ mod values;
 pub use errors::QueryError;
 pub use laws::{of_schema, one_answer};
 pub use read::read_query;
-
-#[cfg(test)]
-mod tests;

@@ -21,6 +21,3 @@ pub use examples::{absences, orders};
 pub use laws::entries_have_their_rows;
 pub use load::load_file;
 pub use stage::read_tables;
-
-#[cfg(test)]
-mod tests;

@@ -1,0 +1,15 @@
+//! Tests of meaning, planning and joining: what a query means, bounds and plans, levels, rows and audits of small tables.
+//!
+//! They stand apart from what they test, so that no crate below is proved a second time for its tests.
+#![tactic(auto)]
+
+#[cfg(test)]
+mod joins;
+#[cfg(test)]
+mod meaning;
+#[cfg(test)]
+mod planned;
+#[cfg(test)]
+mod texts;
+#[cfg(test)]
+mod two_tables;
