@@ -12,6 +12,7 @@ pub mod RowFacts
 pub mod FieldFacts
 pub mod TableFacts
 pub mod GroupFacts
+pub mod AscendFacts
 pub mod KeyFacts
 pub mod FileFacts
 pub mod OrderFacts

@@ -1,5 +1,7 @@
 -- Digits, read one after another, and the number that they spell.
-use Rattle.std.proofs.Common.{ℕ, ◌≡◌, ◌+◌, ◌-◌, ◌*◌, ◌<◌, ◌≤◌, List, [], ◌∷◌, length, None, Some, Bool, true, false, refl, ◌∙◌, arith}
+use Rattle.std.proofs.Common.{ℕ, ◌≡◌, ◌+◌, ◌-◌, ◌*◌, ◌^◌, ◌<◌, ◌≤◌, List, [], ◌∷◌, length, None, Some, Bool, true, false, refl, ◌∙◌, arith}
+use Rattle.std.proofs.Math.Nat.{pow-le-pow_right}
+use Rattle.std.proofs.lemmas.Grind.{pow_more}
 use Rattle.std.specs.Prelude.{nat_le}
 use Rattle.std.specs.Char.{is_ascii_digit}
 use Rattle.std.specs.Str.{all_ascii_digits}
@@ -25,7 +27,7 @@ no_digit most digits c rest e other =
     let none : all_ascii_digits digits ≡ false = e ∙ rw other refl in
     rw (not_numeral digits none) refl
 
-too_large_by : (most : ℕ) (digits : List ℕ) (test : Bool) → is_numeral digits ≡ test → most < decimal_after 0 digits → size_of most digits ≡ None
+pub too_large_by : (most : ℕ) (digits : List ℕ) (test : Bool) → is_numeral digits ≡ test → most < decimal_after 0 digits → size_of most digits ≡ None
 too_large_by most digits true e large = let above : nat_le (decimal_after 0 digits) most ≡ false = grind (arith, large) in rw (e, above) refl
 too_large_by most digits false e large = rw e refl
 
@@ -41,3 +43,16 @@ pub all_read : (most : ℕ) (digits : List ℕ) (size : ℕ) → 0 < length digi
 all_read most digits size some e spelled within =
     let fits : nat_le size most ≡ true = grind (arith, within) in
     rw (is_numeral-some digits some, e, spelled, fits) refl
+
+-- one more digit
+pub ten_more : (i size d : ℕ) → size < 10 ^ i → d < 10 → size * 10 + d < 10 ^ (i + 1)
+ten_more i size d small digit = rw (pow_more 10 i) (omega arith)
+
+-- a number of fewer than 18 digits
+pub few_digits : (i size : ℕ) → size < 10 ^ i → i < 18 → size < 10 ^ 17
+few_digits i size small few =
+    let positive : 0 < 10 = omega arith in
+    let within : i ≤ 17 = omega (arith, few) in
+    omega (arith, small, pow-le-pow_right {n = 10} positive {i = i} {j = 17} within)
+
+pub ruleset short_steps = (ten_more, too_large_by)

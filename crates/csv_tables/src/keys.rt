@@ -1,9 +1,9 @@
 //! Records that repeat the values of a key.
-ghost use Rattle.std.specs.Prelude.{◌≡◌, ◌<◌, ◌≤◌, ℕ, All, IfErr, IfOk, Ok, OnOk, Some, if◌then◌else◌, length, slice_index, unwrap_or};
+ghost use Rattle.std.specs.Prelude.{◌≡◌, ◌<◌, ◌≤◌, ℕ, All, IfErr, IfOk, Ok, OnOk, Some, false, if◌then◌else◌, length, slice_index, true, unwrap_or};
 ghost use Rattle.std.specs.HashMap.{get};
 ghost use Rattle.schema_types.specs.Validity.{IsValidTable};
 ghost use Rattle.csv_tables.specs.Cells.{rows_of_columns, AreColumns};
-ghost use Rattle.csv_tables.specs.Groups.{are_alike, repeat_from, same_pair, AreFirsts, IsRepeat};
+ghost use Rattle.csv_tables.specs.Groups.{are_alike, have_same_cells, repeat_from, same_pair, AreFirsts, IsRepeat};
 ghost use Rattle.csv_tables.specs.Keys.{rows_with_keys};
 ghost use Rattle.csv_tables.specs.Reads.{kinds_of};
 ghost use Rattle.csv_tables.specs.Refused.{Refuses};
@@ -59,6 +59,32 @@ fn repeat_in(group: &[u32]) -> Option<Repeat>
     None
 }
 
+// Whether each cell is greater than the one before it, which takes no memory to find out.
+fn ascends(cells: &[u64]) -> bool
+    ensures { result ≡ true → (i j : ℕ) → i < j → j < length cells.now → slice_index cells.now i < slice_index cells.now j }
+{
+    'cells: for at in 1..cells.len() {
+        if cells[at] <= cells[at - 1] {
+            return false;
+        }
+    }
+    true
+}
+
+// Whether one of a key's columns ascends, so that no two rows are alike in all of them.
+fn has_ascending(key: &[u32], columns: &[Seq<u64>], rows: u32) -> bool
+    requires heights { All (λ column. length column ≡ rows) columns.now }
+    requires key { All (λ column. column < length columns.now) key.now }
+    ensures { result ≡ true → (i j : ℕ) → j < i → i < rows → have_same_cells columns.now key.now i j ≡ false }
+{
+    'columns: for column in key {
+        if ascends(columns[*column as usize].as_slice()) {
+            return true;
+        }
+    }
+    false
+}
+
 // The first record that repeats the cells of an earlier one in the columns of a key.
 fn repeat_of_key(
     alloc: Global,
@@ -71,6 +97,10 @@ fn repeat_of_key(
     requires few { rows ≤ 4000000 }
     ensures { IfOk result (IsRepeat columns.now key.now rows) }
 {
+    // Keys mostly ascend in their file, and then no table of what was seen is needed.
+    if has_ascending(key, columns, rows) {
+        return Ok(None);
+    }
     let mut group = vec![in alloc; 0u32; rows as usize]?;
     'columns: for column in key {
         number_pairs(alloc, &mut group, columns[*column as usize].as_slice())?;

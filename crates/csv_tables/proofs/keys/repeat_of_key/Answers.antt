@@ -1,6 +1,7 @@
 use Rattle.std.proofs.Common.{◌≡◌, ◌∙◌, ◌++◌, arith, refl, subst, drop, get_or, length, take, List, [], ℕ, rules}
 use Rattle.std.proofs.lemmas.List.{get_or_default}
 use Rattle.csv_tables.specs.Groups.{are_alike, AreFirsts}
+use Rattle.csv_tables.proofs.AscendFacts.{none_repeats}
 use Rattle.csv_tables.proofs.GroupFacts.{lent_whole, one_more_column}
 use Rattle.csv_tables.proofs.keys.repeat_of_key.Goals as goal
 
@@ -18,3 +19,6 @@ columns-preserved c =
           (c.requires.key c.columns.column-index 0 c.columns-test.true)) same c.columns.invariant.firsts
           (subst (λ (g : List ℕ). AreFirsts (are_alike g c.as_slice.result.now) new) c.deref_mut.ensures.value c.in_ok-number_pairs.ensures);
     })
+
+pub returns-then-has_ascending : goal.returns-then-has_ascending
+returns-then-has_ascending c = none_repeats c.args.columns.now c.args.key.now c.args.rows (c.has_ascending.ensures c.if-has_ascending.true)

@@ -1,7 +1,7 @@
 use Rattle.std.proofs.Common.{◌≡◌, ◌≤◌, drop}
 use Rattle.std.specs.Str.{all_ascii_digits}
 use Rattle.csv_tables.specs.Numbers.{decimal_after}
-use Rattle.csv_tables.proofs.number.size_of.Given as goal
+use Rattle.csv_tables.proofs.number.long_size.Given as goal
 
 abbrev pub invariant-digits : goal.invariant-digits
 invariant-digits l = record {

@@ -2,7 +2,7 @@ use Rattle.std.proofs.Common.{◌∙◌, ◌+◌, drop, get_or, sym}
 use Rattle.std.proofs.lemmas.List.{at_drop_more}
 use Rattle.csv_tables.specs.Numbers.{decimal_after}
 use Rattle.csv_tables.proofs.NumberFacts.{too_large}
-use Rattle.csv_tables.proofs.number.size_of.Goals as goal
+use Rattle.csv_tables.proofs.number.long_size.Goals as goal
 
 pub returns-then-next-most : goal.returns-then-next-most
 returns-then-next-most c =
