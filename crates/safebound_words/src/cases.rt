@@ -30,6 +30,7 @@ pub fn small_options()
     ensures most { command_of (codes "audit" ∷ codes "s" ∷ codes "q" ∷ codes "--budget" ∷ codes "20000000" ∷ [])
         ≡ Some (Audit (codes "s") (codes "q") 20000000 1) }
     ensures past_most { command_of (codes "audit" ∷ codes "s" ∷ codes "q" ∷ codes "--budget" ∷ codes "20000001" ∷ []) ≡ None }
+    ensures no_rows { command_of (codes "run" ∷ codes "s" ∷ codes "q" ∷ codes "--budget" ∷ codes "0" ∷ []) ≡ None }
     ensures least { command_of (codes "run" ∷ codes "s" ∷ codes "q" ∷ codes "--accuracy=0" ∷ []) ≡ None }
     ensures past_accuracy { command_of (codes "run" ∷ codes "s" ∷ codes "q" ∷ codes "--accuracy" ∷ codes "65" ∷ []) ≡ None }
     ensures twice { command_of (codes "run" ∷ codes "--budget" ∷ codes "12" ∷ codes "s" ∷ codes "q" ∷ codes "--budget=12" ∷ []) ≡ None }
@@ -53,5 +54,8 @@ pub fn small_refusals()
     ensures short { command_of (codes "run" ∷ codes "-b" ∷ codes "s" ∷ codes "q" ∷ []) ≡ None }
     ensures two_numbers { command_of (codes "demo" ∷ codes "7" ∷ codes "8" ∷ []) ≡ None }
     ensures past_number { command_of (codes "demo" ∷ codes "4294967296" ∷ []) ≡ None }
+    ensures without_number { command_of (codes "demo" ∷ []) ≡ None }
+    ensures empty_number { command_of (codes "demo" ∷ [] ∷ []) ≡ None }
+    ensures no_number { command_of (codes "demo" ∷ codes "7x" ∷ []) ≡ None }
     ensures no_option { command_of (codes "demo" ∷ codes "7" ∷ codes "--budget" ∷ codes "12" ∷ []) ≡ None }
 {}

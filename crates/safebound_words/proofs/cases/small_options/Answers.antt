@@ -50,3 +50,7 @@ returns-clause-wide c = refl
 pub returns-clause-sign : goal.returns-clause-sign
 unfolding command_of reading_of parts_from kind_of number_of
 returns-clause-sign c = refl
+
+pub returns-clause-no_rows : goal.returns-clause-no_rows
+unfolding command_of reading_of parts_from kind_of number_of
+returns-clause-no_rows c = refl

@@ -42,3 +42,15 @@ returns-clause-past_number c = refl
 pub returns-clause-no_option : goal.returns-clause-no_option
 unfolding command_of reading_of parts_from kind_of number_of
 returns-clause-no_option c = refl
+
+pub returns-clause-without_number : goal.returns-clause-without_number
+unfolding command_of reading_of parts_from kind_of number_of
+returns-clause-without_number c = refl
+
+pub returns-clause-empty_number : goal.returns-clause-empty_number
+unfolding command_of reading_of parts_from kind_of number_of
+returns-clause-empty_number c = refl
+
+pub returns-clause-no_number : goal.returns-clause-no_number
+unfolding command_of reading_of parts_from kind_of number_of
+returns-clause-no_number c = refl

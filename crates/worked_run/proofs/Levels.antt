@@ -1,0 +1,61 @@
+-- The levels of the plan's order and the three texts, by computation.
+use Rattle.std.proofs.Common.{◌≡◌, ℕ, Bool, true, not, ◌&&◌, ◌||◌, List, [], ◌∷◌, Some, length, map, refl, ap, ◌∙◌}
+use Rattle.std.specs.Fmt.{digits}
+use Rattle.std.specs.Prelude.{codes}
+use Rattle.std.proofs.lemmas.List.Elements.{filter_agree}
+use Rattle.entry_sets.specs.Naming.{are_within}
+use Rattle.query_grammar.specs.declared.tree.Op.TheVariants as op
+use Rattle.join_graph.specs.Conjuncts.{column_operand}
+use Rattle.sql_meaning.specs.Answers.{conjuncts_of, selected}
+use Rattle.sql_meaning.specs.Choices.{choices_of}
+use Rattle.sql_meaning.specs.Conditions.{comparison_says}
+use Rattle.sql_meaning.specs.Levels.{all_hold, level, row_in}
+use Rattle.sql_meaning.specs.Tables.{Tables, row_counts}
+use Rattle.sql_meaning.proofs.ConditionFacts.{entries_compare, holds_compare}
+use Rattle.query_bounds.specs.Examples.{pair}
+use Rattle.printed_texts.specs.Plans.{audit_lines}
+use Rattle.printed_texts.specs.Texts.{rows_lines}
+use Rattle.table_files.specs.Found.{tables_in}
+use Rattle.safebound_top.specs.Accepted.{level_counts, level_rows}
+use Rattle.safebound_top.specs.Texts.{out_text_of, plan_text}
+use Rattle.safebound_top.specs.declared.task.OutText.{OutText}
+use Rattle.safebound_top.specs.declared.task.OutText.TheVariants as out_text
+use Rattle.worked_run.specs.Meaning.{small_rows, two_tables_run}
+
+abbrev T : Tables
+T = tables_in small_rows
+
+-- the one conjunct, where it is asked for
+abbrev says : List ℕ → (ℕ → ℕ) → Bool
+says placed row_of = (not (are_within (0 ∷ 1 ∷ []) placed) || comparison_says T row_of op.Eq (column_operand 0 0) (column_operand 1 0)) && true
+
+said : (placed : List ℕ) (row_of : ℕ → ℕ) → all_hold (conjuncts_of pair T) placed row_of ≡ says placed row_of
+said placed row_of =
+    rw (entries_compare op.Eq (column_operand 0 0) (column_operand 1 0), holds_compare T row_of op.Eq (column_operand 0 0) (column_operand 1 0)) refl
+
+first_level : level (conjuncts_of pair T) (row_counts T) (1 ∷ 0 ∷ []) 1 ≡ (0 ∷ []) ∷ (1 ∷ []) ∷ (2 ∷ []) ∷ (3 ∷ []) ∷ (4 ∷ []) ∷ []
+first_level = filter_agree (λ choice. all_hold (conjuncts_of pair T) (1 ∷ []) (row_in (1 ∷ []) choice))
+    (λ choice. says (1 ∷ []) (row_in (1 ∷ []) choice))
+    (λ choice. said (1 ∷ []) (row_in (1 ∷ []) choice)) (choices_of (row_counts T) (1 ∷ []))
+
+second_level : level (conjuncts_of pair T) (row_counts T) (1 ∷ 0 ∷ []) 2
+    ≡ (0 ∷ 0 ∷ []) ∷ (0 ∷ 1 ∷ []) ∷ (0 ∷ 2 ∷ []) ∷ (1 ∷ 0 ∷ []) ∷ (1 ∷ 1 ∷ []) ∷ (1 ∷ 2 ∷ []) ∷ []
+second_level = filter_agree (λ choice. all_hold (conjuncts_of pair T) (1 ∷ 0 ∷ []) (row_in (1 ∷ 0 ∷ []) choice))
+    (λ choice. says (1 ∷ 0 ∷ []) (row_in (1 ∷ 0 ∷ []) choice))
+    (λ choice. said (1 ∷ 0 ∷ []) (row_in (1 ∷ 0 ∷ []) choice)) (choices_of (row_counts T) (1 ∷ 0 ∷ []))
+
+pub notes_text : (out : OutText) → plan_text (two_tables_run out) ≡ codes "scan R 6\nscan S 5\nlevel 1 S 5\nlevel 2 R 12\n"
+unfolding digits
+notes_text out = refl
+
+pub rows_printed : out_text_of (two_tables_run out_text.Rows) ≡ Some (codes "X\r\n1\r\n1\r\n1\r\n1\r\n1\r\n1\r\n")
+unfolding digits
+rows_printed = ap (λ (choices : List (List ℕ)). Some (rows_lines pair.select (map (λ choice. selected pair T (row_in (1 ∷ 0 ∷ []) choice)) choices))) second_level
+
+counts : (out : OutText) → level_counts (two_tables_run out) ≡ 5 ∷ 6 ∷ []
+counts out = ap (λ (choices : List (List ℕ)). length choices ∷ length (level_rows (two_tables_run out) 2) ∷ []) first_level
+    ∙ ap (λ (choices : List (List ℕ)). 5 ∷ length choices ∷ []) second_level
+
+pub audit_printed : out_text_of (two_tables_run out_text.Audit) ≡ Some (codes "level 1 S 5 5\nlevel 2 R 12 6\n")
+unfolding digits
+audit_printed = ap (λ (rows : List ℕ). Some (audit_lines pair.from (two_tables_run out_text.Audit).plan rows)) (counts out_text.Audit)

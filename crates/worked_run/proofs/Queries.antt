@@ -1,0 +1,62 @@
+-- The query text is read as the join, by computation.
+use Rattle.std.proofs.Common.{◌≡◌, [], ◌∷◌, ◌++◌, Some, None, Ok, refl, ap, ◌∙◌}
+use Rattle.std.specs.Str.{chars, is_utf8}
+use Rattle.std.specs.Str.Lossy.{utf8_valid_len}
+use Rattle.ll_grammars.specs.Reading.{read_many, read_tails}
+use Rattle.query_grammar.specs.Nesting.{nesting}
+use Rattle.query_grammar.specs.Readers.{read_name, read_other_name, read_new_name, read_dotted_name, read_column, read_number, read_literal, read_operand, read_operator, read_negation, read_next_literal, read_literals, read_value_list, read_predicate, read_flat, read_factor, read_next_factor, read_factors, read_term, read_next_term, read_terms, read_cond, read_inside, read_test, read_within, read_condition, read_source, read_join, read_joins, read_part, read_next_part, read_parts, read_dotted_out, read_out, read_next_out, read_listed_outs, read_outs, read_condition_behind_where, read_filter, read_query}
+use Rattle.sql_tokens.specs.Pieces.{closed, identifier, literal, symbol, piece, tokens_at}
+use Rattle.sql_tokens.specs.Words.{terminal_of, name_of, literal_of, number_of}
+use Rattle.sql_parse.specs.Names.{column_in, entries, from_offences}
+use Rattle.sql_parse.specs.Scopes.{in_scope, entry_named, column_alone, resolve, conditions}
+use Rattle.sql_parse.specs.Offences.{name_offences, all_kind_offences}
+use Rattle.sql_parse.specs.Numbers.{number_value, number_offences}
+use Rattle.sql_parse.specs.Values.{conjuncts, outs_of_entry, query_of}
+use Rattle.sql_parse.specs.Bound.{long_lists, refusals, bound}
+use Rattle.text_answers.specs.Stages.{tokens_of}
+use Rattle.text_answers.specs.QueryTexts.{tree_of, nested_answer, query_answer}
+use Rattle.ll_grammars.specs.declared.terminal.Terminal.TheVariants as terminal
+use Rattle.query_grammar.specs.declared.tree.OperandText.TheVariants as operand
+use Rattle.query_grammar.specs.declared.tree.Op.TheVariants as op
+use Rattle.query_grammar.specs.declared.tree.TestText.{TestText}
+use Rattle.query_grammar.specs.declared.tree.TestText.TheVariants as test
+use Rattle.query_grammar.specs.declared.tree.CondText.TheVariants as cond
+use Rattle.query_grammar.specs.declared.tree.OutText.TheVariants as out
+use Rattle.query_grammar.specs.declared.tree.OutsText.TheVariants as outs
+use Rattle.query_grammar.specs.declared.tree.QueryText.{QueryText}
+use Rattle.query_grammar.specs.Examples.{token}
+use Rattle.sql_parse.specs.Values.{Meaning}
+use Rattle.sql_parse.proofs.KindFacts.{means_test}
+use Rattle.sql_parse.proofs.TestFacts.{tests_test}
+use Rattle.table_files.specs.Examples.{two_tables}
+use Rattle.query_bounds.specs.Examples.{pair}
+use Rattle.worked_run.specs.TwoTables.{query_text}
+
+-- R.X = S.X, behind WHERE
+abbrev is_joined : TestText
+is_joined = test.Compare (operand.Column (record { table = Some (token terminal.Name 27 28); column = token terminal.Name 29 30 }))
+    op.Eq (operand.Column (record { table = Some (token terminal.Name 33 34); column = token terminal.Name 35 36 }))
+
+-- the whole text
+abbrev tree : QueryText
+tree = record {
+  outs = outs.Listed (out.Column (record { table = Some (token terminal.Name 7 8); column = token terminal.Name 9 10 }) None ∷ []);
+  parts = record { first = record { table = token terminal.Name 16 17; alias = None }; joins = [] }
+      ∷ record { first = record { table = token terminal.Name 19 20; alias = None }; joins = [] } ∷ [];
+  filter = Some (cond.Test is_joined);
+}
+
+spelled : query_answer two_tables query_text ≡ bound two_tables query_text tree
+unfolding query_answer nested_answer tree_of tokens_of chars is_utf8 utf8_valid_len lib.Utf8.encode closed identifier literal symbol piece tokens_at terminal_of name_of literal_of number_of read_many read_tails nesting read_name read_other_name read_new_name read_dotted_name read_column read_number read_literal read_operand read_operator read_negation read_next_literal read_literals read_value_list read_predicate read_flat read_factor read_next_factor read_factors read_term read_next_term read_terms read_cond read_inside read_test read_within read_condition read_source read_join read_joins read_part read_next_part read_parts read_dotted_out read_out read_next_out read_listed_outs read_outs read_condition_behind_where read_filter read_query number_offences query_text
+spelled = refl
+
+conjoined : conjuncts two_tables query_text pair.from tree ≡ pair.conjuncts
+unfolding query_answer nested_answer tree_of tokens_of chars is_utf8 utf8_valid_len lib.Utf8.encode closed identifier literal symbol piece tokens_at terminal_of name_of literal_of number_of read_many read_tails nesting read_name read_other_name read_new_name read_dotted_name read_column read_number read_literal read_operand read_operator read_negation read_next_literal read_literals read_value_list read_predicate read_flat read_factor read_next_factor read_factors read_term read_next_term read_terms read_cond read_inside read_test read_within read_condition read_source read_join read_joins read_part read_next_part read_parts read_dotted_out read_out read_next_out read_listed_outs read_outs read_condition_behind_where read_filter read_query column_in entries from_offences in_scope entry_named column_alone resolve conditions name_offences all_kind_offences number_value number_offences conjuncts outs_of_entry query_of long_lists refusals bound query_text
+conjoined = ap (λ (m : Meaning). m.members ++ []) (means_test two_tables query_text pair.from (record { first = 0; end = 2 }) is_joined)
+
+meant : bound two_tables query_text tree ≡ Ok pair
+unfolding query_answer nested_answer tree_of tokens_of chars is_utf8 utf8_valid_len lib.Utf8.encode closed identifier literal symbol piece tokens_at terminal_of name_of literal_of number_of read_many read_tails nesting read_name read_other_name read_new_name read_dotted_name read_column read_number read_literal read_operand read_operator read_negation read_next_literal read_literals read_value_list read_predicate read_flat read_factor read_next_factor read_factors read_term read_next_term read_terms read_cond read_inside read_test read_within read_condition read_source read_join read_joins read_part read_next_part read_parts read_dotted_out read_out read_next_out read_listed_outs read_outs read_condition_behind_where read_filter read_query column_in entries from_offences in_scope entry_named column_alone resolve conditions name_offences all_kind_offences number_value number_offences outs_of_entry query_of long_lists refusals bound query_text
+meant = rw (tests_test is_joined, conjoined) refl
+
+pub query_read : query_answer two_tables query_text ≡ Ok pair
+query_read = spelled ∙ meant

@@ -1,0 +1,104 @@
+-- What the words and the small files give, stage by stage.
+use Rattle.std.proofs.Common.{◌≡◌, ℕ, List, Result, Ok, Err, refl, ap, ◌∙◌}
+use Rattle.std.specs.Prelude.{codes}
+use Rattle.csv_tables.specs.Rows.{Row}
+use Rattle.order_search.specs.declared.refusal.PlanError.{PlanError}
+use Rattle.plans.specs.declared.left_deep.Plan.{Plan}
+use Rattle.outcomes.specs.Errors.{plan_refusal, query_refusal, schema_refusal, table_refusal}
+use Rattle.outcomes.specs.Reads.{◌>>=◌, told}
+use Rattle.outcomes.specs.declared.refusal.Refusal.{Refusal}
+use Rattle.outcomes.specs.declared.refusal.Refusal.TheVariants as refusal
+use Rattle.query_bounds.specs.Examples.{pair}
+use Rattle.query_types.specs.declared.types.Query.{Query}
+use Rattle.schema_types.specs.declared.types.Schema.{Schema}
+use Rattle.planning.specs.Examples.{r_column, s_column}
+use Rattle.safebound_words.specs.Answer.{command_of, kind_of, parts_from, reading_of}
+use Rattle.safebound_words.specs.Numbers.{number_of}
+use Rattle.table_files.specs.Examples.{numbers_table, two_tables}
+use Rattle.table_files.specs.Stage.{tables_stage}
+use Rattle.table_files.specs.TableFile.{file_rows}
+use Rattle.safebound_top.specs.Asks.{Ask, ask_for, command_stage}
+use Rattle.safebound_top.specs.Verdict.{ask_run, plan_stage, query_run, query_stage, schema_run, schema_stage, verdict}
+use Rattle.safebound_top.specs.declared.task.OutText.{OutText}
+use Rattle.safebound_top.specs.declared.task.OutText.TheVariants as out_text
+use Rattle.worked_run.specs.Meaning.{rows_of, small_rows, two_tables_run}
+use Rattle.worked_run.specs.TwoTables.{audit_words, query_text, r_text, run_words, s_text, schema_text, small_files, thrifty_words}
+use Rattle.worked_run.proofs.Plans.{plan_found, plan_refused}
+use Rattle.worked_run.proofs.Queries.{query_read}
+use Rattle.worked_run.proofs.Rows.{r_read, s_read}
+use Rattle.worked_run.proofs.Schemas.{schema_read}
+
+abbrev ask : OutText → ℕ → Ask
+ask out budget = ask_for out (codes "schema.sql") (codes "query.sql") budget 1
+
+-- ---- the words
+
+run_asked : command_stage run_words ≡ Ok (ask out_text.Rows 1000000)
+unfolding command_of reading_of parts_from kind_of number_of
+run_asked = refl
+
+audit_asked : command_stage audit_words ≡ Ok (ask out_text.Audit 1000000)
+unfolding command_of reading_of parts_from kind_of number_of
+audit_asked = refl
+
+thrifty_asked : command_stage thrifty_words ≡ Ok (ask out_text.Rows 11)
+unfolding command_of reading_of parts_from kind_of number_of
+thrifty_asked = refl
+
+-- ---- the files
+
+schema_found : schema_stage (codes "schema.sql") small_files ≡ Ok two_tables
+unfolding schema_stage schema_text
+schema_found = ap (told schema_refusal) schema_read
+
+query_found : query_stage (codes "query.sql") two_tables small_files ≡ Ok pair
+unfolding query_stage query_text
+query_found = ap (told query_refusal) query_read
+
+r_found : file_rows 0 (numbers_table (codes "R")) small_files ≡ Ok (rows_of r_column)
+unfolding file_rows r_text
+r_found = ap (told (table_refusal 0)) r_read
+
+s_found : file_rows 1 (numbers_table (codes "S")) small_files ≡ Ok (rows_of s_column)
+unfolding file_rows s_text
+s_found = ap (told (table_refusal 1)) s_read
+
+tables_found : tables_stage two_tables pair.from small_files ≡ Ok small_rows
+unfolding tables_stage
+tables_found = rw (r_found, s_found) refl
+
+-- ---- the plan
+
+plan_made : (out : OutText) → plan_stage (ask out 1000000) pair small_rows ≡ Ok (two_tables_run out)
+unfolding plan_stage
+plan_made out = ap (λ (plan : Result Plan PlanError). told plan_refusal plan
+    >>= λ plan. Ok (record { query = pair; rows = small_rows; plan = plan; out = out })) plan_found
+
+plan_too_dear : plan_stage (ask out_text.Rows 11) pair small_rows ≡ Err (refusal.Budget 12)
+unfolding plan_stage
+plan_too_dear = ap (λ (plan : Result Plan PlanError). told plan_refusal plan
+    >>= λ plan. Ok (record { query = pair; rows = small_rows; plan = plan; out = out_text.Rows })) plan_refused
+
+-- ---- one stage after the other
+
+over_files : (out : OutText) (budget : ℕ) → ask_run (ask out budget) small_files ≡ plan_stage (ask out budget) pair small_rows
+unfolding ask_run schema_run query_run
+over_files out budget =
+    ap (λ (schema : Result Schema Refusal). schema >>= λ s. schema_run (ask out budget) s small_files) schema_found
+    ∙ ap (λ (query : Result Query Refusal). query >>= λ q. query_run (ask out budget) two_tables q small_files) query_found
+    ∙ ap (λ (rows : Result (List (List Row)) Refusal). rows >>= plan_stage (ask out budget) pair) tables_found
+
+of_words : (words : List (List ℕ)) (out : OutText) (budget : ℕ) → command_stage words ≡ Ok (ask out budget)
+    → verdict words small_files ≡ plan_stage (ask out budget) pair small_rows
+unfolding verdict
+of_words words out budget asked =
+    ap (λ (a : Result Ask Refusal). a >>= λ a. ask_run a small_files) asked ∙ over_files out budget
+
+pub run_verdict : verdict run_words small_files ≡ Ok (two_tables_run out_text.Rows)
+run_verdict = of_words run_words out_text.Rows 1000000 run_asked ∙ plan_made out_text.Rows
+
+pub audit_verdict : verdict audit_words small_files ≡ Ok (two_tables_run out_text.Audit)
+audit_verdict = of_words audit_words out_text.Audit 1000000 audit_asked ∙ plan_made out_text.Audit
+
+pub thrifty_verdict : verdict thrifty_words small_files ≡ Err (refusal.Budget 12)
+thrifty_verdict = of_words thrifty_words out_text.Rows 11 thrifty_asked ∙ plan_too_dear

@@ -1,0 +1,3 @@
+pub mod TwoTables
+pub mod Meaning
+pub mod Calls
