@@ -3,6 +3,7 @@ pub mod Sizes
 pub mod Known
 pub mod Serving
 pub mod Asking
+pub mod Kept
 pub mod Joined
 pub mod Entries
 pub mod Telling

@@ -2,4 +2,5 @@ pub mod Statistics
 pub mod Asked
 pub mod Columns
 pub mod Filters
+pub mod Rests
 pub mod Examples

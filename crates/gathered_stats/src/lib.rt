@@ -2,7 +2,8 @@
 //!
 //! The stage between the tables and the bounds. In: a query, its database and an accuracy. Out: for each FROM entry and each
 //! column that the entry joins, the steps of the entry's own conjuncts, each with its list (SafeBound, SIGMOD 2023). A list is made
-//! only where a step asks for it. A filter column is sorted once an entry, and an entry without conditions sorts none.
+//! only where a step asks for it. A filter column is sorted once an entry, and an entry without conditions sorts none. The rest list
+//! of a filter column is made once for each joined column, where a value needs it, and copied for each further value.
 //!
 //! Callers cite `statistics_of` (in `specs/Statistics.antt`) for what the answer tells.
 //!
@@ -18,6 +19,7 @@ mod filters;
 mod gather;
 mod lists;
 mod literals;
+mod rests;
 #[cfg(test)]
 mod tests;
 

@@ -1,40 +1,92 @@
 //! The list of each step, for the keys of one joined column.
-ghost use Rattle.std.specs.Prelude.{◌≡◌, ◌^◌, ◌≤◌, All, length, map, true, IfOk, IsTrue, option_map};
-ghost use Rattle.std.specs.List.{sum};
-ghost use Rattle.cond_stats.specs.Lists.{compressed_degrees};
+ghost use Rattle.std.specs.Prelude.{◌≡◌, ◌^◌, ◌≤◌, All, length, map, true, IfOk, IsTrue, OnOk, option_map};
+ghost use Rattle.std.specs.List.{sum, zip};
+ghost use Rattle.cond_stats.specs.Lists.{compressed_degrees, list_of_value};
 ghost use Rattle.filtered_lists.specs.Lists.{ColumnLists};
 ghost use Rattle.predicate_bounds.specs.ListRuns.{is_small, listed};
 ghost use Rattle.predicate_bounds.specs.Steps.{range_of, value_of};
-ghost use Rattle.gathered_stats.specs.Filters.{AreListsOf, IsReady, Serve, is_sorted};
+ghost use Rattle.gathered_stats.specs.Filters.{AreListsOf, IsColumnIn, IsReady, Serve, is_sorted};
+ghost use Rattle.gathered_stats.specs.Rests.{IsRestOf, rest_in, with_rest};
 
 use crate::entry_table::EntryTable;
 use crate::filters::find;
 use crate::literals::{cell_of_literal, end_leaf};
-use base_io::NoMemory;
-use cond_stats::whole_list;
+use crate::rests::{RestList, among_frequent, find_rest};
+use base_io::{NoMemory, Seq};
+use cond_stats::{FilterColumn, whole_list};
 use piece_math::Pieces;
 use predicate_bounds::{ColumnSteps, ListStep, Literal, Range, Step};
 use std::alloc::Global;
 
 impl EntryTable<'_> {
+    // The rest list of a filter column: kept from its first need on, and copied from there.
+    fn rest_of(
+        &self,
+        keys: &[u64],
+        column: u32,
+        sorted: &FilterColumn<'_>,
+        rests: &mut Seq<RestList>,
+    ) -> Result<Pieces, NoMemory>
+        requires ready { IsReady self.now }
+        requires keys { length keys.now ≡ self.now.cells.now.rows }
+        requires column { IsColumnIn self.now.pool.now self.now.cells.now column sorted.now }
+        requires rests { All (IsRestOf self.now keys.now) rests.old }
+        ensures list { IfOk result (λ list. list ≡ rest_in self.now keys.now column) }
+        ensures rests { OnOk result (rests.new ≡ with_rest self.now keys.now column rests.old) }
+    {
+        if let Some(list) = find_rest(rests.as_slice(), column) {
+            return list.copy();
+        }
+        let list = sorted.rest(keys, self.accuracy)?;
+        let copy = list.copy()?;
+        rests.push(RestList { column, list })?;
+        Ok(copy)
+    }
+
+    // The list of a value of a filter column, by its cell.
+    fn list_of_cell(
+        &self,
+        keys: &[u64],
+        column: u32,
+        sorted: &FilterColumn<'_>,
+        cell: Option<u64>,
+        rests: &mut Seq<RestList>,
+    ) -> Result<Pieces, NoMemory>
+        requires ready { IsReady self.now }
+        requires keys { length keys.now ≡ self.now.cells.now.rows }
+        requires column { IsColumnIn self.now.pool.now self.now.cells.now column sorted.now }
+        requires rests { All (IsRestOf self.now keys.now) rests.old }
+        ensures list { IfOk result (λ list. list ≡ list_of_value self.now.accuracy (zip sorted.now.cells keys.now) cell) }
+        ensures rests { OnOk result (All (IsRestOf self.now keys.now) rests.new) }
+    {
+        let frequent = among_frequent(sorted, cell)?;
+        if frequent {
+            return sorted.list_of_value(keys, cell, self.accuracy);
+        }
+        self.rest_of(keys, column, sorted, rests)
+    }
+
     // The list of the rows that have a literal in a filter column.
     fn list_of_literal(
         &self,
         keys: &[u64],
         column: u32,
         literal: &Literal,
+        rests: &mut Seq<RestList>,
     ) -> Result<Pieces, NoMemory>
         requires ready { IsReady self.now }
         requires keys { length keys.now ≡ self.now.cells.now.rows }
         requires sorted { is_sorted self.now.filters column ≡ true }
+        requires rests { All (IsRestOf self.now keys.now) rests.old }
         ensures list { IfOk result (λ list. (lists : ColumnLists) → AreListsOf self.now keys.now lists
             → list ≡ lists.equal column (value_of literal.now)) }
         ensures small { IfOk result (λ list. sum list ≤ 2 ^ 32) }
+        ensures rests { OnOk result (All (IsRestOf self.now keys.now) rests.new) }
     {
         let sorted = find(self.filters.as_slice(), column);
         let kind = *self.cells.kinds.get(column as usize);
         let cell = cell_of_literal(self.pool, kind, literal);
-        sorted.list_of_value(keys, cell, self.accuracy)
+        self.list_of_cell(keys, column, sorted, cell, rests)
     }
 
     // The list of the rows in a range of a filter column.
@@ -53,20 +105,28 @@ impl EntryTable<'_> {
     }
 
     // A step with its list. The list of all rows is `whole`.
-    fn list_step(&self, keys: &[u64], whole: &Pieces, step: &Step) -> Result<ListStep, NoMemory>
+    fn list_step(
+        &self,
+        keys: &[u64],
+        whole: &Pieces,
+        step: &Step,
+        rests: &mut Seq<RestList>,
+    ) -> Result<ListStep, NoMemory>
         requires ready { IsReady self.now }
         requires keys { length keys.now ≡ self.now.cells.now.rows }
         requires whole { whole.now ≡ compressed_degrees self.now.accuracy keys.now }
         requires rows { sum whole.now ≤ 2 ^ 32 }
         requires served { Serve self.now.filters step.now }
+        requires rests { All (IsRestOf self.now keys.now) rests.old }
         ensures list { IfOk result (λ listed_step. (lists : ColumnLists)
             → AreListsOf self.now keys.now lists → listed_step ≡ listed lists step.now) }
         ensures small { IfOk result (λ listed_step. IsTrue (is_small listed_step)) }
+        ensures rests { OnOk result (All (IsRestOf self.now keys.now) rests.new) }
     {
         match step {
             Step::Whole => Ok(ListStep::List(whole.copy()?)),
             Step::Equal { column, literal } => {
-                Ok(ListStep::List(self.list_of_literal(keys, *column, literal)?))
+                Ok(ListStep::List(self.list_of_literal(keys, *column, literal, rests)?))
             }
             Step::Within(range) => Ok(ListStep::List(self.list_within(keys, range)?)),
             Step::And => Ok(ListStep::And),
@@ -75,7 +135,7 @@ impl EntryTable<'_> {
         }
     }
 
-    /// Steps, each with its list for the keys of a joined column.
+    /// Steps, each with its list for the keys of a joined column. The rest list of a filter column is made at most once.
     pub(crate) fn list_steps(
         &self,
         alloc: Global,
@@ -91,9 +151,10 @@ impl EntryTable<'_> {
             → AreListsOf self.now keys.now lists → gathered.steps ≡ map (listed lists) steps.now) }
     {
         let whole = whole_list(alloc, keys, self.accuracy)?;
+        let mut rests = Seq::new(alloc);
         let mut gathered = ColumnSteps::new(alloc, column);
         for step in steps {
-            let listed = self.list_step(keys, &whole, step)?;
+            let listed = self.list_step(keys, &whole, step, &mut rests)?;
             gathered.push(listed)?;
         }
         Ok(gathered)

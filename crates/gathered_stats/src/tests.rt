@@ -85,10 +85,19 @@ fn once(alloc: Global) -> Result<u64, NoMemory> {
     rows_where(alloc, Seq::one(alloc, compare(Op::Eq, 3))?)
 }
 
+// X = 7 OR X = 8, numbers that no row has.
+fn absent(alloc: Global) -> Result<u64, NoMemory> {
+    let mut members = Seq::new(alloc);
+    members.push(compare(Op::Eq, 7))?;
+    members.push(compare(Op::Eq, 8))?;
+    rows_where(alloc, Seq::one(alloc, Cond::Or(members))?)
+}
+
 #[test]
 fn row_bounds(rt: HostRuntime) -> Result<(), Fail> {
     assert_eq!(rt; thrice(rt.alloc())?, 6);
     assert_eq!(rt; not_in(rt.alloc())?, 6);
     assert_eq!(rt; once(rt.alloc())?, 1);
+    assert_eq!(rt; absent(rt.alloc())?, 0);
     Ok(())
 }

@@ -10,6 +10,7 @@ loop-step-preserved c = (
   c.in_ok-push.ensures.column ∙ c.loop-step.invariant.0,
   λ lists have. one_listed lists c.args.steps.now c.loop-step.step-index c.step-item.result c.loop-step.gathered.steps c.push.new.self.steps c.in_ok-listed.listed
       c.loop-step-test.true c.step-item.is (c.loop-step.invariant.1 lists have) (c.in_ok-listed.ensures.list lists have) c.in_ok-push.ensures.steps,
+  c.in_ok-listed.ensures.rests,
 )
 
 pub returns-clause-steps : goal.returns-clause-steps
