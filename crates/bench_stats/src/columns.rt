@@ -1,0 +1,152 @@
+//! The columns of bench/stats.rs: those of three kinds, and those of a shop.
+ghost use Rattle.std.specs.Prelude.{◌≤◌};
+
+use base_io::NoMemory;
+use csv_tables::Pool;
+use std::alloc::Global;
+
+/// What a filter column has: ten numbers, numbers that are all different, or a thousand texts.
+#[derive(Clone, Copy, Debug)]
+pub enum Filter {
+    Ten,
+    Different,
+    Texts,
+}
+
+impl Filter {
+    pub fn name(self) -> &'static str {
+        match self {
+            Filter::Ten => "ten",
+            Filter::Different => "different",
+            Filter::Texts => "texts",
+        }
+    }
+
+    // The cell that is made of random bits.
+    fn cell(self, bits: u64) -> u64 {
+        match self {
+            Filter::Ten => bits % 10,
+            Filter::Different => bits,
+            Filter::Texts => bits % 1000,
+        }
+    }
+}
+
+// Random bits.
+#[derive(Clone, Copy, Debug)]
+struct Random {
+    state: u64,
+}
+
+impl Random {
+    fn next(&mut self) -> u64 {
+        self.state ^= self.state << 13u32;
+        self.state ^= self.state >> 7u32;
+        self.state ^= self.state << 17u32;
+        self.state
+    }
+}
+
+// A key that is about as unequal as words of a text: each range of twice the size is about as likely.
+fn unequal(bits: u64) -> u64 {
+    (bits & 0xffff_ffff) >> (32 - (bits >> 58u32) % 22)
+}
+
+/// A filter column and a joined column.
+#[derive(Drop)]
+pub struct Pair {
+    pub filter: Vec<u64>,
+    pub joined: Vec<u64>,
+}
+
+/// So many rows of a kind.
+pub fn pair_of(alloc: Global, kind: Filter, rows: u32) -> Result<Pair, NoMemory> {
+    let mut random = Random {
+        state: 88172645463325252,
+    };
+    let mut filter = Vec::new(alloc);
+    let mut joined = Vec::new(alloc);
+    for _ in 0..rows {
+        filter.push(kind.cell(random.next()))?;
+        joined.push(unequal(random.next()))?;
+    }
+    Ok(Pair { filter, joined })
+}
+
+/// A thousand texts.
+pub fn texts(alloc: Global) -> Result<Pool, NoMemory> {
+    let mut pool = Pool::new(alloc);
+    for i in 0..1000u64 {
+        let text = format!(in alloc; "text {}", i * 7919 % 1000)?;
+        if pool.len() < 4294967295 {
+            let _code = pool.intern(text.as_str())?;
+        }
+    }
+    Ok(pool)
+}
+
+/// The columns of the shop that the lists of its query are made of.
+#[derive(Drop)]
+pub struct Shop {
+    pub product: Pair,
+    pub items: Pair,
+    pub days: Pair,
+    pub customers_of_orders: Vec<u64>,
+    pub customer: Pair,
+}
+
+fn column<F: Fn(u64) -> u64>(alloc: Global, rows: u64, cell: F) -> Result<Vec<u64>, NoMemory>
+    requires { F.IsAlwaysCallable cell }
+{
+    let mut cells = Vec::new(alloc);
+    for i in 0..rows {
+        cells.push(cell(i))?;
+    }
+    Ok(cells)
+}
+
+/// The shop with every table `scale` hundredths as large as it is. For the items `filter` is the order and `joined` the product.
+pub fn shop_columns(alloc: Global, scale: u64) -> Result<Shop, NoMemory>
+    requires { scale ≤ 100 }
+{
+    let product = Pair {
+        filter: column(alloc, 200 * scale, |i| i % 4)?,
+        joined: column(alloc, 200 * scale, |i| i)?,
+    };
+    let items = Pair {
+        filter: column(
+            alloc,
+            4000 * scale,
+            |i| i.wrapping_mul(3).wrapping_add(7) % 200_000,
+        )?,
+        joined: column(
+            alloc,
+            4000 * scale,
+            |i| if i % 2 == 0 {
+                i / 2 % 10
+            } else {
+                i / 2 % 20_000
+            },
+        )?,
+    };
+    let days = Pair {
+        filter: column(alloc, 2000 * scale, |i| i % 100)?,
+        joined: column(alloc, 2000 * scale, |i| i)?,
+    };
+    let customers_of_orders = column(
+        alloc,
+        2000 * scale,
+        |i| i.wrapping_mul(7).wrapping_add(7) % 50_000,
+    )?;
+    let customer = Pair {
+        filter: column(alloc, 500 * scale, |i| i.wrapping_add(7) % 10)?,
+        joined: column(alloc, 500 * scale, |i| i)?,
+    };
+    Ok(Shop {
+        product,
+        items,
+        days,
+        customers_of_orders,
+        customer,
+    })
+}

@@ -1,0 +1,58 @@
+-- A pair of columns as it is read.
+use Rattle.std.proofs.Common.{◌≡◌, ℕ, List, [], ◌∷◌, length, Some, refl, ap, sym, ◌∙◌, subst, arith}
+use Rattle.std.specs.Prelude.{slice_get}
+use Rattle.std.specs.List.{All, zip}
+use Rattle.std.proofs.lemmas.Option.{get_or_from_slice_get}
+use Rattle.std.proofs.lemmas.Slice.Zip.{firsts-zip, length-zip, seconds-zip}
+use Rattle.schema_types.specs.declared.types.Kind.{Kind}
+use Rattle.schema_types.specs.declared.types.Kind.TheVariants as kind
+use Rattle.csv_tables.specs.declared.types.Cells.{Cells}
+use Rattle.csv_tables.specs.Cells.{IsCell}
+use Rattle.cond_stats.specs.Columns.{CellColumn, cell_le}
+use Rattle.cond_stats.specs.Leaves.{cuts}
+use Rattle.cond_stats.specs.Lists.{compressed_degrees, rest}
+use Rattle.cond_stats.specs.Rows.{filter_values, joined_keys}
+use Rattle.column_stats.specs.declared.stats.ColumnStats.{ColumnStats}
+use Rattle.column_stats.specs.declared.stats.FrequentList.{FrequentList}
+use Rattle.column_stats.specs.Nodes.{node_lists}
+use Rattle.column_stats.specs.Stats.{frequent_lists, stats_of}
+use Rattle.column_stats.specs.Pairs.{HasColumn, cells_of_column, kind_of_column, rows_of_pair}
+
+module _ (texts : List (List ℕ)) (cells : Cells) (column : ℕ) (has : HasColumn texts cells column) where
+  -- its kind
+  pub kind_read : (k : Kind) → slice_get cells.kinds column ≡ Some k → kind_of_column cells column ≡ k
+  kind_read k at = get_or_from_slice_get cells.kinds column k kind.Int at
+
+  -- its cells
+  pub cells_read : (items read : List ℕ) → slice_get cells.columns column ≡ Some items → read ≡ items → read ≡ cells_of_column cells column
+  cells_read items read there same = same ∙ sym (get_or_from_slice_get cells.columns column items [] there)
+
+  pub height_read : (read : List ℕ) → read ≡ cells_of_column cells column → length read ≡ cells.rows
+  height_read read is = ap (λ (s : List ℕ). length s) is ∙ has.are_cells.height
+
+  pub are_read : (k : Kind) (read : List ℕ) → kind_of_column cells column ≡ k → read ≡ cells_of_column cells column → All (IsCell texts k) read
+  are_read k read kind_is is = subst (λ (s : List ℕ). All (IsCell texts k) s) (sym is) (subst (λ (x : Kind). All (IsCell texts x) (cells_of_column cells column)) kind_is has.are_cells.cells)
+
+module _ (texts : List (List ℕ)) (cells : Cells) (filter joined : ℕ) (has_filter : HasColumn texts cells filter) (has_joined : HasColumn texts cells joined) where
+  same_heights : length (cells_of_column cells joined) ≡ length (cells_of_column cells filter)
+  same_heights = has_joined.are_cells.height ∙ sym has_filter.are_cells.height
+
+  pub filter_is : filter_values (rows_of_pair cells filter joined) ≡ cells_of_column cells filter
+  filter_is = firsts-zip (cells_of_column cells filter) (cells_of_column cells joined) same_heights
+
+  pub joined_is : joined_keys (rows_of_pair cells filter joined) ≡ cells_of_column cells joined
+  joined_is = seconds-zip (cells_of_column cells filter) (cells_of_column cells joined) same_heights
+
+  pub rows_are : length (rows_of_pair cells filter joined) ≡ cells.rows
+  rows_are = omega (arith, length-zip (cells_of_column cells filter) (cells_of_column cells joined), has_filter.are_cells.height, has_joined.are_cells.height)
+
+  -- the statistics, part by part
+  pub made_are : (k count : ℕ) (kind_got : Kind) (values keys : List ℕ) (column : CellColumn) (all : List ℕ) (frequents : List FrequentList) (others places : List ℕ)
+      (nodes_got : List (List ℕ)) → count ≡ cells.rows → kind_got ≡ kind_of_column cells filter → values ≡ cells_of_column cells filter → keys ≡ cells_of_column cells joined
+      → column ≡ record { texts = texts; kind = kind_got; cells = values } → all ≡ compressed_degrees k keys → frequents ≡ frequent_lists k (zip column.cells keys)
+      → others ≡ rest k (zip column.cells keys) → places ≡ cuts (cell_le column.texts column.kind) column.cells
+      → nodes_got ≡ node_lists (cell_le column.texts column.kind) k (zip column.cells keys)
+      → (let stats : ColumnStats = record { kind = kind_got; rows = count; whole = all; frequent = frequents; rest = others; cuts = places; nodes = nodes_got } in stats)
+      ≡ stats_of texts (kind_of_column cells filter) k (rows_of_pair cells filter joined)
+  made_are k count kind_got values keys column all frequents others places nodes_got count_is kind_is values_are keys_are column_is all_is frequents_are others_are places_are nodes_are =
+      rw (all_is, frequents_are, others_are, places_are, nodes_are, column_is, count_is, kind_is, values_are, keys_are, joined_is, filter_is, rows_are) refl

@@ -1,0 +1,4 @@
+pub mod FrequentLists
+pub mod NodeLists
+pub mod Columns
+pub mod Answers

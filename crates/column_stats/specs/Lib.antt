@@ -1,0 +1,5 @@
+pub mod Pairs
+pub mod Nodes
+pub mod Stats
+pub mod Promises
+pub mod Examples

@@ -1,0 +1,94 @@
+//! All statistics of a pair of columns, out of one sort.
+ghost use Rattle.std.specs.Prelude.{◌≡◌, ◌<◌, ◌≤◌, IfOk};
+ghost use Rattle.std.specs.List.{sum};
+ghost use Rattle.cond_stats.specs.Columns.{cell_le};
+ghost use Rattle.column_stats.specs.Pairs.{HasColumn, kind_of_column, rows_of_pair};
+ghost use Rattle.column_stats.specs.Promises.{AnswerRanges, AnswerValues};
+ghost use Rattle.column_stats.specs.Promises.{NodesDominate, RangesDominate, ValuesDominate, WholeDominates};
+ghost use Rattle.column_stats.specs.Stats.{IsValid, stats_of};
+
+use crate::parts::{frequent_lists, node_lists};
+use crate::stats::ColumnStats;
+use base_io::{NoMemory, Seq};
+use cond_stats::{FilterColumn, whole_list};
+use csv_tables::{Cells, Pool};
+use std::alloc::Global;
+
+// How many rows there are.
+fn row_count(cells: &Cells) -> u32
+    ensures { result ≡ cells.now.rows }
+{
+    cells.rows
+}
+
+// The statistics, part by part.
+fn made(
+    alloc: Global,
+    cells: &Cells,
+    pool: &Pool,
+    filter: u32,
+    joined: u32,
+    accuracy: u8,
+) -> Result<ColumnStats, NoMemory>
+    requires filter { HasColumn pool.now cells.now filter }
+    requires joined { HasColumn pool.now cells.now joined }
+    requires accuracy { (0 < accuracy) × (accuracy ≤ 64) }
+    ensures { IfOk result (λ stats. stats ≡
+        stats_of pool.now (kind_of_column cells.now filter) accuracy (rows_of_pair cells.now filter joined)) }
+{
+    let rows = row_count(cells);
+    let kind = *cells.kinds.get(filter as usize);
+    let keys = cells.columns.get(joined as usize).as_slice();
+    let values = cells.columns.get(filter as usize).as_slice();
+    let column = FilterColumn::new(alloc, pool, kind, values)?;
+    let whole = whole_list(alloc, keys, accuracy)?;
+    let frequent = frequent_lists(alloc, &column, keys, accuracy)?;
+    let rest = column.rest(keys, accuracy)?;
+    let cuts = Vec::from_slice(alloc, column.cuts())?;
+    let nodes = node_lists(alloc, &column, keys, accuracy)?;
+    Ok(ColumnStats {
+        kind,
+        rows,
+        whole,
+        frequent,
+        rest,
+        cuts: Seq::from_vec(cuts),
+        nodes,
+    })
+}
+
+/// The statistics of a filter column for a joined column, each by its number in the table (SafeBound, SIGMOD 2023). The accuracy is
+/// that of compression, from 1 to 64. Only memory may be wanting, and then nothing is kept.
+pub fn gather(
+    alloc: Global,
+    cells: &Cells,
+    pool: &Pool,
+    filter: u32,
+    joined: u32,
+    accuracy: u8,
+) -> Result<ColumnStats, NoMemory>
+    requires filter { HasColumn pool.now cells.now filter }
+    requires joined { HasColumn pool.now cells.now joined }
+    requires accuracy { (0 < accuracy) × (accuracy ≤ 64) }
+
+    // each part is its definition
+    ensures parts { IfOk result (λ stats. stats ≡
+        stats_of pool.now (kind_of_column cells.now filter) accuracy (rows_of_pair cells.now filter joined)) }
+    ensures valid { IfOk result IsValid }
+
+    // what they answer is what is made on demand
+    ensures values { IfOk result (AnswerValues accuracy (rows_of_pair cells.now filter joined)) }
+    ensures ranges { IfOk result (AnswerRanges (cell_le pool.now (kind_of_column cells.now filter)) accuracy
+        (rows_of_pair cells.now filter joined)) }
+
+    // no list is under the rows that it stands for
+    ensures whole_never_under { IfOk result (WholeDominates (rows_of_pair cells.now filter joined)) }
+    ensures whole_total { IfOk result (λ stats. sum stats.whole ≡ cells.now.rows) }
+    ensures value_never_under { IfOk result (ValuesDominate (rows_of_pair cells.now filter joined)) }
+    ensures node_never_under { IfOk result (NodesDominate (cell_le pool.now (kind_of_column cells.now filter))
+        (rows_of_pair cells.now filter joined)) }
+    ensures range_never_under { IfOk result (RangesDominate (cell_le pool.now (kind_of_column cells.now filter))
+        (rows_of_pair cells.now filter joined)) }
+{
+    made(alloc, cells, pool, filter, joined, accuracy)
+}

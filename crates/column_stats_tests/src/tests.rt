@@ -1,0 +1,173 @@
+ghost use Rattle.std.specs.Prelude.{All, IfOk, IsTrue};
+ghost use Rattle.csv_tables.specs.Cells.{IsCell};
+ghost use Rattle.column_stats.specs.Pairs.{HasColumn};
+ghost use Rattle.column_stats.specs.Stats.{IsValid};
+
+use base_io::{NoMemory, Seq};
+use column_stats::{ColumnStats, gather};
+use csv_tables::{Cells, Pool};
+use piece_math::Pieces;
+use schema_types::Kind;
+use std::alloc::Global;
+use std::test::Fail;
+
+// Whether each is a cell of the kind.
+fn are_cells(pool: &Pool, kind: Kind, cells: &[u64]) -> bool
+    ensures { IsTrue result → All (IsCell pool.now kind) cells.now }
+{
+    let texts = pool.len() as u64;
+    match kind {
+        Kind::Int => true,
+        Kind::Text(_) => cells.iter().all(|cell| *cell < texts),
+    }
+}
+
+// A table of two columns: a filter column of a kind and a joined column of numbers, of as many rows. What is no such table is answered
+// as want of memory, which fails a test.
+fn table(
+    alloc: Global,
+    pool: &Pool,
+    kind: Kind,
+    filter: &[u64],
+    joined: &[u64],
+) -> Result<Cells, NoMemory>
+    ensures filter { IfOk result (λ cells. HasColumn pool.now cells 0) }
+    ensures joined { IfOk result (λ cells. HasColumn pool.now cells 1) }
+{
+    if filter.len() != joined.len() || filter.len() > 1000 {
+        return Err(NoMemory);
+    }
+    if !are_cells(pool, kind, filter) {
+        return Err(NoMemory);
+    }
+    let mut kinds = Seq::one(alloc, kind)?;
+    kinds.push(Kind::Int)?;
+    let mut columns = Seq::one(alloc, Seq::from_vec(Vec::from_slice(alloc, filter)?))?;
+    columns.push(Seq::from_vec(Vec::from_slice(alloc, joined)?))?;
+    Ok(Cells {
+        kinds,
+        columns,
+        rows: filter.len() as u32,
+    })
+}
+
+// The statistics of a column of numbers.
+fn statistics(alloc: Global, filter: &[u64], joined: &[u64]) -> Result<ColumnStats, NoMemory>
+    ensures { IfOk result IsValid }
+{
+    let pool = Pool::new(alloc);
+    let cells = table(alloc, &pool, Kind::Int, filter, joined)?;
+    gather(alloc, &cells, &pool, 0, 1, 1)
+}
+
+// The sum of a list, and its runs.
+fn shape(list: &Pieces) -> (u128, usize) {
+    (list.total(), list.pieces().len())
+}
+
+// The numbers from 1 on.
+fn numbers(alloc: Global, last: u64) -> Result<Vec<u64>, NoMemory> {
+    let mut numbers = Vec::new(alloc);
+    for number in 1..=last {
+        numbers.push(number)?;
+    }
+    Ok(numbers)
+}
+
+// 32 values in four rows each, one joined key each; then 100 with the keys 5, 6, 7 and 200 with 8, 8.
+fn rest_of_two(alloc: Global) -> Result<[(u128, usize); 4], NoMemory> {
+    let mut filter = Vec::new(alloc);
+    let mut joined = Vec::new(alloc);
+    for i in 0..128 {
+        filter.push(i / 4)?;
+        joined.push(1)?;
+    }
+    filter.extend_from_slice(&[100, 100, 100, 200, 200])?;
+    joined.extend_from_slice(&[5, 6, 7, 8, 8])?;
+    let stats = statistics(alloc, filter.as_slice(), joined.as_slice())?;
+    Ok([
+        shape(stats.for_equal(Some(0))),
+        shape(stats.for_equal(Some(31))),
+        shape(stats.for_equal(Some(100))),
+        shape(&stats.rest),
+    ])
+}
+
+// How many values are frequent, the list of the value that occurs last, and that of an absent one.
+fn frequent_of(
+    alloc: Global,
+    last: u64,
+) -> Result<(usize, (u128, usize), (u128, usize)), NoMemory> {
+    let column = numbers(alloc, last)?;
+    let stats = statistics(alloc, column.as_slice(), column.as_slice())?;
+    let of_last = shape(stats.for_equal(Some(last)));
+    let absent = shape(stats.for_equal(None));
+    Ok((stats.frequent.len(), of_last, absent))
+}
+
+// The leaves of three numbers, and the list from the first leaf to the last.
+fn leaves_of(
+    alloc: Global,
+    column: &[u64],
+    values: [i64; 3],
+) -> Result<([u8; 3], (u128, usize)), NoMemory> {
+    let stats = statistics(alloc, column, column)?;
+    let [first, middle, last] = values;
+    let low = stats.leaf_int(first);
+    let high = stats.leaf_int(last);
+    let list = shape(stats.for_range(Some(low), Some(high)));
+    Ok(([low, stats.leaf_int(middle), high], list))
+}
+
+// How many cuts and nodes there are without rows, and the list of all.
+fn of_nothing(alloc: Global) -> Result<(usize, usize, (u128, usize)), NoMemory> {
+    let stats = statistics(alloc, &[], &[])?;
+    let list = shape(stats.for_range(None, None));
+    Ok((stats.cuts.len(), stats.nodes.len(), list))
+}
+
+// Texts that come in another order than they compare: the leaves of "a", "b" and "c", and the list up to "a".
+fn leaves_of_texts(alloc: Global) -> Result<([u8; 3], (u128, usize)), NoMemory> {
+    let mut pool = Pool::new(alloc);
+    let b = u64::from(pool.intern("b")?);
+    if pool.len() >= 100 {
+        return Err(NoMemory);
+    }
+    let a = u64::from(pool.intern("a")?);
+    let filter = [b, a, b, a];
+    let cells = table(alloc, &pool, Kind::Text(1), &filter, &[1, 2, 3, 2])?;
+    let stats = gather(alloc, &cells, &pool, 0, 1, 1)?;
+    let low = stats.leaf_text(&pool, "a");
+    let list = shape(stats.for_range(None, Some(low)));
+    let leaves = [
+        low,
+        stats.leaf_text(&pool, "b"),
+        stats.leaf_text(&pool, "c"),
+    ];
+    Ok((leaves, list))
+}
+
+#[test]
+fn values(rt: HostRuntime) -> Result<(), Fail> {
+    assert_eq!(rt; rest_of_two(rt.alloc())?, [(4, 1), (4, 1), (3, 2), (3, 2)]);
+    assert_eq!(rt; frequent_of(rt.alloc(), 40)?, (32, (1, 1), (1, 1)));
+    assert_eq!(rt; frequent_of(rt.alloc(), 3)?, (3, (1, 1), (0, 0)));
+    Ok(())
+}
+
+#[test]
+fn leaves(rt: HostRuntime) -> Result<(), Fail> {
+    let column = numbers(rt.alloc(), 32)?;
+    let crossed = leaves_of(rt.alloc(), column.as_slice(), [5, 3, 2])?;
+    assert_eq!(rt; crossed, ([4, 2, 1], (8, 1)));
+    let six = leaves_of(rt.alloc(), &[1, 1, 1, 2, 2, 3], [1, 2, 3])?;
+    assert_eq!(rt; six, ([15, 26, 31], (6, 1)));
+    assert_eq!(rt; of_nothing(rt.alloc())?, (0, 0, (0, 0)));
+    Ok(())
+}
+
+#[test]
+fn texts(rt: HostRuntime) -> Result<(), Fail> {
+    assert_eq!(rt; leaves_of_texts(rt.alloc())?, ([15, 31, 31], (2, 1)));
+    Ok(())
+}

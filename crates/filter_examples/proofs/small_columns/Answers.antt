@@ -1,0 +1,47 @@
+use Rattle.std.proofs.Common.{[], ◌∷◌, true, false, refl}
+use Rattle.std.specs.List.{range_with_len}
+use Rattle.query_grammar.specs.declared.tree.Op.TheVariants as op
+use Rattle.query_types.specs.declared.types.Cond.{Or}
+use Rattle.sql_meaning.proofs.ConditionFacts.{entries_compare, entries_not, entries_or}
+use Rattle.cond_stats.specs.Leaves.{cuts}
+use Rattle.cond_stats.specs.Lists.{list_of_node, list_of_value, rest}
+use Rattle.filtered_lists.specs.Examples.{column_x, number, x_is}
+use Rattle.filtered_lists.specs.Lists.{list_answers}
+use Rattle.filtered_lists.proofs.Parts.{of_compare, of_not, of_or}
+use Rattle.filtered_lists.proofs.Worked as worked
+use Rattle.filter_examples.specs.Columns.{lists_of}
+use Rattle.filter_examples.proofs.small_columns.Goals as goal
+
+pub returns-clause-absent_among_forty : goal.returns-clause-absent_among_forty
+unfolding cuts rest list_of_value list_of_node
+returns-clause-absent_among_forty c = worked.one (lists_of (range_with_len 1 40)) op.Eq column_x (number 99) refl
+
+pub returns-clause-absent_among_three : goal.returns-clause-absent_among_three
+unfolding cuts rest list_of_value list_of_node
+returns-clause-absent_among_three c = worked.one (lists_of (1 ∷ 2 ∷ 3 ∷ [])) op.Eq column_x (number 99) refl
+
+pub returns-clause-crossed : goal.returns-clause-crossed
+unfolding cuts rest list_of_value list_of_node
+returns-clause-crossed c = worked.crossed (lists_of (range_with_len 1 32))
+
+pub returns-clause-thrice : goal.returns-clause-thrice
+unfolding cuts rest list_of_value list_of_node
+returns-clause-thrice c = rw (
+  entries_or (x_is op.Eq 1 ∷ x_is op.Eq 1 ∷ x_is op.Eq 1 ∷ []),
+  entries_compare op.Eq column_x (number 1),
+  of_or (list_answers (lists_of (1 ∷ 1 ∷ 1 ∷ 2 ∷ 2 ∷ 3 ∷ []))) (x_is op.Eq 1 ∷ x_is op.Eq 1 ∷ x_is op.Eq 1 ∷ []) true,
+  of_compare (list_answers (lists_of (1 ∷ 1 ∷ 1 ∷ 2 ∷ 2 ∷ 3 ∷ []))) op.Eq column_x (number 1) true,
+) refl
+
+pub returns-clause-not_in : goal.returns-clause-not_in
+unfolding cuts rest list_of_value list_of_node
+returns-clause-not_in c = rw (
+  entries_not (Or (x_is op.Eq 1 ∷ x_is op.Eq 3 ∷ [])),
+  entries_or (x_is op.Eq 1 ∷ x_is op.Eq 3 ∷ []),
+  entries_compare op.Eq column_x (number 1),
+  entries_compare op.Eq column_x (number 3),
+  of_not (list_answers (lists_of (1 ∷ 1 ∷ 1 ∷ 2 ∷ 2 ∷ 3 ∷ []))) (Or (x_is op.Eq 1 ∷ x_is op.Eq 3 ∷ [])) true,
+  of_or (list_answers (lists_of (1 ∷ 1 ∷ 1 ∷ 2 ∷ 2 ∷ 3 ∷ []))) (x_is op.Eq 1 ∷ x_is op.Eq 3 ∷ []) false,
+  of_compare (list_answers (lists_of (1 ∷ 1 ∷ 1 ∷ 2 ∷ 2 ∷ 3 ∷ []))) op.Eq column_x (number 1) false,
+  of_compare (list_answers (lists_of (1 ∷ 1 ∷ 1 ∷ 2 ∷ 2 ∷ 3 ∷ []))) op.Eq column_x (number 3) false,
+) refl

@@ -1,0 +1,22 @@
+-- What statistics know of a column of numbers that both joins and filters: the lists of its values and ranges.
+use Rattle.std.specs.Prelude.{ℕ, List, [], Option, None, Some}
+use Rattle.std.specs.List.{zip}
+use Rattle.schema_types.specs.declared.types.Kind.TheVariants as kind
+use Rattle.csv_tables.specs.Numbers.{bits_of}
+use Rattle.csv_tables.specs.Values.{Value, Int, Text}
+use Rattle.cond_stats.specs.Columns.{list_between}
+use Rattle.cond_stats.specs.Lists.{list_of_value, whole}
+use Rattle.filtered_lists.specs.Lists.{ColumnLists}
+
+-- the cell of a number. No text is one
+abbrev pub cell_with : Value → Option ℕ
+cell_with (Int number) = Some (bits_of number)
+cell_with (Text text) = None
+
+-- the lists of a column of cells with itself
+abbrev pub lists_of : List ℕ → ColumnLists
+lists_of column = record {
+  whole = whole 1 (zip column column);
+  equal = λ filter value. list_of_value 1 (zip column column) (cell_with value);
+  range = λ range. list_between [] kind.Int 1 (zip column column) range.low range.high;
+}
