@@ -1,0 +1,7 @@
+pub mod CaseFacts
+pub mod GrammarFacts
+pub mod RuleFacts
+pub mod RunFacts
+pub mod TextFacts
+pub mod WordFacts
+pub mod WriteFacts

@@ -1,0 +1,34 @@
+-- Small schemas and files.
+use Rattle.std.specs.Prelude.{ℕ, List, [], ◌∷◌, codes, pos}
+use Rattle.schema_types.specs.declared.types.Kind.TheVariants as kind
+use Rattle.schema_types.specs.declared.types.Schema.{Schema}
+use Rattle.schema_types.specs.declared.types.Table.{Table}
+use Rattle.stats_file.specs.declared.types.Datum.TheVariants as datum
+use Rattle.stats_file.specs.declared.types.Pair.{Pair}
+use Rattle.stats_file.specs.declared.types.StatsFile.{StatsFile}
+
+-- a table of this name with the one column X of numbers
+abbrev pub numbers_of : List ℕ → Table
+numbers_of name = record { name = name; columns = record { name = codes "X"; kind = kind.Int } ∷ []; keys = []; references = [] }
+
+abbrev pub schema_of_e : Schema
+schema_of_e = record { tables = numbers_of (codes "E") ∷ [] }
+
+abbrev pub empty_pair : Pair
+empty_pair = record { filter = 0; joined = 0; whole = []; frequent = []; rest = []; cuts = []; nodes = [] }
+
+-- statistics of the table E without rows
+abbrev pub empty_file : StatsFile
+empty_file = record { accuracy = 1; tables = record { table = 0; rows = 0; pairs = empty_pair ∷ [] } ∷ [] }
+
+-- the lists of the values 1, 1, 1, 2, 2, 3, without those of ranges
+abbrev pub six_rows : Pair
+six_rows = record {
+  filter = 0;
+  joined = 0;
+  whole = 3 ∷ 3 ∷ [];
+  frequent = (datum.Int (pos 1), 3 ∷ []) ∷ (datum.Int (pos 2), 2 ∷ []) ∷ (datum.Int (pos 3), 1 ∷ []) ∷ [];
+  rest = [];
+  cuts = [];
+  nodes = [];
+}

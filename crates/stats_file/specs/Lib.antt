@@ -1,0 +1,10 @@
+pub mod Answers
+pub mod Bytes
+pub mod Cases
+pub mod FileText
+pub mod Grammar
+pub mod Lines
+pub mod Parts
+pub mod Rules
+pub mod Runs
+pub mod Writing

@@ -1,0 +1,103 @@
+-- The rules on the values of a file of statistics.
+use Rattle.std.specs.Prelude.{ℕ, zero, suc, ◌≡◌, ◌≢◌, ◌<◌, ◌≤◌, ◌⊎◌, List, [], length, map, sum, Some, slice_get, All, AllPairs, FitsSigned}
+use Rattle.std.specs.Cmp.Lexicographic.{slice_cmp}
+use Rattle.std.specs.Int.{w64}
+use Rattle.std.specs.Ordering.{int_cmp, nat_cmp}
+use Rattle.std.specs.declared.cmp.Ordering.{Ordering}
+use Rattle.std.specs.declared.cmp.Ordering.TheVariants.{Less, Greater}
+use Rattle.std.specs.Str.{IsUtf8}
+use Rattle.degree_sequences.specs.Falling.{IsFalling}
+use Rattle.schema_types.specs.declared.types.Column.{Column}
+use Rattle.schema_types.specs.declared.types.Kind.{Kind}
+use Rattle.schema_types.specs.declared.types.Kind.TheVariants as kind
+use Rattle.schema_types.specs.declared.types.Schema.{Schema}
+use Rattle.schema_types.specs.declared.types.Table.{Table}
+use Rattle.stats_file.specs.declared.types.Datum.{Datum}
+use Rattle.stats_file.specs.declared.types.Datum.TheVariants as datum
+use Rattle.stats_file.specs.declared.types.Pair.{Pair}
+use Rattle.stats_file.specs.declared.types.TableStats.{TableStats}
+use Rattle.stats_file.specs.declared.types.StatsFile.{StatsFile}
+
+-- the order of values: numbers by size, texts by their bytes, which is the order of their code points
+abbrev pub datum_cmp : Datum → Datum → Ordering
+datum_cmp (datum.Int a) (datum.Int b) = int_cmp a b
+datum_cmp (datum.Text a) (datum.Text b) = slice_cmp nat_cmp a b
+datum_cmp (datum.Int a) (datum.Text b) = Less
+datum_cmp (datum.Text a) (datum.Int b) = Greater
+
+-- a value for a column of this kind: a signed number of 64 bits, or a text in UTF-8 of any length
+abbrev pub IsOfKind : Kind → Datum → Type 0
+IsOfKind kind.Int (datum.Int number) = FitsSigned w64 number
+IsOfKind kind.Int (datum.Text bytes) = ⊥
+IsOfKind (kind.Text most) (datum.Int number) = ⊥
+IsOfKind (kind.Text most) (datum.Text bytes) = IsUtf8 bytes
+
+-- a list of degrees of so many rows at most: positive numbers that don't rise
+pub record IsList (rows : ℕ) (list : List ℕ) : Type 0 where
+  pub falls : IsFalling list
+  pub positive : All (λ x. 0 < x) list
+  pub within : sum list ≤ rows
+
+-- at most 32 different values of the column, each with a list
+pub record AreFrequent (kind : Kind) (rows : ℕ) (frequent : List (Datum × List ℕ)) : Type 0 where
+  pub few : length frequent ≤ 32
+  pub differ : AllPairs (λ (a b : Datum × List ℕ). a.0 ≢ b.0) frequent
+  pub values : All (λ (f : Datum × List ℕ). IsOfKind kind f.0) frequent
+  pub lists : All (λ (f : Datum × List ℕ). IsList rows f.1) frequent
+
+-- 32 values of the column that don't fall, and 63 lists
+pub record IsTree (kind : Kind) (rows : ℕ) (cuts : List Datum) (nodes : List (List ℕ)) : Type 0 where
+  pub leaves : length cuts ≡ 32
+  pub values : All (IsOfKind kind) cuts
+  pub order : AllPairs (λ a b. datum_cmp a b ≢ Greater) cuts
+  pub all : length nodes ≡ 63
+  pub lists : All (IsList rows) nodes
+
+-- no tree where there are no rows
+abbrev pub IsTreeOf : Kind → ℕ → List Datum → List (List ℕ) → Type 0
+IsTreeOf kind zero cuts nodes = (cuts ≡ []) × (nodes ≡ [])
+IsTreeOf kind (suc n) cuts nodes = IsTree kind (suc n) cuts nodes
+
+-- statistics of two columns of a table with so many rows
+pub record IsPair (table : Table) (rows : ℕ) (pair : Pair) : Type 0 where
+  pub filter : Column
+  pub filter_is : slice_get table.columns pair.filter ≡ Some filter
+  pub joined : pair.joined < length table.columns
+  pub whole : IsList rows pair.whole
+  pub all_rows : sum pair.whole ≡ rows
+  pub frequent : AreFrequent filter.kind rows pair.frequent
+  pub rest : IsList rows pair.rest
+  pub tree : IsTreeOf filter.kind rows pair.cuts pair.nodes
+
+-- ascending by the filter column, and then by the joined column
+abbrev pub StandsBefore : Pair → Pair → Type 0
+StandsBefore a b = (a.filter < b.filter) ⊎ ((a.filter ≡ b.filter) × (a.joined < b.joined))
+
+-- the rows of the same values were counted: values and cuts are the same, and lists at equal places have equal totals
+pub record CountTheSame (a b : Pair) : Type 0 where
+  pub values : map (λ (f : Datum × List ℕ). f.0) a.frequent ≡ map (λ (f : Datum × List ℕ). f.0) b.frequent
+  pub totals : map (λ (f : Datum × List ℕ). sum f.1) a.frequent ≡ map (λ (f : Datum × List ℕ). sum f.1) b.frequent
+  pub rest : sum a.rest ≡ sum b.rest
+  pub cuts : a.cuts ≡ b.cuts
+  pub nodes : map sum a.nodes ≡ map sum b.nodes
+
+-- what pairs with a column in common agree on
+pub record Agree (a b : Pair) : Type 0 where
+  pub joined : a.joined ≡ b.joined → a.whole ≡ b.whole
+  pub filter : a.filter ≡ b.filter → CountTheSame a b
+
+-- statistics of a table of the schema
+pub record IsSection (schema : Schema) (section : TableStats) : Type 0 where
+  pub table : Table
+  pub table_is : slice_get schema.tables section.table ≡ Some table
+  pub rows : section.rows ≤ 4000000
+  pub pairs : All (IsPair table section.rows) section.pairs
+  pub order : AllPairs StandsBefore section.pairs
+  pub agree : AllPairs Agree section.pairs
+
+-- all rules: an accuracy from 1 to 64, and tables in the schema's order, each at most once
+pub record KeepsRules (schema : Schema) (file : StatsFile) : Type 0 where
+  pub least : 1 ≤ file.accuracy
+  pub most : file.accuracy ≤ 64
+  pub order : AllPairs (λ (a b : TableStats). a.table < b.table) file.tables
+  pub tables : All (IsSection schema) file.tables

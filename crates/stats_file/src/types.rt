@@ -1,0 +1,49 @@
+//! What a file of statistics says.
+use base_io::{Name, Seq};
+use piece_math::Pieces;
+
+/// A value of a column.
+#[derive(Debug, Drop)]
+pub enum Datum {
+    Int(i64),
+    Text(Name),
+}
+
+/// The conditional statistics of a joined column by the values of a filter column (SafeBound, sections 3.3 and 3.4):
+/// the degree list of all rows, that of each frequent value, one for the other values, and the lists of a binary tree
+/// over ranges of values, which begin at the cuts. Columns are given by their places in the table.
+#[derive(Debug, Drop)]
+pub struct Pair {
+    pub filter: u32,
+    pub joined: u32,
+    pub whole: Pieces,
+    pub frequent: Seq<(Datum, Pieces)>,
+    pub rest: Pieces,
+    pub cuts: Seq<Datum>,
+    pub nodes: Seq<Pieces>,
+}
+
+/// The statistics of a table, which is given by its place in the schema, with its number of rows.
+#[derive(Debug, Drop)]
+pub struct TableStats {
+    pub table: u32,
+    pub rows: u32,
+    pub pairs: Seq<Pair>,
+}
+
+/// The statistics of tables, compressed with this accuracy.
+#[derive(Debug, Drop)]
+pub struct StatsFile {
+    pub accuracy: u8,
+    pub tables: Seq<TableStats>,
+}
+
+/// Why no file was read. Lines are counted from 1.
+#[derive(Clone, Copy, Debug, PartialEq, Eq)]
+pub enum StatsError {
+    /// No text goes on so from the lines before, or the text ends too early.
+    Syntax { line: u32 },
+    /// A rule on the values is broken here.
+    Rule { line: u32 },
+    NoMemory,
+}

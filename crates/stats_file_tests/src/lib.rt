@@ -1,0 +1,5 @@
+//! Tests of files of statistics.
+#![tactic(auto)]
+
+#[cfg(test)]
+mod tests;
