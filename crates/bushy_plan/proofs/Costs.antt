@@ -1,0 +1,78 @@
+-- The weight of a tree is its greatest bound, or its sum.
+use Rattle.std.proofs.Common.{◌≡◌, ℕ, zero, suc, ◌+◌, ◌*◌, ◌-◌, ◌^◌, ◌<◌, ◌≤◌, min, List, get_or, refl, arith, inl, inr}
+use Rattle.std.proofs.lemmas.Bool.{cases_lt}
+use Rattle.std.proofs.lemmas.Nat.{pow_pos}
+use Rattle.std.proofs.lemmas.Nat.Bits.{bit_at_ones}
+use Rattle.entry_sets.proofs.Bits.{twice}
+use Rattle.bushy_plan.specs.declared.weight.Weight.TheVariants as weight
+use Rattle.bushy_plan.specs.BestTree.{all_of, cost, inner_greatest, inner_sum, total}
+use Rattle.bushy_plan.specs.JoinTrees.{IsFirstEntry, IsTreeOver, JoinTree, leaf, node, entries_of, inner_count}
+use Rattle.bushy_plan.specs.Splits.{weight_of}
+use Rattle.bushy_plan.proofs.Lightest.{joined-beyond, joined-within}
+use Rattle.bushy_plan.proofs.Splitting.{no_leaf}
+
+pub weighs_greatest : (bounds : List ℕ) (tree : JoinTree) → weight_of weight.Greatest bounds tree ≡ inner_greatest bounds tree
+weighs_greatest bounds (leaf entry) = refl
+weighs_greatest bounds (node left right) = rw (weighs_greatest bounds left, weighs_greatest bounds right) refl
+
+pub weighs_sum : (most : ℕ) (bounds : List ℕ) (tree : JoinTree) → inner_greatest bounds tree ≤ most
+    → weight_of (weight.SumWithin most) bounds tree ≡ min (inner_sum bounds tree) (2 ^ 128 - 1)
+weighs_sum most bounds (leaf entry) low = refl
+weighs_sum most bounds (node left right) low =
+    let bound : ℕ = get_or bounds (entries_of left + entries_of right) 0 in
+    omega (
+      arith,
+      joined-within most bound (weight_of (weight.SumWithin most) bounds left) (weight_of (weight.SumWithin most) bounds right) (omega arith),
+      weighs_sum most bounds left (omega arith),
+      weighs_sum most bounds right (omega arith),
+    )
+
+pub weighs_most : (most : ℕ) (bounds : List ℕ) (tree : JoinTree) → most < inner_greatest bounds tree → weight_of (weight.SumWithin most) bounds tree ≡ 2 ^ 128 - 1
+weighs_most most bounds (leaf entry) high = absurd (omega arith)
+weighs_most most bounds (node left right) high =
+    let bound : ℕ = get_or bounds (entries_of left + entries_of right) 0 in
+    elim (cases_lt most bound) [
+      | inl beyond ↦ joined-beyond most bound (weight_of (weight.SumWithin most) bounds left) (weight_of (weight.SumWithin most) bounds right) beyond
+      | inr within ↦ elim (cases_lt most (inner_greatest bounds left)) [
+        | inl above ↦ omega (
+          arith,
+          joined-within most bound (weight_of (weight.SumWithin most) bounds left) (weight_of (weight.SumWithin most) bounds right) within,
+          weighs_most most bounds left above,
+        )
+        | inr below ↦ omega (
+          arith,
+          joined-within most bound (weight_of (weight.SumWithin most) bounds left) (weight_of (weight.SumWithin most) bounds right) within,
+          weighs_most most bounds right (omega arith),
+        )
+      ]
+    ]
+
+-- a table's rows at most at each inner node
+pub sum_small : (bounds : List ℕ) (tree : JoinTree) → inner_greatest bounds tree ≤ 4000000 → inner_sum bounds tree ≤ inner_count tree * 4000000
+sum_small bounds (leaf entry) low = omega arith
+sum_small bounds (node left right) low = omega (arith, sum_small bounds left (omega arith), sum_small bounds right (omega arith))
+
+pub greatest_at_most_cost : (bounds : List ℕ) (tree : JoinTree) → inner_greatest bounds tree ≤ cost bounds tree
+greatest_at_most_cost bounds (leaf entry) = omega arith
+greatest_at_most_cost bounds (node left right) = omega arith
+
+-- ---- trees over all entries
+
+pub first_of_all : (n : ℕ) → 0 < n → IsFirstEntry (all_of n) 0
+first_of_all n some = record { is_in = bit_at_ones n 0 some; none_before = λ entry below. absurd (omega arith) }
+
+pub more_than_first : (n : ℕ) → 1 < n → 0 < all_of n - 2 ^ 0
+more_than_first zero h = absurd (omega arith)
+more_than_first (suc zero) h = absurd (omega arith)
+more_than_first (suc (suc n)) h = omega (arith, twice (suc n), twice n, pow_pos n)
+
+pub no_leaf_of_all : (n entry : ℕ) → 1 < n → IsTreeOver (all_of n) (leaf entry) → ⊥
+no_leaf_of_all n entry more is_tree = no_leaf (all_of n) 0 entry (first_of_all n (omega arith)) (more_than_first n more) is_tree
+
+pub cost_inside : (bounds : List ℕ) (n : ℕ) (tree : JoinTree) → 1 < n → IsTreeOver (all_of n) tree → cost bounds tree ≡ inner_greatest bounds tree
+cost_inside bounds n (leaf entry) more is_tree = absurd (no_leaf_of_all n entry more is_tree)
+cost_inside bounds n (node left right) more is_tree = refl
+
+pub total_inside : (bounds : List ℕ) (n : ℕ) (tree : JoinTree) → 1 < n → IsTreeOver (all_of n) tree → total bounds tree ≡ inner_sum bounds tree
+total_inside bounds n (leaf entry) more is_tree = absurd (no_leaf_of_all n entry more is_tree)
+total_inside bounds n (node left right) more is_tree = refl

@@ -1,0 +1,13 @@
+pub mod Parts
+pub mod Splitting
+pub mod Lightest
+pub mod ReadingOff
+pub mod Costs
+pub mod Numbering
+pub mod Found
+pub mod LeftDeep
+pub mod Whole
+pub mod OneBest
+pub mod AllTrees
+pub mod SomeBest
+pub mod Tested

@@ -1,0 +1,147 @@
+-- The least weight of a tree over a set, from those over its parts.
+use Rattle.std.proofs.Common.{◌≡◌, ℕ, ◌+◌, ◌-◌, ◌^◌, ◌<◌, ◌≤◌, min, List, get_or, refl, ap, sym, ◌∙◌, subst, arith, inl, inr}
+use Rattle.std.specs.Prelude.{◌⊎◌, bit_and}
+use Rattle.std.proofs.lemmas.Bool.{cases_lt, cases_order, le-leb, lt-leb}
+use Rattle.bushy_plan.specs.declared.weight.Weight.{Weight}
+use Rattle.bushy_plan.specs.declared.weight.Weight.TheVariants as weight
+use Rattle.bushy_plan.specs.JoinTrees.{IsFirstEntry, IsSplit, IsTreeOver, JoinTree, leaf, node, entries_of}
+use Rattle.bushy_plan.specs.Splits.{IsLeastWeight, IsTable, joined, weight_of, weight_through}
+use Rattle.bushy_plan.proofs.Parts.{IsPart, itself, common_part, none_between, part_le}
+use Rattle.bushy_plan.proofs.Splitting.{no_leaf, only_leaf, part_of_split, some_entries, split_of_part, split_right_le, tree_set}
+
+pub joined-within : (most bound left right : ℕ) → bound ≤ most → joined (weight.SumWithin most) bound left right ≡ min (bound + left + right) (2 ^ 128 - 1)
+joined-within most bound left right h = rw (le-leb bound most h) refl
+
+pub joined-beyond : (most bound left right : ℕ) → most < bound → joined (weight.SumWithin most) bound left right ≡ 2 ^ 128 - 1
+joined-beyond most bound left right h = rw (lt-leb bound most h) refl
+
+pub joined-mono : (w : Weight) (bound a b c d : ℕ) → a ≤ c → b ≤ d → joined w bound a b ≤ joined w bound c d
+joined-mono weight.Greatest bound a b c d h k = omega arith
+joined-mono (weight.SumWithin most) bound a b c d h k = elim (cases_lt most bound) [
+  | inl beyond ↦ omega (arith, joined-beyond most bound a b beyond, joined-beyond most bound c d beyond)
+  | inr within ↦ omega (arith, joined-within most bound a b within, joined-within most bound c d within)
+]
+
+-- the right sets above this one were tried
+pub record Tried (w : Weight) (bounds table : List ℕ) (set behind right least : ℕ) : Type 0 where
+  pub is_part : IsPart right behind
+  pub above : (other : ℕ) → IsPart other behind → right < other → (least ≤ weight_through w bounds table set other) × (weight_through w bounds table set other < 2 ^ 128)
+  pub found : (least ≡ 2 ^ 128 - 1) ⊎ ((other : ℕ) × IsPart other behind × (0 < other) × (weight_through w bounds table set other ≡ least))
+
+pub tried_none : (w : Weight) (bounds table : List ℕ) (set behind : ℕ) → Tried w bounds table set behind behind (2 ^ 128 - 1)
+tried_none w bounds table set behind = record {
+  is_part = itself behind;
+  above = λ other is_other h. absurd (omega (arith, part_le other behind is_other));
+  found = inl refl;
+}
+
+pub tried_more : (w : Weight) (bounds table : List ℕ) (set behind right least through : ℕ) → Tried w bounds table set behind right least → 0 < right
+    → through ≡ weight_through w bounds table set right → through < 2 ^ 128 → Tried w bounds table set behind (bit_and (right - 1) behind) (min least through)
+tried_more w bounds table set behind right least through tried some is fits = record {
+  is_part = common_part (right - 1) behind;
+  above = λ other is_other h. elim (cases_order other right) [
+    | inl same ↦ (let this : weight_through w bounds table set other ≡ through = ap (weight_through w bounds table set) same ∙ sym is in
+        (omega arith, omega arith))
+    | inr apart ↦ elim apart [
+      | inl below ↦ absurd (omega (arith, none_between right behind other tried.is_part is_other below))
+      | inr above ↦ (let before : (least ≤ weight_through w bounds table set other) × (weight_through w bounds table set other < 2 ^ 128) = tried.above other is_other above in
+          (omega arith, before.1))
+    ]
+  ];
+  found = elim (cases_lt through least) [
+    | inl lighter ↦ (let is_min : min least through ≡ through = omega arith in inr (right, tried.is_part, some, sym is ∙ sym is_min))
+    | inr heavier ↦ (let is_min : min least through ≡ least = omega arith in
+        subst (λ (v : ℕ). (v ≡ 2 ^ 128 - 1) ⊎ ((other : ℕ) × IsPart other behind × (0 < other) × (weight_through w bounds table set other ≡ v))) (sym is_min) tried.found)
+  ];
+}
+
+-- a set of one entry has its leaf
+pub least_of_one : (w : Weight) (bounds : List ℕ) (set first : ℕ) → IsFirstEntry set first → set - 2 ^ first ≡ 0 → IsLeastWeight w bounds set 0
+least_of_one w bounds set first is_first none = record {
+  tree = leaf first;
+  is_tree = only_leaf set first is_first none;
+  weighs = refl;
+  none_lighter = λ other is_tree. omega arith;
+}
+
+-- a lightest tree with this right set, by the table
+pub record Through (w : Weight) (bounds table : List ℕ) (set right : ℕ) : Type 0 where
+  pub tree : JoinTree
+  pub is_tree : IsTreeOver set tree
+  pub weighs : weight_of w bounds tree ≡ weight_through w bounds table set right
+
+pub tree_through : (w : Weight) (bounds table : List ℕ) (set right : ℕ) → IsSplit set (set - right) right
+    → IsLeastWeight w bounds (set - right) (get_or table (set - right) 0) → IsLeastWeight w bounds right (get_or table right 0) → Through w bounds table set right
+tree_through w bounds table set right split left_side right_side =
+    let left_set : entries_of left_side.tree ≡ set - right = tree_set (set - right) left_side.tree left_side.is_tree in
+    let right_set : entries_of right_side.tree ≡ right = tree_set right right_side.tree right_side.is_tree in
+    let whole : entries_of left_side.tree + entries_of right_side.tree ≡ set = omega (arith, left_set, right_set, split_right_le set (set - right) right split) in
+    record {
+      tree = node left_side.tree right_side.tree;
+      is_tree = (
+        subst (λ (k : ℕ). IsSplit set k (entries_of right_side.tree)) (sym left_set) (subst (λ (k : ℕ). IsSplit set (set - right) k) (sym right_set) split),
+        subst (λ (k : ℕ). IsTreeOver k left_side.tree) (sym left_set) left_side.is_tree,
+        subst (λ (k : ℕ). IsTreeOver k right_side.tree) (sym right_set) right_side.is_tree,
+      );
+      weighs = ap (λ k. joined w (get_or bounds k 0) (weight_of w bounds left_side.tree) (weight_of w bounds right_side.tree)) whole
+          ∙ ap (λ k. joined w (get_or bounds set 0) k (weight_of w bounds right_side.tree)) left_side.weighs
+          ∙ ap (λ k. joined w (get_or bounds set 0) (get_or table (set - right) 0) k) right_side.weighs;
+    }
+
+-- no tree with these sides is lighter than through the table
+pub through_is_least : (w : Weight) (bounds table : List ℕ) (set end : ℕ) (left right : JoinTree) → set ≤ end → IsTable w bounds table end → IsTreeOver set (node left right)
+    → weight_through w bounds table set (entries_of right) ≤ weight_of w bounds (node left right)
+through_is_least w bounds table set end left right h is_table is_tree =
+    let whole : entries_of left + entries_of right ≡ set = tree_set set (node left right) is_tree in
+    let left_set : set - entries_of right ≡ entries_of left = omega arith in
+    let left_least : get_or table (entries_of left) 0 ≤ weight_of w bounds left =
+    (is_table (entries_of left) (some_entries left) (omega (arith, some_entries right))).none_lighter left is_tree.1 in
+    let right_least : get_or table (entries_of right) 0 ≤ weight_of w bounds right =
+    (is_table (entries_of right) (some_entries right) (omega (arith, some_entries left))).none_lighter right is_tree.2 in
+    omega (
+      arith,
+      joined-mono w (get_or bounds set 0) (get_or table (set - entries_of right) 0) (get_or table (entries_of right) 0) (weight_of w bounds left) (weight_of w bounds right)
+          (omega (arith, left_least, ap (λ k. get_or table k 0) left_set)) right_least,
+      ap (λ k. joined w (get_or bounds k 0) (weight_of w bounds left) (weight_of w bounds right)) whole,
+    )
+
+-- both sides of a split stand in the table
+pub left_in_table : (w : Weight) (bounds table : List ℕ) (set end right : ℕ) → set ≤ end → IsTable w bounds table end → IsSplit set (set - right) right
+    → IsLeastWeight w bounds (set - right) (get_or table (set - right) 0)
+left_in_table w bounds table set end right h is_table split =
+    is_table (set - right) split.some_left (omega (arith, split.some_right, split.some_left))
+
+pub right_in_table : (w : Weight) (bounds table : List ℕ) (set end right : ℕ) → set ≤ end → IsTable w bounds table end → IsSplit set (set - right) right
+    → IsLeastWeight w bounds right (get_or table right 0)
+right_in_table w bounds table set end right h is_table split =
+    is_table right split.some_right (omega (arith, split.some_left, split.some_right))
+
+pub least_of_tried : (w : Weight) (bounds table : List ℕ) (set first least : ℕ) → IsFirstEntry set first → 0 < set - 2 ^ first → IsTable w bounds table set
+    → Tried w bounds table set (set - 2 ^ first) 0 least → IsLeastWeight w bounds set least
+least_of_tried w bounds table set first least is_first more is_table tried = elim tried.found [
+  | inl heaviest ↦ (let its : (least ≤ weight_through w bounds table set (set - 2 ^ first)) × (weight_through w bounds table set (set - 2 ^ first) < 2 ^ 128) =
+      tried.above (set - 2 ^ first) (itself (set - 2 ^ first)) more in
+      made (set - 2 ^ first) (itself (set - 2 ^ first)) more (omega (arith, its.0, its.1, heaviest)))
+  | inr one ↦ made one.0 one.1 one.2 one.3
+]
+  where
+    none_lighter : (other : JoinTree) → IsTreeOver set other → least ≤ weight_of w bounds other
+    none_lighter (leaf entry) is_tree = absurd (no_leaf set first entry is_first more is_tree)
+    none_lighter (node left right) is_tree =
+        omega (
+          arith,
+          (tried.above (entries_of right) (part_of_split set first (entries_of left) (entries_of right) is_first is_tree.0) (some_entries right)).0,
+          through_is_least w bounds table set set left right (omega arith) is_table is_tree,
+        )
+
+    made : (right : ℕ) → IsPart right (set - 2 ^ first) → 0 < right → weight_through w bounds table set right ≡ least → IsLeastWeight w bounds set least
+    made right is_part some is =
+        let split : IsSplit set (set - right) right = split_of_part set first right is_first is_part some in
+        let through : Through w bounds table set right =
+        tree_through w bounds table set right split (left_in_table w bounds table set set right (omega arith) is_table split) (right_in_table w bounds table set set right (omega arith) is_table split) in
+        record {
+          tree = through.tree;
+          is_tree = through.is_tree;
+          weighs = through.weighs ∙ is;
+          none_lighter = none_lighter;
+        }

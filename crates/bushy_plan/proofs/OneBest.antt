@@ -1,0 +1,74 @@
+-- There is no second best tree, and no second answer.
+use Rattle.std.proofs.Common.{◌≡◌, ℕ, ◌-◌, ◌^◌, ◌≤◌, List, refl, ap, sym, ◌∙◌, subst, arith, inl, inr}
+use Rattle.std.specs.Prelude.{◌⊎◌}
+use Rattle.std.proofs.lemmas.Bool.{cases_order}
+use Rattle.bushy_plan.specs.BestTree.{IsBefore, IsBest, IsLeastCost, cost, total}
+use Rattle.bushy_plan.specs.Causes.{IsCause}
+use Rattle.bushy_plan.specs.JoinTrees.{IsSplit, IsTreeOver, JoinTree, leaf, node, entries_of}
+use Rattle.bushy_plan.specs.declared.refusal.BushyError.{BushyError}
+use Rattle.bushy_plan.specs.declared.refusal.BushyError.TheVariants as error
+use Rattle.bushy_plan.proofs.Splitting.{no_split_of_one, same_power, tree_set}
+
+-- one of two trees over a set comes before the other, or they are the same
+ordered : (set : ℕ) (a b : JoinTree) → IsTreeOver set a → IsTreeOver set b → (a ≡ b) ⊎ (IsBefore a b ⊎ IsBefore b a)
+ordered set (leaf x) (leaf y) p q = inl (ap leaf (same_power x y (sym p ∙ q)))
+ordered set (leaf x) (node l r) p q = absurd (no_split_of_one x (entries_of l) (entries_of r) (subst (λ (k : ℕ). IsSplit k (entries_of l) (entries_of r)) p q.0))
+ordered set (node l r) (leaf y) p q = absurd (no_split_of_one y (entries_of l) (entries_of r) (subst (λ (k : ℕ). IsSplit k (entries_of l) (entries_of r)) q p.0))
+ordered set (node l r) (node l' r') p q = elim (cases_order (entries_of l) (entries_of l')) [
+  | inr apart ↦ elim apart [
+    | inl below ↦ inr (inl (inl below))
+    | inr above ↦ inr (inr (inl above))
+  ]
+  | inl same ↦ (let right_same : entries_of r' ≡ entries_of r = omega (arith, tree_set set (node l r) p, tree_set set (node l' r') q, same) in
+      elim (ordered (entries_of l) l l' p.1 (subst (λ (k : ℕ). IsTreeOver k l') (sym same) q.1)) [
+        | inr left_apart ↦ elim left_apart [
+          | inl before ↦ inr (inl (inr (same, inl before)))
+          | inr behind ↦ inr (inr (inr (sym same, inl behind)))
+        ]
+        | inl left_same ↦ elim (ordered (entries_of r) r r' p.2 (subst (λ (k : ℕ). IsTreeOver k r') right_same q.2)) [
+          | inr right_apart ↦ elim right_apart [
+            | inl before ↦ inr (inl (inr (same, inr (left_same, before))))
+            | inr behind ↦ inr (inr (inr (sym same, inr (sym left_same, behind))))
+          ]
+          | inl equal ↦ inl (ap (λ t. node t r) left_same ∙ ap (λ t. node l' t) equal)
+        ]
+      ])
+]
+
+pub one_best : (bounds : List ℕ) (n : ℕ) (a b : JoinTree) → IsBest bounds n a → IsBest bounds n b → a ≡ b
+one_best bounds n a b p q =
+    let costs : cost bounds b ≡ cost bounds a = omega (arith, p.none_cheaper b q.is_tree, q.none_cheaper a p.is_tree) in
+    let totals : total bounds b ≡ total bounds a = omega (arith, p.none_smaller b q.is_tree costs, q.none_smaller a p.is_tree (sym costs)) in
+    elim (ordered (2 ^ n - 1) a b p.is_tree q.is_tree) [
+      | inl same ↦ same
+      | inr apart ↦ elim apart [
+        | inl before ↦ absurd (q.none_earlier a p.is_tree (sym costs) (sym totals) before)
+        | inr behind ↦ absurd (p.none_earlier b q.is_tree costs totals behind)
+      ]
+    ]
+
+one_least : (bounds : List ℕ) (n a b : ℕ) → IsLeastCost bounds n a → IsLeastCost bounds n b → a ≡ b
+one_least bounds n a b p q = omega (arith, p.none_cheaper q.tree q.is_tree, q.none_cheaper p.tree p.is_tree, p.costs, q.costs)
+
+pub accepted : (bounds : List ℕ) (n budget : ℕ) (best : JoinTree) (e : BushyError) → budget ≤ 4000000 → IsBest bounds n best → cost bounds best ≤ budget → IsCause bounds n budget e → e ≡ error.NoMemory
+accepted bounds n budget best (error.Budget least) few is_best within cause = absurd (omega (arith, cause.0.none_cheaper best is_best.is_tree))
+accepted bounds n budget best error.PastBits few is_best within cause = absurd (omega (arith, cause.1.none_cheaper best is_best.is_tree))
+accepted bounds n budget best error.NoMemory few is_best within cause = refl
+
+pub refused : (bounds : List ℕ) (n budget : ℕ) (e f : BushyError) → IsCause bounds n budget e → IsCause bounds n budget f → (e ≡ error.NoMemory) ⊎ ((f ≡ error.NoMemory) ⊎ (e ≡ f))
+refused bounds n budget error.NoMemory f p q = inl refl
+refused bounds n budget (error.Budget a) error.NoMemory p q = inr (inl refl)
+refused bounds n budget error.PastBits error.NoMemory p q = inr (inl refl)
+refused bounds n budget (error.Budget a) (error.Budget b) p q = inr (inr (ap error.Budget (one_least bounds n a b p.0 q.0)))
+refused bounds n budget (error.Budget a) error.PastBits p q = absurd (omega (arith, one_least bounds n a q.0 p.0 q.1))
+refused bounds n budget error.PastBits (error.Budget b) p q = absurd (omega (arith, one_least bounds n b p.0 q.0 p.1))
+refused bounds n budget error.PastBits error.PastBits p q = inr (inr refl)
+
+-- the cost of the best tree is the least
+pub least_of_best : (bounds : List ℕ) (n : ℕ) (best : JoinTree) → IsBest bounds n best → IsLeastCost bounds n (cost bounds best)
+least_of_best bounds n best is_best = record {
+  tree = best;
+  is_tree = is_best.is_tree;
+  costs = refl;
+  none_cheaper = is_best.none_cheaper;
+}

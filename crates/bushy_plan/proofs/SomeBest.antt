@@ -1,0 +1,357 @@
+-- Of the trees over any number of entries one is best.
+use Rattle.std.proofs.Common.{◌≡◌, ℕ, zero, suc, ◌+◌, ◌-◌, ◌^◌, ◌<◌, List, [], ◌∷◌, ◌++◌, length, refl, ap, sym, ◌∙◌, subst, arith, inl, inr}
+use Rattle.std.specs.Prelude.{◌⊎◌}
+use Rattle.std.specs.Int.{bit_at}
+use Rattle.std.proofs.lemmas.Bool.{cases_eq, cases_lt, cases_order}
+use Rattle.std.proofs.lemmas.List.{length-append}
+use Rattle.std.proofs.lemmas.Nat.{pow_pos}
+use Rattle.std.proofs.lemmas.Nat.Bits.{bit_at-lt, bit_at-pow_other, bit_at_above}
+use Rattle.entry_sets.proofs.Bits.{twice}
+use Rattle.order_search.specs.Orders.{IsNotAfter}
+use Rattle.bushy_plan.specs.BestTree.{IsBefore, IsBest, all_of, cost, total}
+use Rattle.bushy_plan.specs.JoinTrees.{IsFirstEntry, IsSplit, IsTreeOver, JoinTree, leaf, node, entries_of, inner_count}
+use Rattle.bushy_plan.proofs.AllTrees.{IsWith, only_last, without_last}
+use Rattle.bushy_plan.proofs.LeftDeep.{bit_with, split_with_first, tree_first}
+use Rattle.bushy_plan.proofs.Numbering.{count_by_size}
+use Rattle.bushy_plan.proofs.Splitting.{first_of_power, some_entries, split_sum, tree_set}
+
+-- ---- a tree with one more entry is a tree
+
+no_last : (set last : ℕ) → set < 2 ^ last → bit_at set last ≡ 0
+no_last set last fits = bit_at_above set last last fits (omega arith)
+
+first_below : (set last first : ℕ) → set < 2 ^ last → IsFirstEntry set first → first < last
+first_below set last first fits is_first = elim (cases_lt first last) [
+  | inl below ↦ below
+  | inr above ↦ absurd (omega (arith, bit_at_above set last first fits above, is_first.is_in))
+]
+
+pub at_root : (set last : ℕ) (tree : JoinTree) → set < 2 ^ last → IsTreeOver set tree → IsTreeOver (set + 2 ^ last) (node tree (leaf last))
+at_root set last tree fits is_tree =
+    let set_is : entries_of tree ≡ set = tree_set set tree is_tree in
+    let first : (first : ℕ) × IsFirstEntry set first = tree_first set tree is_tree in (
+      subst (λ (k : ℕ). IsSplit (set + 2 ^ last) k (2 ^ last)) (sym set_is)
+          (split_with_first (set + 2 ^ last) set (2 ^ last) first.0 last (λ entry. sym (bit_with set last entry (no_last set last fits))) (omega (arith, set_is, some_entries tree)) (pow_pos last)
+          first.1 (first_of_power last) (first_below set last first.0 fits first.1)),
+      subst (λ (k : ℕ). IsTreeOver k tree) (sym set_is) is_tree,
+      refl,
+    )
+
+-- the first entry of a set and a last one is the set's
+first_with : (set last first : ℕ) → 0 < set → set < 2 ^ last → (own : ℕ) → IsFirstEntry set own → IsFirstEntry (set + 2 ^ last) first → IsFirstEntry set first
+first_with set last first some fits own is_own is_first = elim (cases_order first own) [
+  | inl same ↦ subst (λ (k : ℕ). IsFirstEntry set k) (sym same) is_own
+  | inr apart ↦ elim apart [
+    | inl below ↦ absurd (omega (
+      arith,
+      bit_with set last first (no_last set last fits),
+      is_own.none_before first below,
+      bit_at-pow_other last first (λ same. absurd (omega (arith, first_below set last own fits is_own))),
+      is_first.is_in,
+    ))
+    | inr above ↦ absurd (omega (arith, bit_with set last own (no_last set last fits), is_own.is_in, is_first.none_before own above))
+  ]
+]
+
+split_left_with : (set left right last own : ℕ) → set < 2 ^ last → left < 2 ^ last → IsFirstEntry set own → IsSplit set left right → IsSplit (set + 2 ^ last) (left + 2 ^ last) right
+split_left_with set left right last own fits left_fits is_own split = record {
+  apart = λ entry. omega (arith, split.apart entry, bit_with set last entry (no_last set last fits), bit_with left last entry (no_last left last left_fits));
+  some_left = omega (arith, split.some_left);
+  some_right = split.some_right;
+  first_left = λ first is_first. (let its : bit_at left first ≡ 1 = split.first_left first (first_with set last first (omega (arith, some_set)) fits own is_own is_first) in
+      omega (arith, bit_with left last first (no_last left last left_fits), its, bit_at-lt (left + 2 ^ last) first));
+}
+  where
+    some_set : 0 < set
+    some_set = elim (cases_eq set 0) [
+      | inl none ↦ absurd (omega (arith, is_own.is_in, ap (λ k. bit_at k own) none, bit_at_above 0 0 own (omega arith) (omega arith)))
+      | inr more ↦ omega arith
+    ]
+
+split_right_with : (set left right last own : ℕ) → set < 2 ^ last → right < 2 ^ last → IsFirstEntry set own → IsSplit set left right → IsSplit (set + 2 ^ last) left (right + 2 ^ last)
+split_right_with set left right last own fits right_fits is_own split = record {
+  apart = λ entry. omega (arith, split.apart entry, bit_with set last entry (no_last set last fits), bit_with right last entry (no_last right last right_fits));
+  some_left = split.some_left;
+  some_right = omega (arith, split.some_right);
+  first_left = λ first is_first. split.first_left first (first_with set last first (omega (arith, some_set)) fits own is_own is_first);
+}
+  where
+    some_set : 0 < set
+    some_set = elim (cases_eq set 0) [
+      | inl none ↦ absurd (omega (arith, is_own.is_in, ap (λ k. bit_at k own) none, bit_at_above 0 0 own (omega arith) (omega arith)))
+      | inr more ↦ omega arith
+    ]
+
+pub with_over : (set last : ℕ) (rest tree : JoinTree) → set < 2 ^ last → IsTreeOver set rest → IsWith last rest tree → IsTreeOver (set + 2 ^ last) tree
+with_over set last (leaf entry) tree fits is_tree is_with = subst (λ (t : JoinTree). IsTreeOver (set + 2 ^ last) t) (sym is_with) (at_root set last (leaf entry) fits is_tree)
+with_over set last (node left right) tree fits is_tree is_with = elim is_with [
+  | inl root ↦ subst (λ (t : JoinTree). IsTreeOver (set + 2 ^ last) t) (sym root) (at_root set last (node left right) fits is_tree)
+  | inr inner ↦ elim inner [
+    | inl l ↦ (let grown : IsTreeOver (entries_of left + 2 ^ last) l.0 = with_over (entries_of left) last left l.0 (omega (arith, whole)) is_tree.1 l.1 in
+        let grown_set : entries_of l.0 ≡ entries_of left + 2 ^ last = tree_set (entries_of left + 2 ^ last) l.0 grown in
+        subst (λ (t : JoinTree). IsTreeOver (set + 2 ^ last) t) (sym l.2) (
+          subst (λ (k : ℕ). IsSplit (set + 2 ^ last) k (entries_of right)) (sym grown_set) (split_left_with set (entries_of left) (entries_of right) last first.0 fits (omega (arith, whole)) first.1 is_tree.0),
+          subst (λ (k : ℕ). IsTreeOver k l.0) (sym grown_set) grown,
+          is_tree.2,
+        ))
+    | inr r ↦ (let grown : IsTreeOver (entries_of right + 2 ^ last) r.0 = with_over (entries_of right) last right r.0 (omega (arith, whole)) is_tree.2 r.1 in
+        let grown_set : entries_of r.0 ≡ entries_of right + 2 ^ last = tree_set (entries_of right + 2 ^ last) r.0 grown in
+        subst (λ (t : JoinTree). IsTreeOver (set + 2 ^ last) t) (sym r.2) (
+          subst (λ (k : ℕ). IsSplit (set + 2 ^ last) (entries_of left) k) (sym grown_set) (split_right_with set (entries_of left) (entries_of right) last first.0 fits (omega (arith, whole)) first.1 is_tree.0),
+          is_tree.1,
+          subst (λ (k : ℕ). IsTreeOver k r.0) (sym grown_set) grown,
+        ))
+  ]
+]
+  where
+    whole : entries_of left + entries_of right ≡ set
+    whole = split_sum set (entries_of left) (entries_of right) is_tree.0
+
+    first : (first : ℕ) × IsFirstEntry set first
+    first = tree_first set (node left right) is_tree
+
+-- ---- by any order in which two trees can be compared, some tree is least
+
+record IsOrder (R : JoinTree → JoinTree → Type 0) : Type 0 where
+  either : (a b : JoinTree) → R a b ⊎ R b a
+  both : (a b c : JoinTree) → R a b → R b c → R a c
+
+through : (R : JoinTree → JoinTree → Type 0) (f : JoinTree → JoinTree) → IsOrder R → IsOrder (λ a b. R (f a) (f b))
+through R f order = record { either = λ a b. order.either (f a) (f b); both = λ a b c. order.both (f a) (f b) (f c) }
+
+itself : (R : JoinTree → JoinTree → Type 0) → IsOrder R → (a : JoinTree) → R a a
+itself R order a = elim (order.either a a) [
+  | inl p ↦ p
+  | inr q ↦ q
+]
+
+record LeastWith (R : JoinTree → JoinTree → Type 0) (last : ℕ) (rest : JoinTree) : Type 0 where
+  tree : JoinTree
+  is_with : IsWith last rest tree
+  least : (other : JoinTree) → IsWith last rest other → R tree other
+
+-- of the root and the least on either side, the least
+least_of_three : (R : JoinTree → JoinTree → Type 0) → IsOrder R → (last : ℕ) (left right : JoinTree) → LeastWith (λ a b. R (node a right) (node b right)) last left
+    → LeastWith (λ a b. R (node left a) (node left b)) last right → LeastWith R last (node left right)
+least_of_three R order last left right l r = elim (order.either (node l.tree right) (node left r.tree)) [
+  | inl left_first ↦ elim (order.either root (node l.tree right)) [
+    | inl p ↦ made root (inl refl) (itself R order root) p (order.both root (node l.tree right) (node left r.tree) p left_first)
+    | inr q ↦ made (node l.tree right) (inr (inl (l.tree, l.is_with, refl))) q (itself R order (node l.tree right)) left_first
+  ]
+  | inr right_first ↦ elim (order.either root (node left r.tree)) [
+    | inl p ↦ made root (inl refl) (itself R order root) (order.both root (node left r.tree) (node l.tree right) p right_first) p
+    | inr q ↦ made (node left r.tree) (inr (inr (r.tree, r.is_with, refl))) q right_first (itself R order (node left r.tree))
+  ]
+]
+  where
+    root : JoinTree
+    root = node (node left right) (leaf last)
+
+    made : (tree : JoinTree) → IsWith last (node left right) tree → R tree root → R tree (node l.tree right) → R tree (node left r.tree) → LeastWith R last (node left right)
+    made tree is_with than_root than_left than_right = record {
+      tree = tree;
+      is_with = is_with;
+      least = λ other other_with. elim other_with [
+        | inl at ↦ subst (λ (t : JoinTree). R tree t) (sym at) than_root
+        | inr inner ↦ elim inner [
+          | inl x ↦ subst (λ (t : JoinTree). R tree t) (sym x.2) (order.both tree (node l.tree right) (node x.0 right) than_left (l.least x.0 x.1))
+          | inr y ↦ subst (λ (t : JoinTree). R tree t) (sym y.2) (order.both tree (node left r.tree) (node left y.0) than_right (r.least y.0 y.1))
+        ]
+      ];
+    }
+
+least_with : (R : JoinTree → JoinTree → Type 0) → IsOrder R → (last : ℕ) (rest : JoinTree) → LeastWith R last rest
+least_with R order last (leaf entry) = record {
+  tree = node (leaf entry) (leaf last);
+  is_with = refl;
+  least = λ other is_with. subst (λ (t : JoinTree). R (node (leaf entry) (leaf last)) t) (sym is_with) (itself R order (node (leaf entry) (leaf last)));
+}
+least_with R order last (node left right) =
+    least_of_three R order last left right
+    (least_with (λ a b. R (node a right) (node b right)) (through R (λ t. node t right) order) last left)
+    (least_with (λ a b. R (node left a) (node left b)) (through R (λ t. node left t) order) last right)
+
+record Least (R : JoinTree → JoinTree → Type 0) (n : ℕ) : Type 0 where
+  tree : JoinTree
+  is_tree : IsTreeOver (all_of n) tree
+  least : (other : JoinTree) → IsTreeOver (all_of n) other → R tree other
+
+-- the tree with the last entry at its best place
+grown : (R : JoinTree → JoinTree → Type 0) → IsOrder R → ℕ → JoinTree → JoinTree
+grown R order last t = (least_with R order last t).tree
+
+least_next : (R : JoinTree → JoinTree → Type 0) (order : IsOrder R) (n : ℕ) → Least (λ a b. R (grown R order (suc n) a) (grown R order (suc n) b)) (suc n) → Least R (suc (suc n))
+unfolding grown
+least_next R order n best = record {
+  tree = grown R order (suc n) best.tree;
+  is_tree = subst (λ (k : ℕ). IsTreeOver k (grown R order (suc n) best.tree)) whole
+      (with_over (all_of (suc n)) (suc n) best.tree (grown R order (suc n) best.tree) (omega (arith, pow_pos (suc n))) best.is_tree (least_with R order (suc n) best.tree).is_with);
+  least = λ other is_tree. (let rest : (rest : JoinTree) × IsTreeOver (all_of (suc n)) rest × IsWith (suc n) rest other = without_last n other is_tree in
+      order.both (grown R order (suc n) best.tree) (grown R order (suc n) rest.0) other (best.least rest.0 rest.1) ((least_with R order (suc n) rest.0).least other rest.2));
+}
+  where
+    whole : 2 ^ suc n - 1 + 2 ^ suc n ≡ 2 ^ suc (suc n) - 1
+    whole = omega (arith, twice (suc n), pow_pos (suc n))
+
+least_of_all : (R : JoinTree → JoinTree → Type 0) → IsOrder R → (n : ℕ) → 0 < n → Least R n
+least_of_all R order zero some = absurd (omega arith)
+least_of_all R order (suc zero) some = record {
+  tree = leaf 0;
+  is_tree = refl;
+  least = λ other is_tree. subst (λ (t : JoinTree). R (leaf 0) t) (sym (only_last 0 other is_tree)) (itself R order (leaf 0));
+}
+least_of_all R order (suc (suc n)) some =
+    least_next R order n
+    (least_of_all (λ a b. R (grown R order (suc n) a) (grown R order (suc n) b)) (through R (λ t. grown R order (suc n) t) order) (suc n) (omega arith))
+
+-- ---- the order by cost, then by sum, then by the left sets as they are read from the root on
+
+abbrev left_sets : JoinTree → List ℕ
+left_sets (leaf entry) = []
+left_sets (node left right) = entries_of left ∷ (left_sets left ++ left_sets right)
+
+place_either : (a b : List ℕ) → IsNotAfter a b ⊎ IsNotAfter b a
+place_either [] b = inl tt
+place_either (x ∷ a) [] = inr tt
+place_either (x ∷ a) (y ∷ b) = elim (cases_order x y) [
+  | inl same ↦ elim (place_either a b) [
+    | inl p ↦ inl (inr (same, p))
+    | inr q ↦ inr (inr (sym same, q))
+  ]
+  | inr apart ↦ elim apart [
+    | inl below ↦ inl (inl below)
+    | inr above ↦ inr (inl above)
+  ]
+]
+
+place_both : (a b c : List ℕ) → IsNotAfter a b → IsNotAfter b c → IsNotAfter a c
+place_both [] b c p q = tt
+place_both (x ∷ a) [] c p q = absurd p
+place_both (x ∷ a) (y ∷ b) [] p q = absurd q
+place_both (x ∷ a) (y ∷ b) (z ∷ c) p q = elim p [
+  | inl below ↦ elim q [
+    | inl further ↦ inl (omega arith)
+    | inr same ↦ inl (omega (arith, same.0))
+  ]
+  | inr here ↦ elim q [
+    | inl further ↦ inl (omega (arith, here.0))
+    | inr same ↦ inr (here.0 ∙ same.0, place_both a b c here.1 same.1)
+  ]
+]
+
+abbrev First : (JoinTree → ℕ) → (JoinTree → JoinTree → Type 0) → JoinTree → JoinTree → Type 0
+First f Then a b = (f a < f b) ⊎ ((f a ≡ f b) × Then a b)
+
+first_order : (f : JoinTree → ℕ) (Then : JoinTree → JoinTree → Type 0) → IsOrder Then → IsOrder (First f Then)
+first_order f Then order = record {
+  either = λ a b. elim (cases_order (f a) (f b)) [
+    | inl same ↦ elim (order.either a b) [
+      | inl p ↦ inl (inr (same, p))
+      | inr q ↦ inr (inr (sym same, q))
+    ]
+    | inr apart ↦ elim apart [
+      | inl below ↦ inl (inl below)
+      | inr above ↦ inr (inl above)
+    ]
+  ];
+  both = λ a b c p q. elim p [
+    | inl below ↦ elim q [
+      | inl further ↦ inl (omega arith)
+      | inr same ↦ inl (omega (arith, same.0))
+    ]
+    | inr here ↦ elim q [
+      | inl further ↦ inl (omega (arith, here.0))
+      | inr same ↦ inr (here.0 ∙ same.0, order.both a b c here.1 same.1)
+    ]
+  ];
+}
+
+abbrev IsPlaced : JoinTree → JoinTree → Type 0
+IsPlaced a b = IsNotAfter (left_sets a) (left_sets b)
+
+placed_order : IsOrder IsPlaced
+placed_order = record {
+  either = λ a b. place_either (left_sets a) (left_sets b);
+  both = λ a b c. place_both (left_sets a) (left_sets b) (left_sets c);
+}
+
+-- a tree that comes before another over the same set has the lesser list
+length-left_sets : (tree : JoinTree) → length (left_sets tree) ≡ inner_count tree
+length-left_sets (leaf entry) = refl
+length-left_sets (node left right) = omega (arith, length-append {A = ℕ} (left_sets left) (left_sets right), length-left_sets left, length-left_sets right)
+
+not_after_front : (a b c d : List ℕ) → length a ≡ length b → IsNotAfter (b ++ d) (a ++ c) → IsNotAfter b a
+not_after_front [] [] c d same h = tt
+not_after_front [] (y ∷ b) c d same h = absurd (omega (arith, same))
+not_after_front (x ∷ a) [] c d same h = tt
+not_after_front (x ∷ a) (y ∷ b) c d same h = elim h [
+  | inl below ↦ inl below
+  | inr here ↦ inr (here.0, not_after_front a b c d (omega (arith, same)) here.1)
+]
+
+not_after_behind : (a c d : List ℕ) → IsNotAfter (a ++ d) (a ++ c) → IsNotAfter d c
+not_after_behind [] c d h = h
+not_after_behind (x ∷ a) c d h = elim h [
+  | inl below ↦ absurd (omega arith)
+  | inr here ↦ not_after_behind a c d here.1
+]
+
+before_placed : (n set : ℕ) (a b : JoinTree) → set < 2 ^ n → IsTreeOver set a → IsTreeOver set b → IsBefore a b → IsPlaced b a → ⊥
+before_placed n set (leaf x) b fits p q before h = before
+before_placed n set (node l r) (leaf y) fits p q before h = before
+before_placed n set (node l r) (node l' r') fits p q before h = elim before [
+  | inl less ↦ elim h [
+    | inl above ↦ omega (arith, less, above)
+    | inr same ↦ omega (arith, less, same.0)
+  ]
+  | inr here ↦ elim h [
+    | inl above ↦ omega (arith, here.0, above)
+    | inr same ↦ elim here.1 [
+      | inl left_before ↦ (let left_tree : IsTreeOver (entries_of l) l' = subst (λ (k : ℕ). IsTreeOver k l') (sym here.0) q.1 in
+          before_placed n (entries_of l) l l' (omega (arith, split_sum set (entries_of l) (entries_of r) p.0)) p.1 left_tree left_before
+          (not_after_front (left_sets l) (left_sets l') (left_sets r) (left_sets r')
+          (omega (
+            arith,
+            length-left_sets l,
+            length-left_sets l',
+            count_by_size n (entries_of l) l (omega (arith, split_sum set (entries_of l) (entries_of r) p.0)) p.1,
+            count_by_size n (entries_of l) l' (omega (arith, split_sum set (entries_of l) (entries_of r) p.0)) left_tree,
+          )) same.1))
+      | inr right_here ↦ (let right_same : entries_of r' ≡ entries_of r =
+          omega (arith, split_sum set (entries_of l) (entries_of r) p.0, split_sum set (entries_of l') (entries_of r') q.0, here.0) in
+          let right_tree : IsTreeOver (entries_of r) r' = subst (λ (k : ℕ). IsTreeOver k r') right_same q.2 in
+          before_placed n (entries_of r) r r' (omega (arith, split_sum set (entries_of l) (entries_of r) p.0)) p.2 right_tree right_here.1
+          (not_after_behind (left_sets l) (left_sets r) (left_sets r')
+          (subst (λ (t : JoinTree). IsNotAfter (left_sets t ++ left_sets r') (left_sets l ++ left_sets r)) (sym right_here.0) same.1)))
+    ]
+  ]
+]
+
+pub some_best : (bounds : List ℕ) (n : ℕ) → 0 < n → (best : JoinTree) × IsBest bounds n best
+some_best bounds n some = (
+  found.tree,
+  record {
+    is_tree = found.is_tree;
+    none_cheaper = λ other over. elim (found.least other over) [
+      | inl below ↦ omega arith
+      | inr same ↦ omega (arith, same.0)
+    ];
+    none_smaller = λ other over same. elim (then_total other over same) [
+      | inl below ↦ omega arith
+      | inr equal ↦ omega (arith, equal.0)
+    ];
+    none_earlier = λ other over same equal before. elim (then_total other over same) [
+      | inl below ↦ absurd (omega (arith, below, equal))
+      | inr also ↦ before_placed n (all_of n) other found.tree (omega (arith, pow_pos n)) over found.is_tree before also.1
+    ];
+  },
+)
+  where
+    found : Least (First (cost bounds) (First (total bounds) IsPlaced)) n
+    found = least_of_all (First (cost bounds) (First (total bounds) IsPlaced)) (first_order (cost bounds) (First (total bounds) IsPlaced) (first_order (total bounds) IsPlaced placed_order)) n some
+
+    then_total : (other : JoinTree) → IsTreeOver (all_of n) other → cost bounds other ≡ cost bounds found.tree → First (total bounds) IsPlaced found.tree other
+    then_total other over same = elim (found.least other over) [
+      | inl below ↦ absurd (omega (arith, below, same))
+      | inr here ↦ here.1
+    ]

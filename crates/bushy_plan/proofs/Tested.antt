@@ -1,0 +1,94 @@
+-- A test that one tree is no worse than another, which computes: how small examples of a best tree are shown.
+use Rattle.std.proofs.Common.{◌≡◌, ℕ, ◌<◌, Bool, true, false, eqb, leb, cond, List, refl, sym, ◌∙◌, subst, eq-eqb, arith, inl, inr}
+use Rattle.std.specs.Prelude.{◌⊎◌}
+use Rattle.std.proofs.lemmas.Bool.{cases_lt, false≢true, le-leb, lt-leb}
+use Rattle.bushy_plan.specs.BestTree.{IsBefore, IsBest, all_of, cost, total}
+use Rattle.bushy_plan.specs.JoinTrees.{IsTreeOver, JoinTree, leaf, node, entries_of}
+use Rattle.bushy_plan.proofs.AllTrees.{at_tree, both_true, each_tree}
+
+-- ---- no worse
+
+-- by numbers, and by another test where they are equal
+abbrev pub first_test : ℕ → ℕ → Bool → Bool
+first_test m n behind = cond (leb n m) (cond (leb m n) behind false) true
+
+first_told : (m n : ℕ) (behind : Bool) → first_test m n behind ≡ true → (m < n) ⊎ ((m ≡ n) × (behind ≡ true))
+first_told m n behind h = elim (cases_lt m n) [
+  | inl below ↦ inl below
+  | inr not_below ↦ (let inner : cond (leb m n) behind false ≡ true = rw (le-leb n m not_below) at h in
+      let parts : (leb m n ≡ true) × (behind ≡ true) = both_true (leb m n) behind inner in
+      elim (cases_lt n m) [
+        | inl above ↦ absurd (false≢true (sym (lt-leb m n above) ∙ parts.0))
+        | inr not_above ↦ inr (omega arith, parts.1)
+      ])
+]
+
+abbrev pub same_tree : JoinTree → JoinTree → Bool
+same_tree (leaf a) (leaf b) = eqb a b
+same_tree (leaf a) (node left right) = false
+same_tree (node left right) (leaf b) = false
+same_tree (node left right) (node left' right') = cond (same_tree left left') (same_tree right right') false
+
+same_itself : (tree : JoinTree) → same_tree tree tree ≡ true
+same_itself (leaf entry) = eq-eqb entry entry refl
+same_itself (node left right) = rw (same_itself left) (same_itself right)
+
+-- false where the one tree comes before the other
+abbrev pub not_before : JoinTree → JoinTree → Bool
+not_before (leaf a) other = true
+not_before (node left right) (leaf b) = true
+not_before (node left right) (node left' right') =
+    first_test (entries_of left') (entries_of left) (cond (not_before left left') (cond (same_tree left left') (not_before right right') true) false)
+
+refuted : (a b : JoinTree) → not_before a b ≡ true → ¬ IsBefore a b
+refuted (leaf x) b h before = before
+refuted (node left right) (leaf y) h before = before
+refuted (node left right) (node left' right') h before = elim (first_told (entries_of left') (entries_of left) _ h) [
+  | inl less ↦ elim before [
+    | inl above ↦ omega (arith, less, above)
+    | inr here ↦ omega (arith, less, here.0)
+  ]
+  | inr same ↦ (let parts : (not_before left left' ≡ true) × (cond (same_tree left left') (not_before right right') true ≡ true) =
+      both_true (not_before left left') (cond (same_tree left left') (not_before right right') true) same.1 in
+      elim before [
+        | inl above ↦ omega (arith, same.0, above)
+        | inr here ↦ elim here.1 [
+          | inl left_before ↦ refuted left left' parts.0 left_before
+          | inr right_here ↦ refuted right right' (behind_same left left' (not_before right right') right_here.0 parts.1) right_here.1
+        ]
+      ])
+]
+  where
+    behind_same : (a b : JoinTree) (rest : Bool) → a ≡ b → cond (same_tree a b) rest true ≡ true → rest ≡ true
+    behind_same a b rest same h =
+        let is_same : same_tree a b ≡ true = subst (λ (t : JoinTree). same_tree a t ≡ true) same (same_itself a) in
+        rw is_same at h
+
+abbrev pub no_worse : List ℕ → JoinTree → JoinTree → Bool
+no_worse bounds a b = first_test (cost bounds a) (cost bounds b) (first_test (total bounds a) (total bounds b) (not_before b a))
+
+pub best_by_test : (bounds : List ℕ) (n : ℕ) (best : JoinTree) → 0 < n → IsTreeOver (all_of n) best → each_tree n (λ other. no_worse bounds best other) ≡ true → IsBest bounds n best
+best_by_test bounds n best some is_tree tested = record {
+  is_tree = is_tree;
+  none_cheaper = λ other over. elim (told other over) [
+    | inl below ↦ omega arith
+    | inr same ↦ omega (arith, same.0)
+  ];
+  none_smaller = λ other over same. elim (then_total other over same) [
+    | inl below ↦ omega arith
+    | inr equal ↦ omega (arith, equal.0)
+  ];
+  none_earlier = λ other over same equal. elim (then_total other over same) [
+    | inl below ↦ absurd (omega (arith, below, equal))
+    | inr also ↦ refuted other best also.1
+  ];
+}
+  where
+    told : (other : JoinTree) → IsTreeOver (all_of n) other → (cost bounds best < cost bounds other) ⊎ ((cost bounds best ≡ cost bounds other) × (first_test (total bounds best) (total bounds other) (not_before other best) ≡ true))
+    told other over = first_told (cost bounds best) (cost bounds other) _ (at_tree n (λ (t : JoinTree). no_worse bounds best t) other some tested over)
+
+    then_total : (other : JoinTree) → IsTreeOver (all_of n) other → cost bounds other ≡ cost bounds best → (total bounds best < total bounds other) ⊎ ((total bounds best ≡ total bounds other) × (not_before other best ≡ true))
+    then_total other over same = elim (told other over) [
+      | inl below ↦ absurd (omega (arith, below, same))
+      | inr here ↦ first_told (total bounds best) (total bounds other) (not_before other best) here.1
+    ]

@@ -1,0 +1,20 @@
+use Rattle.std.proofs.Common.{rules, arith}
+use Rattle.bushy_plan.proofs.Whole.{best_not_dearer, plan_from}
+use Rattle.bushy_plan.proofs.search.choose_bushy.Goals as goal
+
+pub returns-clause-best : goal.returns-clause-best
+returns-clause-best c = search rules
+
+pub returns-clause-scans : goal.returns-clause-scans
+returns-clause-scans c = search rules
+
+pub returns-clause-within : goal.returns-clause-within
+returns-clause-within c = omega arith
+
+pub returns-clause-plan : goal.returns-clause-plan
+returns-clause-plan c =
+    plan_from c.args.bounds.now c.args.scans.now _ c.requires.few c.requires.scans (returns-clause-scans c) (omega (arith, returns-clause-within c)) (returns-clause-best c)
+
+pub returns-clause-no_dearer : goal.returns-clause-no_dearer
+returns-clause-no_dearer c order is_order =
+    best_not_dearer c.args.bounds.now _ _ _ c.requires.some (returns-clause-best c) order is_order

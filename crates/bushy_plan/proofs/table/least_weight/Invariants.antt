@@ -1,0 +1,8 @@
+use Rattle.bushy_plan.proofs.Lightest.{Tried}
+use Rattle.bushy_plan.proofs.table.least_weight.Given as goal
+
+abbrev pub invariant-splits : goal.invariant-splits
+invariant-splits l = Tried l.weight l.bounds l.table l.set l.behind l.right l.least
+
+abbrev pub decreases-splits : goal.decreases-splits
+decreases-splits l = l.right

@@ -1,0 +1,9 @@
+-- Bounds of the sets of two and three entries, for worked examples.
+use Rattle.std.specs.Prelude.{ℕ, List, [], ◌∷◌}
+
+abbrev pub one_pair : List ℕ
+one_pair = 1 ∷ 6 ∷ 5 ∷ 12 ∷ []
+
+-- singles 3, pairs 5, all 9
+abbrev pub triangle : List ℕ
+triangle = 1 ∷ 3 ∷ 3 ∷ 5 ∷ 3 ∷ 5 ∷ 5 ∷ 9 ∷ []

@@ -1,0 +1,97 @@
+//! The search.
+ghost use Rattle.std.specs.Prelude.{◌≡◌, ◌-◌, ◌≤◌, ◌<◌, ◌^◌, ℕ, List, length, slice_index, IfErr, IfOk};
+ghost use Rattle.std.specs.List.{AllByRecursion};
+ghost use Rattle.limits.specs.Profile.{most_entries, most_rows, top_bound};
+ghost use Rattle.order_search.specs.Orders.{cost as left_deep_cost};
+ghost use Rattle.plans.specs.LeftDeep.{IsOrder};
+ghost use Rattle.tree_plans.specs.TreePlans.{IsTreePlan};
+ghost use Rattle.bushy_plan.specs.BestTree.{IsBestPlan, IsLeastCost, AreOfBest};
+ghost use Rattle.bushy_plan.specs.Causes.{IsCause};
+
+use crate::BushyError;
+use crate::joins::push_joins;
+use crate::table::least_weights;
+use crate::weight::Weight;
+use base_io::{NoMemory, Seq};
+use limits::TOP_BOUND;
+use std::alloc::Global;
+use tree_plans::{BushyPlan, Join};
+
+/// The best join tree of n entries, n from 1 to 12, over a bound for each of the 2^n sets: the tree of least cost, which is the greatest bound of its inner nodes; among those the one of least sum of these bounds; among those the first by the number of the left set at the root, then by the left tree, then by the right one.
+///
+/// All bounds and the budget are in rows. A bound of 2^128 - 1 stands for all from there on.
+/// It fills two tables of 2^n numbers in 3^n steps each, of which one stands at a time: the least cost over sets, then the least sum by trees within that cost. A set's left part has its first entry, so each tree is looked at once.
+///
+/// `Budget` and `PastBits` come exactly where `IsCause` says; `NoMemory` where memory is wanting.
+pub fn choose_bushy(
+    alloc: Global,
+    bounds: &Seq<u128>,
+    scans: &Seq<u64>,
+    budget: u64,
+) -> Result<BushyPlan, BushyError>
+    requires some { 1 ≤ length scans.now }
+    requires few { length scans.now ≤ most_entries }
+    requires bounds { length bounds.now ≡ 2 ^ length scans.now }
+    requires scans { AllByRecursion (λ rows. rows ≤ most_rows) scans.now }
+    requires budget { budget ≤ most_rows }
+
+    ensures plan { IfOk result (IsTreePlan (length scans.now)) }
+    ensures best { IfOk result (IsBestPlan bounds.now (length scans.now)) }
+    ensures within { IfOk result (λ plan. plan.cost ≤ budget) }
+    ensures scans { IfOk result (λ plan. plan.scans ≡ scans.now) }
+    ensures no_dearer { IfOk result (λ plan. (order : List ℕ) → IsOrder (length scans.now) order → plan.cost ≤ left_deep_cost bounds.now order) }
+    ensures refused { IfErr result (IsCause bounds.now (length scans.now) budget) }
+{
+    let count = scans.len() as u8;
+    let bounds = bounds.as_slice();
+    let least = least_cost(alloc, count, bounds)?;
+    if least == TOP_BOUND {
+        return Err(BushyError::PastBits);
+    }
+    if least > budget as u128 {
+        return Err(BushyError::Budget { least });
+    }
+    let joins = best_joins(alloc, count, bounds, least)?;
+    let scans = Vec::from_slice(alloc, scans.as_slice())?;
+    Ok(BushyPlan {
+        joins: Seq::from_vec(joins),
+        scans: Seq::from_vec(scans),
+        cost: least as u64,
+    })
+}
+
+// The least cost of a tree. One entry has no inner node, and its own bound is the cost.
+fn least_cost(alloc: Global, count: u8, bounds: &[u128]) -> Result<u128, NoMemory>
+    requires some { 1 ≤ count }
+    requires count { count ≤ most_entries }
+    requires bounds { length bounds.now ≡ 2 ^ count }
+    ensures { IfOk result (λ least. IsLeastCost bounds.now count least) }
+{
+    if count == 1 {
+        return Ok(bounds[1]);
+    }
+    let costs = least_weights(alloc, Weight::Greatest, bounds)?;
+    Ok(costs[bounds.len() - 1])
+}
+
+// The joins of the first tree of least sum among those of the least cost.
+fn best_joins(alloc: Global, count: u8, bounds: &[u128], least: u128) -> Result<Vec<Join>, NoMemory>
+    requires some { 1 ≤ count }
+    requires count { count ≤ most_entries }
+    requires bounds { length bounds.now ≡ 2 ^ count }
+    requires least { IsLeastCost bounds.now count least }
+    requires small { least ≤ most_rows }
+    ensures { IfOk result (λ joins. AreOfBest bounds.now count least joins.items) }
+{
+    let sums = least_weights(alloc, Weight::SumWithin(least), bounds)?;
+    let mut joins = Vec::new(alloc);
+    let _root = push_joins(
+        least,
+        count,
+        bounds,
+        sums.as_slice(),
+        bounds.len() - 1,
+        &mut joins,
+    )?;
+    Ok(joins)
+}

@@ -1,0 +1,20 @@
+//! The splits of a set, as the code goes through them. A set is the number whose bits are its entries, and so the place of its bound.
+ghost use Rattle.std.specs.Prelude.{◌<◌};
+ghost use Rattle.bushy_plan.specs.JoinTrees.{IsFirstEntry};
+ghost use Rattle.bushy_plan.specs.Splits.{IsBehindFirst};
+
+// The set's first entry.
+pub(crate) fn first_entry(set: usize) -> u8
+    requires { 0 < set }
+    ensures { IsFirstEntry set result }
+{
+    set.trailing_zeros() as u8
+}
+
+// The set without its first entry. The right set of a split is any part of it that isn't empty.
+pub(crate) fn behind_first(set: usize) -> usize
+    requires { 0 < set }
+    ensures { IsBehindFirst set result }
+{
+    set - (1 << first_entry(set))
+}

@@ -1,0 +1,64 @@
+//! The least weight for each set. A set comes after all its parts, since its number is greater.
+ghost use Rattle.std.specs.Prelude.{◌≡◌, ◌<◌, ◌≤◌, length, IfOk};
+ghost use Rattle.bushy_plan.specs.Splits.{IsLeastWeight, IsTable, weight_through as weight_through_of};
+
+use crate::splits::behind_first;
+use crate::weight::Weight;
+use base_io::NoMemory;
+use std::alloc::Global;
+
+// The weight of the lightest tree over the set whose right set is this one.
+pub(crate) fn weight_through(
+    weight: Weight,
+    bounds: &[u128],
+    table: &[u128],
+    set: usize,
+    right: usize,
+) -> u128
+    requires some { 0 < right }
+    requires part { right < set }
+    requires set { set < length bounds.now }
+    requires filled { set ≤ length table.now }
+    ensures { result ≡ weight_through_of weight bounds.now table.now set right }
+{
+    weight.joined(bounds[set], table[set - right], table[right])
+}
+
+// The least weight of a tree over the set, by those over its parts. Right sets descend through all parts of what is behind the first entry.
+fn least_weight(weight: Weight, bounds: &[u128], table: &[u128], set: usize) -> u128
+    requires some { 0 < set }
+    requires set { set < length bounds.now }
+    requires filled { length table.now ≡ set }
+    requires table { IsTable weight bounds.now table.now set }
+    ensures { IsLeastWeight weight bounds.now set result }
+{
+    let behind = behind_first(set);
+    if behind == 0 {
+        return 0;
+    }
+    let mut least = u128::MAX;
+    let mut right = behind;
+    'splits: while right > 0 {
+        least = least.min(weight_through(weight, bounds, table, set, right));
+        right = (right - 1) & behind;
+    }
+    least
+}
+
+// The table over all sets.
+pub(crate) fn least_weights(
+    alloc: Global,
+    weight: Weight,
+    bounds: &[u128],
+) -> Result<Vec<u128>, NoMemory>
+    requires some { 0 < length bounds.now }
+    ensures filled { IfOk result (λ table. length table.items ≡ length bounds.now) }
+    ensures table { IfOk result (λ table. IsTable weight bounds.now table.items (length bounds.now)) }
+{
+    let mut table = Vec::with_capacity(alloc, bounds.len())?;
+    table.push(0)?;
+    for set in 1..bounds.len() {
+        table.push(least_weight(weight, bounds, table.as_slice(), set))?;
+    }
+    Ok(table)
+}

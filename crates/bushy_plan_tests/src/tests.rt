@@ -1,0 +1,175 @@
+ghost use Rattle.std.specs.Prelude.{◌≡◌, ◌^◌, ◌≤◌};
+ghost use Rattle.limits.specs.Profile.{most_entries};
+
+use base_io::Seq;
+use bushy_plan::{BushyError, choose_bushy};
+use limits::{MOST_ENTRIES, MOST_ROWS};
+use std::alloc::{AllocError, AllocFailed, Global};
+use tree_plans::{BushyPlan, Join};
+
+#[derive(Debug, Drop)]
+enum Fail {
+    // The test asks for what `choose_bushy` has no answer to, or memory is wanting.
+    Unfit,
+    Refused(BushyError),
+}
+
+impl From<AllocError> for Fail {
+    fn from(_: AllocError) -> Self {
+        Fail::Unfit
+    }
+}
+
+impl<T: Drop> From<AllocFailed<T>> for Fail {
+    fn from(_: AllocFailed<T>) -> Self {
+        Fail::Unfit
+    }
+}
+
+impl From<BushyError> for Fail {
+    fn from(error: BushyError) -> Self {
+        Fail::Refused(error)
+    }
+}
+
+fn number_of_sets(count: usize) -> usize
+    requires { count ≤ most_entries }
+    ensures { result ≡ 2 ^ count }
+{
+    1 << count
+}
+
+// The choice over these bounds, where each entry's scan has two rows.
+fn chosen(alloc: Global, count: usize, bounds: Vec<u128>, budget: u64) -> Result<BushyPlan, Fail> {
+    if count == 0 || count > MOST_ENTRIES || budget > MOST_ROWS {
+        return Err(Fail::Unfit);
+    }
+    if bounds.len() != number_of_sets(count) {
+        return Err(Fail::Unfit);
+    }
+    let scans = Seq::from_vec(vec![in alloc; 2; count]?);
+    let plan = choose_bushy(alloc, &Seq::from_vec(bounds), &scans, budget)?;
+    Ok(plan)
+}
+
+// Why nothing was chosen.
+fn refusal(alloc: Global, count: usize, bounds: Vec<u128>, budget: u64) -> Option<BushyError> {
+    match chosen(alloc, count, bounds, budget) {
+        Err(Fail::Refused(error)) => Some(error),
+        _ => None,
+    }
+}
+
+fn join(left: u8, right: u8, bound: u64) -> Join {
+    Join { left, right, bound }
+}
+
+#[test]
+fn two_entries_make_one_node(rt: HostRuntime) -> Result<(), Fail> {
+    let alloc = rt.alloc();
+    let plan = chosen(alloc, 2, vec![in alloc; 1, 6, 5, 12]?, 12)?;
+    assert_eq!(rt; plan.joins.as_slice(), [join(0, 1, 12)].as_slice());
+    assert_eq!(rt; plan.cost, 12);
+    assert_eq!(rt; plan.scans.as_slice(), [2, 2].as_slice());
+    let bounds = vec![in alloc; 1, 6, 5, 12]?;
+    assert_eq!(rt;
+        refusal(alloc, 2, bounds, 11),
+        Some(BushyError::Budget { least: 12 })
+    );
+    Ok(())
+}
+
+#[test]
+fn the_first_of_three_equal_triangles(rt: HostRuntime) -> Result<(), Fail> {
+    let alloc = rt.alloc();
+    let plan = chosen(alloc, 3, vec![in alloc; 1, 3, 3, 5, 3, 5, 5, 9]?, 9)?;
+    assert_eq!(rt;
+        plan.joins.as_slice(),
+        [join(1, 2, 5), join(0, 3, 9)].as_slice()
+    );
+    assert_eq!(rt; plan.cost, 9);
+    Ok(())
+}
+
+#[test]
+fn one_entry(rt: HostRuntime) -> Result<(), Fail> {
+    let alloc = rt.alloc();
+    let plan = chosen(alloc, 1, vec![in alloc; 9, 7]?, 7)?;
+    assert_eq!(rt; plan.joins.len(), 0);
+    assert_eq!(rt; plan.cost, 7);
+    Ok(())
+}
+
+#[test]
+fn no_tree_within_128_bits(rt: HostRuntime) -> Result<(), Fail> {
+    let alloc = rt.alloc();
+    let top = u128::MAX;
+    let bounds = vec![in alloc; 1, 2, 2, 3, 2, 3, 3, top]?;
+    assert_eq!(rt; refusal(alloc, 3, bounds, 6), Some(BushyError::PastBits));
+    let bounds = vec![in alloc; 1, 2, 2, top - 1]?;
+    assert_eq!(rt;
+        refusal(alloc, 2, bounds, 6),
+        Some(BushyError::Budget { least: top - 1 })
+    );
+    Ok(())
+}
+
+// The pair of 0 and 1, the pair of 2 and 3, and 2, 3 and 4 are small together. Each left-deep order passes a
+// set of four entries, and those all have the bound 100; the tree ((0, 1), ((2, 3), 4)) passes none.
+#[test]
+fn five_entries_whose_best_tree_is_bushy(rt: HostRuntime) -> Result<(), Fail> {
+    let alloc = rt.alloc();
+    let bounds = vec![in alloc;
+        100, 5, 5, 5, 5, 100, 100, 100, 5, 100, 100, 100, 5, 100, 100, 100, 5, 100, 100, 100, 100,
+        100, 100, 100, 100, 100, 100, 100, 5, 100, 100, 10,
+    ]?;
+    let plan = chosen(alloc, 5, bounds, 10)?;
+    assert_eq!(rt;
+        plan.joins.as_slice(),
+        [join(0, 1, 5), join(2, 3, 5), join(6, 4, 5), join(5, 7, 10)].as_slice()
+    );
+    assert_eq!(rt; plan.cost, 10);
+    Ok(())
+}
+
+// All least trees have cost 3 and sum 8. Behind entry 0 the left set of entry 1 alone is least, though the
+// tree that begins with the entries 1 and 2 has a right side of cost 2.
+#[test]
+fn ties_below_the_root_are_decided_by_the_left_set(rt: HostRuntime) -> Result<(), Fail> {
+    let alloc = rt.alloc();
+    let bounds = vec![in alloc;
+        1, 1, 3, 3, 1, 1, 2, 3, 2, 3, 3, 2, 2, 1, 2, 3, 2, 3, 3, 2, 1, 3, 3, 1, 2, 1, 2, 3, 3, 3,
+        1, 3,
+    ]?;
+    let plan = chosen(alloc, 5, bounds, 3)?;
+    assert_eq!(rt;
+        plan.joins.as_slice(),
+        [join(2, 4, 1), join(5, 3, 3), join(1, 6, 1), join(0, 7, 3)].as_slice()
+    );
+    assert_eq!(rt; plan.cost, 3);
+    Ok(())
+}
+
+#[test]
+fn twelve_entries_of_equal_bounds_are_joined_from_the_last(rt: HostRuntime) -> Result<(), Fail> {
+    let alloc = rt.alloc();
+    let plan = chosen(alloc, 12, vec![in alloc; 3; 4096]?, 3)?;
+    assert_eq!(rt;
+        plan.joins.as_slice(),
+        [
+            join(10, 11, 3),
+            join(9, 12, 3),
+            join(8, 13, 3),
+            join(7, 14, 3),
+            join(6, 15, 3),
+            join(5, 16, 3),
+            join(4, 17, 3),
+            join(3, 18, 3),
+            join(2, 19, 3),
+            join(1, 20, 3),
+            join(0, 21, 3),
+        ]
+        .as_slice()
+    );
+    Ok(())
+}
