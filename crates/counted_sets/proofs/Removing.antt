@@ -1,0 +1,269 @@
+-- Items that are taken away, and why no consistent set loses one.
+use Rattle.std.proofs.Common.{◌≡◌, ℕ, zero, suc, ◌+◌, ◌-◌, ◌<◌, ◌≤◌, Bool, true, false, List, [], ◌∷◌, ◌++◌, length, get_or, set, refl, ap, sym, ◌∙◌, subst, arith, inl, inr}
+use Rattle.std.specs.Prelude.{◌⊎◌, ◌==◌, replicate}
+use Rattle.std.specs.List.{Contains}
+use Rattle.std.proofs.lemmas.Bool.{cases_eq, cases_lt, cases_Bool, eq-eqb, eqb-true, false≢true}
+use Rattle.std.proofs.lemmas.List.{get_or-set_same, get_or-set_other, length-set, get_or_default, get_or_past, set-get_or}
+use Rattle.row_buf.specs.Rows.{Rows}
+use Rattle.counted_sets.specs.declared.uses.Use.{Use}
+use Rattle.counted_sets.specs.Sets.{marked, IsGiven, IsConsistent, IsGreatest}
+use Rattle.counted_sets.specs.Chains.{AreChains, last_before}
+use Rattle.counted_sets.specs.Counts.{supply, item_at, need_at, use_at, AreGone, Extends, IsCounted, IsSafe, IsWorkOf}
+use Rattle.counted_sets.proofs.Chaining.{last_has, last_within, none_after}
+use Rattle.counted_sets.proofs.Supply.{given-supply, place_of, stands_there, supply-given, supply-set, supply_last, supply_one, supply_other}
+
+-- ---- what one item gives is taken off, place by place of its chain
+
+pub record AreTaken (uses : List Use) (item : ℕ) (before counts : List ℕ) (at : ℕ) : Type 0 where
+  pub within : at ≤ length uses
+  pub here : 0 < at → item_at uses (at - 1) ≡ item
+  pub same_length : length counts ≡ length before
+  pub taken : (slot : ℕ) → slot < length before
+      → get_or counts slot 0 + supply (λ i. i == item) uses slot (length uses) ≡ get_or before slot 0 + supply (λ i. i == item) uses slot at
+
+last_is : (key_of : ℕ → ℕ) (key n at : ℕ) → last_before key_of key n ≡ at → 0 < at → key_of (at - 1) ≡ key
+last_is key_of key n zero is some = absurd (omega arith)
+last_is key_of key n (suc k) is some = let e : suc k - 1 ≡ k = omega arith in ap key_of e ∙ last_has key_of key n k is
+
+pub taken_none : (uses : List Use) (item keys at : ℕ) (lasts befores before : List ℕ) → AreChains (item_at uses) keys (length uses) lasts befores → item < keys → at ≡ get_or lasts item 0 → AreTaken uses item before before at
+taken_none uses item keys at lasts befores before chains low is =
+    let last : last_before (item_at uses) item (length uses) ≡ at = sym (chains.last item low) ∙ sym is in
+    record {
+      within = omega (arith, last_within (item_at uses) item (length uses));
+      here = last_is (item_at uses) item (length uses) at last;
+      same_length = refl;
+      taken = λ slot h. ap (λ n. get_or before slot 0 + n) (supply_last uses slot item (length uses) ∙ ap (supply (λ i. i == item) uses slot) last);
+    }
+
+-- the first use of the chain that is left
+first_left : (uses : List Use) (item slot place : ℕ) → item_at uses place ≡ item → (use_at uses place).gives ≡ slot → supply (λ i. i == item) uses slot (suc place) ≡ 1 + supply (λ i. i == item) uses slot place
+first_left uses item slot place here gives = supply_one (λ i. i == item) uses slot place (eq-eqb (item_at uses place) item here) gives
+
+pub taken_some : (uses : List Use) (item at slot : ℕ) (before counts : List ℕ) → 0 < at → slot ≡ (use_at uses (at - 1)).gives → slot < length before
+    → supply (λ i. i == item) uses slot (length uses) ≤ get_or before slot 0 → AreTaken uses item before counts at → 0 < get_or counts slot 0
+taken_some uses item zero slot before counts some is within enough so_far = absurd (omega arith)
+taken_some uses item (suc place) slot before counts some is within enough so_far =
+    let e : suc place - 1 ≡ place = omega arith in
+    let here : item_at uses place ≡ item = ap (item_at uses) (sym e) ∙ so_far.here some in
+    let gives : (use_at uses place).gives ≡ slot = ap (λ p. (use_at uses p).gives) (sym e) ∙ sym is in
+    omega (arith, so_far.taken slot within, enough, first_left uses item slot place here gives)
+
+pub taken_one : (uses : List Use) (item at slot next keys : ℕ) (lasts befores before counts : List ℕ) → AreChains (item_at uses) keys (length uses) lasts befores → 0 < at → slot ≡ (use_at uses (at - 1)).gives
+    → next ≡ get_or befores (at - 1) 0 → slot < length before → 0 < get_or counts slot 0 → AreTaken uses item before counts at
+    → AreTaken uses item before (set counts slot (get_or counts slot 0 - 1)) next
+taken_one uses item zero slot next keys lasts befores before counts chains some is link within left so_far = absurd (omega arith)
+taken_one uses item (suc place) slot next keys lasts befores before counts chains some is link within left so_far =
+    let e : suc place - 1 ≡ place = omega arith in
+    let here : item_at uses place ≡ item = ap (item_at uses) (sym e) ∙ so_far.here some in
+    let gives : (use_at uses place).gives ≡ slot = ap (λ p. (use_at uses p).gives) (sym e) ∙ sym is in
+    let low : place < length uses = omega (arith, so_far.within) in
+    let last : last_before (item_at uses) item place ≡ next = sym (link ∙ ap (λ p. get_or befores p 0) e ∙ chains.before place low ∙ ap (λ k. last_before (item_at uses) k place) here) in
+    record {
+      within = omega (arith, last_within (item_at uses) item place);
+      here = last_is (item_at uses) item place next last;
+      same_length = length-set counts slot (get_or counts slot 0 - 1) ∙ so_far.same_length;
+      taken = λ q h. (let rest : supply (λ i. i == item) uses q place ≡ supply (λ i. i == item) uses q next = supply_last uses q item place ∙ ap (supply (λ i. i == item) uses q) last in
+          elim (cases_eq q slot) [
+            | inl same ↦ (let now : get_or (set counts slot (get_or counts slot 0 - 1)) q 0 ≡ get_or counts slot 0 - 1 =
+                ap (λ j. get_or (set counts slot (get_or counts slot 0 - 1)) j 0) same ∙ get_or-set_same counts slot (get_or counts slot 0 - 1) 0 (omega (arith, so_far.same_length)) in
+                let had : get_or counts q 0 ≡ get_or counts slot 0 = ap (λ j. get_or counts j 0) same in
+                omega (arith, now, had, left, rest, so_far.taken q h, first_left uses item q place here (gives ∙ sym same)))
+            | inr apart ↦ (let now : get_or (set counts slot (get_or counts slot 0 - 1)) q 0 ≡ get_or counts q 0 = get_or-set_other counts slot q (get_or counts slot 0 - 1) 0 apart in
+                omega (arith, now, rest, so_far.taken q h, supply_other (λ i. i == item) uses q place (λ g. apart (sym g ∙ gives))))
+          ]);
+    }
+
+-- a chain goes back
+pub back_before : (key_of : ℕ → ℕ) (at places next keys : ℕ) (lasts befores : List ℕ) → AreChains key_of keys places lasts befores → 0 < at → at ≤ places → next ≡ get_or befores (at - 1) 0 → next < at
+back_before key_of zero places next keys lasts befores chains some within link = absurd (omega arith)
+back_before key_of (suc place) places next keys lasts befores chains some within link =
+    let e : suc place - 1 ≡ place = omega arith in
+    let last : next ≡ last_before key_of (key_of place) place = link ∙ ap (λ p. get_or befores p 0) e ∙ chains.before place (omega arith) in
+    omega (arith, last, last_within key_of (key_of place) place)
+
+-- ---- one item
+
+pub enough_left : (items slots : ℕ) (uses : List Use) (marks : List Bool) (counts : List ℕ) (work : Rows ℕ) (item : ℕ) → IsCounted items slots uses marks counts work → item < items → marked marks item ≡ true
+    → (slot : ℕ) → slot < length counts → supply (λ i. i == item) uses slot (length uses) ≤ get_or counts slot 0
+enough_left items slots uses marks counts work item counted h stands slot b =
+    omega (arith, counted.counted slot (omega (arith, counted.slot_count)), supply-set uses marks slot item (length uses) (omega (arith, counted.item_count)) stands)
+
+pub removed : (items slots : ℕ) (uses : List Use) (marks : List Bool) (counts new_counts : List ℕ) (work new_work : Rows ℕ) (item : ℕ) → IsCounted items slots uses marks counts work → item < items
+    → marked marks item ≡ true → length new_counts ≡ length counts
+    → ((slot : ℕ) → slot < length counts → get_or new_counts slot 0 + supply (λ i. i == item) uses slot (length uses) ≡ get_or counts slot 0) → IsWorkOf new_counts new_work
+    → IsCounted items slots uses (set marks item false) new_counts new_work
+removed items slots uses marks counts new_counts work new_work item counted h stands size fell listed = record {
+  item_count = length-set marks item false ∙ counted.item_count;
+  slot_count = size ∙ counted.slot_count;
+  counted = λ slot b. omega (arith, fell slot (omega (arith, counted.slot_count)), counted.counted slot b, supply-set uses marks slot item (length uses) (omega (arith, counted.item_count)) stands);
+  listed = listed;
+}
+
+-- an item that isn't marked
+pub not_marked : (marks : List Bool) (item : ℕ) → marked marks item ≡ false → set marks item false ≡ marks
+not_marked marks item gone = ap (set marks item) (sym gone) ∙ set-get_or marks item false
+
+-- ---- why no consistent set loses an item
+
+-- no consistent set within the marked items has an item that needs a slot which none of them gives
+doomed : (items : ℕ) (uses : List Use) (marks : List Bool) (slot : ℕ) → supply (marked marks) uses slot (length uses) ≡ 0 → (other : ℕ → Bool) → IsConsistent items uses other
+    → ((i : ℕ) → other i ≡ true → marked marks i ≡ true) → (k : ℕ) → k < length uses → need_at uses k ≡ slot → other (item_at uses k) ≡ true → ⊥
+doomed items uses marks slot none other consistent within k h needs stands =
+    let given : IsGiven uses other (need_at uses k) = consistent.given (use_at uses k) (stands_there uses k h) stands in
+    omega (arith, none, given-supply (marked marks) uses slot (given.0, given.1, within given.0.item given.2, given.3 ∙ needs))
+
+pub safe_none : (items : ℕ) (uses : List Use) (marks : List Bool) → IsSafe items uses marks marks
+safe_none items uses marks = record { fewer = λ i m. m; safe = λ other consistent within i stands. within i stands }
+
+set_other : (marks : List Bool) (item i : ℕ) → (i ≡ item → ⊥) → marked (set marks item false) i ≡ marked marks i
+set_other marks item i apart = get_or-set_other marks item i false false apart
+
+set_same : (marks : List Bool) (item i : ℕ) → i ≡ item → marked (set marks item false) i ≡ false
+set_same marks item i same = elim (cases_lt item (length marks)) [
+  | inl within ↦ ap (λ k. marked (set marks item false) k) same ∙ get_or-set_same marks item false false within
+  | inr past ↦ get_or_past (set marks item false) i false (omega (arith, length-set marks item false, same))
+]
+
+pub safe_one : (items : ℕ) (uses : List Use) (old marks : List Bool) (slot k : ℕ) → supply (marked old) uses slot (length uses) ≡ 0 → k < length uses → need_at uses k ≡ slot → IsSafe items uses old marks
+    → IsSafe items uses old (set marks (item_at uses k) false)
+safe_one items uses old marks slot k none h needs so_far = record {
+  fewer = λ i m. elim (cases_eq i (item_at uses k)) [
+    | inl same ↦ absurd (false≢true (sym (set_same marks (item_at uses k) i same) ∙ m))
+    | inr apart ↦ so_far.fewer i (sym (set_other marks (item_at uses k) i apart) ∙ m)
+  ];
+  safe = λ other consistent within i stands. elim (cases_eq i (item_at uses k)) [
+    | inl same ↦ absurd (doomed items uses old slot none other consistent within k h needs (subst (λ j. other j ≡ true) same stands))
+    | inr apart ↦ set_other marks (item_at uses k) i apart ∙ so_far.safe other consistent within i stands
+  ];
+}
+
+-- ---- the items that need one slot go, place by place of its chain
+
+pub record AreGoneFrom (uses : List Use) (slot at : ℕ) (marks : List Bool) : Type 0 where
+  pub within : at ≤ length uses
+  pub here : 0 < at → need_at uses (at - 1) ≡ slot
+  pub gone : (k : ℕ) → at ≤ k → k < length uses → need_at uses k ≡ slot → marked marks (item_at uses k) ≡ false
+
+pub gone_none : (uses : List Use) (slot keys at : ℕ) (lasts befores : List ℕ) (marks : List Bool) → AreChains (need_at uses) keys (length uses) lasts befores → slot < keys → at ≡ get_or lasts slot 0 → AreGoneFrom uses slot at marks
+gone_none uses slot keys at lasts befores marks chains low is =
+    let last : last_before (need_at uses) slot (length uses) ≡ at = sym (chains.last slot low) ∙ sym is in
+    record {
+      within = omega (arith, last_within (need_at uses) slot (length uses));
+      here = last_is (need_at uses) slot (length uses) at last;
+      gone = λ k from below needs. absurd (none_after (need_at uses) slot (length uses) k (omega (arith, last)) below needs);
+    }
+
+pub gone_one : (uses : List Use) (slot keys at item next : ℕ) (lasts befores : List ℕ) (marks : List Bool) → AreChains (need_at uses) keys (length uses) lasts befores → 0 < at → item ≡ item_at uses (at - 1)
+    → next ≡ get_or befores (at - 1) 0 → AreGoneFrom uses slot at marks → AreGoneFrom uses slot next (set marks item false)
+gone_one uses slot keys zero item next lasts befores marks chains some is link so_far = absurd (omega arith)
+gone_one uses slot keys (suc place) item next lasts befores marks chains some is link so_far =
+    let e : suc place - 1 ≡ place = omega arith in
+    let here : need_at uses place ≡ slot = ap (need_at uses) (sym e) ∙ so_far.here some in
+    let low : place < length uses = omega (arith, so_far.within) in
+    let last : last_before (need_at uses) slot place ≡ next = sym (link ∙ ap (λ p. get_or befores p 0) e ∙ chains.before place low ∙ ap (λ k. last_before (need_at uses) k place) here) in
+    record {
+      within = omega (arith, last_within (need_at uses) slot place);
+      here = last_is (need_at uses) slot place next last;
+      gone = λ k from below needs. elim (cases_eq (item_at uses k) item) [
+        | inl same ↦ set_same marks item (item_at uses k) same
+        | inr apart ↦ set_other marks item (item_at uses k) apart ∙ elim (cases_lt place k) [
+          | inl after ↦ so_far.gone k (omega arith) below needs
+          | inr upto ↦ elim (cases_eq k place) [
+            | inl same ↦ absurd (apart (ap (item_at uses) (same ∙ sym e) ∙ sym is))
+            | inr before ↦ absurd (none_after (need_at uses) slot place k (omega (arith, last)) (omega arith) needs)
+          ]
+        ]
+      ];
+    }
+
+pub gone_all : (uses : List Use) (slot at : ℕ) (marks : List Bool) → at ≤ 0 → AreGoneFrom uses slot at marks → AreGone uses slot marks
+gone_all uses slot at marks ended so_far k h needs = so_far.gone k (omega arith) h needs
+
+gone_still : (items : ℕ) (uses : List Use) (old new : List Bool) (slot : ℕ) → IsSafe items uses old new → AreGone uses slot old → AreGone uses slot new
+gone_still items uses old new slot safe gone k h needs = elim (cases_Bool (marked new (item_at uses k))) [
+  | inl stays ↦ absurd (false≢true (sym (gone k h needs) ∙ safe.fewer (item_at uses k) stays))
+  | inr goes ↦ goes
+]
+
+-- ---- the whole run: every slot that is listed before `at` was worked off
+
+pub record Reducing (items slots : ℕ) (uses : List Use) (marks : List Bool) (counts : List ℕ) (work : Rows ℕ) (at : ℕ) : Type 0 where
+  pub within : at ≤ length work.items
+  pub counted : IsCounted items slots uses marks counts work
+  pub safe : (other : ℕ → Bool) → IsConsistent items uses other → (item : ℕ) → other item ≡ true → marked marks item ≡ true
+  pub passed : (p : ℕ) → p < at → AreGone uses (get_or work.items p 0) marks
+
+all_marked : (n i : ℕ) → i < n → marked (replicate n true) i ≡ true
+all_marked zero i h = absurd (omega arith)
+all_marked (suc n) zero h = refl
+all_marked (suc n) (suc i) h = all_marked n i (omega arith)
+
+length-all_marked : (n : ℕ) → length (replicate n true) ≡ n
+length-all_marked zero = refl
+length-all_marked (suc n) = ap suc (length-all_marked n)
+
+-- while every item is marked, the supply is that of all uses
+supply-all : (items n : ℕ) (uses : List Use) (slot : ℕ) → ((k : ℕ) → k < n → item_at uses k < items) → supply (marked (replicate items true)) uses slot n ≡ supply (λ item. true) uses slot n
+supply-all items zero uses slot within = refl
+supply-all items (suc n) uses slot within = rw (all_marked items (item_at uses n) (within n (omega arith)), supply-all items n uses slot (λ k h. within k (omega arith))) refl
+
+pub reducing_first : (items slots : ℕ) (uses : List Use) (marks : List Bool) (counts : List ℕ) (work : Rows ℕ) → ((k : ℕ) → k < length uses → item_at uses k < items) → marks ≡ replicate items true → length counts ≡ slots
+    → ((slot : ℕ) → slot < slots → get_or counts slot 0 ≡ supply (λ item. true) uses slot (length uses)) → IsWorkOf counts work → Reducing items slots uses marks counts work 0
+reducing_first items slots uses marks counts work low all size counted listed = record {
+  within = omega arith;
+  counted = record {
+    item_count = ap length all ∙ length-all_marked items;
+    slot_count = size;
+    counted = λ slot b. counted slot b ∙ sym (supply-all items (length uses) uses slot low) ∙ ap (λ m. supply (marked m) uses slot (length uses)) (sym all);
+    listed = listed;
+  };
+  safe = λ other consistent item stands. ap (λ m. marked m item) all ∙ all_marked items item (consistent.within item stands);
+  passed = λ p h. absurd (omega arith);
+}
+
+pub reducing_next : (items slots : ℕ) (uses : List Use) (marks new_marks : List Bool) (counts new_counts : List ℕ) (work new_work : Rows ℕ) (at slot : ℕ) → at < length work.items → slot ≡ get_or work.items at 0
+    → Reducing items slots uses marks counts work at → AreGone uses slot new_marks → IsSafe items uses marks new_marks
+    → IsCounted items slots uses new_marks new_counts new_work → Extends work.items new_work.items → Reducing items slots uses new_marks new_counts new_work (at + 1)
+reducing_next items slots uses marks new_marks counts new_counts work new_work at slot h is so_far gone safe counted extends = record {
+  within = omega (arith, extends.longer);
+  counted = counted;
+  safe = λ other consistent item stands. safe.safe other consistent (so_far.safe other consistent) item stands;
+  passed = λ p b. subst (λ q. AreGone uses q new_marks) (sym (extends.same p (omega arith))) (elim (cases_eq p at) [
+    | inl last ↦ subst (λ q. AreGone uses q new_marks) (is ∙ ap (λ j. get_or work.items j 0) (sym last)) gone
+    | inr before ↦ gone_still items uses marks new_marks (get_or work.items p 0) safe (so_far.passed p (omega arith))
+  ]);
+}
+
+pub slot_within : (items slots : ℕ) (uses : List Use) (marks : List Bool) (counts : List ℕ) (work : Rows ℕ) (at slot : ℕ) → at < length work.items → slot ≡ get_or work.items at 0
+    → Reducing items slots uses marks counts work at → slot < length counts
+slot_within items slots uses marks counts work at slot h is so_far = omega (arith, is, so_far.counted.listed.listed.within at h)
+
+pub slot_is_none : (items slots : ℕ) (uses : List Use) (marks : List Bool) (counts : List ℕ) (work : Rows ℕ) (at slot : ℕ) → at < length work.items → slot ≡ get_or work.items at 0
+    → Reducing items slots uses marks counts work at → get_or counts slot 0 ≡ 0
+slot_is_none items slots uses marks counts work at slot h is so_far = ap (λ q. get_or counts q 0) is ∙ so_far.counted.listed.listed.zero_there at h
+
+-- each slot is listed once, so the list is never longer than there are slots
+pub work_left : (items slots : ℕ) (uses : List Use) (marks : List Bool) (counts : List ℕ) (work : Rows ℕ) (at : ℕ) → Reducing items slots uses marks counts work at → length work.items ≤ slots
+work_left items slots uses marks counts work at so_far = omega (arith, so_far.counted.listed.listed.room, so_far.counted.slot_count)
+
+pub reduced : (items slots : ℕ) (uses : List Use) (marks : List Bool) (counts : List ℕ) (work : Rows ℕ) (at : ℕ) → ((k : ℕ) → k < length uses → need_at uses k < slots) → length work.items ≤ at
+    → Reducing items slots uses marks counts work at → IsGreatest items uses (marked marks)
+reduced items slots uses marks counts work at low ended so_far = record {
+  consistent = record {
+    within = λ item m. elim (cases_lt item items) [
+      | inl within ↦ within
+      | inr past ↦ absurd (false≢true (sym (get_or_past marks item false (omega (arith, so_far.counted.item_count))) ∙ m))
+    ];
+    given = λ need in_uses m. (
+        let place : (k : ℕ) × (k < length uses) × (use_at uses k ≡ need) = place_of uses need in_uses in
+        let slot_low : need_at uses place.0 < slots = low place.0 place.1 in
+        let stands : marked marks (item_at uses place.0) ≡ true = ap (λ (u : Use). marked marks u.item) place.2 ∙ m in
+        subst (λ (u : Use). IsGiven uses (marked marks) u.needs) place.2 (elim (cases_lt 0 (get_or counts (need_at uses place.0) 0)) [
+          | inl some ↦ supply-given (marked marks) uses (need_at uses place.0) (omega (arith, so_far.counted.counted (need_at uses place.0) slot_low))
+          | inr none ↦ (let there : Contains work.items (need_at uses place.0) = so_far.counted.listed.listed.all_there (need_at uses place.0) (omega (arith, so_far.counted.slot_count)) (omega arith) in
+              let is : get_or work.items there.0 0 ≡ need_at uses place.0 = get_or_default work.items there.0 0 (need_at uses place.0) there.1 ∙ there.2 in
+              absurd (false≢true (sym (so_far.passed there.0 (omega (arith, there.1)) place.0 place.1 (sym is)) ∙ stands)))
+        ]));
+  };
+  greatest = so_far.safe;
+}

@@ -1,0 +1,14 @@
+-- Places with one key, linked from the last one back.
+use Rattle.std.specs.Prelude.{◌≡◌, ℕ, zero, suc, ◌<◌, ◌==◌, if◌then◌else◌, List, length, slice_index}
+
+-- the last of the first n places that has the key, counted from 1, and 0 where none has it
+abbrev pub last_before : (ℕ → ℕ) → ℕ → ℕ → ℕ
+last_before key_of key zero = 0
+last_before key_of key (suc n) = if key_of n == key then suc n else last_before key_of key n
+
+-- for each key the last place that has it, and for each place the one before with the same key
+pub record AreChains (key_of : ℕ → ℕ) (keys places : ℕ) (lasts befores : List ℕ) : Type 0 where
+  pub key_count : length lasts ≡ keys
+  pub place_count : length befores ≡ places
+  pub last : (key : ℕ) → key < keys → slice_index lasts key ≡ last_before key_of key places
+  pub before : (place : ℕ) → place < places → slice_index befores place ≡ last_before key_of (key_of place) place

@@ -1,0 +1,61 @@
+-- What the reduction keeps while it runs. No public contract speaks of it.
+use Rattle.std.specs.Prelude.{◌≡◌, ℕ, zero, suc, ◌+◌, ◌<◌, ◌≤◌, ◌==◌, ◌&&◌, List, [], ◌∷◌, length, slice_index, slice_index_or, Bool, true, false, if◌then◌else◌}
+use Rattle.std.specs.List.{Contains}
+use Rattle.row_buf.specs.Rows.{Rows}
+use Rattle.counted_sets.specs.declared.uses.Use.{Use}
+use Rattle.counted_sets.specs.Sets.{IsConsistent, marked}
+
+-- the use at a place
+abbrev pub use_at : List Use → ℕ → Use
+use_at uses k = slice_index_or uses k (record { item = 0; gives = 0; needs = 0 })
+
+abbrev pub item_at : List Use → ℕ → ℕ
+item_at uses k = (use_at uses k).item
+
+abbrev pub need_at : List Use → ℕ → ℕ
+need_at uses k = (use_at uses k).needs
+
+-- how many of the first n uses are of a kept item and give the slot
+abbrev pub supply : (ℕ → Bool) → List Use → ℕ → ℕ → ℕ
+supply kept uses slot zero = 0
+supply kept uses slot (suc n) = (if kept (item_at uses n) && ((use_at uses n).gives == slot) then 1 else 0) + supply kept uses slot n
+
+-- how many of the counts are above 0
+abbrev pub positives : List ℕ → ℕ
+positives [] = 0
+positives (zero ∷ counts) = positives counts
+positives (suc n ∷ counts) = suc (positives counts)
+
+-- the slots whose count is 0 are listed, each once
+pub record AreListed (counts work : List ℕ) : Type 0 where
+  pub within : (p : ℕ) → p < length work → slice_index work p < length counts
+  pub zero_there : (p : ℕ) → p < length work → slice_index counts (slice_index work p) ≡ 0
+  pub all_there : (slot : ℕ) → slot < length counts → slice_index counts slot ≡ 0 → Contains work slot
+  pub room : length work + positives counts ≡ length counts
+
+-- and there is room to list each of the others
+pub record IsWorkOf (counts : List ℕ) (work : Rows ℕ) : Type 0 where
+  pub listed : AreListed counts work.items
+  pub spare : work.spare ≡ positives counts
+
+-- the one list begins with the other
+pub record Extends (old new : List ℕ) : Type 0 where
+  pub longer : length old ≤ length new
+  pub same : (p : ℕ) → p < length old → slice_index new p ≡ slice_index old p
+
+-- the counts are those of the uses of marked items, and the slots of count 0 are listed
+pub record IsCounted (items slots : ℕ) (uses : List Use) (marks : List Bool) (counts : List ℕ) (work : Rows ℕ) : Type 0 where
+  pub item_count : length marks ≡ items
+  pub slot_count : length counts ≡ slots
+  pub counted : (slot : ℕ) → slot < slots → slice_index counts slot ≡ supply (marked marks) uses slot (length uses)
+  pub listed : IsWorkOf counts work
+
+-- no mark is new, and no consistent set loses an item
+pub record IsSafe (items : ℕ) (uses : List Use) (old new : List Bool) : Type 0 where
+  pub fewer : (item : ℕ) → marked new item ≡ true → marked old item ≡ true
+  pub safe : (other : ℕ → Bool) → IsConsistent items uses other → ((item : ℕ) → other item ≡ true → marked old item ≡ true)
+      → (item : ℕ) → other item ≡ true → marked new item ≡ true
+
+-- no item that needs the slot is marked
+abbrev pub AreGone : List Use → ℕ → List Bool → Type 0
+AreGone uses slot marks = (k : ℕ) → k < length uses → need_at uses k ≡ slot → marked marks (item_at uses k) ≡ false

@@ -1,0 +1,28 @@
+-- Items that stand only while each slot that they need is given by an item that stands.
+use Rattle.std.specs.Prelude.{◌≡◌, ℕ, ◌<◌, List, slice_index_or, Bool, true, false}
+use Rattle.std.specs.List.{Contains}
+use Rattle.counted_sets.specs.declared.uses.Use.{Use}
+
+-- the items that are marked
+abbrev pub marked : List Bool → ℕ → Bool
+marked marks item = slice_index_or marks item false
+
+-- a use of a kept item gives the slot
+abbrev pub IsGiven : List Use → (ℕ → Bool) → ℕ → Type 0
+IsGiven uses kept slot = (giver : Use) × Contains uses giver × (kept giver.item ≡ true) × (giver.gives ≡ slot)
+
+-- of items that are numbered below an end some are kept, and each slot that a kept one needs is given
+pub record IsConsistent (items : ℕ) (uses : List Use) (kept : ℕ → Bool) : Type 0 where
+  pub within : (item : ℕ) → kept item ≡ true → item < items
+  pub given : (need : Use) → Contains uses need → kept need.item ≡ true → IsGiven uses kept need.needs
+
+-- the set is consistent, and every consistent set is contained in it
+pub record IsGreatest (items : ℕ) (uses : List Use) (kept : ℕ → Bool) : Type 0 where
+  pub consistent : IsConsistent items uses kept
+  pub greatest : (other : ℕ → Bool) → IsConsistent items uses other → (item : ℕ) → other item ≡ true → kept item ≡ true
+
+-- item and slots of the use are below their ends
+pub record IsUseOf (items slots : ℕ) (u : Use) : Type 0 where
+  pub item : u.item < items
+  pub gives : u.gives < slots
+  pub needs : u.needs < slots

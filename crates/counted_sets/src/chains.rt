@@ -1,0 +1,92 @@
+//! Uses with one item, or with one needed slot, linked from the last one back.
+ghost use Rattle.std.specs.Prelude.{◌≡◌, ◌+◌, ◌^◌, ◌<◌, ◌≤◌, All, IfOk, ℕ, length, slice_index};
+ghost use Rattle.counted_sets.specs.Chains.{AreChains, last_before};
+ghost use Rattle.counted_sets.specs.Counts.{item_at, need_at};
+ghost use Rattle.counted_sets.specs.Sets.{IsUseOf};
+
+use crate::uses::Use;
+use base_io::NoMemory;
+use row_buf::RowBuf;
+use std::alloc::Global;
+
+/// Places are counted from 1, so that 0 says that there is none. 4 bytes for each key and for each place.
+#[derive(Drop)]
+pub(crate) struct Chains {
+    lasts: RowBuf<u32>,
+    befores: RowBuf<u32>,
+}
+
+impl Chains {
+    // No place yet, and room for so many.
+    fn new(alloc: Global, keys: u32, places: u64) -> Result<Chains, NoMemory>
+        ensures chains { IfOk result (λ chains. (key_of : ℕ → ℕ) → AreChains key_of keys 0 chains.lasts.items chains.befores.items) }
+        ensures spare { IfOk result (λ chains. chains.befores.spare ≡ places) }
+    {
+        let mut lasts = RowBuf::new(alloc);
+        lasts.reserve(keys as u64)?;
+        lasts.fill(keys as u64, 0);
+        let mut befores = RowBuf::new(alloc);
+        befores.reserve(places)?;
+        Ok(Chains { lasts, befores })
+    }
+
+    // Links one more place with this key.
+    fn add(&mut self, key: u32)
+        requires key { key < length self.old.lasts.items }
+        requires room { 1 ≤ self.old.befores.spare }
+        requires few { length self.old.befores.items + 1 < 2 ^ 32 }
+        ensures chains { (key_of : ℕ → ℕ) → key_of (length self.old.befores.items) ≡ key
+            → AreChains key_of (length self.old.lasts.items) (length self.old.befores.items) self.old.lasts.items self.old.befores.items
+            → AreChains key_of (length self.old.lasts.items) (length self.old.befores.items + 1)
+            self.new.lasts.items self.new.befores.items }
+        ensures keys { length self.new.lasts.items ≡ length self.old.lasts.items }
+        ensures places { length self.new.befores.items ≡ length self.old.befores.items + 1 }
+        ensures spare { self.new.befores.spare + 1 ≡ self.old.befores.spare }
+    {
+        let before = self.lasts.get(key);
+        self.befores.push(before);
+        self.lasts.set(key, self.befores.len() as u32);
+    }
+
+    /// The last place with the key.
+    pub(crate) fn last(&self, key: u32) -> u32
+        requires { key < length self.now.lasts.items }
+        ensures { result ≡ slice_index self.now.lasts.items key }
+    {
+        self.lasts.get(key)
+    }
+
+    /// The place before this one, which is counted from 0 here, with the same key.
+    pub(crate) fn before(&self, place: u32) -> u32
+        requires { place < length self.now.befores.items }
+        ensures { result ≡ slice_index self.now.befores.items place }
+    {
+        self.befores.get(place)
+    }
+}
+
+/// The uses of each item.
+pub(crate) fn chained_by_item(alloc: Global, items: u32, uses: &[Use]) -> Result<Chains, NoMemory>
+    requires items { All (λ u. u.item < items) uses.now }
+    requires few { length uses.now < 2 ^ 32 }
+    ensures { IfOk result (λ chains. AreChains (item_at uses.now) items (length uses.now) chains.lasts.items chains.befores.items) }
+{
+    let mut chains = Chains::new(alloc, items, uses.len() as u64)?;
+    'uses: for k in 0..uses.len() {
+        chains.add(uses[k].item);
+    }
+    Ok(chains)
+}
+
+/// The uses that need each slot.
+pub(crate) fn chained_by_need(alloc: Global, slots: u32, uses: &[Use]) -> Result<Chains, NoMemory>
+    requires slots { All (λ u. u.needs < slots) uses.now }
+    requires few { length uses.now < 2 ^ 32 }
+    ensures { IfOk result (λ chains. AreChains (need_at uses.now) slots (length uses.now) chains.lasts.items chains.befores.items) }
+{
+    let mut chains = Chains::new(alloc, slots, uses.len() as u64)?;
+    'uses: for k in 0..uses.len() {
+        chains.add(uses[k].needs);
+    }
+    Ok(chains)
+}

@@ -1,0 +1,106 @@
+//! Items go while a slot that they need has the count 0.
+ghost use Rattle.std.specs.Prelude.{◌≡◌, ◌^◌, ◌<◌, All, IfOk, false, length, slice_index, slice_set};
+ghost use Rattle.counted_sets.specs.Chains.{AreChains};
+ghost use Rattle.counted_sets.specs.Counts.{AreGone, Extends, IsCounted, IsSafe, item_at, need_at};
+ghost use Rattle.counted_sets.specs.Sets.{IsGreatest, IsUseOf, marked};
+
+use crate::chains::{Chains, chained_by_item, chained_by_need};
+use crate::counts::{count_all, take_off, zeros};
+use crate::uses::Use;
+use base_io::NoMemory;
+use row_buf::RowBuf;
+use std::alloc::Global;
+
+// Takes an item away, with what it gives. One that isn't marked gives nothing any more.
+fn remove(
+    uses: &[Use],
+    of_item: &Chains,
+    item: u32,
+    marks: &mut RowBuf<bool>,
+    counts: &mut RowBuf<u32>,
+    work: &mut RowBuf<u32>,
+)
+    requires item { item < length marks.old.items }
+    requires slots { All (λ u. u.gives < length counts.old.items) uses.now }
+    requires chains { AreChains (item_at uses.now) (length marks.old.items) (length uses.now)
+        of_item.now.lasts.items of_item.now.befores.items }
+    requires counted { IsCounted (length marks.old.items) (length counts.old.items) uses.now marks.old.items counts.old.items work.old }
+    ensures marks { marks.new.items ≡ slice_set marks.old.items item false }
+    ensures counted { IsCounted (length marks.old.items) (length counts.old.items) uses.now marks.new.items counts.new.items work.new }
+    ensures extends { Extends work.old.items work.new.items }
+{
+    if !marks.get(item) {
+        return;
+    }
+    marks.set(item, false);
+    take_off(uses, of_item, item, counts, work);
+}
+
+// Takes away every item that needs a slot which is given no more.
+fn remove_needing(
+    uses: &[Use],
+    of_item: &Chains,
+    needing: &Chains,
+    slot: u32,
+    marks: &mut RowBuf<bool>,
+    counts: &mut RowBuf<u32>,
+    work: &mut RowBuf<u32>,
+)
+    requires slot { slot < length counts.old.items }
+    requires none { slice_index counts.old.items slot ≡ 0 }
+    requires uses { All (IsUseOf (length marks.old.items) (length counts.old.items)) uses.now }
+    requires items { AreChains (item_at uses.now) (length marks.old.items) (length uses.now)
+        of_item.now.lasts.items of_item.now.befores.items }
+    requires needs { AreChains (need_at uses.now) (length counts.old.items) (length uses.now)
+        needing.now.lasts.items needing.now.befores.items }
+    requires counted { IsCounted (length marks.old.items) (length counts.old.items) uses.now marks.old.items counts.old.items work.old }
+    ensures gone { AreGone uses.now slot marks.new.items }
+    ensures safe { IsSafe (length marks.old.items) uses.now marks.old.items marks.new.items }
+    ensures counted { IsCounted (length marks.old.items) (length counts.old.items) uses.now marks.new.items counts.new.items work.new }
+    ensures extends { Extends work.old.items work.new.items }
+{
+    let mut at = needing.last(slot);
+    'places: while at > 0 {
+        let place = at - 1;
+        remove(
+            uses,
+            of_item,
+            uses[place as usize].item,
+            marks,
+            counts,
+            work,
+        );
+        at = needing.before(place);
+    }
+}
+
+/// Marks the items that stay when every item goes that needs a slot which no standing item gives, until nothing changes.
+pub fn reduce(alloc: Global, items: u32, slots: u32, uses: &[Use]) -> Result<RowBuf<bool>, NoMemory>
+    requires uses { All (IsUseOf items slots) uses.now }
+    requires few { length uses.now < 2 ^ 32 }
+    ensures length { IfOk result (λ marks. length marks.items ≡ items) }
+    ensures greatest { IfOk result (λ marks. IsGreatest items uses.now (marked marks.items)) }
+{
+    let of_item = chained_by_item(alloc, items, uses)?;
+    let needing = chained_by_need(alloc, slots, uses)?;
+    let mut counts = count_all(alloc, slots, uses)?;
+    let mut work = zeros(alloc, &counts)?;
+    let mut marks = RowBuf::new(alloc);
+    marks.reserve(items as u64)?;
+    marks.fill(items as u64, true);
+    let mut at = 0;
+    'work: while (at as u64) < work.len() {
+        let slot = work.get(at);
+        remove_needing(
+            uses,
+            &of_item,
+            &needing,
+            slot,
+            &mut marks,
+            &mut counts,
+            &mut work,
+        );
+        at += 1;
+    }
+    Ok(marks)
+}

@@ -1,0 +1,208 @@
+-- The rows of the greatest consistent set of items are the reduced family.
+use Rattle.std.proofs.Common.{◌≡◌, ℕ, zero, suc, ◌+◌, ◌-◌, ◌*◌, ◌<◌, ◌≤◌, Bool, true, false, List, [], ◌∷◌, Some, length, get_or, drop, refl, ap, sym, ◌∙◌, subst, arith, inl, inr}
+use Rattle.std.specs.Prelude.{◌⊎◌, ◌==◌, ◌≢◌, nat_lt, if◌then◌else◌, AllPairs, slice_get}
+use Rattle.std.specs.List.{Contains}
+use Rattle.std.proofs.lemmas.Bool.{cases_eq, cases_lt, eq-eqb, eqb-true, false≢true, le-ltb, lt-ltb, ne_eqb}
+use Rattle.std.proofs.lemmas.Option.{get_or_from_slice_get, slice_get_within}
+use Rattle.std.proofs.lemmas.List.{get_or_default}
+use Rattle.berge_tree.specs.declared.edges.Edge.{Edge}
+use Rattle.berge_tree.specs.declared.edges.Place.{Place}
+use Rattle.counted_sets.specs.declared.uses.Use.{Use}
+use Rattle.counted_sets.specs.Sets.{IsGiven, IsGreatest}
+use Rattle.counted_sets.specs.Sets as sets
+use Rattle.level_bounds.specs.Keys.{Keys}
+use Rattle.reduced_scans.specs.Families.{AreAscending, HasPartner, HavePartners, IsConsistent, IsFamily, IsReduced, list_at}
+use Rattle.reduced_scans.specs.Wiring.{AreDifferent, AreWired, Classes, IsNumbered, IsUseFor, StandsFor, TellsByKey, first_item, key_on, marked_family, near, opposite, row_at, slot_of}
+use Rattle.reduced_scans.proofs.Members.{behind, in_cases, in_front, not_in_none}
+use Rattle.reduced_scans.proofs.MarkedRows.{MarkedAt, at_place, from_family, is_family, place_in, to_family}
+
+-- ---- the items of a family
+
+abbrev pub has : ℕ → List ℕ → Bool
+has x [] = false
+has x (y ∷ ys) = if y == x then true else has x ys
+
+pub has-contains : (x : ℕ) (ys : List ℕ) → has x ys ≡ true → Contains ys x
+has-contains x [] is = absurd (false≢true is)
+has-contains x (y ∷ ys) is = elim (cases_eq y x) [
+  | inl same ↦ in_front x y ys same
+  | inr apart ↦ behind x y ys (has-contains x ys (sym (skips apart) ∙ is))
+]
+  where
+    skips : (y ≡ x → ⊥) → has x (y ∷ ys) ≡ has x ys
+    skips apart = rw (ne_eqb y x apart) refl
+
+pub contains-has : (x : ℕ) (ys : List ℕ) → Contains ys x → has x ys ≡ true
+contains-has x [] is = absurd (not_in_none x is)
+contains-has x (y ∷ ys) is = elim (cases_eq y x) [
+  | inl same ↦ rw (eq-eqb y x same) refl
+  | inr apart ↦ elim (in_cases x y ys is) [
+    | inl here ↦ absurd (apart here)
+    | inr there ↦ rw (ne_eqb y x apart) (contains-has x ys there)
+  ]
+]
+
+-- the item is that of a row of the family
+abbrev pub in_family : List (List ℕ) → List (List ℕ) → ℕ → Bool
+in_family [] family item = false
+in_family (scan ∷ scans) family item =
+    if nat_lt item (length scan) then has (get_or scan item 0) (list_at family 0) else in_family scans (drop 1 family) (item - length scan)
+
+drop_at : (family : List (List ℕ)) (entry : ℕ) → list_at (drop 1 family) entry ≡ list_at family (suc entry)
+drop_at [] entry = refl
+drop_at (list ∷ family) entry = refl
+
+first_list : (scan : List ℕ) (scans family : List (List ℕ)) (item : ℕ) → item < length scan → in_family (scan ∷ scans) family item ≡ has (get_or scan item 0) (list_at family 0)
+first_list scan scans family item low = rw (lt-ltb item (length scan) low) refl
+
+later_list : (scan : List ℕ) (scans family : List (List ℕ)) (item : ℕ) → length scan ≤ item → in_family (scan ∷ scans) family item ≡ in_family scans (drop 1 family) (item - length scan)
+later_list scan scans family item high = rw (le-ltb item (length scan) high) refl
+
+pub in_family_is : (scans family : List (List ℕ)) (entry place : ℕ) → place < length (list_at scans entry) → in_family scans family (first_item scans entry + place) ≡ has (row_at scans entry place) (list_at family entry)
+in_family_is [] family entry place h = absurd (omega arith)
+in_family_is (scan ∷ scans) family zero place h = let n : 0 + place ≡ place = omega arith in ap (in_family (scan ∷ scans) family) n ∙ first_list scan scans family place h
+in_family_is (scan ∷ scans) family (suc entry) place h =
+    let n : ((length scan + first_item scans entry) + place) - length scan ≡ first_item scans entry + place = omega arith in
+    later_list scan scans family ((length scan + first_item scans entry) + place) (omega arith)
+    ∙ ap (in_family scans (drop 1 family)) n ∙ in_family_is scans (drop 1 family) entry place h ∙ ap (has (row_at scans entry place)) (drop_at family entry)
+
+pub in_family_within : (scans family : List (List ℕ)) (item : ℕ) → in_family scans family item ≡ true → item < first_item scans (length scans)
+in_family_within [] family item is = absurd (false≢true is)
+in_family_within (scan ∷ scans) family item is = elim (cases_lt item (length scan)) [
+  | inl low ↦ omega arith
+  | inr high ↦ omega (arith, in_family_within scans (drop 1 family) (item - length scan) (sym (later_list scan scans family item high) ∙ is))
+]
+
+-- ---- slots
+
+-- one number of a slot is one class and one side
+one_slot : (a b : ℕ) (on other : Bool) → slot_of a on ≡ slot_of b other → (a ≡ b) × (on ≡ other)
+one_slot a b true true e = (omega arith, refl)
+one_slot a b true false e = absurd (omega arith)
+one_slot a b false true e = absurd (omega arith)
+one_slot a b false false e = (omega arith, refl)
+
+opposite_twice : (on : Bool) → opposite (opposite on) ≡ on
+opposite_twice true = refl
+opposite_twice false = refl
+
+some_one : (a b : ℕ × ℕ) → Some a ≡ Some b → a ≡ b
+some_one a b e = cc
+
+-- one class has one value
+same_value : (classes : Classes) (a b m n k l : ℕ) → slice_get classes a ≡ Some (m, k) → slice_get classes b ≡ Some (n, l) → a ≡ b → (m ≡ n) × (k ≡ l)
+same_value classes a b m n k l p q same =
+    let pair : (m, k) ≡ (n, l) = some_one (m, k) (n, l) (sym p ∙ ap (slice_get classes) same ∙ q) in
+    (ap (λ (x : ℕ × ℕ). x.0) pair, ap (λ (x : ℕ × ℕ). x.1) pair)
+
+-- and one value has one class
+only_class : (classes : Classes) (a b : ℕ) (v : ℕ × ℕ) → AreDifferent classes → slice_get classes a ≡ Some v → slice_get classes b ≡ Some v → a ≡ b
+only_class classes a b v different p q = elim (cases_lt a b) [
+  | inl before ↦ absurd (different a b v before (slice_get_within classes b v q) (get_or_from_slice_get classes a v v p ∙ sym (get_or_from_slice_get classes b v v q)))
+  | inr not_before ↦ elim (cases_eq a b) [
+    | inl same ↦ same
+    | inr apart ↦ (let after : b < a = omega arith in
+        absurd (different b a v after (slice_get_within classes a v p) (get_or_from_slice_get classes b v v q ∙ sym (get_or_from_slice_get classes a v v p))))
+  ]
+]
+
+one_numbered : (equalities : List Edge) (m n : ℕ) (e f : Edge) → m ≡ n → IsNumbered equalities m e → IsNumbered equalities n f → e ≡ f
+one_numbered equalities m n e f same p q = sym p.1 ∙ ap (λ i. get_or equalities i e) same ∙ get_or_default equalities n e f q.0 ∙ q.1
+
+-- ---- marks and families
+
+-- the same from either side
+abbrev pub equal_from : (Edge → ℕ → ℕ → Bool) → Edge → Bool → ℕ → ℕ → Bool
+equal_from equal e true = equal e
+equal_from equal e false = λ right left. equal e left right
+
+module _ (scans : List (List ℕ)) (equalities : List Edge) (key : Keys) (equal : Edge → ℕ → ℕ → Bool) (tells : TellsByKey scans equalities key equal) where
+  same_key : (e : Edge) (on : Bool) (row partner : ℕ) → Contains equalities e → Contains (list_at scans (near e on).entry) row → Contains (list_at scans (near e (opposite on)).entry) partner
+      → equal_from equal e on row partner ≡ true → key_on key (near e on) row ≡ key_on key (near e (opposite on)) partner
+  same_key e true row partner has r p is = eqb-true (key_on key e.left row) (key_on key e.right partner) (sym (tells e has row partner r p) ∙ is)
+  same_key e false row partner has r p is = sym (eqb-true (key_on key e.left partner) (key_on key e.right row) (sym (tells e has partner row p r) ∙ is))
+
+  key_same : (e : Edge) (on : Bool) (row partner : ℕ) → Contains equalities e → Contains (list_at scans (near e on).entry) row → Contains (list_at scans (near e (opposite on)).entry) partner
+      → key_on key (near e on) row ≡ key_on key (near e (opposite on)) partner → equal_from equal e on row partner ≡ true
+  key_same e true row partner has r p is = tells e has row partner r p ∙ eq-eqb (key_on key e.left row) (key_on key e.right partner) is
+  key_same e false row partner has r p is = tells e has partner row p r ∙ eq-eqb (key_on key e.left partner) (key_on key e.right row) (sym is)
+
+  partners : (family : List (List ℕ)) (e : Edge) (on : Bool) → IsConsistent scans equalities equal family → Contains equalities e
+      → HavePartners (equal_from equal e on) (list_at family (near e on).entry) (list_at family (near e (opposite on)).entry)
+  partners family e true consistent has = consistent.from_left e has
+  partners family e false consistent has = consistent.from_right e has
+
+  module _ (classes : Classes) (uses : List Use) (different : AreDifferent classes) (wired : AreWired scans equalities key classes (length equalities) uses) where
+    -- the rows of a consistent set of items have their partners
+    from_marks : (kept : ℕ → Bool) → sets.IsConsistent (first_item scans (length scans)) uses kept → (number : ℕ) (e : Edge) (on : Bool) → IsNumbered equalities number e
+        → HavePartners (equal_from equal e on) (list_at (marked_family kept 0 scans) (near e on).entry) (list_at (marked_family kept 0 scans) (near e (opposite on)).entry)
+    from_marks kept consistent number e on numbered row in_marked =
+        let m : MarkedAt kept scans (near e on).entry row = from_family kept scans (near e on).entry row in_marked in
+        let need : (u : Use) × Contains uses u × IsUseFor classes number on (key_on key (near e on) (row_at scans (near e on).entry m.0)) (first_item scans (near e on).entry + m.0) u =
+        wired.complete number e on m.0 numbered.0 numbered m.1 in
+        let given : IsGiven uses kept need.0.needs = consistent.given need.0 need.1 (ap kept need.2.is_item ∙ m.2) in
+        let v : StandsFor scans equalities key classes (length equalities) given.0 = wired.sound given.0 given.1 in
+        let slots : (v.is_use.class ≡ need.2.class) × (v.on ≡ opposite on) = one_slot v.is_use.class need.2.class v.on (opposite on) (sym v.is_use.gives ∙ given.3 ∙ need.2.needs) in
+        let values : (v.number ≡ number) × (key_on key (near v.edge v.on) (row_at scans (near v.edge v.on).entry v.place) ≡ key_on key (near e on) (row_at scans (near e on).entry m.0)) =
+        same_value classes v.is_use.class need.2.class v.number number (key_on key (near v.edge v.on) (row_at scans (near v.edge v.on).entry v.place)) (key_on key (near e on) (row_at scans (near e on).entry m.0))
+        v.is_use.is_class need.2.is_class slots.0 in
+        let edge : v.edge ≡ e = one_numbered equalities v.number number v.edge e values.0 v.numbered numbered in
+        let side : near v.edge v.on ≡ near e (opposite on) = ap (λ f. near f v.on) edge ∙ ap (near e) slots.1 in
+        let partner : ℕ = row_at scans (near v.edge v.on).entry v.place in
+        let there : Contains (list_at (marked_family kept 0 scans) (near v.edge v.on).entry) partner = to_family kept scans (near v.edge v.on).entry v.place v.within (ap kept (sym v.is_use.is_item) ∙ given.2) in
+        let scanned : Contains (list_at scans (near v.edge v.on).entry) partner = at_place (list_at scans (near v.edge v.on).entry) v.place partner v.within refl in
+        let row_scanned : Contains (list_at scans (near e on).entry) row = at_place (list_at scans (near e on).entry) m.0 row m.1 m.3 in
+        let keys : key_on key (near e on) row ≡ key_on key (near e (opposite on)) partner =
+        ap (key_on key (near e on)) (sym m.3) ∙ sym values.1 ∙ ap (λ (s : Place). key_on key s partner) side in (
+          partner,
+          subst (λ (s : Place). Contains (list_at (marked_family kept 0 scans) s.entry) partner) side there,
+          key_same e on row partner (number, numbered.0, numbered.1) row_scanned (subst (λ (s : Place). Contains (list_at scans s.entry) partner) side scanned) keys,
+        )
+
+    -- the items of a consistent family are a consistent set
+    from_consistent : (family : List (List ℕ)) → IsConsistent scans equalities equal family → sets.IsConsistent (first_item scans (length scans)) uses (in_family scans family)
+    from_consistent family consistent = record {
+      within = in_family_within scans family;
+      given = λ need in_uses stands. (
+          let u : StandsFor scans equalities key classes (length equalities) need = wired.sound need in_uses in
+          let side : Place = near u.edge u.on in
+          let other : Place = near u.edge (opposite u.on) in
+          let row : ℕ = row_at scans side.entry u.place in
+          let edge_in : Contains equalities u.edge = (u.number, u.numbered.0, u.numbered.1) in
+          let in_list : Contains (list_at family side.entry) row = has-contains row (list_at family side.entry) (sym (in_family_is scans family side.entry u.place u.within) ∙ ap (in_family scans family) (sym u.is_use.is_item) ∙ stands) in
+          let partner : HasPartner (equal_from equal u.edge u.on) (list_at family other.entry) row = partners family u.edge u.on consistent edge_in row in_list in
+          let scanned : Contains (list_at scans other.entry) partner.0 = consistent.is_family.scanned other.entry partner.0 partner.1 in
+          let place : (i : ℕ) × (i < length (list_at scans other.entry)) × (get_or (list_at scans other.entry) i 0 ≡ partner.0) = place_in (list_at scans other.entry) partner.0 scanned in
+          let v : (v : Use) × Contains uses v × IsUseFor classes u.number (opposite u.on) (key_on key other (row_at scans other.entry place.0)) (first_item scans other.entry + place.0) v =
+          wired.complete u.number u.edge (opposite u.on) place.0 u.below u.numbered place.1 in
+          let keys : key_on key side row ≡ key_on key other (row_at scans other.entry place.0) =
+          same_key u.edge u.on row partner.0 edge_in (at_place (list_at scans side.entry) u.place row u.within refl) scanned partner.2 ∙ ap (key_on key other) (sym place.2) in
+          let class : v.2.class ≡ u.is_use.class = only_class classes v.2.class u.is_use.class (u.number, key_on key side row) different
+          (v.2.is_class ∙ ap (λ k. Some (u.number, k)) (sym keys)) u.is_use.is_class in (
+            v.0,
+            v.1,
+            ap (in_family scans family) v.2.is_item ∙ in_family_is scans family other.entry place.0 place.1
+                ∙ contains-has (row_at scans other.entry place.0) (list_at family other.entry) (subst (Contains (list_at family other.entry)) (sym place.2) partner.1),
+            v.2.gives ∙ ap (λ k. slot_of k (opposite u.on)) class ∙ sym u.is_use.needs,
+          ));
+    }
+
+    pub marks_reduce : (kept : ℕ → Bool) → AreAscending scans → IsGreatest (first_item scans (length scans)) uses kept → IsReduced scans equalities equal (marked_family kept 0 scans)
+    marks_reduce kept ascending greatest = record {
+      consistent = record {
+        is_family = is_family scans kept ascending;
+        from_left = λ e has. numbered_left e has;
+        from_right = λ e has. numbered_right e has;
+      };
+      greatest = λ other consistent entry row in_other. (
+          let place : (i : ℕ) × (i < length (list_at scans entry)) × (get_or (list_at scans entry) i 0 ≡ row) = place_in (list_at scans entry) row (consistent.is_family.scanned entry row in_other) in
+          subst (Contains (list_at (marked_family kept 0 scans) entry)) place.2
+          (to_family kept scans entry place.0 place.1 (greatest.greatest (in_family scans other) (from_consistent other consistent) (first_item scans entry + place.0)
+          (in_family_is scans other entry place.0 place.1 ∙ contains-has (row_at scans entry place.0) (list_at other entry) (subst (Contains (list_at other entry)) (sym place.2) in_other)))));
+    }
+      where
+        numbered_left : (e : Edge) → Contains equalities e → HavePartners (equal e) (list_at (marked_family kept 0 scans) e.left.entry) (list_at (marked_family kept 0 scans) e.right.entry)
+        numbered_left e has = from_marks kept greatest.consistent has.0 e true (has.1, has.2)
+
+        numbered_right : (e : Edge) → Contains equalities e → HavePartners (λ right left. equal e left right) (list_at (marked_family kept 0 scans) e.right.entry) (list_at (marked_family kept 0 scans) e.left.entry)
+        numbered_right e has = from_marks kept greatest.consistent has.0 e false (has.1, has.2)

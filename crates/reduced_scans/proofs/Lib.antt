@@ -1,0 +1,12 @@
+pub mod Members
+pub mod OneReduced
+pub mod SomeReduced
+pub mod Matches
+pub mod QueryScans
+pub mod Levels
+pub mod MarkedRows
+pub mod Bridge
+pub mod Wired
+pub mod SameLevel
+pub mod OfQuery
+pub mod Pairs

@@ -1,0 +1,171 @@
+-- The lists of a query's scans, and why its equalities hold just where cells are equal.
+use Rattle.std.proofs.Common.{◌≡◌, ℕ, zero, suc, ◌+◌, ◌<◌, ◌≤◌, Bool, true, not, ◌||◌, List, [], ◌∷◌, ◌++◌, Option, None, Some, option_map, length, get_or, map, take, refl, ap, sym, ◌∙◌, subst, arith, inl, inr}
+use Rattle.std.specs.Prelude.{◌==◌, All, IsUtf8, slice_get, slice_index}
+use Rattle.std.specs.List.{Contains, cons_option, filter, filter_map, list_all, range_with_len}
+use Rattle.std.specs.Ordering.{is_eq}
+use Rattle.std.proofs.lemmas.Bool.{cases_Bool, cases_lt}
+use Rattle.std.proofs.lemmas.List.{get_or-map, get_or_default, get_or_past, length-map, map-append}
+use Rattle.std.proofs.lemmas.List.Elements.{All-contains, Contains-get_or}
+use Rattle.std.proofs.lemmas.List.FromFn.{length-range_with_len}
+use Rattle.berge_tree.specs.declared.edges.Edge.{Edge}
+use Rattle.berge_tree.specs.Equalities.{place}
+use Rattle.csv_tables.specs.declared.types.Database.{Database}
+use Rattle.csv_tables.specs.Pools.{AreDifferent}
+use Rattle.csv_tables.specs.Values.{value_cmp}
+use Rattle.schema_types.specs.declared.types.Kind.{Kind}
+use Rattle.schema_types.specs.declared.types.Kind.TheVariants as kind
+use Rattle.query_types.specs.Validity.{is_text}
+use Rattle.query_types.specs.declared.types.ColumnRef.{ColumnRef}
+use Rattle.query_types.specs.declared.types.Operand.TheVariants as operand
+use Rattle.query_types.specs.declared.types.Cond.{Cond, every_here-Cond}
+use Rattle.query_types.specs.declared.types.Cond.TheViews.{out-Cond}
+use Rattle.query_types.specs.declared.types.Query.{Query}
+use Rattle.row_buf.specs.Rows.{Rows}
+use Rattle.join_graph.specs.Conjuncts.{equalities_of, equality_of}
+use Rattle.sql_meaning.specs.Answers.{conjuncts_of}
+use Rattle.sql_meaning.specs.Databases.{AreTables, CanAskLayer, CanCompare, IsAskable, IsColumnOf, IsColumnOfKind, IsDatabaseOf}
+use Rattle.sql_meaning.specs.Levels.{names_just}
+use Rattle.sql_meaning.specs.Tables.{cells_of, row_counts, tables_of}
+use Rattle.sql_meaning.proofs.LoopFacts.{rows_are}
+use Rattle.join_steps.specs.Columns.{column_cells}
+use Rattle.join_steps.specs.Lists.{scan_of}
+use Rattle.join_steps.proofs.Cells.{cell_of_row, same_cells, value_by_cell}
+use Rattle.level_bounds.specs.Keys.{are_equal_at, cell_at, value_at}
+use Rattle.level_bounds.specs.Scans.{query_scan}
+use Rattle.level_bounds.proofs.EqualityFacts.{IsJoin, is_join}
+use Rattle.level_bounds.proofs.Lists.{from_filter_map}
+use Rattle.reduced_scans.specs.Families.{list_at}
+use Rattle.reduced_scans.specs.Lists.{AreListsOf, JoinsColumns, column_of, list_of, lists_of, no_rows}
+use Rattle.reduced_scans.specs.Scans.{scans_of}
+use Rattle.reduced_scans.specs.Wiring.{TellsByKey, first_item, marked_family, marked_rows}
+use Rattle.reduced_scans.proofs.MarkedRows.{family-take}
+use Rattle.reduced_scans.proofs.Members.{has_all}
+use Rattle.reduced_scans.proofs.OneReduced.{same_lists}
+use Rattle.reduced_scans.proofs.QueryScans.{count_of, scan_at, scan_past, scanned_low}
+
+-- ---- lists in buffers
+
+pub list_is : (lists : List (Rows ℕ)) (entry : ℕ) → list_at (lists_of lists) entry ≡ list_of lists entry
+list_is [] entry = refl
+list_is (list ∷ lists) zero = refl
+list_is (list ∷ lists) (suc entry) = list_is lists entry
+
+pub length-lists_of : (lists : List (Rows ℕ)) → length (lists_of lists) ≡ length lists
+length-lists_of lists = length-map lists (λ (list : Rows ℕ). list.items)
+
+-- a list as the code reads it
+pub read_list : (lists : List (Rows ℕ)) (entry : ℕ) (list : Rows ℕ) → entry < length lists → list ≡ get_or lists entry list → list.items ≡ list_at (lists_of lists) entry
+read_list lists entry list low is = ap (λ (l : Rows ℕ). l.items) (is ∙ get_or_default lists entry list no_rows low) ∙ sym (list_is lists entry)
+
+-- the marked rows of one more list
+pub marked_more : (kept : ℕ → Bool) (scans lists new : List (Rows ℕ)) (entry first : ℕ) (rows : Rows ℕ) (list : List ℕ) → entry < length scans → new ≡ lists ++ rows ∷ []
+    → first ≡ first_item (lists_of scans) entry → list ≡ list_at (lists_of scans) entry → rows.items ≡ marked_rows kept first list
+    → lists_of lists ≡ marked_family kept 0 (take entry (lists_of scans)) → lists_of new ≡ marked_family kept 0 (take (entry + 1) (lists_of scans))
+marked_more kept scans lists new entry first rows list low more is_first is_list is_rows so_far =
+    let begin : first ≡ 0 + first_item (lists_of scans) entry = omega (arith, is_first) in
+    let made : rows.items ≡ marked_rows kept (0 + first_item (lists_of scans) entry) (list_at (lists_of scans) entry) = is_rows ∙ ap (λ n. marked_rows kept n list) begin ∙ ap (marked_rows kept (0 + first_item (lists_of scans) entry)) is_list in
+    ap lists_of more ∙ map-append (λ (l : Rows ℕ). l.items) lists (rows ∷ []) ∙ ap (λ (ls : List (List ℕ)). ls ++ rows.items ∷ []) so_far
+    ∙ ap (λ (l : List ℕ). marked_family kept 0 (take entry (lists_of scans)) ++ l ∷ []) made ∙ sym (family-take kept 0 (lists_of scans) entry (omega (arith, length-lists_of scans)))
+
+-- ---- lengths
+
+length-filtered : (p : ℕ → Bool) (xs : List ℕ) → length (filter p xs) ≤ length xs
+length-filtered p [] = omega arith
+length-filtered p (x ∷ xs) = elim (cases_Bool (p x)) [
+  | inl passes ↦ rw passes (omega (arith, length-filtered p xs))
+  | inr fails ↦ rw fails (omega (arith, length-filtered p xs))
+]
+
+pub length-scan : (query : Query) (db : Database) (entry : ℕ) → length (scan_of query db entry) ≤ row_counts (tables_of db) entry
+length-scan query db entry =
+    omega (
+      arith,
+      length-filtered (λ row. list_all (λ c. not (names_just c entry) || c.holds (λ e. row)) (conjuncts_of query (tables_of db))) (range_with_len 0 (row_counts (tables_of db) entry)),
+      length-range_with_len 0 (row_counts (tables_of db) entry),
+    )
+
+length-cons_option : (o : Option Edge) (es : List Edge) → length (cons_option o es) ≤ suc (length es)
+length-cons_option None es = omega arith
+length-cons_option (Some e) es = omega arith
+
+length-equalities : (conds : List Cond) → length (filter_map equality_of conds) ≤ length conds
+length-equalities [] = omega arith
+length-equalities (cond ∷ conds) = omega (arith, length-cons_option (equality_of cond) (filter_map equality_of conds), length-equalities conds)
+
+pub few_equalities : (query : Query) → length (equalities_of query) ≤ length query.conjuncts
+few_equalities query = length-equalities query.conjuncts
+
+-- ---- the scans
+
+module _ (query : Query) (db : Database) (scans : List (Rows ℕ)) (of : IsDatabaseOf query db) (count : length scans ≡ length query.from)
+    (are : (entry : ℕ) → entry < length query.from → list_of scans entry ≡ scan_of query db entry) where
+  pub lists_are : lists_of scans ≡ scans_of query (tables_of db)
+  lists_are = same_lists (lists_of scans) (scans_of query (tables_of db)) (length-lists_of scans ∙ count ∙ sym (count_of query (tables_of db)))
+      (λ entry. elim (cases_lt entry (length query.from)) [
+        | inl low ↦ list_is scans entry ∙ are entry low ∙ sym (scan_at query (tables_of db) entry low)
+        | inr past ↦ get_or_past (lists_of scans) entry [] (omega (arith, length-lists_of scans)) ∙ sym (scan_past query (tables_of db) entry past)
+      ])
+
+  pub are_lists : ((entry : ℕ) → entry < length query.from → row_counts (tables_of db) entry ≤ 4000000) → AreListsOf db scans
+  are_lists few = record {
+    tables = of.tables;
+    count = count ∙ sym of.entries;
+    few = omega (arith, of.few);
+    rows = λ entry low. subst (All (λ row. row < (cells_of db entry).rows)) (sym (are entry (omega (arith, count))))
+        (λ i d within. omega (arith, scanned_low query (tables_of db) entry (get_or (scan_of query db entry) i d) (Contains-get_or (scan_of query db entry) i d within), rows_are db entry));
+    sizes = λ entry. elim (cases_lt entry (length query.from)) [
+      | inl low ↦ omega (arith, ap (λ (l : List ℕ). length l) (are entry low), length-scan query db entry, few entry low)
+      | inr past ↦ omega (arith, ap (λ (l : Rows ℕ). length l.items) (get_or_past scans entry no_rows (omega arith)))
+    ];
+  }
+
+-- ---- the columns of equalities
+
+-- an equality of two columns of one kind
+pub record JoinsKinds (db : Database) (e : Edge) : Type 0 where
+  pub text : Bool
+  pub left : IsColumnOfKind db (column_of e.left) text
+  pub right : IsColumnOfKind db (column_of e.right) text
+
+pub joins_kinds : (query : Query) (db : Database) (e : Edge) → IsDatabaseOf query db → Contains (equalities_of query) e → JoinsKinds db e
+joins_kinds query db e of there =
+    let found : (cond : Cond) × Contains query.conjuncts cond × (equality_of cond ≡ Some e) = from_filter_map equality_of query.conjuncts e there in
+    let j : IsJoin (out-Cond found.0) e = is_join found.0 e found.2 in
+    let asked : IsAskable db found.0 = All-contains (IsAskable db) query.conjuncts found.0 of.conjuncts found.1 in
+    let can : CanCompare db (operand.Column j.left) (operand.Column j.right) = subst (CanAskLayer db) j.compares (every_here-Cond (CanAskLayer db) found.0 asked) in
+    subst (JoinsKinds db) (sym j.joins) (record { text = can.text; left = can.left_kind; right = can.right_kind })
+
+pub joins_columns : (query : Query) (db : Database) → IsDatabaseOf query db → All (JoinsColumns db) (equalities_of query)
+joins_columns query db of i d low =
+    let kinds : JoinsKinds db (get_or (equalities_of query) i d) = joins_kinds query db (get_or (equalities_of query) i d) of (Contains-get_or (equalities_of query) i d low) in
+    record { left = kinds.left.exists; right = kinds.right.exists }
+
+kind_at : (db : Database) (column : ColumnRef) (text : Bool) → IsColumnOfKind db column text → is_text (get_or (cells_of db column.from).kinds column.column kind.Int) ≡ text
+kind_at db column text h = read (cells_of db column.from).kinds column.column h.exists.exists h.kind
+  where
+    read : (kinds : List Kind) (i : ℕ) → i < length kinds → option_map is_text (slice_get kinds i) ≡ Some text → is_text (get_or kinds i kind.Int) ≡ text
+    read [] i low h = absurd (omega arith)
+    read (k ∷ kinds) zero low h = cc
+    read (k ∷ kinds) (suc i) low h = read kinds i (omega arith) h
+
+-- two columns of one kind have equal values just where they have equal cells
+columns_tell : (db : Database) (a b : ColumnRef) (text : Bool) (left right : ℕ) → AreTables db → AreDifferent db.pool → All IsUtf8 db.pool → IsColumnOfKind db a text → IsColumnOfKind db b text
+    → left < (cells_of db a.from).rows → right < (cells_of db b.from).rows
+    → is_eq (value_cmp (value_at (tables_of db) a.from a.column left) (value_at (tables_of db) b.from b.column right)) ≡ (cell_at db a.from a.column left == cell_at db b.from b.column right)
+columns_tell db a b text left right tables different utf8 kind_a kind_b low_a low_b =
+    rw (value_by_cell db a (λ e. left) tables kind_a.exists low_a, value_by_cell db b (λ e. right) tables kind_b.exists low_b)
+    (same_cells db.pool different utf8 (get_or (cells_of db a.from).kinds a.column kind.Int) (get_or (cells_of db b.from).kinds b.column kind.Int)
+    (get_or (column_cells db a) left 0) (get_or (column_cells db b) right 0)
+    (kind_at db a text kind_a ∙ sym (kind_at db b text kind_b))
+    (cell_of_row db a left tables kind_a.exists low_a) (cell_of_row db b right tables kind_b.exists low_b))
+
+pub tells : (query : Query) (db : Database) → IsDatabaseOf query db → AreDifferent db.pool → All IsUtf8 db.pool
+    → TellsByKey (scans_of query (tables_of db)) (equalities_of query) (cell_at db) (are_equal_at (tables_of db))
+tells query db of different utf8 e there left right in_left in_right =
+    let kinds : JoinsKinds db e = joins_kinds query db e of there in
+    let low_left : left < (cells_of db e.left.entry).rows = omega (arith, row_low e.left.entry left (omega (arith, kinds.left.exists.entry, of.entries)) in_left, rows_are db e.left.entry) in
+    let low_right : right < (cells_of db e.right.entry).rows = omega (arith, row_low e.right.entry right (omega (arith, kinds.right.exists.entry, of.entries)) in_right, rows_are db e.right.entry) in
+    columns_tell db (column_of e.left) (column_of e.right) kinds.text left right of.tables different utf8 kinds.left kinds.right low_left low_right
+  where
+    row_low : (entry row : ℕ) → entry < length query.from → Contains (list_at (scans_of query (tables_of db)) entry) row → row < row_counts (tables_of db) entry
+    row_low entry row low has = scanned_low query (tables_of db) entry row (subst (λ l. Contains l row) (scan_at query (tables_of db) entry low) has)

@@ -1,0 +1,218 @@
+-- Uses that are added row by row, side by side and equality by equality.
+use Rattle.std.proofs.Common.{◌≡◌, ℕ, zero, suc, ◌+◌, ◌*◌, ◌<◌, ◌≤◌, Bool, true, false, List, [], ◌∷◌, ◌++◌, Some, length, get_or, refl, ap, sym, ◌∙◌, subst, arith, inl, inr, append-nil, append_assoc, length-append}
+use Rattle.std.specs.Prelude.{◌⊎◌, All, slice_get, slice_index}
+use Rattle.std.specs.List.{Contains}
+use Rattle.std.proofs.lemmas.Bool.{cases_eq, cases_lt}
+use Rattle.std.proofs.lemmas.List.{get_or_default, get_or_past}
+use Rattle.std.proofs.lemmas.List.Elements.{Contains-append_left, Contains-append_right, Contains-get_or, Contains-push_cases}
+use Rattle.std.proofs.lemmas.Option.{get_or_from_slice_get, slice_get-get_or, slice_get_within}
+use Rattle.std.proofs.Math.ListN.{get_or-append}
+use Rattle.berge_tree.specs.declared.edges.Edge.{Edge}
+use Rattle.berge_tree.specs.declared.edges.Place.{Place}
+use Rattle.counted_sets.specs.declared.uses.Use.{Use}
+use Rattle.counted_sets.specs.Sets.{IsUseOf}
+use Rattle.row_buf.specs.Rows.{Rows}
+use Rattle.level_bounds.specs.Keys.{Keys}
+use Rattle.reduced_scans.specs.Families.{list_at}
+use Rattle.reduced_scans.specs.Lists.{list_of, lists_of}
+use Rattle.reduced_scans.specs.Wiring.{AddsUses, AreWired, BeginsWith, Classes, IsNumbered, IsUseFor, StandsFor, first_item, key_on, near, opposite, row_at, slot_of}
+use Rattle.reduced_scans.proofs.MarkedRows.{items_within}
+use Rattle.reduced_scans.proofs.Members.{in_front, not_in_none}
+
+-- ---- classes that go on
+
+pub begins_same : (classes : Classes) → BeginsWith classes classes
+begins_same classes = record { more = []; grew = sym (append-nil classes) }
+
+pub begins_more : (a b c : Classes) → BeginsWith a b → BeginsWith b c → BeginsWith a c
+begins_more a b c f g = record {
+  more = f.more ++ g.more;
+  grew = g.grew ∙ ap (λ l. l ++ g.more) f.grew ∙ append_assoc a f.more g.more;
+}
+
+same_class : (old new : Classes) (class : ℕ) (v : ℕ × ℕ) → BeginsWith old new → slice_get old class ≡ Some v → slice_get new class ≡ Some v
+same_class old new class v begins is =
+    let low : class < length old = slice_get_within old class v is in
+    let here : get_or (old ++ begins.more) class v ≡ v = get_or-append old begins.more v class low ∙ get_or_from_slice_get old class v v is in
+    ap (λ (l : Classes). slice_get l class) begins.grew ∙ slice_get-get_or (old ++ begins.more) class v (omega (arith, length-append old begins.more)) ∙ ap Some here
+
+pub use_later : (old new : Classes) (equality : ℕ) (on : Bool) (cell item : ℕ) (u : Use) → BeginsWith old new → IsUseFor old equality on cell item u → IsUseFor new equality on cell item u
+use_later old new equality on cell item u begins is = record {
+  class = is.class;
+  is_class = same_class old new is.class (equality, cell) begins is.is_class;
+  is_item = is.is_item;
+  gives = is.gives;
+  needs = is.needs;
+}
+
+-- ---- row by row
+
+pub adds_none : (equality : ℕ) (on : Bool) (first : ℕ) (cells list : List ℕ) (classes : Classes) (uses : List Use) → AddsUses equality on first cells list 0 classes classes uses uses
+adds_none equality on first cells list classes uses = record {
+  begins = begins_same classes;
+  size = omega arith;
+  few = omega arith;
+  kept = λ u has. has;
+  sound = λ u has. inl has;
+  complete = λ place low. absurd (omega arith);
+}
+
+pub adds_one : (equality : ℕ) (on : Bool) (first : ℕ) (cells list : List ℕ) (count : ℕ) (old mid new : Classes) (old_uses mid_uses new_uses : List Use) (u : Use) (cell item : ℕ)
+    → AddsUses equality on first cells list count old mid old_uses mid_uses → BeginsWith mid new → length new ≤ length mid + 1 → new_uses ≡ mid_uses ++ u ∷ []
+    → cell ≡ slice_index cells (slice_index list count) → item ≡ first + count → IsUseFor new equality on cell item u
+    → AddsUses equality on first cells list (count + 1) old new old_uses new_uses
+adds_one equality on first cells list count old mid new old_uses mid_uses new_uses u cell item so_far begins few more is_cell is_item is_use =
+    let here : IsUseFor new equality on (slice_index cells (slice_index list count)) (first + count) u =
+    subst (λ i. IsUseFor new equality on (slice_index cells (slice_index list count)) i u) is_item (subst (λ k. IsUseFor new equality on k item u) is_cell is_use) in
+    record {
+      begins = begins_more old mid new so_far.begins begins;
+      size = omega (arith, ap (λ (l : List Use). length l) more, length-append mid_uses (u ∷ []), so_far.size);
+      few = omega (arith, few, so_far.few);
+      kept = λ v has. subst (λ l. Contains l v) (sym more) (Contains-append_left mid_uses (u ∷ []) v (so_far.kept v has));
+      sound = λ v has. elim (Contains-push_cases mid_uses u v (subst (λ l. Contains l v) more has)) [
+        | inl before ↦ elim (so_far.sound v before) [
+          | inl earlier ↦ inl earlier
+          | inr found ↦ inr (found.0, omega (arith, found.1), use_later mid new equality on (slice_index cells (slice_index list found.0)) (first + found.0) v begins found.2)
+        ]
+        | inr last ↦ inr (count, omega arith, subst (IsUseFor new equality on (slice_index cells (slice_index list count)) (first + count)) last here)
+      ];
+      complete = λ place low. elim (cases_eq place count) [
+        | inl same ↦ (
+          u,
+          subst (λ l. Contains l u) (sym more) (Contains-append_right mid_uses (u ∷ []) u (in_front u u [] refl)),
+          subst (λ p. IsUseFor new equality on (slice_index cells (slice_index list p)) (first + p) u) (sym same) here,
+        )
+        | inr apart ↦ (let found : (v : Use) × Contains mid_uses v × IsUseFor mid equality on (slice_index cells (slice_index list place)) (first + place) v = so_far.complete place (omega arith) in (
+          found.0,
+          subst (λ l. Contains l found.0) (sym more) (Contains-append_left mid_uses (u ∷ []) found.0 found.1),
+          use_later mid new equality on (slice_index cells (slice_index list place)) (first + place) found.0 begins found.2,
+        ))
+      ];
+    }
+
+-- ---- equality by equality
+
+pub wired_none : (scans : List (List ℕ)) (equalities : List Edge) (key : Keys) (classes : Classes) → AreWired scans equalities key classes 0 []
+wired_none scans equalities key classes = record {
+  sound = λ u has. absurd (not_in_none u has);
+  complete = λ number edge on place below. absurd (omega arith);
+}
+
+module _ (scans : List (List ℕ)) (equalities : List Edge) (key : Keys) (number : ℕ) (e : Edge) (numbered : IsNumbered equalities number e) where
+  -- the uses of a side, where the cells are the keys of its column
+  abbrev AddsSide : Bool → List ℕ → Classes → Classes → List Use → List Use → Type 0
+  AddsSide on cells old new old_uses new_uses =
+      AddsUses number on (first_item scans (near e on).entry) cells (list_at scans (near e on).entry) (length (list_at scans (near e on).entry)) old new old_uses new_uses
+
+  abbrev AreKeysOf : Bool → List ℕ → Type 0
+  AreKeysOf on cells = (row : ℕ) → slice_index cells row ≡ key_on key (near e on) row
+
+  stands_later : (old new : Classes) (count more : ℕ) (u : Use) → count ≤ more → BeginsWith old new → StandsFor scans equalities key old count u → StandsFor scans equalities key new more u
+  stands_later old new count more u within begins is = record {
+    number = is.number;
+    edge = is.edge;
+    on = is.on;
+    place = is.place;
+    below = omega (arith, is.below);
+    numbered = is.numbered;
+    within = is.within;
+    is_use = use_later old new is.number is.on (key_on key (near is.edge is.on) (row_at scans (near is.edge is.on).entry is.place)) (first_item scans (near is.edge is.on).entry + is.place) u begins is.is_use;
+  }
+
+  -- what a side adds stands for its rows
+  side_sound : (on : Bool) (cells : List ℕ) (old new last : Classes) (old_uses new_uses : List Use) → AreKeysOf on cells → AddsSide on cells old new old_uses new_uses → BeginsWith new last
+      → (u : Use) → Contains new_uses u → Contains old_uses u ⊎ StandsFor scans equalities key last (number + 1) u
+  side_sound on cells old new last old_uses new_uses keys adds begins u has = elim (adds.sound u has) [
+    | inl before ↦ inl before
+    | inr found ↦ inr (record {
+      number = number;
+      edge = e;
+      on = on;
+      place = found.0;
+      below = omega arith;
+      numbered = numbered;
+      within = found.1;
+      is_use = use_later new last number on (key_on key (near e on) (row_at scans (near e on).entry found.0)) (first_item scans (near e on).entry + found.0) u begins
+          (subst (λ k. IsUseFor new number on k (first_item scans (near e on).entry + found.0) u) (keys (row_at scans (near e on).entry found.0)) found.2);
+    })
+  ]
+
+  abbrev Found : Classes → List Use → Bool → ℕ → Type 0
+  Found classes uses on place =
+      (u : Use) × Contains uses u × IsUseFor classes number on (key_on key (near e on) (row_at scans (near e on).entry place)) (first_item scans (near e on).entry + place) u
+
+  side_complete : (on : Bool) (cells : List ℕ) (old new last : Classes) (old_uses new_uses : List Use) → AreKeysOf on cells → AddsSide on cells old new old_uses new_uses → BeginsWith new last
+      → (place : ℕ) → place < length (list_at scans (near e on).entry) → Found last new_uses on place
+  side_complete on cells old new last old_uses new_uses keys adds begins place low =
+      let found : (u : Use) × Contains new_uses u × IsUseFor new number on (slice_index cells (slice_index (list_at scans (near e on).entry) place)) (first_item scans (near e on).entry + place) u = adds.complete place low in (
+        found.0,
+        found.1,
+        use_later new last number on (key_on key (near e on) (row_at scans (near e on).entry place)) (first_item scans (near e on).entry + place) found.0 begins
+            (subst (λ k. IsUseFor new number on k (first_item scans (near e on).entry + place) found.0) (keys (row_at scans (near e on).entry place)) found.2),
+      )
+
+  pub wired_one : (cells_left cells_right : List ℕ) (old mid new : Classes) (old_uses mid_uses new_uses : List Use) → AreKeysOf true cells_left → AreKeysOf false cells_right
+      → AddsSide true cells_left old mid old_uses mid_uses → AddsSide false cells_right mid new mid_uses new_uses
+      → AreWired scans equalities key old number old_uses → AreWired scans equalities key new (number + 1) new_uses
+  wired_one cells_left cells_right old mid new old_uses mid_uses new_uses left_keys right_keys left right so_far = record {
+    sound = λ u has. elim (side_sound false cells_right mid new new mid_uses new_uses right_keys right (begins_same new) u has) [
+      | inr stands ↦ stands
+      | inl in_mid ↦ elim (side_sound true cells_left old mid new old_uses mid_uses left_keys left right.begins u in_mid) [
+        | inr stands ↦ stands
+        | inl before ↦ stands_later old new number (number + 1) u (omega arith) (begins_more old mid new left.begins right.begins) (so_far.sound u before)
+      ]
+    ];
+    complete = λ n edge on place below is low. elim (cases_eq n number) [
+      | inl same ↦ here n edge on place same is low
+      | inr apart ↦ (let found : (u : Use) × Contains old_uses u × IsUseFor old n on (key_on key (near edge on) (row_at scans (near edge on).entry place)) (first_item scans (near edge on).entry + place) u =
+          so_far.complete n edge on place (omega arith) is low in (
+            found.0,
+            right.kept found.0 (left.kept found.0 found.1),
+            use_later old new n on (key_on key (near edge on) (row_at scans (near edge on).entry place)) (first_item scans (near edge on).entry + place) found.0 (begins_more old mid new left.begins right.begins) found.2,
+          ))
+    ];
+  }
+    where
+      this : (on : Bool) (place : ℕ) → place < length (list_at scans (near e on).entry) → Found new new_uses on place
+      this true place low =
+          let found : Found new mid_uses true place = side_complete true cells_left old mid new old_uses mid_uses left_keys left right.begins place low in
+          (found.0, right.kept found.0 found.1, found.2)
+      this false place low = side_complete false cells_right mid new new mid_uses new_uses right_keys right (begins_same new) place low
+
+      here : (n : ℕ) (edge : Edge) (on : Bool) (place : ℕ) → n ≡ number → IsNumbered equalities n edge → place < length (list_at scans (near edge on).entry)
+          → (u : Use) × Contains new_uses u × IsUseFor new n on (key_on key (near edge on) (row_at scans (near edge on).entry place)) (first_item scans (near edge on).entry + place) u
+      here n edge on place same is low =
+          let edges : e ≡ edge = sym numbered.1 ∙ ap (λ i. get_or equalities i e) (sym same) ∙ get_or_default equalities n e edge is.0 ∙ is.1 in
+          subst (λ m. (u : Use) × Contains new_uses u × IsUseFor new m on (key_on key (near edge on) (row_at scans (near edge on).entry place)) (first_item scans (near edge on).entry + place) u) (sym same)
+          (subst (λ (f : Edge). place < length (list_at scans (near f on).entry) → (u : Use) × Contains new_uses u × IsUseFor new number on (key_on key (near f on) (row_at scans (near f on).entry place)) (first_item scans (near f on).entry + place) u) edges
+          (this on place) low)
+
+-- ---- all items and slots
+
+entry_low : (scans : List (List ℕ)) (entry place : ℕ) → place < length (list_at scans entry) → entry < length scans
+entry_low scans entry place low = elim (cases_lt entry (length scans)) [
+  | inl below ↦ below
+  | inr past ↦ absurd (omega (arith, low, ap (λ (l : List ℕ). length l) (get_or_past scans entry [] past)))
+]
+
+slot_low : (class classes : ℕ) (on : Bool) → class < classes → slot_of class on < 2 * classes
+slot_low class classes true low = omega arith
+slot_low class classes false low = omega arith
+
+pub uses_are_of : (scans : List (List ℕ)) (equalities : List Edge) (key : Keys) (classes : Classes) (count : ℕ) (uses : List Use) → AreWired scans equalities key classes count uses
+    → All (IsUseOf (first_item scans (length scans)) (2 * length classes)) uses
+uses_are_of scans equalities key classes count uses wired i d low =
+    let u : Use = get_or uses i d in
+    let is : StandsFor scans equalities key classes count u = wired.sound u (Contains-get_or uses i d low) in
+    let class : is.is_use.class < length classes =
+    slice_get_within classes is.is_use.class (is.number, key_on key (near is.edge is.on) (row_at scans (near is.edge is.on).entry is.place)) is.is_use.is_class in
+    record {
+      item = omega (arith, is.is_use.is_item, is.within, items_within scans (near is.edge is.on).entry (entry_low scans (near is.edge is.on).entry is.place is.within));
+      gives = omega (arith, is.is_use.gives, slot_low is.is_use.class (length classes) is.on class);
+      needs = omega (arith, is.is_use.needs, slot_low is.is_use.class (length classes) (opposite is.on) class);
+    }
+
+pub few_items : (scans : List (Rows ℕ)) → ((k : ℕ) → length (list_of scans k) ≤ 4000000) → (entry : ℕ) → first_item (lists_of scans) entry ≤ 4000000 * entry
+few_items [] few entry = omega arith
+few_items (scan ∷ scans) few zero = omega arith
+few_items (scan ∷ scans) few (suc entry) = omega (arith, few 0, few_items scans (λ k. few (suc k)) entry)

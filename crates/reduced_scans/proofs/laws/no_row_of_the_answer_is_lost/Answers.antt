@@ -1,0 +1,30 @@
+use Rattle.std.proofs.Common.{arith, map, subst, sym}
+use Rattle.std.specs.Prelude.{IsPermutation}
+use Rattle.sql_meaning.specs.Answers.{answer, selected}
+use Rattle.sql_meaning.specs.Levels.{row_in}
+use Rattle.level_bounds.proofs.LastLevel.{last_level_is_answer}
+use Rattle.join_graph.specs.Conjuncts.{equalities_of}
+use Rattle.level_bounds.specs.Keys.{are_equal_at}
+use Rattle.sql_meaning.proofs.AskFacts.{asks_only}
+use Rattle.reduced_scans.specs.Scans.{scans_of}
+use Rattle.reduced_scans.proofs.Levels.{rows_stay}
+use Rattle.reduced_scans.proofs.Matches.{match_stays}
+use Rattle.reduced_scans.proofs.QueryScans.{count_of, name_entries}
+use Rattle.reduced_scans.proofs.SameLevel.{same_level}
+use Rattle.reduced_scans.proofs.laws.no_row_of_the_answer_is_lost.Goals as goal
+
+pub returns-clause-choices : goal.returns-clause-choices
+returns-clause-choices c query tables reduced choice named are satisfies entry low =
+    match_stays (scans_of query tables) (equalities_of query) (are_equal_at tables) reduced choice (name_entries query tables named) are satisfies entry (omega (arith, count_of query tables))
+
+pub returns-clause-rows : goal.returns-clause-rows
+returns-clause-rows c query tables reduced order choice named are o there entry low =
+    rows_stay query tables (asks_only tables query.conjuncts) named order o choice there reduced are entry low
+
+pub returns-clause-level : goal.returns-clause-level
+returns-clause-level c query tables reduced order named are o = same_level query tables reduced are named order o
+
+pub returns-clause-answer : goal.returns-clause-answer
+returns-clause-answer c query tables reduced order named are o =
+    subst (λ level. IsPermutation (map (λ choice. selected query tables (row_in order choice)) level) (answer query tables)) (sym (same_level query tables reduced are named order o))
+    (last_level_is_answer query tables order named o)

@@ -1,0 +1,28 @@
+use Rattle.std.proofs.Common.{arith, ap, sym, ◌∙◌, ◌≡◌, ◌<◌, ℕ, List, length}
+use Rattle.counted_sets.specs.Sets.{marked}
+use Rattle.reduced_scans.specs.Families.{list_at}
+use Rattle.reduced_scans.specs.Lists.{lists_of}
+use Rattle.reduced_scans.specs.Wiring.{first_item}
+use Rattle.reduced_scans.proofs.MarkedRows.{items_within}
+use Rattle.reduced_scans.proofs.OfQuery.{length-lists_of, marked_more, read_list}
+use Rattle.reduced_scans.proofs.reducing.marked_lists.Goals as goal
+
+pub marked_rows-requires-clause-marks : goal.marked_rows-requires-clause-marks
+marked_rows-requires-clause-marks c =
+    let lists = lists_of c.args.scans.now in
+    let low : c.lists.entry < length c.args.scans.now = omega arith in
+    let list : c.as_slice.result.now ≡ list_at lists c.lists.entry = c.as_slice.ensures ∙ read_list c.args.scans.now c.lists.entry c.index-scans-entry.result low c.index-scans-entry.is in
+    omega (
+      arith,
+      c.first_item-first.ensures.first,
+      ap (λ (l : List ℕ). length l) list,
+      items_within lists c.lists.entry (omega (arith, length-lists_of c.args.scans.now)),
+      ap (first_item lists) (length-lists_of c.args.scans.now),
+      c.requires.marks,
+    )
+
+pub lists-preserved : goal.lists-preserved
+lists-preserved c =
+    let low : c.lists.entry < length c.args.scans.now = omega arith in
+    marked_more (marked c.args.marks.now.items) c.args.scans.now c.lists.lists.items c.push.new.self.items c.lists.entry c.first_item-first.result c.in_ok-rows.rows c.as_slice.result.now low c.in_ok-push.ensures.items
+    c.first_item-first.ensures.first (c.as_slice.ensures ∙ read_list c.args.scans.now c.lists.entry c.index-scans-entry.result low c.index-scans-entry.is) c.in_ok-rows.ensures c.lists.invariant

@@ -1,0 +1,28 @@
+use Rattle.std.proofs.Common.{arith, ap, refl, sym, ◌∙◌, ◌≡◌, ◌<◌, ◌+◌, ◌++◌, ℕ, true, false, List, [], ◌∷◌, append-nil, length, get_or, take}
+use Rattle.std.specs.Prelude.{if◌then◌else◌}
+use Rattle.counted_sets.specs.Sets.{marked}
+use Rattle.reduced_scans.specs.Wiring.{marked_rows}
+use Rattle.reduced_scans.proofs.MarkedRows.{rows-take}
+use Rattle.reduced_scans.proofs.reducing.marked_rows.Goals.{then-stays, else-stays}
+use Rattle.reduced_scans.proofs.reducing.marked_rows.Goals as goal
+
+pub rows-preserved : goal.rows-preserved
+rows-preserved c =
+    let kept = marked c.args.marks.now.items in
+    let list = c.args.list.now in
+    let at : ℕ = c.rows.at in
+    let row : ℕ = get_or list at 0 in
+    let before : List ℕ = marked_rows kept c.args.first (take at list) in
+    let low : at < length list = omega arith in
+    let step : marked_rows kept c.args.first (take (at + 1) list) ≡ before ++ (if kept (c.args.first + at) then row ∷ [] else []) = rows-take kept c.args.first list at low in
+    elim c.if-stays.branch [
+      | then-stays w ↦ record {
+        rows = rw (w.rows-is, w.push.ensures.items)
+            (ap (λ (l : List ℕ). l ++ row ∷ []) c.rows.invariant.rows ∙ sym (step ∙ ap (λ b. before ++ (if b then row ∷ [] else [])) (c.get-stays.ensures false ∙ w.if-stays.true)));
+        spare = rw w.rows-is (omega (arith, w.push.ensures.spare, c.rows.invariant.spare));
+      }
+      | else-stays w ↦ record {
+        rows = rw w.rows-is (c.rows.invariant.rows ∙ sym (step ∙ ap (λ b. before ++ (if b then row ∷ [] else [])) (c.get-stays.ensures false ∙ w.if-stays.false) ∙ append-nil before));
+        spare = rw w.rows-is (omega (arith, c.rows.invariant.spare));
+      }
+    ]

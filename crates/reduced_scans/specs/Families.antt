@@ -1,0 +1,55 @@
+-- Families of lists of rows in which each row has its partners, and the greatest of them.
+use Rattle.std.specs.Prelude.{◌≡◌, ℕ, ◌<◌, Bool, true, List, [], ◌∷◌, length, slice_index, slice_index_or, ⊤}
+use Rattle.std.specs.List.{AllByRecursion, Contains}
+use Rattle.berge_tree.specs.declared.edges.Edge.{Edge}
+
+-- the list of an entry, and no row past the end
+abbrev pub list_at : List (List ℕ) → ℕ → List ℕ
+list_at lists entry = slice_index_or lists entry []
+
+-- each row stands in the file behind those before it
+abbrev pub IsAscending : List ℕ → Type 0
+IsAscending [] = ⊤
+IsAscending (row ∷ rows) = AllByRecursion (λ later. row < later) rows × IsAscending rows
+
+-- a list for each entry, of rows of its scan in file order
+pub record IsFamily (scans family : List (List ℕ)) : Type 0 where
+  pub count : length family ≡ length scans
+  pub scanned : (entry row : ℕ) → Contains (list_at family entry) row → Contains (list_at scans entry) row
+  pub ascending : (entry : ℕ) → IsAscending (list_at family entry)
+
+-- one of these rows goes with the row
+abbrev pub HasPartner : (ℕ → ℕ → Bool) → List ℕ → ℕ → Type 0
+HasPartner equal partners row = (partner : ℕ) × Contains partners partner × (equal row partner ≡ true)
+
+abbrev pub HavePartners : (ℕ → ℕ → Bool) → List ℕ → List ℕ → Type 0
+HavePartners equal rows partners = (row : ℕ) → Contains rows row → HasPartner equal partners row
+
+-- a family in which each row finds, for each equality of a column of its entry, a row in the list of the other entry.
+-- `equal e left right` says that the rows have the same value in the two columns of the equality
+pub record IsConsistent (scans : List (List ℕ)) (equalities : List Edge) (equal : Edge → ℕ → ℕ → Bool) (family : List (List ℕ))
+    : Type 0 where
+  pub is_family : IsFamily scans family
+  pub from_left : (e : Edge) → Contains equalities e → HavePartners (equal e) (list_at family e.left.entry) (list_at family e.right.entry)
+  pub from_right : (e : Edge) → Contains equalities e
+      → HavePartners (λ right left. equal e left right) (list_at family e.right.entry) (list_at family e.left.entry)
+
+-- the family is consistent, and every consistent family is contained in it
+pub record IsReduced (scans : List (List ℕ)) (equalities : List Edge) (equal : Edge → ℕ → ℕ → Bool) (reduced : List (List ℕ)) : Type 0 where
+  pub consistent : IsConsistent scans equalities equal reduced
+  pub greatest : (other : List (List ℕ)) → IsConsistent scans equalities equal other
+      → (entry row : ℕ) → Contains (list_at other entry) row → Contains (list_at reduced entry) row
+
+-- a scanned row for each entry, which together satisfy every equality
+pub record IsMatch (scans : List (List ℕ)) (equalities : List Edge) (equal : Edge → ℕ → ℕ → Bool) (choice : List ℕ) : Type 0 where
+  pub count : length choice ≡ length scans
+  pub scanned : (entry : ℕ) → entry < length scans → Contains (list_at scans entry) (slice_index choice entry)
+  pub satisfied : (e : Edge) → Contains equalities e → equal e (slice_index choice e.left.entry) (slice_index choice e.right.entry) ≡ true
+
+-- each scan is in file order
+abbrev pub AreAscending : List (List ℕ) → Type 0
+AreAscending scans = (entry : ℕ) → IsAscending (list_at scans entry)
+
+-- each of the two columns of an equality is of one of the first so many entries
+abbrev pub NameEntries : ℕ → List Edge → Type 0
+NameEntries entries equalities = (e : Edge) → Contains equalities e → (e.left.entry < entries) × (e.right.entry < entries)

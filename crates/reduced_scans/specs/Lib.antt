@@ -1,0 +1,4 @@
+pub mod Families
+pub mod Scans
+pub mod Lists
+pub mod Wiring

@@ -1,0 +1,114 @@
+-- How scanned rows stand as items, and the values of columns as slots, of crate counted_sets. No public contract speaks of it.
+use Rattle.std.specs.Prelude.{◌≡◌, ◌≢◌, ◌⊎◌, ℕ, zero, suc, ◌+◌, ◌*◌, ◌<◌, ◌≤◌, ◌==◌, Bool, true, false, if◌then◌else◌, List, [], ◌∷◌, ◌++◌, AllPairs, Some, length, map, slice_get, slice_index, slice_index_or}
+use Rattle.std.specs.List.{Contains}
+use Rattle.berge_tree.specs.declared.edges.Edge.{Edge}
+use Rattle.berge_tree.specs.declared.edges.Place.{Place}
+use Rattle.counted_sets.specs.declared.uses.Use.{Use}
+use Rattle.level_bounds.specs.Keys.{Keys}
+use Rattle.reduced_scans.specs.Families.{list_at}
+
+-- ---- items: the rows of the lists, list by list in their order
+
+-- the item of an entry's first row
+abbrev pub first_item : List (List ℕ) → ℕ → ℕ
+first_item [] entry = 0
+first_item (scan ∷ scans) zero = 0
+first_item (scan ∷ scans) (suc entry) = length scan + first_item scans entry
+
+-- the row at a place of an entry's list
+abbrev pub row_at : List (List ℕ) → ℕ → ℕ → ℕ
+row_at scans entry place = slice_index (list_at scans entry) place
+
+-- the rows whose items are marked, where the first row's item has this number
+abbrev pub marked_rows : (ℕ → Bool) → ℕ → List ℕ → List ℕ
+marked_rows kept first [] = []
+marked_rows kept first (row ∷ rows) = if kept first then row ∷ marked_rows kept (first + 1) rows else marked_rows kept (first + 1) rows
+
+-- of each list the rows whose items are marked
+abbrev pub marked_family : (ℕ → Bool) → ℕ → List (List ℕ) → List (List ℕ)
+marked_family kept first [] = []
+marked_family kept first (scan ∷ scans) = marked_rows kept first scan ∷ marked_family kept (first + length scan) scans
+
+-- ---- slots: two for each value of an equality, one for each side
+
+-- the values are numbered as they come: each stands with the number of its equality, as its cell
+abbrev pub Classes : Type 0
+Classes = List (ℕ × ℕ)
+
+abbrev pub AreDifferent : Classes → Type 0
+AreDifferent classes = AllPairs (λ a b. a ≢ b) classes
+
+-- the new ones begin with the old ones, in their places
+pub record BeginsWith (old new : Classes) : Type 0 where
+  pub more : Classes
+  pub grew : new ≡ old ++ more
+
+-- the side of an equality, and the other one. The left side is `true`
+abbrev pub near : Edge → Bool → Place
+near e true = e.left
+near e false = e.right
+
+abbrev pub opposite : Bool → Bool
+opposite true = false
+opposite false = true
+
+abbrev pub slot_of : ℕ → Bool → ℕ
+slot_of class true = 2 * class
+slot_of class false = 2 * class + 1
+
+-- the use of an item on a side of the equality with this number, where its row has the cell: the item gives the slot of
+-- its own side, and needs that of the opposite one
+pub record IsUseFor (classes : Classes) (equality : ℕ) (on : Bool) (cell item : ℕ) (u : Use) : Type 0 where
+  pub class : ℕ
+  pub is_class : slice_get classes class ≡ Some (equality, cell)
+  pub is_item : u.item ≡ item
+  pub gives : u.gives ≡ slot_of class on
+  pub needs : u.needs ≡ slot_of class (opposite on)
+
+-- the uses of the first so many rows of a list are added, and the values that they need
+pub record AddsUses (equality : ℕ) (on : Bool) (first : ℕ) (cells list : List ℕ) (count : ℕ)
+    (old_classes new_classes : Classes) (old new : List Use) : Type 0 where
+  pub begins : BeginsWith old_classes new_classes
+  pub size : length new ≡ length old + count
+  pub few : length new_classes ≤ length old_classes + count
+  pub kept : (u : Use) → Contains old u → Contains new u
+  pub sound : (u : Use) → Contains new u
+      → Contains old u ⊎ ((place : ℕ) × (place < count)
+      × IsUseFor new_classes equality on (slice_index cells (slice_index list place)) (first + place) u)
+  pub complete : (place : ℕ) → place < count
+      → (u : Use) × Contains new u × IsUseFor new_classes equality on (slice_index cells (slice_index list place)) (first + place) u
+
+-- the equality with this number
+abbrev pub IsNumbered : List Edge → ℕ → Edge → Type 0
+IsNumbered equalities m e = (m < length equalities) × (slice_index_or equalities m e ≡ e)
+
+-- the key of a row on a side of an equality
+abbrev pub key_on : Keys → Place → ℕ → ℕ
+key_on key side row = key side.entry side.column row
+
+-- an equality holds of rows of the lists just where they have one key
+abbrev pub TellsByKey : List (List ℕ) → List Edge → Keys → (Edge → ℕ → ℕ → Bool) → Type 0
+TellsByKey scans equalities key equal = (e : Edge) → Contains equalities e → (left right : ℕ) → Contains (list_at scans e.left.entry) left
+    → Contains (list_at scans e.right.entry) right → equal e left right ≡ (key_on key e.left left == key_on key e.right right)
+
+-- the use stands for a row on a side of one of the first so many equalities
+pub record StandsFor (scans : List (List ℕ)) (equalities : List Edge) (key : Keys) (classes : Classes) (count : ℕ) (u : Use) : Type 0 where
+  pub number : ℕ
+  pub edge : Edge
+  pub on : Bool
+  pub place : ℕ
+  pub below : number < count
+  pub numbered : IsNumbered equalities number edge
+  pub within : place < length (list_at scans (near edge on).entry)
+  pub is_use : IsUseFor classes number on (key_on key (near edge on) (row_at scans (near edge on).entry place))
+      (first_item scans (near edge on).entry + place) u
+
+-- the uses are just those of the rows on the sides of the first so many equalities
+pub record AreWired (scans : List (List ℕ)) (equalities : List Edge) (key : Keys) (classes : Classes) (count : ℕ)
+    (uses : List Use) : Type 0 where
+  pub sound : (u : Use) → Contains uses u → StandsFor scans equalities key classes count u
+  pub complete : (number : ℕ) (edge : Edge) (on : Bool) (place : ℕ) → number < count → IsNumbered equalities number edge
+      → place < length (list_at scans (near edge on).entry)
+      → (u : Use) × Contains uses u
+      × IsUseFor classes number on (key_on key (near edge on) (row_at scans (near edge on).entry place))
+      (first_item scans (near edge on).entry + place) u

@@ -1,0 +1,38 @@
+//! What the definitions say, as laws. Each call does nothing.
+ghost use Rattle.std.specs.Prelude.{◌≡◌, ◌<◌, ℕ, IsPermutation, List, length, map, slice_index};
+ghost use Rattle.std.specs.List.{Contains};
+ghost use Rattle.query_types.specs.declared.types.Query.{Query};
+ghost use Rattle.query_types.specs.Named.{NamesItsEntries};
+ghost use Rattle.sql_meaning.specs.Answers.{answer, conjuncts_of, entries_of, selected};
+ghost use Rattle.sql_meaning.specs.Levels.{row_in};
+ghost use Rattle.sql_meaning.specs.Tables.{Tables};
+ghost use Rattle.join_steps.specs.Lists.{level_over};
+ghost use Rattle.level_bounds.specs.Orders.{IsOrderOfSet};
+ghost use Rattle.level_bounds.specs.Scans.{query_level};
+ghost use Rattle.reduced_scans.specs.Families.{list_at};
+ghost use Rattle.reduced_scans.specs.Scans.{AreReducedScans, SatisfiesEqualities};
+
+/// A query over its tables has exactly one family of reduced scans.
+pub fn one_reduction()
+    ensures some { (query : Query) (tables : Tables) → (reduced : List (List ℕ)) × AreReducedScans query tables reduced }
+    ensures one { (query : Query) (tables : Tables) (a b : List (List ℕ))
+        → AreReducedScans query tables a → AreReducedScans query tables b → a ≡ b }
+{}
+
+/// No row of the answer is lost: scanned rows that together satisfy all equalities are reduced rows, so are those of each choice of the last level, in any order of the entries, and over the reduced scans this level is the same list. Its choices, as the values of the outputs, are the answer, each row as often as there.
+pub fn no_row_of_the_answer_is_lost()
+    ensures choices { (query : Query) (tables : Tables) (reduced : List (List ℕ)) (choice : List ℕ) → NamesItsEntries query
+        → AreReducedScans query tables reduced → SatisfiesEqualities query tables choice
+        → (entry : ℕ) → entry < length query.from → Contains (list_at reduced entry) (slice_index choice entry) }
+    ensures rows { (query : Query) (tables : Tables) (reduced : List (List ℕ)) (order choice : List ℕ) → NamesItsEntries query
+        → AreReducedScans query tables reduced → IsOrderOfSet (entries_of query) order → Contains (query_level query tables order) choice
+        → (entry : ℕ) → entry < length query.from → Contains (list_at reduced entry) (row_in order choice entry) }
+    ensures level { (query : Query) (tables : Tables) (reduced : List (List ℕ)) (order : List ℕ) → NamesItsEntries query
+        → AreReducedScans query tables reduced → IsOrderOfSet (entries_of query) order
+        → level_over (conjuncts_of query tables) (list_at reduced) order ≡ query_level query tables order }
+    ensures answer { (query : Query) (tables : Tables) (reduced : List (List ℕ)) (order : List ℕ) → NamesItsEntries query
+        → AreReducedScans query tables reduced → IsOrderOfSet (entries_of query) order
+        → IsPermutation (map (λ choice. selected query tables (row_in order choice))
+        (level_over (conjuncts_of query tables) (list_at reduced) order))
+        (answer query tables) }
+{}

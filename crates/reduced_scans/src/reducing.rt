@@ -1,0 +1,117 @@
+//! The reduction of a query's scans.
+ghost use Rattle.std.specs.Prelude.{◌≡◌, ◌+◌, ◌<◌, ◌≤◌, ℕ, All, Bool, IfOk, length};
+ghost use Rattle.berge_tree.specs.declared.edges.Edge.{Edge};
+ghost use Rattle.counted_sets.specs.Sets.{marked};
+ghost use Rattle.sql_meaning.specs.Databases.{IsDatabaseOf};
+ghost use Rattle.sql_meaning.specs.Tables.{row_counts, tables_of};
+ghost use Rattle.join_steps.specs.Lists.{scan_of};
+ghost use Rattle.level_bounds.specs.Keys.{cell_at};
+ghost use Rattle.reduced_scans.specs.Families.{AreAscending, IsReduced};
+ghost use Rattle.reduced_scans.specs.Lists.{list_of, lists_of, AreListsOf, JoinsColumns};
+ghost use Rattle.reduced_scans.specs.Scans.{AreReducedScans};
+ghost use Rattle.reduced_scans.specs.Wiring.{first_item, marked_family, marked_rows, TellsByKey};
+
+use crate::classes::ClassSet;
+use crate::wiring::{count_uses, first_item, wire};
+use base_io::NoMemory;
+use berge_tree::Edge;
+use counted_sets::reduce;
+use csv_tables::Database;
+use join_graph::split;
+use join_steps::texts_are_different;
+use query_types::Query;
+use row_buf::RowBuf;
+use std::alloc::Global;
+
+// Marks the rows that stay, list by list. Values and uses are let go.
+fn marks_of(
+    alloc: Global,
+    db: &Database,
+    scans: &[RowBuf<u32>],
+    equalities: &[Edge],
+) -> Result<RowBuf<bool>, NoMemory>
+    requires lists { AreListsOf db.now scans.now }
+    requires columns { All (JoinsColumns db.now) equalities.now }
+    requires few { length equalities.now ≤ 256 }
+    ensures length { IfOk result (λ marks. length marks.items ≡ first_item (lists_of scans.now) (length scans.now)) }
+    ensures reduced { IfOk result (λ marks. (equal : Edge → ℕ → ℕ → Bool)
+        → TellsByKey (lists_of scans.now) equalities.now (cell_at db.now) equal
+        → AreAscending (lists_of scans.now)
+        → IsReduced (lists_of scans.now) equalities.now equal (marked_family (marked marks.items) 0 (lists_of scans.now))) }
+{
+    let mut classes = ClassSet::new(alloc);
+    let mut uses = RowBuf::new(alloc);
+    uses.reserve(count_uses(scans, equalities))?;
+    wire(db, scans, equalities, &mut classes, &mut uses)?;
+    let items = first_item(scans, scans.len());
+    let slots = 2 * classes.len() as u32;
+    let marks = reduce(alloc, items, slots, uses.as_slice())?;
+    Ok(marks)
+}
+
+// The rows of a list that are marked, from the mark of its first row on.
+fn marked_rows(
+    alloc: Global,
+    list: &[u32],
+    marks: &RowBuf<bool>,
+    first: u32,
+) -> Result<RowBuf<u32>, NoMemory>
+    requires marks { first + length list.now ≤ length marks.now.items }
+    requires few { length marks.now.items ≤ 48000000 }
+    ensures { IfOk result (λ rows. rows.items ≡ marked_rows (marked marks.now.items) first list.now) }
+{
+    let mut rows = RowBuf::new(alloc);
+    rows.reserve(list.len() as u64)?;
+    'rows: for at in 0..list.len() {
+        let stays = marks.get(first + at as u32);
+        if stays {
+            rows.push(list[at]);
+        }
+    }
+    Ok(rows)
+}
+
+// The rows of each list that are marked.
+fn marked_lists(
+    alloc: Global,
+    scans: &[RowBuf<u32>],
+    marks: &RowBuf<bool>,
+) -> Result<Vec<RowBuf<u32>>, NoMemory>
+    requires few { length scans.now ≤ 12 }
+    requires sizes { (k : ℕ) → length (list_of scans.now k) ≤ 4000000 }
+    requires marks { length marks.now.items ≡ first_item (lists_of scans.now) (length scans.now) }
+    requires few_marks { length marks.now.items ≤ 48000000 }
+    ensures { IfOk result (λ lists. lists_of lists.items ≡ marked_family (marked marks.now.items) 0 (lists_of scans.now)) }
+{
+    let mut lists = Vec::new(alloc);
+    'lists: for entry in 0..scans.len() {
+        let first = first_item(scans, entry);
+        let rows = marked_rows(alloc, scans[entry].as_slice(), marks, first)?;
+        lists.push(rows)?;
+    }
+    Ok(lists)
+}
+
+/// The reduced scans of a query: of each entry's scan the most rows such that each finds, for each equality of one of the entry's
+/// columns with a column of another entry, a row with the same value among those of that entry; in file order.
+///
+/// `scans` has the scan of each FROM entry. Values are numbered by one hash of each cell, so the time is linear in the rows times their equalities, and so is the memory; all of it but the answer is let go before the call returns.
+pub fn reduce_scans(
+    alloc: Global,
+    query: &Query,
+    db: &Database,
+    scans: &[RowBuf<u32>],
+) -> Result<Vec<RowBuf<u32>>, NoMemory>
+    requires database { IsDatabaseOf query.now db.now }
+    requires few { length query.now.conjuncts ≤ 256 }
+    requires sizes { (entry : ℕ) → entry < length query.now.from → row_counts (tables_of db.now) entry ≤ 4000000 }
+    requires count { length scans.now ≡ length query.now.from }
+    requires scans { (entry : ℕ) → entry < length query.now.from → list_of scans.now entry ≡ scan_of query.now db.now entry }
+    ensures { IfOk result (λ reduced. AreReducedScans query.now (tables_of db.now) (lists_of reduced.items)) }
+{
+    texts_are_different(&db.pool);
+    let parts = split(alloc, query)?;
+    let marks = marks_of(alloc, db, scans, parts.equalities.as_slice())?;
+    let reduced = marked_lists(alloc, scans, &marks)?;
+    Ok(reduced)
+}

@@ -1,0 +1,180 @@
+//! The uses of scanned rows: what each of them gives and needs for each equality at its entry.
+ghost use Rattle.std.specs.Prelude.{◌≡◌, ◌+◌, ◌*◌, ◌^◌, ◌<◌, ◌≤◌, ◌∷◌, ◌++◌, [], ℕ, All, List, OnOk, length};
+ghost use Rattle.berge_tree.specs.declared.edges.Edge.{Edge};
+ghost use Rattle.counted_sets.specs.declared.uses.Use.{Use};
+ghost use Rattle.sql_meaning.specs.Databases.{IsColumnOf};
+ghost use Rattle.join_steps.specs.Columns.{column_cells};
+ghost use Rattle.level_bounds.specs.Keys.{cell_at};
+ghost use Rattle.reduced_scans.specs.Families.{list_at};
+ghost use Rattle.reduced_scans.specs.Lists.{column_of, list_of, lists_of, AreListsOf, JoinsColumns};
+ghost use Rattle.reduced_scans.specs.Wiring.{first_item, slot_of, AddsUses, AreWired, BeginsWith, IsNumbered, IsUseFor};
+
+use crate::classes::ClassSet;
+use base_io::NoMemory;
+use berge_tree::{Edge, Place};
+use counted_sets::Use;
+use csv_tables::Database;
+use join_steps::cells_of_column;
+use query_types::ColumnRef;
+use row_buf::RowBuf;
+
+// The slot of a value on a side.
+fn slot_of(class: u32, on_left: bool) -> u32
+    requires { class < 2 ^ 31 }
+    ensures { result ≡ slot_of class on_left }
+{
+    if on_left { 2 * class } else { 2 * class + 1 }
+}
+
+// Adds the use of an item whose row has this cell.
+fn add_use(
+    classes: &mut ClassSet,
+    uses: &mut RowBuf<Use>,
+    equality: u32,
+    on_left: bool,
+    cell: u64,
+    item: u32,
+) -> Result<(), NoMemory>
+    requires few { length classes.old < 2 ^ 31 }
+    requires room { 1 ≤ uses.old.spare }
+    ensures begins { OnOk result (BeginsWith classes.old classes.new) }
+    ensures few { OnOk result (length classes.new ≤ length classes.old + 1) }
+    ensures added { OnOk result ((u : Use) × (uses.new.items ≡ uses.old.items ++ u ∷ [])
+        × IsUseFor classes.new equality on_left cell item u) }
+    ensures spare { OnOk result (uses.new.spare + 1 ≡ uses.old.spare) }
+{
+    let class = classes.number(equality, cell)?;
+    uses.push(Use {
+        item,
+        gives: slot_of(class, on_left),
+        needs: slot_of(class, !on_left),
+    });
+    Ok(())
+}
+
+// Adds the uses of the rows of a list, for the cells of a column.
+fn add_side(
+    classes: &mut ClassSet,
+    uses: &mut RowBuf<Use>,
+    equality: u32,
+    on_left: bool,
+    cells: &[u64],
+    list: &[u32],
+    first: u32,
+) -> Result<(), NoMemory>
+    requires rows { All (λ row. row < length cells.now) list.now }
+    requires few { length classes.old + length list.now < 2 ^ 31 }
+    requires items { first + length list.now < 2 ^ 32 }
+    ensures { OnOk result (AddsUses equality on_left first cells.now list.now (length list.now)
+        classes.old classes.new uses.old.items uses.new.items) }
+{
+    uses.reserve(list.len() as u64)?;
+    'rows: for at in 0..list.len() {
+        let cell = cells[list[at] as usize];
+        add_use(classes, uses, equality, on_left, cell, first + at as u32)?;
+    }
+    Ok(())
+}
+
+/// The item of an entry's first row, where items are numbered list by list.
+pub(crate) fn first_item(scans: &[RowBuf<u32>], entry: usize) -> u32
+    requires entry { entry ≤ length scans.now }
+    requires few { length scans.now ≤ 12 }
+    requires sizes { (k : ℕ) → length (list_of scans.now k) ≤ 4000000 }
+    ensures first { result ≡ first_item (lists_of scans.now) entry }
+    ensures few { result ≤ 4000000 * entry }
+{
+    let mut first = 0;
+    'lists: for k in 0..entry {
+        first += scans[k].len() as u32;
+    }
+    first
+}
+
+// Adds the uses of the rows of an entry, for one of its columns.
+fn add_column(
+    db: &Database,
+    scans: &[RowBuf<u32>],
+    column: Place,
+    equality: u32,
+    on_left: bool,
+    classes: &mut ClassSet,
+    uses: &mut RowBuf<Use>,
+) -> Result<(), NoMemory>
+    requires lists { AreListsOf db.now scans.now }
+    requires column { IsColumnOf db.now (column_of column) }
+    requires few { length classes.old + 4000000 < 2 ^ 31 }
+    ensures { OnOk result (AddsUses equality on_left (first_item (lists_of scans.now) column.entry) (column_cells db.now (column_of column))
+        (list_at (lists_of scans.now) column.entry) (length (list_at (lists_of scans.now) column.entry))
+        classes.old classes.new uses.old.items uses.new.items) }
+{
+    let list = scans[column.entry as usize].as_slice();
+    let reference = ColumnRef {
+        from: column.entry,
+        column: column.column,
+    };
+    let cells = cells_of_column(db, reference);
+    let first = first_item(scans, column.entry as usize);
+    add_side(classes, uses, equality, on_left, cells, list, first)?;
+    Ok(())
+}
+
+// Adds the uses of the rows on both sides of an equality.
+fn add_equality(
+    db: &Database,
+    scans: &[RowBuf<u32>],
+    edge: Edge,
+    equality: u32,
+    classes: &mut ClassSet,
+    uses: &mut RowBuf<Use>,
+) -> Result<(), NoMemory>
+    requires lists { AreListsOf db.now scans.now }
+    requires columns { JoinsColumns db.now edge }
+    requires few { length classes.old + 8000000 < 2 ^ 31 }
+    ensures wired { OnOk result ((equalities : List Edge) → IsNumbered equalities equality edge
+        → AreWired (lists_of scans.now) equalities (cell_at db.now) classes.old equality uses.old.items
+        → AreWired (lists_of scans.now) equalities (cell_at db.now) classes.new (equality + 1) uses.new.items) }
+    ensures classes { OnOk result (length classes.new ≤ length classes.old + 8000000) }
+    ensures uses { OnOk result (length uses.new.items ≤ length uses.old.items + 8000000) }
+{
+    add_column(db, scans, edge.left, equality, true, classes, uses)?;
+    add_column(db, scans, edge.right, equality, false, classes, uses)?;
+    Ok(())
+}
+
+/// Adds the uses of all rows for all equalities, in one pass over the two lists of each equality.
+pub(crate) fn wire(
+    db: &Database,
+    scans: &[RowBuf<u32>],
+    equalities: &[Edge],
+    classes: &mut ClassSet,
+    uses: &mut RowBuf<Use>,
+) -> Result<(), NoMemory>
+    requires lists { AreListsOf db.now scans.now }
+    requires columns { All (JoinsColumns db.now) equalities.now }
+    requires few { length equalities.now ≤ 256 }
+    requires no_classes { classes.old ≡ [] }
+    requires no_uses { uses.old.items ≡ [] }
+    ensures wired { OnOk result (AreWired (lists_of scans.now) equalities.now (cell_at db.now) classes.new
+        (length equalities.now) uses.new.items) }
+    ensures classes { OnOk result (length classes.new ≤ 8000000 * length equalities.now) }
+    ensures uses { OnOk result (length uses.new.items ≤ 8000000 * length equalities.now) }
+{
+    'equalities: for number in 0..equalities.len() {
+        add_equality(db, scans, equalities[number], number as u32, classes, uses)?;
+    }
+    Ok(())
+}
+
+/// How many uses there will be.
+pub(crate) fn count_uses(scans: &[RowBuf<u32>], equalities: &[Edge]) -> u64
+    requires entries { All (λ e. (e.left.entry < length scans.now) × (e.right.entry < length scans.now)) equalities.now }
+    requires sizes { (k : ℕ) → length (list_of scans.now k) ≤ 4000000 }
+    requires few { length equalities.now ≤ 256 }
+{
+    let mut count = 0;
+    'equalities: for edge in equalities {
+        count += scans[edge.left.entry as usize].len() + scans[edge.right.entry as usize].len();
+    }
+    count
+}
