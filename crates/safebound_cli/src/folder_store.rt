@@ -24,8 +24,10 @@ pub struct FolderStore<'a, R: Files> {
 }
 
 impl<'a, R: Files + AllocGlobal> FolderStore<'a, R> {
-    /// No file is open yet.
-    pub fn new(rt: &'a R) -> FolderStore<'a, R> {
+    /// No file is open yet, and nothing has failed.
+    pub fn new(rt: &'a R) -> FolderStore<'a, R>
+        ensures faults { result.faults ≡ 0 }
+    {
         FolderStore {
             rt,
             last: None,

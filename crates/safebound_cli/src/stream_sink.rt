@@ -1,5 +1,5 @@
 //! Real streams.
-ghost use Rattle.std.specs.Prelude.{None};
+ghost use Rattle.std.specs.Prelude.{◌≡◌, None};
 
 use base_io::{Failed, Sink};
 use std::io::Write;
@@ -13,7 +13,9 @@ pub struct StreamSink<W> {
 
 impl<W: Write> StreamSink<W> {
     /// Nothing has failed yet.
-    pub fn new(stream: W) -> StreamSink<W> {
+    pub fn new(stream: W) -> StreamSink<W>
+        ensures faults { result.faults ≡ 0 }
+    {
         StreamSink { stream, faults: 0 }
     }
 }

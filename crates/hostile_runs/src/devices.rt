@@ -1,0 +1,211 @@
+//! A join of two tables over devices of which one call fails.
+use base_io::{MemSink, MemStore, Name, NoMemory, Seq, Sink, Store};
+use safebound_top::safebound;
+use slow_devices::{SlowSink, SlowStore};
+use std::alloc::Global;
+use std::test::Fail;
+
+const FILES: [(&str, &str); 4] = [
+    (
+        "schema.sql",
+        "CREATE TABLE R (X INTEGER NOT NULL); CREATE TABLE S (X INTEGER NOT NULL);",
+    ),
+    ("query.sql", "SELECT R.X FROM R, S WHERE R.X = S.X"),
+    ("r.csv", "X\r\n1\r\n1\r\n1\r\n2\r\n2\r\n3\r\n"),
+    ("s.csv", "X\r\n1\r\n1\r\n4\r\n5\r\n6\r\n"),
+];
+
+const PLAN: &[u8] = b"scan R 6\nscan S 5\nlevel 1 S 5\nlevel 2 R 12\n";
+
+const ROWS: &[u8] = b"X\r\n1\r\n1\r\n1\r\n1\r\n1\r\n1\r\n";
+
+const CUT: &[u8] = b"scan R 6\nscan S 5\nlevel 1 S 5\nlevel 2 R 12\nerror write out\n";
+
+const UNSAID: &[u8] = b"error write notes\n";
+
+// What is answered as the store's calls fail one after another: the code, notes, a bar and out.
+const READS: &[u8] =
+    b"\x03error read schema.sql\n|\x03error read query.sql\n|\x03error read r.csv\n|\x03error read s.csv\n|\x00scan R 6\nscan S 5\nlevel 1 S 5\nlevel 2 R 12\n|X\r\n1\r\n1\r\n1\r\n1\r\n1\r\n1\r\n";
+
+// Which call of each device fails, counted from 1, or 0 for none.
+#[derive(Clone, Copy)]
+struct Failing {
+    store: u64,
+    out: u64,
+    notes: u64,
+}
+
+const SOUND: Failing = Failing {
+    store: 0,
+    out: 0,
+    notes: 0,
+};
+
+// What a run answered and wrote.
+#[derive(Debug, Drop)]
+struct Ran {
+    code: u8,
+    notes: Vec<u8>,
+    out: Vec<u8>,
+}
+
+fn files(alloc: Global) -> Result<Seq<(Name, Seq<u8>)>, NoMemory> {
+    let mut files = Seq::new(alloc);
+    for (name, text) in FILES {
+        let bytes = Vec::from_slice(alloc, text.as_bytes())?;
+        files.push((Name::from_str(alloc, name)?, Seq::from_vec(bytes)))?;
+    }
+    Ok(files)
+}
+
+fn store(alloc: Global, failing: Failing) -> Result<MemStore, NoMemory> {
+    Ok(MemStore::new(files(alloc)?, Seq::one(alloc, failing.store)?))
+}
+
+fn sink(alloc: Global, failing: u64) -> Result<MemSink, NoMemory> {
+    MemSink::new(alloc, 1000, Seq::one(alloc, failing)?)
+}
+
+// The code of a run over these devices.
+fn code<S: Store, O: Sink, N: Sink>(
+    alloc: Global,
+    store: &mut S,
+    out: &mut O,
+    notes: &mut N,
+) -> u8 {
+    let words = ["run", "schema.sql", "query.sql"];
+    safebound(alloc, &words, store, out, notes).code()
+}
+
+fn what_was_written(
+    alloc: Global,
+    code: u8,
+    out: &MemSink,
+    notes: &MemSink,
+) -> Result<Ran, NoMemory> {
+    Ok(Ran {
+        code,
+        notes: Vec::from_slice(alloc, notes.written())?,
+        out: Vec::from_slice(alloc, out.written())?,
+    })
+}
+
+fn run_whole(alloc: Global, failing: Failing) -> Result<Ran, NoMemory> {
+    let mut store = store(alloc, failing)?;
+    let mut out = sink(alloc, failing.out)?;
+    let mut notes = sink(alloc, failing.notes)?;
+    let code = code(alloc, &mut store, &mut out, &mut notes);
+    what_was_written(alloc, code, &out, &notes)
+}
+
+// A run over devices that hand on one byte a call.
+fn run_slowly(alloc: Global, failing: Failing) -> Result<Ran, NoMemory> {
+    let mut store = SlowStore::new(store(alloc, failing)?, 1);
+    let mut out = SlowSink::new(sink(alloc, failing.out)?, 1);
+    let mut notes = SlowSink::new(sink(alloc, failing.notes)?, 1);
+    let code = code(alloc, &mut store, &mut out, &mut notes);
+    what_was_written(alloc, code, &out.inner, &notes.inner)
+}
+
+fn run(alloc: Global, slowly: bool, failing: Failing) -> Result<Ran, NoMemory> {
+    if slowly {
+        run_slowly(alloc, failing)
+    } else {
+        run_whole(alloc, failing)
+    }
+}
+
+fn answer(alloc: Global, ran: &Ran) -> Result<Vec<u8>, NoMemory> {
+    let mut answer = Vec::new(alloc);
+    answer.push(ran.code)?;
+    answer.extend_from_slice(ran.notes.as_slice())?;
+    answer.push(b'|')?;
+    answer.extend_from_slice(ran.out.as_slice())?;
+    Ok(answer)
+}
+
+// The answers as the store fails at its first call, at its second and so on, until a run is done. Of several in a row
+// that are the same one is told.
+fn read_answers(alloc: Global, slowly: bool) -> Result<Vec<u8>, NoMemory> {
+    let mut told = Vec::new(alloc);
+    let mut last = Vec::new(alloc);
+    for k in 1u64..1000 {
+        let ran = run(alloc, slowly, Failing { store: k, ..SOUND })?;
+        let answer = answer(alloc, &ran)?;
+        if answer.as_slice() != last.as_slice() {
+            told.extend_from_slice(answer.as_slice())?;
+            last = answer;
+        }
+        if ran.code == 0 {
+            break;
+        }
+    }
+    Ok(told)
+}
+
+#[test]
+fn each_failing_read_names_its_file(rt: HostRuntime) -> Result<(), Fail> {
+    for slowly in [false, true] {
+        let told = read_answers(rt.alloc(), slowly)?;
+        assert_eq!(rt; told.as_slice(), READS, "slowly: {slowly}");
+    }
+    Ok(())
+}
+
+fn is_done(ran: &Ran) -> bool {
+    ran.code == 0 && ran.notes.as_slice() == PLAN && ran.out.as_slice() == ROWS
+}
+
+// The rows are cut where the k-th call failed, behind k - 1 bytes where each call takes one.
+fn is_cut(ran: &Ran, slowly: bool, k: u64) -> bool {
+    let place = !slowly || (ran.out.len() as u64).saturating_add(1) == k;
+    ran.code == 10 && ran.notes.as_slice() == CUT && ROWS.starts_with(ran.out.as_slice()) && place
+}
+
+// A front of the plan stands, up to the k-th call, and then the line on the failure; no row is written.
+fn is_unsaid(ran: &Ran, slowly: bool, k: u64) -> bool {
+    match ran.notes.as_slice().strip_suffix(UNSAID) {
+        Some(front) => {
+            let place = !slowly || (front.len() as u64).saturating_add(1) == k;
+            ran.code == 10 && ran.out.is_empty() && PLAN.starts_with(front) && place
+        }
+        None => false,
+    }
+}
+
+// Whether each run is cut while calls of `out` fail one after another, until one is done.
+fn rows_are_cut(alloc: Global, slowly: bool) -> Result<bool, NoMemory> {
+    for k in 1u64..1000 {
+        let ran = run(alloc, slowly, Failing { out: k, ..SOUND })?;
+        if is_done(&ran) {
+            return Ok(k > 1);
+        }
+        if !is_cut(&ran, slowly, k) {
+            break;
+        }
+    }
+    Ok(false)
+}
+
+// The same of `notes`.
+fn plans_are_unsaid(alloc: Global, slowly: bool) -> Result<bool, NoMemory> {
+    for k in 1u64..1000 {
+        let ran = run(alloc, slowly, Failing { notes: k, ..SOUND })?;
+        if is_done(&ran) {
+            return Ok(k > 1);
+        }
+        if !is_unsaid(&ran, slowly, k) {
+            break;
+        }
+    }
+    Ok(false)
+}
+
+#[test]
+fn each_failing_write_leaves_a_front(rt: HostRuntime) -> Result<(), Fail> {
+    for slowly in [false, true] {
+        assert!(rt; rows_are_cut(rt.alloc(), slowly)?, "slowly: {slowly}");
+        assert!(rt; plans_are_unsaid(rt.alloc(), slowly)?, "slowly: {slowly}");
+    }
+    Ok(())
+}

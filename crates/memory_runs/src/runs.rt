@@ -1,0 +1,172 @@
+//! The runs: their files, and what they have to write.
+use base_io::NoMemory;
+use std::alloc::Global;
+
+/// A text as it is, or a column X of one number so many times.
+#[derive(Clone, Copy)]
+pub enum Text<'a> {
+    Whole(&'a [u8]),
+    Column { record: &'a [u8], count: u32 },
+}
+
+/// A run by its name: its files, the plan text and the rows text.
+#[derive(Clone, Copy)]
+pub struct Run<'a> {
+    pub name: &'a str,
+    pub files: &'a [(&'a str, Text<'a>)],
+    pub notes: &'a [u8],
+    pub out: Text<'a>,
+}
+
+const TWO: Text<'static> = Text::Whole(
+    b"CREATE TABLE R (X INTEGER NOT NULL); CREATE TABLE S (X INTEGER NOT NULL);",
+);
+
+const JOIN: Text<'static> = Text::Whole(b"SELECT R.X FROM R, S WHERE R.X = S.X");
+
+const HUNDREDS: &[u8] = b"scan R 100\nscan S 100\nlevel 1 R 100\nlevel 2 S 10000\n";
+
+/// A join of two tables, a table of texts, the triangle, and two pairs of tables with the same bounds and other answers.
+pub const RUNS: [Run<'static>; 5] = [
+    Run {
+        name: "join",
+        files: &[
+            ("schema.sql", TWO),
+            ("query.sql", JOIN),
+            ("r.csv", Text::Whole(b"X\r\n1\r\n1\r\n1\r\n2\r\n2\r\n3\r\n")),
+            ("s.csv", Text::Whole(b"X\r\n1\r\n1\r\n4\r\n5\r\n6\r\n")),
+        ],
+        notes: b"scan R 6\nscan S 5\nlevel 1 S 5\nlevel 2 R 12\n",
+        out: Text::Column {
+            record: b"1\r\n",
+            count: 6,
+        },
+    },
+    Run {
+        name: "texts",
+        files: &[
+            (
+                "schema.sql",
+                Text::Whole(b"CREATE TABLE N (V VARCHAR(20) NOT NULL)"),
+            ),
+            ("query.sql", Text::Whole(b"SELECT V FROM N")),
+            (
+                "n.csv",
+                Text::Whole(b"V\r\n\"a,\"\"b\"\"\r\nc\"\r\n\"\"\r\n"),
+            ),
+        ],
+        notes: b"scan N 2\nlevel 1 N 2\n",
+        out: Text::Whole(b"V\r\n\"a,\"\"b\"\"\r\nc\"\r\n\"\"\r\n"),
+    },
+    Run {
+        name: "triangle",
+        files: &[
+            (
+                "schema.sql",
+                Text::Whole(
+                    b"CREATE TABLE R (A INTEGER NOT NULL, C INTEGER NOT NULL); CREATE TABLE S (A INTEGER NOT NULL, B INTEGER NOT NULL); CREATE TABLE T (B INTEGER NOT NULL, C INTEGER NOT NULL);",
+                ),
+            ),
+            (
+                "query.sql",
+                Text::Whole(
+                    b"SELECT R.A, S.B, T.C FROM R, S, T WHERE R.A = S.A AND S.B = T.B AND T.C = R.C",
+                ),
+            ),
+            ("r.csv", Text::Whole(b"A,C\r\n1,1\r\n1,2\r\n2,1\r\n")),
+            ("s.csv", Text::Whole(b"A,B\r\n1,1\r\n1,2\r\n2,1\r\n")),
+            ("t.csv", Text::Whole(b"B,C\r\n1,1\r\n2,1\r\n1,2\r\n")),
+        ],
+        notes: b"scan R 3\nscan S 3\nscan T 3\nlevel 1 R 3\nlevel 2 S 5\nlevel 3 T 9\n",
+        out: Text::Whole(b"A,B,C\r\n1,1,1\r\n1,2,1\r\n1,1,2\r\n2,1,1\r\n"),
+    },
+    Run {
+        name: "meeting",
+        files: &[
+            ("schema.sql", TWO),
+            ("query.sql", JOIN),
+            (
+                "r.csv",
+                Text::Column {
+                    record: b"1\r\n",
+                    count: 100,
+                },
+            ),
+            (
+                "s.csv",
+                Text::Column {
+                    record: b"1\r\n",
+                    count: 100,
+                },
+            ),
+        ],
+        notes: HUNDREDS,
+        out: Text::Column {
+            record: b"1\r\n",
+            count: 10_000,
+        },
+    },
+    Run {
+        name: "apart",
+        files: &[
+            ("schema.sql", TWO),
+            ("query.sql", JOIN),
+            (
+                "r.csv",
+                Text::Column {
+                    record: b"1\r\n",
+                    count: 100,
+                },
+            ),
+            (
+                "s.csv",
+                Text::Column {
+                    record: b"2\r\n",
+                    count: 100,
+                },
+            ),
+        ],
+        notes: HUNDREDS,
+        out: Text::Column {
+            record: b"1\r\n",
+            count: 0,
+        },
+    },
+];
+
+const HEADER: &[u8] = b"X\r\n";
+
+/// The bytes of a text.
+pub fn text_of(alloc: Global, text: Text) -> Result<Vec<u8>, NoMemory> {
+    match text {
+        Text::Whole(whole) => Ok(Vec::from_slice(alloc, whole)?),
+        Text::Column { record, count } => {
+            let mut bytes = Vec::from_slice(alloc, HEADER)?;
+            for _ in 0..count {
+                bytes.extend_from_slice(record)?;
+            }
+            Ok(bytes)
+        }
+    }
+}
+
+fn is_column(bytes: &[u8], record: &[u8], count: u32) -> bool {
+    let Some(mut rest) = bytes.strip_prefix(HEADER) else {
+        return false;
+    };
+    for _ in 0..count {
+        match rest.strip_prefix(record) {
+            Some(after) => rest = after,
+            None => return false,
+        }
+    }
+    rest.is_empty()
+}
+
+/// Whether these are the bytes of a text. It takes no memory.
+pub fn is_text(bytes: &[u8], text: Text) -> bool {
+    match text {
+        Text::Whole(whole) => bytes == whole,
+        Text::Column { record, count } => is_column(bytes, record, count),
+    }
+}
