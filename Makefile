@@ -1,22 +1,25 @@
 PROGRAM := crates/safebound_cli/out/safebound_cli
 
-.PHONY: run build try test bench clean
+# How long `make build` takes from nothing, on four processors.
+BUILD_TAKES := long the first time: it proves every crate
 
-# Proves and builds the program, and runs it over the example.
-run: build
-	cd examples/trips && ../../$(PROGRAM) run schema.sql query.sql
+# What `make run` runs: a folder of examples/, and the command line.
+EXAMPLE := trips
+WORDS := run schema.sql query.sql
+FILES := $(wildcard examples/$(EXAMPLE)/*.sql examples/$(EXAMPLE)/*.csv)
+
+.PHONY: run build test bench memory limits clean
+
+# The program over an example at once: compiled with its checks, and nothing proved.
+run:
+	@cd crates/safebound_cli && rt try $(foreach f,$(FILES),--data $(notdir $f)=../../$f) -- $(WORDS)
+	@echo "Nothing of this run is proved. The proved program: make build ($(BUILD_TAKES))"
 
 # The program alone, proved. It is run without words, which it answers with its usage line.
 build:
-	@echo "proving and building the program; the first time takes minutes"
+	@echo "proving and building the program ($(BUILD_TAKES))"
 	@cd crates/safebound_cli && { rt run > build.log 2>&1; grep -q '^error usage$$' build.log || { cat build.log; exit 1; }; }
-
-# The program over the example at once, compiled with checks and nothing proved.
-try:
-	cd crates/safebound_cli && rt try --data schema.sql=../../examples/trips/schema.sql \
-	    --data query.sql=../../examples/trips/query.sql --data city.csv=../../examples/trips/city.csv \
-	    --data trip.csv=../../examples/trips/trip.csv --data guide.csv=../../examples/trips/guide.csv \
-	    -- run schema.sql query.sql
+	@echo "$(PROGRAM)"
 
 # Everything: each proof that this machine hasn't kept, the edits that must fail, the tests, the stored runs, random ones.
 test:
@@ -30,6 +33,7 @@ bench: build
 	@cd crates/bench_queries && rt run -- time > build.log 2>&1 || { cat build.log; exit 1; }
 	@cd crates/bench_fold && rt run -- time > build.log 2>&1 || { cat build.log; exit 1; }
 	@cd crates/bench_joins && rt run -- time > build.log 2>&1 || { cat build.log; exit 1; }
+	@cd crates/bench_stats && rt run -- time > build.log 2>&1 || { cat build.log; exit 1; }
 	bench/one-table
 	bench/degrees
 	bench/link-index
@@ -38,7 +42,17 @@ bench: build
 	bench/queries
 	bench/fold
 	bench/joins
+	bench/stats
 	bench/demo
+
+# Runs over memory, with each request for memory refused in turn. It takes minutes.
+memory:
+	@cd crates/memory_runs && rt run > build.log 2>&1 || { cat build.log; exit 1; }
+	tools/memory
+
+# Runs at the limits of tables, texts and the budget, with their times and their peaks of memory. It takes minutes.
+limits: build
+	bench/limits
 
 clean:
 	rm -rf crates/*/out
