@@ -1,42 +1,38 @@
 -- A join has at most so many rows for each row of the left table as the right one has each key.
-use Rattle.std.proofs.Common.{◌≡◌, ℕ, zero, suc, ◌+◌, ◌-◌, ◌*◌, ◌/◌, ◌%◌, ◌<◌, ◌≤◌, ◌^◌, Bool, true, false, cond, not, eqb, ◌&&◌, ◌||◌, Some, None, option_map, lit<, List, [], ◌∷◌, ◌++◌, length, map, take, get_or, slice_index, refl, ap, sym, ◌∙◌, subst, arith, inl, inr}
+use Rattle.std.proofs.Common.{◌≡◌, ℕ, zero, suc, ◌+◌, ◌-◌, ◌*◌, ◌/◌, ◌%◌, ◌<◌, ◌≤◌, ◌^◌, Bool, true, false, not, eqb, ◌||◌, Option, Some, None, List, [], ◌∷◌, ◌++◌, length, map, get_or, refl, ap, sym, ◌∙◌, subst, arith, inl, inr}
 use Rattle.std.specs.Prelude.{All, IsUtf8}
-use Rattle.std.specs.List.{filter, flat_map, list_all, range_with_len, slice_get, AllByRecursion, AllZip, IsDistinct}
-use Rattle.std.proofs.lemmas.Bool.{and_parts, cases_Bool, cases_lt, eqb-true, false≢true}
+use Rattle.std.specs.List.{filter, range_with_len, AllByRecursion, IsDistinct}
+use Rattle.std.proofs.lemmas.Bool.{and_parts, cases_Bool, cases_lt, eqb-true}
 use Rattle.std.proofs.lemmas.List.{get_or-map, length-append, length-map}
 use Rattle.std.proofs.lemmas.List.Elements.{All-from_recursion, All-map, filter-append, recursion_from_All}
 use Rattle.std.proofs.lemmas.List.FromFn.{get_or-range_with_len, length-range_with_len}
 use Rattle.std.proofs.lemmas.Nat.{div-add-mod'}
 use Rattle.std.proofs.Math.Nat.{mul-suc, suc-mul}
-use Rattle.csv_tables.specs.declared.types.Cells.{Cells}
 use Rattle.csv_tables.specs.declared.types.Database.{Database}
 use Rattle.query_grammar.specs.declared.tree.Op.{Op}
 use Rattle.query_grammar.specs.declared.tree.Op.TheVariants as op
-use Rattle.query_types.specs.Validity.{is_text}
 use Rattle.query_types.specs.declared.types.ColumnRef.{ColumnRef}
 use Rattle.query_types.specs.declared.types.Operand.TheVariants as operand
-use Rattle.query_types.specs.declared.types.Cond.{Cond, And}
 use Rattle.query_types.specs.declared.types.Query.{Query}
 use Rattle.reserve_plan.specs.declared.reserved.Reserved.{Reserved}
 use Rattle.reserve_plan.specs.Rooms.{rooms, HasRooms}
 use Rattle.reserve_plan.proofs.Roomy.{less_room}
-use Rattle.sql_meaning.specs.Answers.{conjunct_of, conjuncts_of}
+use Rattle.sql_meaning.specs.Answers.{conjuncts_of}
 use Rattle.sql_meaning.specs.Choices.{extended, IsChoiceOf}
 use Rattle.sql_meaning.specs.Conditions.{cond_holds}
 use Rattle.sql_meaning.specs.Databases.{AreCells, IsAskable, IsColumnOf, IsColumnOfKind, IsDatabaseOf}
-use Rattle.sql_meaning.specs.Levels.{all_hold, completed_hold, completes, row_in, Conjunct}
-use Rattle.sql_meaning.specs.Tables.{cells_of, row_counts, tables_of}
+use Rattle.sql_meaning.specs.Levels.{all_hold, completed_hold, row_in, Conjunct}
+use Rattle.sql_meaning.specs.Tables.{row_counts, tables_of}
 use Rattle.sql_meaning.proofs.LoopFacts.{rows_are}
 use Rattle.sql_meaning.proofs.NamedFacts.{can_ask}
 use Rattle.join_steps.specs.declared.keys.Key.{Key}
-use Rattle.join_steps.specs.Columns.{column_cells}
 use Rattle.join_steps.specs.Lists.{passes_own, scan_of, IsOfScan, IsOrderOf}
-use Rattle.join_steps.specs.Sides.{is_between, is_in}
+use Rattle.join_steps.specs.Sides.{is_between}
 use Rattle.join_steps.proofs.KeyFacts.{key_holds, sides_between, IsKeyOf}
 use Rattle.hash_join.specs.Levels.{joined, level_sizes, query_level, scan_sizes}
 use Rattle.hash_join.proofs.AllLevels.{next_joined, placed_joined, scan_below}
 use Rattle.hash_join.proofs.PlanRooms.{are_of_scans, joined_scans}
-use Rattle.bench_joins.specs.Tables.{compared, join_of, repeated, table_of, tables_of_two, AreNumbers, AreTwo, HasRepeated, IsTable}
+use Rattle.bench_joins.specs.Tables.{compared, join_of, repeated, table_of, tables_of_two, AreNumbers}
 
 -- ---- how many rows have a key
 
@@ -175,12 +171,12 @@ nothing_asked (x ∷ xs) = (tt, nothing_asked xs)
 
 -- ---- the two tables
 
-module _ (left right times : ℕ) (rest : Bool) (lk lv rv : List ℕ) (are_lk : AreNumbers left lk) (are_lv : AreNumbers left lv) (are_rv : AreNumbers right rv) (some : 0 < times) (few_right : right ≤ 4000000) where
+module _ (left right times : ℕ) (values : Option Op) (lk lv rv : List ℕ) (are_lk : AreNumbers left lk) (are_lv : AreNumbers left lv) (are_rv : AreNumbers right rv) (some : 0 < times) (few_right : right ≤ 4000000) where
   abbrev db : Database
   db = tables_of_two (table_of left lk lv) (table_of right (repeated right times) rv)
 
   abbrev q : Query
-  q = join_of rest
+  q = join_of values
 
   abbrev order : List ℕ
   order = 0 ∷ 1 ∷ []
@@ -207,16 +203,16 @@ module _ (left right times : ℕ) (rest : Bool) (lk lv rv : List ℕ) (are_lk : 
   askable : (o : Op) (column : ℕ) → column < 2 → IsAskable db (compared o column)
   askable o column within = can_ask db o (operand.Column (col 0 column)) (operand.Column (col 1 column)) (record { text = false; left_kind = is_number 0 column (omega arith) within; right_kind = is_number 1 column (omega arith) within })
 
-  all_askable : (rest : Bool) → AllByRecursion (IsAskable db) (join_of rest).conjuncts
-  all_askable true = (askable op.Eq 0 (omega arith), (askable op.Ne 1 (omega arith), tt))
-  all_askable false = (askable op.Eq 0 (omega arith), tt)
+  all_askable : (values : Option Op) → AllByRecursion (IsAskable db) (join_of values).conjuncts
+  all_askable (Some o) = (askable op.Eq 0 (omega arith), (askable o 1 (omega arith), tt))
+  all_askable None = (askable op.Eq 0 (omega arith), tt)
 
-  few_conjuncts : (rest : Bool) → length (join_of rest).conjuncts ≤ 2
-  few_conjuncts true = omega arith
-  few_conjuncts false = omega arith
+  few_conjuncts : (values : Option Op) → length (join_of values).conjuncts ≤ 2
+  few_conjuncts (Some o) = omega arith
+  few_conjuncts None = omega arith
 
   pub few : length q.conjuncts ≤ 256
-  few = omega (arith, few_conjuncts rest)
+  few = omega (arith, few_conjuncts values)
 
   quotient_low : (x : ℕ) → x < right → x / times < 2 ^ 64
   quotient_low x low = let whole : x / times * times + x % times ≡ x = div-add-mod' x times in let at_least : x / times ≤ x / times * times = le_product (x / times) times some in omega (arith, whole, at_least)
@@ -231,7 +227,7 @@ module _ (left right times : ℕ) (rest : Bool) (lk lv rv : List ℕ) (are_lk : 
   fits = record {
     some = omega arith;
     few = omega arith;
-    few_conjuncts = omega (arith, few_conjuncts rest);
+    few_conjuncts = omega (arith, few_conjuncts values);
     entries = refl;
     tables = record {
       cells = All-from_recursion (AreCells []) db.cells (
@@ -241,7 +237,7 @@ module _ (left right times : ℕ) (rest : Bool) (lk lv rv : List ℕ) (are_lk : 
       slots = All-from_recursion (λ slot. slot < 2) (0 ∷ 1 ∷ []) (omega arith, (omega arith, tt));
     };
     one_place = λ i j low high same. same;
-    conjuncts = All-from_recursion (IsAskable db) q.conjuncts (all_askable rest);
+    conjuncts = All-from_recursion (IsAskable db) q.conjuncts (all_askable values);
     outputs = All-from_recursion (λ out. IsColumnOf db out.column) q.select tt;
   }
 

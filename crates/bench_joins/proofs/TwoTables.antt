@@ -1,8 +1,9 @@
 -- Two tables and their query, however they were made.
-use Rattle.std.proofs.Common.{◌≡◌, ℕ, ◌*◌, ◌<◌, ◌≤◌, Bool, List, [], ◌∷◌, length, ap, sym, ◌∙◌, subst}
+use Rattle.std.proofs.Common.{◌≡◌, ℕ, ◌*◌, ◌<◌, ◌≤◌, Option, [], ◌∷◌, length, ap, sym, ◌∙◌, subst}
 use Rattle.std.specs.Prelude.{All}
 use Rattle.csv_tables.specs.declared.types.Cells.{Cells}
 use Rattle.csv_tables.specs.declared.types.Database.{Database}
+use Rattle.query_grammar.specs.declared.tree.Op.{Op}
 use Rattle.query_types.specs.declared.types.Query.{Query}
 use Rattle.reserve_plan.specs.declared.reserved.Reserved.{Reserved}
 use Rattle.reserve_plan.specs.Rooms.{rooms, HasRooms}
@@ -12,26 +13,26 @@ use Rattle.hash_join.specs.Levels.{level_sizes, scan_sizes}
 use Rattle.bench_joins.specs.Tables.{join_of, repeated, table_of, tables_of_two, AreTwo}
 use Rattle.bench_joins.proofs.FewRows.{few, fits, has_rooms, is_order, small}
 
-module _ (left right times : ℕ) (rest : Bool) (query : Query) (db : Database) (is_query : query ≡ join_of rest) (two : AreTwo left right times db) (some : 0 < times) (few_right : right ≤ 4000000) where
+module _ (left right times : ℕ) (values : Option Op) (query : Query) (db : Database) (is_query : query ≡ join_of values) (two : AreTwo left right times db) (some : 0 < times) (few_right : right ≤ 4000000) where
   whole : db ≡ tables_of_two (table_of left two.is_first.keys two.is_first.values) (table_of right (repeated right times) two.is_second.values)
   whole = two.is ∙ ap (λ (c : Cells). tables_of_two c two.second) two.is_first.is ∙ ap (λ (c : Cells). tables_of_two (table_of left two.is_first.keys two.is_first.values) c) two.is_second.is
 
-  moved : (P : Query → Database → Type 0) → P (join_of rest) (tables_of_two (table_of left two.is_first.keys two.is_first.values) (table_of right (repeated right times) two.is_second.values)) → P query db
-  moved P here = subst (λ (q : Query). P q db) (sym is_query) (subst (λ (d : Database). P (join_of rest) d) (sym whole) here)
+  moved : (P : Query → Database → Type 0) → P (join_of values) (tables_of_two (table_of left two.is_first.keys two.is_first.values) (table_of right (repeated right times) two.is_second.values)) → P query db
+  moved P here = subst (λ (q : Query). P q db) (sym is_query) (subst (λ (d : Database). P (join_of values) d) (sym whole) here)
 
   pub two_fit : IsDatabaseOf query db
-  two_fit = moved IsDatabaseOf (fits left right times rest two.is_first.keys two.is_first.values two.is_second.values two.is_first.are_keys two.is_first.are_values two.is_second.are_values some few_right)
+  two_fit = moved IsDatabaseOf (fits left right times values two.is_first.keys two.is_first.values two.is_second.values two.is_first.are_keys two.is_first.are_values two.is_second.are_values some few_right)
 
   pub two_few : length query.conjuncts ≤ 256
-  two_few = moved (λ q d. length q.conjuncts ≤ 256) (few left right times rest two.is_first.keys two.is_first.values two.is_second.values two.is_first.are_keys two.is_first.are_values two.is_second.are_values some few_right)
+  two_few = moved (λ q d. length q.conjuncts ≤ 256) (few left right times values two.is_first.keys two.is_first.values two.is_second.values two.is_first.are_keys two.is_first.are_values two.is_second.are_values some few_right)
 
   pub two_order : IsOrderOf query (0 ∷ 1 ∷ [])
-  two_order = moved (λ q d. IsOrderOf q (0 ∷ 1 ∷ [])) (is_order left right times rest two.is_first.keys two.is_first.values two.is_second.values two.is_first.are_keys two.is_first.are_values two.is_second.are_values some few_right)
+  two_order = moved (λ q d. IsOrderOf q (0 ∷ 1 ∷ [])) (is_order left right times values two.is_first.keys two.is_first.values two.is_second.values two.is_first.are_keys two.is_first.are_values two.is_second.are_values some few_right)
 
   pub two_small : times * left ≤ 20000000 → left ≤ 4000000 → All (λ rows. rows ≤ 20000000) (level_sizes query db (0 ∷ 1 ∷ []))
   two_small most few_left = moved (λ q d. All (λ rows. rows ≤ 20000000) (level_sizes q d (0 ∷ 1 ∷ [])))
-      (small left right times rest two.is_first.keys two.is_first.values two.is_second.values two.is_first.are_keys two.is_first.are_values two.is_second.are_values some few_right most few_left)
+      (small left right times values two.is_first.keys two.is_first.values two.is_second.values two.is_first.are_keys two.is_first.are_values two.is_second.are_values some few_right most few_left)
 
   pub two_rooms : (reserved : Reserved) → HasRooms (rooms (0 ∷ 1 ∷ []) (left ∷ right ∷ []) (left ∷ times * left ∷ [])) reserved → HasRooms (rooms (0 ∷ 1 ∷ []) (scan_sizes query db) (level_sizes query db (0 ∷ 1 ∷ []))) reserved
   two_rooms reserved has = moved (λ q d. HasRooms (rooms (0 ∷ 1 ∷ []) (scan_sizes q d) (level_sizes q d (0 ∷ 1 ∷ []))) reserved)
-      (has_rooms left right times rest two.is_first.keys two.is_first.values two.is_second.values two.is_first.are_keys two.is_first.are_values two.is_second.are_values some few_right reserved has)
+      (has_rooms left right times values two.is_first.keys two.is_first.values two.is_second.values two.is_first.are_keys two.is_first.are_values two.is_second.are_values some few_right reserved has)

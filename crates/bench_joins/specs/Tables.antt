@@ -1,12 +1,11 @@
 -- Two tables that are joined, and the query over them.
-use Rattle.std.specs.Prelude.{◌≡◌, ℕ, ◌*◌, ◌/◌, ◌^◌, ◌<◌, Bool, if◌then◌else◌, List, [], ◌∷◌, All, length, map}
+use Rattle.std.specs.Prelude.{◌≡◌, ℕ, ◌*◌, ◌/◌, ◌^◌, ◌<◌, List, [], ◌∷◌, All, Option, Some, None, length, map}
 use Rattle.std.specs.List.{range_with_len}
 use Rattle.schema_types.specs.declared.types.Kind.TheVariants as kind
 use Rattle.csv_tables.specs.declared.types.Cells.{Cells}
 use Rattle.csv_tables.specs.declared.types.Database.{Database}
 use Rattle.query_grammar.specs.declared.tree.Op.{Op}
 use Rattle.query_grammar.specs.declared.tree.Op.TheVariants as op
-use Rattle.query_types.specs.declared.types.Operand.{Operand}
 use Rattle.query_types.specs.declared.types.Operand.TheVariants as operand
 use Rattle.query_types.specs.declared.types.Cond.{Cond, Compare}
 use Rattle.query_types.specs.declared.types.Query.{Query}
@@ -15,11 +14,16 @@ use Rattle.reserve_plan.specs.Rooms.{rooms, Rooms}
 abbrev pub compared : Op → ℕ → Cond
 compared op number = Compare op (operand.Column (record { from = 0; column = number })) (operand.Column (record { from = 1; column = number }))
 
--- FROM L, R WHERE L.K = R.K, and with the rest L.V <> R.V
-abbrev pub join_of : Bool → Query
-join_of rest = record {
+-- what is asked of the values, if anything
+abbrev pub values_compared : Option Op → List Cond
+values_compared None = []
+values_compared (Some operator) = compared operator 1 ∷ []
+
+-- FROM L, R WHERE L.K = R.K, and with a comparison AND L.V compared with R.V
+abbrev pub join_of : Option Op → Query
+join_of values = record {
   from = record { table = 0; alias = [] } ∷ record { table = 1; alias = [] } ∷ [];
-  conjuncts = compared op.Eq 0 ∷ (if rest then (compared op.Ne 1 ∷ []) else []);
+  conjuncts = compared op.Eq 0 ∷ values_compared values;
   select = [];
 }
 

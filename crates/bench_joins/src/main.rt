@@ -12,7 +12,7 @@ mod tables;
 use base_io::NoMemory;
 use csv_tables::Database;
 use hash_join::{Executed, execute};
-use query_types::Query;
+use query_types::{Op, Query};
 use reserve_plan::{Reserved, reserve};
 use std::alloc::Global;
 use std::rt::Runtime;
@@ -69,11 +69,11 @@ fn execution<R: Runtime>(
     rt: &R,
     reserved: Reserved,
     sizes: Sizes,
-    rest: bool,
+    values: Option<Op>,
     query: &Query,
     db: &Database,
 ) -> io::Result<Joined>
-    requires query { query.now ≡ join_of rest }
+    requires query { query.now ≡ join_of values }
     requires db { AreTwo sizes.left sizes.right sizes.times db.now }
     requires some { 0 < sizes.times }
     requires left { sizes.left ≤ 4000000 }
@@ -92,11 +92,11 @@ fn timed<R: Runtime>(
     rt: &R,
     alloc: Global,
     sizes: Sizes,
-    rest: bool,
+    values: Option<Op>,
     query: &Query,
     db: &Database,
 ) -> io::Result<Joined>
-    requires query { query.now ≡ join_of rest }
+    requires query { query.now ≡ join_of values }
     requires db { AreTwo sizes.left sizes.right sizes.times db.now }
     requires some { 0 < sizes.times }
     requires left { sizes.left ≤ 4000000 }
@@ -104,11 +104,17 @@ fn timed<R: Runtime>(
     requires joined { sizes.times * sizes.left ≤ 20000000 }
 {
     let reserved = reserved_for(alloc, sizes).map_err(out_of_memory)?;
-    execution(rt, reserved, sizes, rest, query, db)
+    execution(rt, reserved, sizes, values, query, db)
 }
 
 // Joins two tables of these sizes, and writes what came. The right one has each key so many times, so the join has at most so many rows for each row of the left one.
-fn show(rt: &HostRuntime, name: &str, sizes: Sizes, rest: bool, rounds: u32) -> io::Result<()>
+fn show(
+    rt: &HostRuntime,
+    name: &str,
+    sizes: Sizes,
+    values: Option<Op>,
+    rounds: u32,
+) -> io::Result<()>
     requires some { 0 < sizes.times }
     requires left { sizes.left ≤ 4000000 }
     requires right { sizes.right ≤ 4000000 }
@@ -116,10 +122,10 @@ fn show(rt: &HostRuntime, name: &str, sizes: Sizes, rest: bool, rounds: u32) -> 
 {
     let alloc = rt.alloc();
     let db = database(alloc, sizes).map_err(out_of_memory)?;
-    let query = query(alloc, rest).map_err(out_of_memory)?;
-    let mut least = timed(rt, alloc, sizes, rest, &query, &db)?;
+    let query = query(alloc, values).map_err(out_of_memory)?;
+    let mut least = timed(rt, alloc, sizes, values, &query, &db)?;
     for _ in 1..rounds {
-        let next = timed(rt, alloc, sizes, rest, &query, &db)?;
+        let next = timed(rt, alloc, sizes, values, &query, &db)?;
         if next.nanos < least.nanos {
             least = next;
         }
@@ -139,26 +145,34 @@ fn pair(left: u32, right: u32, times: u32) -> Sizes
 
 fn main(rt: HostRuntime) -> io::Result<()> {
     if env::args(&rt)?.count() <= 1 {
-        show(&rt, "equal", pair(10, 10, 2), false, 1)?;
-        return show(&rt, "different", pair(10, 10, 2), true, 1);
+        show(&rt, "equal", pair(10, 10, 2), None, 1)?;
+        show(&rt, "different", pair(10, 10, 2), Some(Op::Ne), 1)?;
+        return show(&rt, "both", pair(2_000, 2_000, 100), Some(Op::Eq), 1);
     }
-    show(&rt, "orders", pair(50_000, 200_000, 4), false, ROUNDS)?;
-    show(&rt, "items", pair(200_000, 400_000, 2), false, ROUNDS)?;
-    show(&rt, "products", pair(400_000, 20_000, 1), false, ROUNDS)?;
-    show(&rt, "unique", pair(1_000_000, 1_000_000, 1), false, ROUNDS)?;
-    show(&rt, "heavy", pair(10_000, 10_000, 1_000), false, ROUNDS)?;
+    show(&rt, "orders", pair(50_000, 200_000, 4), None, ROUNDS)?;
+    show(&rt, "items", pair(200_000, 400_000, 2), None, ROUNDS)?;
+    show(&rt, "products", pair(400_000, 20_000, 1), None, ROUNDS)?;
+    show(&rt, "unique", pair(1_000_000, 1_000_000, 1), None, ROUNDS)?;
+    show(&rt, "heavy", pair(10_000, 10_000, 1_000), None, ROUNDS)?;
     show(
         &rt,
         "unique-tested",
         pair(1_000_000, 1_000_000, 1),
-        true,
+        Some(Op::Ne),
         ROUNDS,
     )?;
     show(
         &rt,
         "heavy-tested",
         pair(10_000, 10_000, 1_000),
-        true,
+        Some(Op::Ne),
+        ROUNDS,
+    )?;
+    show(
+        &rt,
+        "heavy-both",
+        pair(10_000, 10_000, 1_000),
+        Some(Op::Eq),
         ROUNDS,
     )
 }
