@@ -20,3 +20,5 @@ pub mod LeafStarts
 pub mod TextOrder
 pub mod TextsSorted
 pub mod ValueLists
+pub mod Chained
+pub mod ByValue

@@ -1,3 +1,4 @@
+pub mod ByPlace
 pub mod Rows
 pub mod Frequency
 pub mod Leaves

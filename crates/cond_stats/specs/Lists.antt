@@ -1,4 +1,5 @@
--- The lists of a filter column for a joined column: what is known of the joined keys of the rows with a filter value, or with one in a range.
+-- The lists of a filter column for a joined column: what is known of the joined keys of the rows with a filter value, or with one in a
+-- range.
 use Rattle.std.specs.Prelude.{ℕ, ◌==◌, max, Bool, if◌then◌else◌, List, [], ◌∷◌, map, Option, None, Some, unwrap_or}
 use Rattle.std.specs.List.{list_any}
 use Rattle.degree_sequences.specs.ByRank.{rank_maximum}

@@ -41,7 +41,8 @@ impl<'a> Model for FilterColumn<'a> {
 
     ghost view = { λ f. record { texts = f.pool.now; kind = f.kind; cells = f.cells.now } };
 
-    ghost invariant = { λ f. IsSortedColumn (cell_le f.pool.now f.kind) f.cells.now f.places.items f.groups.items f.cuts.items f.starts.items };
+    ghost invariant = { λ f. IsSortedColumn
+        (cell_le f.pool.now f.kind) f.cells.now f.places.items f.groups.items f.cuts.items f.starts.items };
 }
 
 impl<'a> FilterColumn<'a> {
@@ -105,7 +106,8 @@ impl<'a> FilterColumn<'a> {
         requires low { IfSome low (λ leaf. leaf < 32) }
         requires high { IfSome high (λ leaf. leaf < 32) }
         requires accuracy { (0 < accuracy) × (accuracy ≤ 64) }
-        ensures { IfOk result (λ list. list ≡ list_of_range (cell_le self.now.texts self.now.kind) accuracy (zip self.now.cells joined.now) low high) }
+        ensures { IfOk result
+            (λ list. list ≡ list_of_range (cell_le self.now.texts self.now.kind) accuracy (zip self.now.cells joined.now) low high) }
     {
         let low = low.unwrap_or(0);
         let high = high.unwrap_or(31);
@@ -157,7 +159,8 @@ impl<'a> FilterColumn<'a> {
         requires size { IsNodeSize size }
         requires leaf { leaf < 32 }
         requires accuracy { (0 < accuracy) × (accuracy ≤ 64) }
-        ensures { IfOk result (λ list. list ≡ list_of_node (cell_le self.now.texts self.now.kind) accuracy (zip self.now.cells joined.now) size leaf) }
+        ensures { IfOk result
+            (λ list. list ≡ list_of_node (cell_le self.now.texts self.now.kind) accuracy (zip self.now.cells joined.now) size leaf) }
     {
         let first = (leaf / size * size) as usize;
         let from = self.starts[first];
@@ -196,7 +199,8 @@ impl<'a> FilterColumn<'a> {
         requires joined { length joined.now ≡ length self.now.cells }
         requires accuracy { (0 < accuracy) × (accuracy ≤ 64) }
         ensures { IfOk result (λ found. MatchOption found (is_frequent (zip self.now.cells joined.now) cell ≡ false)
-            (λ list. (is_frequent (zip self.now.cells joined.now) cell ≡ true) × (list ≡ compressed_degrees accuracy (keys_with cell (zip self.now.cells joined.now))))) }
+            (λ list. (is_frequent (zip self.now.cells joined.now) cell ≡ true)
+            × (list ≡ compressed_degrees accuracy (keys_with cell (zip self.now.cells joined.now))))) }
     {
         let frequent = self.groups.len().min(32);
         match group_of(self.cells, &self.groups[..frequent], cell) {

@@ -54,7 +54,8 @@ fn is_at_most_text(kind: Kind, pool: &Pool, cell: u64, text: &str) -> bool
 /// The last place whose cut is at most the number of a cell.
 pub(crate) fn leaf_of_int(kind: Kind, cuts: &[u64], number: u64) -> u8
     requires { length cuts.now ≤ 32 }
-    ensures { (texts : List (List ℕ)) → result ≡ last_place (λ cut. value_le (value_of_cell texts kind cut) (Int (number_in number))) cuts.now }
+    ensures { (texts : List (List ℕ)) → result ≡ last_place
+        (λ cut. value_le (value_of_cell texts kind cut) (Int (number_in number))) cuts.now }
 {
     let mut leaf = 0;
     for (i, cut) in cuts.iter().enumerate() {

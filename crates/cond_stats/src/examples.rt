@@ -17,7 +17,8 @@ pub fn values()
 /// 32 values in four rows each, one joined key each; then 100 with the keys 5, 6 and 7, and 200 twice with the key 8. The degree lists of
 /// the two that remain are 1, 1, 1 and 2; their maximum 2, 1, 1 has no more rows than three.
 pub fn rest_list()
-    ensures remain { let column = flat_map (λ v. replicate 4 v) (range_with_len 0 32) ++ (100 ∷ 100 ∷ 100 ∷ 200 ∷ 200 ∷ []) in remaining column ≡ 100 ∷ 200 ∷ [] }
+    ensures remain { let column = flat_map (λ v. replicate 4 v) (range_with_len 0 32)
+        ++ (100 ∷ 100 ∷ 100 ∷ 200 ∷ 200 ∷ []) in remaining column ≡ 100 ∷ 200 ∷ [] }
     ensures rest { let column = flat_map (λ v. replicate 4 v) (range_with_len 0 32) ++ (100 ∷ 100 ∷ 100 ∷ 200 ∷ 200 ∷ []) in
         let joined = replicate 128 1 ++ (5 ∷ 6 ∷ 7 ∷ 8 ∷ 8 ∷ []) in
         rest 1 (zip column joined) ≡ 2 ∷ 1 ∷ [] }

@@ -15,6 +15,7 @@
 //! ```
 #![tactic(auto)]
 
+mod by_place;
 mod column;
 mod cut_leaves;
 mod cuts;
@@ -29,6 +30,3 @@ mod whole;
 
 pub use column::FilterColumn;
 pub use whole::whole_list;
-
-#[cfg(test)]
-mod tests;

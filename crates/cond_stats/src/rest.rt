@@ -19,7 +19,8 @@ pub(crate) fn raise(maxima: &mut Vec<u64>, degrees: &[u64]) -> Result<(), NoMemo
 
 // Raises one rank, which may be the next after the last.
 fn raise_at(maxima: &mut Vec<u64>, i: usize, degree: u64) -> Result<(), NoMemory>
-    ensures within { OnOk result (i < length maxima.old.items → maxima.new.items ≡ slice_set maxima.old.items i (max (slice_index maxima.old.items i) degree)) }
+    ensures within { OnOk result (i < length maxima.old.items
+        → maxima.new.items ≡ slice_set maxima.old.items i (max (slice_index maxima.old.items i) degree)) }
     ensures past { OnOk result (length maxima.old.items ≤ i → maxima.new.items ≡ maxima.old.items ++ degree ∷ []) }
 {
     if i < maxima.len() {

@@ -1,11 +1,9 @@
 //! The rows of a column of texts, numbered in the order of the texts. Texts are compared once for the different cells, and never for rows.
-ghost use Rattle.std.specs.Prelude.{◌≡◌, ◌<◌, ◌^◌, length, map, All, IfOk};
+ghost use Rattle.std.specs.Prelude.{◌≡◌, map, All, IfOk};
 ghost use Rattle.degree_sequences.specs.Degrees.{different};
-ghost use Rattle.cond_stats.specs.Order.{rows_from};
 ghost use Rattle.cond_stats.specs.Texts.{AreByText, IsTextOf, rank_or_zero};
 
 use crate::cut_leaves::{compare_texts, text_at};
-use crate::order::Row;
 use base_io::NoMemory;
 use csv_tables::Pool;
 use indexmap::IndexSet;
@@ -69,23 +67,19 @@ fn cells_of(alloc: Global, texts: &[Text<'_>]) -> Result<Vec<u64>, NoMemory>
     Ok(texts.iter().map(|text| text.cell).collect(alloc)?)
 }
 
-/// The rows of a column as they stand, each with the rank of its cell.
+/// The ranks of the cells of a column as they stand.
 pub(crate) fn numbered_by_rank(
     alloc: Global,
     ranks: &IndexSet<u64>,
     cells: &[u64],
-) -> Result<Vec<Row>, NoMemory>
-    requires { length cells.now < 2 ^ 32 }
-    ensures { IfOk result (λ rows. rows.items ≡ rows_from (rank_or_zero ranks.now.keys) 0 cells.now) }
+) -> Result<Vec<u64>, NoMemory>
+    ensures { IfOk result (λ numbers. numbers.items ≡ map (rank_or_zero ranks.now.keys) cells.now) }
 {
-    let mut rows = Vec::with_capacity(alloc, cells.len())?;
-    for (i, cell) in cells.iter().enumerate() {
-        rows.push(Row {
-            number: rank_of(ranks, *cell),
-            place: i as u32,
-        })?;
+    let mut numbers = Vec::with_capacity(alloc, cells.len())?;
+    for cell in cells {
+        numbers.push(rank_of(ranks, *cell))?;
     }
-    Ok(rows)
+    Ok(numbers)
 }
 
 fn rank_of(ranks: &IndexSet<u64>, cell: u64) -> u64
