@@ -184,6 +184,7 @@ fn fold(query: &Query, nodes: &[Node]) -> (u128, usize) {
     let mut done: Vec<Pieces> = vec![Vec::new(); nodes.len()];
     for i in (0..nodes.len()).rev() {
         let list = match nodes[i].kind {
+            Kind::Entry(entry) if i > 0 && nodes[i].children.is_empty() => query.lists[&(entry, nodes[i].via)].clone(),
             Kind::Entry(entry) => {
                 let children = children_of(query, nodes, &done, entry, i);
                 if i == 0 {
@@ -304,7 +305,9 @@ fn equality(shape: &str, left: u8, right: u8, entries: u8) -> Option<(Place, Pla
     match shape {
         "chain" => is_next.then_some(((left, 1), (right, 0))),
         "star" if left == 1 => Some(((1, u32::from(right)), (right, 0))),
-        "star" => is_next.then_some(((0, 0), (right, 0))),
+        "star" => (left == 0 && right == 1).then_some(((0, 0), (1, 0))),
+        "joined_star" if left == 1 => Some(((1, u32::from(right)), (right, 0))),
+        "joined_star" => is_next.then_some(((0, 0), (right, 0))),
         "one_class" => (left == 0).then_some(((0, 0), (right, 0))),
         "ring" if left == 0 && right + 1 == entries => Some(((right, 1), (left, 0))),
         "ring" => is_next.then_some(((left, 1), (right, 0))),
@@ -325,7 +328,7 @@ fn query_of_shape(shape: &str, entries: u8, pieces: u32) -> Query {
 }
 
 fn time_sets() {
-    for shape in ["chain", "star", "one_class", "ring", "pairs", "pairs_apart"] {
+    for shape in ["chain", "star", "joined_star", "one_class", "ring", "pairs", "pairs_apart"] {
         let query = query_of_shape(shape, 12, 23);
         let (mut least, mut sum) = (u128::MAX, 0);
         for _ in 0..PLANS {

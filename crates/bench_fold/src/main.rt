@@ -91,6 +91,7 @@ fn time_sets(rt: &HostRuntime) -> io::Result<()> {
     for shape in [
         Shape::Chain,
         Shape::Star,
+        Shape::JoinedStar,
         Shape::OneClass,
         Shape::Ring,
         Shape::Pairs,

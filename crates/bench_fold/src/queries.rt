@@ -23,6 +23,8 @@ pub enum Shape {
     Chain,
     /// Entry 1 by a column of its own with each of the others, so it stands below entry 0.
     Star,
+    /// A star, and entry 0 is joined by its column with each entry from 3 on too.
+    JoinedStar,
     /// The first columns of all entries are equal.
     OneClass,
     /// A chain whose last entry is joined with the first one.
@@ -38,6 +40,7 @@ impl Shape {
         match self {
             Shape::Chain => "chain",
             Shape::Star => "star",
+            Shape::JoinedStar => "joined_star",
             Shape::OneClass => "one_class",
             Shape::Ring => "ring",
             Shape::Pairs => "pairs",
@@ -51,8 +54,11 @@ impl Shape {
         let is_last = left == 0 && u16::from(right) + 1 == u16::from(entries);
         match self {
             Shape::Chain => is_next.then_some(edge(left, 1, right, 0)),
-            Shape::Star if left == 1 => Some(edge(1, u32::from(right), right, 0)),
-            Shape::Star => is_next.then_some(edge(0, 0, right, 0)),
+            Shape::Star | Shape::JoinedStar if left == 1 => {
+                Some(edge(1, u32::from(right), right, 0))
+            }
+            Shape::Star => (left == 0 && right == 1).then_some(edge(0, 0, 1, 0)),
+            Shape::JoinedStar => is_next.then_some(edge(0, 0, right, 0)),
             Shape::OneClass => (left == 0).then_some(edge(0, 0, right, 0)),
             Shape::Ring if is_last => Some(edge(right, 1, left, 0)),
             Shape::Ring => is_next.then_some(edge(left, 1, right, 0)),

@@ -2,6 +2,7 @@ pub mod SetTrees
 pub mod SetBounds
 pub mod TestedSets
 mod Held
+mod Leaves
 mod Links
 mod Collecting
 mod Multiplying

@@ -17,7 +17,11 @@ list_of lists entry column = list_in lists.lists entry column
 
 -- the same as bounds of entries, with 0 and the empty list for what is not there
 abbrev pub bounds_of : EntryLists → EntryBounds
-bounds_of lists = record { rows = λ entry. unwrap_or (rows_of lists entry) 0; list = λ entry column. unwrap_or (list_of lists entry column) [] }
+bounds_of lists = record {
+  rows = λ entry. unwrap_or (rows_of lists entry) 0;
+  list = λ entry column. unwrap_or
+      (list_of lists entry column) [];
+}
 
 -- every entry of a tree has its row bound, and every column of it its list
 pub record IsListed (lists : EntryLists) (t : JoinTree) : Type 0 where

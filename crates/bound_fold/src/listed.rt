@@ -43,7 +43,8 @@ fn all_have_rows(lists: &EntryLists, subset: EntrySet) -> bool
 }
 
 fn has_list(lists: &EntryLists, place: Place) -> bool
-    ensures { MatchBool result (IsSome (list_of lists.now place.entry place.column)) (¬ IsSome (list_of lists.now place.entry place.column)) }
+    ensures { MatchBool result (IsSome (list_of lists.now place.entry place.column))
+        (¬ IsSome (list_of lists.now place.entry place.column)) }
 {
     lists.list(place.entry, place.column).is_some()
 }
@@ -71,7 +72,8 @@ fn may_have_lists(lists: &EntryLists, subset: EntrySet, edge: Edge) -> bool
 }
 
 fn all_have_lists(lists: &EntryLists, subset: EntrySet, edges: &[Edge]) -> bool
-    ensures { MatchBool result (EachNamedColumn (λ entry column. IsSome (list_of lists.now entry column)) (equalities_within subset edges.now))
+    ensures { MatchBool result (EachNamedColumn
+        (λ entry column. IsSome (list_of lists.now entry column)) (equalities_within subset edges.now))
         (¬ EachNamedColumn (λ entry column. IsSome (list_of lists.now entry column)) (equalities_within subset edges.now)) }
 {
     for edge in edges {

@@ -1,7 +1,8 @@
 //! The fold over the nodes of a tree, from the last to the first.
-ghost use Rattle.std.specs.Prelude.{◌≡◌, ◌⊎◌, ◌+◌, ◌-◌, ◌^◌, ◌<◌, ◌≤◌, ℕ, List, length, map, slice_get, IsSome, IfOk};
-ghost use Rattle.std.specs.List.{AllByRecursion};
+ghost use Rattle.std.specs.Prelude.{◌≡◌, ◌⊎◌, ◌+◌, ◌-◌, ◌^◌, ◌<◌, ◌≤◌, ℕ, List, [], length, map, slice_get, IsSome, IfOk};
+ghost use Rattle.std.specs.List.{AllByRecursion, sum};
 ghost use Rattle.degree_sequences.specs.ByRank.{rank_product_of};
+ghost use Rattle.degree_sequences.specs.Composition.{composed};
 ghost use Rattle.degree_sequences.specs.Saturation.{saturated};
 ghost use Rattle.piece_math.specs.Children.{lists_of};
 ghost use Rattle.berge_tree.specs.Standing.{StandsIn};
@@ -74,6 +75,16 @@ fn product_below(
     Ok(list)
 }
 
+// The list of an entry below which no class stands: nothing is composed with it.
+fn own_list(list: &Pieces) -> Result<Pieces, NoMemory>
+    requires { sum list.now ≤ 2 ^ 32 }
+    ensures { IfOk result (λ own. own ≡ map saturated (composed list.now [])) }
+{
+    // What is looked at here is that the list falls, and that its numbers are positive.
+    let _ = list.pieces();
+    list.copy()
+}
+
 // The list of node i, from the lists of the later nodes.
 fn list_of_node(
     alloc: Global,
@@ -92,8 +103,11 @@ fn list_of_node(
     let node = nodes[i];
     match node.kind {
         NodeKind::Entry(entry) => {
-            let children = children_below(alloc, nodes, lists, done, entry, i)?;
             let list = lists.list(entry, node.via).unwrap();
+            if node.first_child.is_none() {
+                return own_list(list);
+            }
+            let children = children_below(alloc, nodes, lists, done, entry, i)?;
             compose(alloc, list, children.as_slice())
         }
         NodeKind::Class(_) => product_below(alloc, nodes, done, i),

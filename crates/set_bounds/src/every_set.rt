@@ -1,4 +1,5 @@
-//! The bound of every set, one after another. Where a set's equalities close no cycle, one fold for each connected set serves: the others have the products of what was found before.
+//! The bound of every set, one after another. Where a set's equalities close no cycle, one fold for each connected set serves: the others
+//! have the products of what was found before.
 ghost use Rattle.std.specs.Prelude.{◌≡◌, ◌⊎◌, ◌-◌, ◌^◌, ◌<◌, ◌≤◌, ℕ, List, length, slice_index, IfOk};
 ghost use Rattle.std.specs.List.{AllByRecursion};
 ghost use Rattle.limits.specs.Profile.{most_entries, top_bound};
@@ -16,9 +17,11 @@ use entry_sets::EntrySet;
 use join_graph::Parts;
 use std::alloc::Global;
 
-/// The bounds of all sets of the first `count` entries, each at the number whose bits are the set, in rows; `u128::MAX` where a bound is larger, and 1 for the empty set.
+/// The bounds of all sets of the first `count` entries, each at the number whose bits are the set, in rows; `u128::MAX` where a bound is
+/// larger, and 1 for the empty set.
 ///
-/// A set's bound is the least over its turns of the product over its trees (SafeBound, SIGMOD 2023; Degree Sequence Bound, ICDT 2023). Where the lists dominate tables, no join of a set's tables by all its equalities has more rows.
+/// A set's bound is the least over its turns of the product over its trees (SafeBound, SIGMOD 2023; Degree Sequence Bound, ICDT 2023).
+/// Where the lists dominate tables, no join of a set's tables by all its equalities has more rows.
 pub fn bounds_of_sets(
     alloc: Global,
     parts: &Parts,

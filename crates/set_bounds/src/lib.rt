@@ -1,6 +1,7 @@
 //! The bounds of all sets of the entries of a query, from which the order of least cost is chosen.
 //!
-//! In: the equalities of the query, and for each entry its row bound and the lists of its joined columns. Out: for each set of entries, at the number whose bits are the set, the bound of a join of just these entries.
+//! In: the equalities of the query, and for each entry its row bound and the lists of its joined columns. Out: for each set of entries, at
+//! the number whose bits are the set, the bound of a join of just these entries.
 //!
 //! Callers cite `bounds_of_sets` for the list, and `SetIsListed` of bound_fold, at the set of all entries, for what it needs.
 #![tactic(auto)]
