@@ -2,21 +2,22 @@
 use Rattle.std.proofs.Common.{◌≡◌, inl, inr, ℕ, ◌≤◌, Bool, true, false, cond, nat_lt, List, [], ◌∷◌, ◌++◌, length, Result, Ok, Err, subst, sym, refl, arith}
 use Rattle.std.specs.Prelude.{IfOk}
 use Rattle.std.proofs.lemmas.Bool.{ltb-false}
+use Rattle.limits.specs.Profile.{most_conjuncts, most_entries, most_outputs}
 use Rattle.ll_grammars.specs.declared.lexeme.Lexeme.{Lexeme}
 use Rattle.query_grammar.specs.declared.tree.QueryText.{QueryText}
 use Rattle.query_grammar.specs.Grammar.{QuerySpecification}
 use Rattle.schema_types.specs.declared.types.Schema.{Schema}
 use Rattle.schema_types.specs.declared.errors.LimitKind.{LimitKind}
 use Rattle.schema_types.specs.declared.errors.LimitKind.TheVariants as limit
-use Rattle.sql_parse.specs.declared.errors.QueryError.{QueryError}
+use Rattle.query_names.specs.declared.errors.QueryError.{QueryError}
 use Rattle.query_types.specs.declared.types.Query.{Query}
 use Rattle.query_types.specs.declared.types.Source.{Source}
 use Rattle.query_types.specs.Validity.{IsOf}
-use Rattle.sql_parse.specs.Names.{entries}
-use Rattle.sql_parse.specs.Offences.{name_offences, all_kind_offences}
-use Rattle.sql_parse.specs.Values.{conjuncts, query_of}
-use Rattle.sql_parse.specs.Bound.{over, first_list, first_place, name_error, kind_error, limit_refusals, long_lists, refusals, unless, bound, refusal, most_entries, most_conjuncts, most_outputs}
-use Rattle.sql_parse.specs.Numbers.{number_offences}
+use Rattle.query_names.specs.Names.{entries}
+use Rattle.query_names.specs.Offences.{name_offences, all_kind_offences}
+use Rattle.query_names.specs.Values.{conjuncts, query_of}
+use Rattle.sql_parse.specs.Bound.{over, first_list, first_place, name_error, kind_error, limit_refusals, long_lists, refusals, unless, bound, refusal}
+use Rattle.query_names.specs.Numbers.{number_offences}
 use Rattle.sql_parse.specs.Reading.{lexemes_of, unless_number, IsAnswer}
 use Rattle.sql_parse.proofs.OfSchema.{of_schema}
 use Rattle.sql_parse.proofs.SomeEntry.{some_entries}

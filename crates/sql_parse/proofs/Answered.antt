@@ -10,11 +10,12 @@ use Rattle.query_grammar.specs.Nesting.{nesting}
 use Rattle.query_grammar.proofs.Kept.{is_query_of}
 use Rattle.schema_types.specs.declared.types.Schema.{Schema}
 use Rattle.schema_types.specs.declared.errors.LimitKind.TheVariants as limit
-use Rattle.sql_parse.specs.declared.errors.QueryError.{QueryError}
-use Rattle.sql_parse.specs.declared.errors.QueryError.TheVariants as error
+use Rattle.query_names.specs.declared.errors.QueryError.{QueryError}
+use Rattle.query_names.specs.declared.errors.QueryError.TheVariants as error
 use Rattle.query_types.specs.declared.types.Query.{Query}
-use Rattle.sql_parse.specs.Numbers.{number_offences}
-use Rattle.sql_parse.specs.Bound.{first, bound}
+use Rattle.query_names.specs.Numbers.{number_offences}
+use Rattle.sql_parse.specs.Bound.{bound}
+use Rattle.query_names.specs.Answers.{first}
 use Rattle.sql_parse.specs.Refusing.{Answers}
 use Rattle.sql_parse.specs.Reading.{least, unless_number, IsAnswer}
 use Rattle.sql_parse.specs.Stages.{AreLexemes, IsLexRefusal, least_of}

@@ -3,16 +3,16 @@ use Rattle.std.proofs.Common.{◌≡◌, ℕ, List, [], ◌++◌, Option, ap, su
 use Rattle.std.specs.List.{flat_map}
 use Rattle.query_grammar.specs.declared.tree.PartText.{PartText}
 use Rattle.query_grammar.specs.declared.tree.QueryText.{QueryText}
-use Rattle.sql_parse.specs.declared.binder.Binder.{Binder}
-use Rattle.sql_parse.specs.declared.errors.QueryError.{QueryError}
+use Rattle.query_names.specs.declared.binder.Binder.{Binder}
+use Rattle.query_names.specs.declared.errors.QueryError.{QueryError}
 use Rattle.query_types.specs.declared.types.Cond.{Cond}
 use Rattle.query_types.specs.declared.types.Source.{Source}
-use Rattle.sql_parse.specs.Answers.{IsNameError, or_first}
-use Rattle.sql_parse.specs.Scopes.{Scoped, everything, conditions, on_conditions, filtered}
-use Rattle.sql_parse.specs.Binding.{from_of, outs_offences_of, names_in, kinds_in, lists_in, members_in}
+use Rattle.query_names.specs.Answers.{IsNameError, or_first}
+use Rattle.query_names.specs.Scopes.{Scoped, everything, conditions, on_conditions, filtered}
+use Rattle.query_names.specs.Binding.{from_of, outs_offences_of, names_in, kinds_in, lists_in, members_in}
 use Rattle.sql_parse.specs.Behind.{names_behind, kinds_behind, lists_behind, conjuncts_by}
 use Rattle.sql_parse.proofs.KindFacts.{flat_map-append}
-use Rattle.sql_parse.proofs.Walk.{error_behind, name_error_append, or_first_append}
+use Rattle.query_names.proofs.Walk.{error_behind, name_error_append, or_first_append}
 
 split : {B : Type 0} (f : Scoped → List B) (from : List Source) (query : QueryText) → flat_map f (conditions from query) ≡ flat_map f (on_conditions 0 query.parts) ++ flat_map f (filtered from query.filter)
 unfolding conditions

@@ -3,24 +3,26 @@ use Rattle.std.proofs.Common.{◌≡◌, inl, inr, ℕ, ◌-◌, ◌^◌, ◌≤
 use Rattle.std.proofs.lemmas.Grind.{common_steps}
 use Rattle.std.proofs.lemmas.Bool.{ltb-false}
 use Rattle.std.specs.List.{flat_map}
+use Rattle.limits.specs.Profile.{most_conjuncts, most_entries, most_outputs}
 use Rattle.query_grammar.specs.declared.tree.QueryText.{QueryText}
 use Rattle.schema_types.specs.declared.types.Schema.{Schema}
 use Rattle.schema_types.specs.declared.errors.LimitKind.{LimitKind}
 use Rattle.schema_types.specs.declared.errors.LimitKind.TheVariants as limit
-use Rattle.sql_parse.specs.declared.binder.Binder.{Binder}
-use Rattle.sql_parse.specs.declared.errors.QueryError.{QueryError}
-use Rattle.sql_parse.specs.declared.errors.QueryError.TheVariants as error
+use Rattle.query_names.specs.declared.binder.Binder.{Binder}
+use Rattle.query_names.specs.declared.errors.QueryError.{QueryError}
+use Rattle.query_names.specs.declared.errors.QueryError.TheVariants as error
 use Rattle.query_types.specs.declared.types.Cond.{Cond}
 use Rattle.query_types.specs.declared.types.Out.{Out}
 use Rattle.query_types.specs.declared.types.Query.{Query}
 use Rattle.query_types.specs.declared.types.Source.{Source}
-use Rattle.sql_parse.specs.Answers.{IsNameError}
-use Rattle.sql_parse.specs.Names.{entries, from_offences}
-use Rattle.sql_parse.specs.Scopes.{everything, conditions}
-use Rattle.sql_parse.specs.Offences.{outs_offences, name_offences_in, name_offences, all_kind_offences}
-use Rattle.sql_parse.specs.Values.{conjuncts, selected, query_of}
-use Rattle.sql_parse.specs.Bound.{first, refusal, most_entries, most_conjuncts, most_outputs, over, first_list, first_place, name_error, kind_error, limit_refusals, long_lists, refusals, unless, bound}
-use Rattle.sql_parse.specs.Binding.{schema_of, from_of, names_in, kinds_in, lists_in, members_in, outs_offences_of, test_offences_of, kind_offences_of, members_by}
+use Rattle.query_names.specs.Answers.{IsNameError}
+use Rattle.query_names.specs.Names.{entries, from_offences}
+use Rattle.query_names.specs.Scopes.{everything, conditions}
+use Rattle.query_names.specs.Offences.{outs_offences, name_offences_in, name_offences, all_kind_offences}
+use Rattle.query_names.specs.Values.{conjuncts, selected, query_of}
+use Rattle.sql_parse.specs.Bound.{refusal, over, first_list, first_place, name_error, kind_error, limit_refusals, long_lists, refusals, unless, bound}
+use Rattle.query_names.specs.Answers.{first}
+use Rattle.query_names.specs.Binding.{schema_of, from_of, names_in, kinds_in, lists_in, members_in, outs_offences_of, test_offences_of, kind_offences_of, members_by}
 use Rattle.sql_parse.specs.Behind.{names_behind, kinds_behind, lists_behind, conjuncts_by}
 use Rattle.sql_parse.specs.Outputs.{selected_by, capped}
 use Rattle.sql_parse.specs.Refusing.{too_long_list, limits_passed, limits_by, late_refusals, refusals_behind, IsFirstOf, Answers}

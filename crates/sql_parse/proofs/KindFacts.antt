@@ -21,19 +21,19 @@ use Rattle.query_grammar.specs.declared.tree.CondText.TheOpen.{CondText-F}
 use Rattle.query_grammar.specs.declared.tree.CondText.TheViews.{roll-CondText}
 use Rattle.query_grammar.specs.declared.tree.CondText.TheFolds.{fold-roll-CondText, ind-CondText}
 use Rattle.schema_types.specs.declared.types.Schema.{Schema}
-use Rattle.sql_parse.specs.declared.scope.Found.{Found}
-use Rattle.sql_parse.specs.declared.scope.Scope.{Scope}
+use Rattle.query_names.specs.declared.scope.EntryColumn.{EntryColumn}
+use Rattle.query_names.specs.declared.scope.Scope.{Scope}
 use Rattle.query_types.specs.declared.types.Source.{Source}
 use Rattle.query_types.specs.declared.types.Cond.{Cond}
 use Rattle.query_types.specs.declared.types.Operand.{Operand}
 use Rattle.query_types.specs.declared.types.Cond.TheVariants as cond
 use Rattle.query_types.specs.Validity.{is_text, Finds, IsOfKind, IsColumnOf, Compares, IsCondOf}
-use Rattle.sql_parse.specs.Names.{at}
-use Rattle.sql_parse.specs.Scopes.{resolve, head_of, tests}
-use Rattle.sql_parse.specs.Offences.{of_literal, first_of, differ, operand_offences, test_offences, is_text_column, is_text_operand, kind_offence, kind_offences}
-use Rattle.sql_parse.specs.Values.{Meaning, alone, wholes, all_of, any_of, negated_where, reference_to, operand_value, comparison, equality, test_meaning, meaning_step, meaning}
-use Rattle.sql_parse.proofs.TestFacts.{tests_and, tests_or, tests_not, tests_test}
-use Rattle.sql_parse.proofs.Resolved.{Stands, resolve_stands}
+use Rattle.query_names.specs.Names.{at}
+use Rattle.query_names.specs.Scopes.{resolve, head_of, tests}
+use Rattle.query_names.specs.Offences.{of_literal, first_of, differ, operand_offences, test_offences, is_text_column, is_text_operand, kind_offence, kind_offences}
+use Rattle.query_names.specs.Values.{Meaning, alone, wholes, all_of, any_of, negated_where, reference_to, operand_value, comparison, equality, test_meaning, meaning_step, meaning}
+use Rattle.query_names.proofs.TestFacts.{tests_and, tests_or, tests_not, tests_test}
+use Rattle.query_names.proofs.Resolved.{Stands, resolve_stands}
 use Rattle.sql_parse.proofs.CondShapes.{compare_of, not_of, and_of, or_of}
 
 -- ---- lists without offences
@@ -109,14 +109,14 @@ module _ (schema : Schema) (from : List Source) where
 
 -- ---- operands and tests
 
-pub found_finds : (schema : Schema) (from : List Source) (found : Found) (there : Stands schema from found) → Finds schema from (reference_to (Some found)) there.column
+pub found_finds : (schema : Schema) (from : List Source) (found : EntryColumn) (there : Stands schema from found) → Finds schema from (reference_to (Some found)) there.column
 found_finds schema from found there = record { source = there.source; entry = there.entry; table = there.table; exists = there.exists; declared = there.declared }
 
 module _ (schema : Schema) (words : List ℕ) (from : List Source) (scope : Scope) where
   abbrev value : OperandText → Operand
   value o = operand_value schema words from scope o
 
-  column_kind : (reference : ColumnText) (found : Option Found) → found ≡ resolve schema words from scope reference → at (is_none found) (head_of reference) ≡ []
+  column_kind : (reference : ColumnText) (found : Option EntryColumn) → found ≡ resolve schema words from scope reference → at (is_none found) (head_of reference) ≡ []
       → IsColumnOf schema from (reference_to found) (is_text_column schema words from scope found)
   column_kind reference None is none = absurd cc
   column_kind reference (Some found) is none =

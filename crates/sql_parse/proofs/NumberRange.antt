@@ -3,9 +3,9 @@ use Rattle.std.proofs.Common.{◌≡◌, ℕ, ◌+◌, ◌-◌, ◌^◌, ◌<◌
 use Rattle.std.proofs.lemmas.Grind.{common_steps}
 use Rattle.std.proofs.lemmas.List.{drop_all}
 use Rattle.ll_grammars.specs.declared.lexeme.Lexeme.{Lexeme}
-use Rattle.sql_parse.specs.Bound.{first}
-use Rattle.sql_parse.specs.Numbers.{is_too_large, sign_before, number_offence, offences_after}
-use Rattle.sql_parse.proofs.Walk.{left_at}
+use Rattle.query_names.specs.Answers.{first}
+use Rattle.query_names.specs.Numbers.{is_too_large, sign_before, number_offence, offences_after}
+use Rattle.query_names.proofs.Walk.{left_at}
 
 pub still_too_large : (negative : Bool) (n : ℕ) → is_too_large negative (min n (2 ^ 64 - 1)) ≡ is_too_large negative n
 still_too_large true n = grind (arith, common_steps)

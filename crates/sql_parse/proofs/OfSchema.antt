@@ -18,15 +18,15 @@ use Rattle.query_grammar.specs.declared.tree.QueryText.{QueryText}
 use Rattle.schema_types.specs.declared.types.Column.{Column}
 use Rattle.schema_types.specs.declared.types.Table.{Table}
 use Rattle.schema_types.specs.declared.types.Schema.{Schema}
-use Rattle.sql_parse.specs.declared.scope.Entry.{Entry}
-use Rattle.sql_parse.specs.declared.scope.Found.{Found}
+use Rattle.query_names.specs.declared.scope.Entry.{Entry}
+use Rattle.query_names.specs.declared.scope.EntryColumn.{EntryColumn}
 use Rattle.query_types.specs.declared.types.Source.{Source}
 use Rattle.query_types.specs.Validity.{IsSourceOf, IsOutOf, IsCondOf, IsOf}
-use Rattle.sql_parse.specs.Names.{at, table_names, table_of, entry_of, alias_of, alias_token, sources, entries, offences_behind, from_offences, is_among}
-use Rattle.sql_parse.specs.Scopes.{in_scope, everything, entry_named, resolve, head_of, conditions}
-use Rattle.sql_parse.specs.Offences.{name_offences, all_kind_offences, name_offences_in, kind_offences_in, out_offences, outs_offences}
-use Rattle.sql_parse.specs.Values.{reference_to, members_in, conjuncts, outs_from, outs_of_table, outs_of_entry, outs_of_found, outs_of, selected, query_of}
-use Rattle.sql_parse.proofs.Resolved.{Stands, resolve_stands, IsEntry, AllEntries, in_scope_are, named_is}
+use Rattle.query_names.specs.Names.{at, table_names, table_of, entry_of, alias_of, alias_token, sources, entries, offences_behind, from_offences, is_among}
+use Rattle.query_names.specs.Scopes.{in_scope, everything, entry_named, resolve, head_of, conditions}
+use Rattle.query_names.specs.Offences.{name_offences, all_kind_offences, name_offences_in, kind_offences_in, out_offences, outs_offences}
+use Rattle.query_names.specs.Values.{reference_to, members_in, conjuncts, outs_from, outs_of_table, outs_of_entry, outs_of_found, outs_of, selected, query_of}
+use Rattle.query_names.proofs.Resolved.{Stands, resolve_stands, IsEntry, AllEntries, in_scope_are, named_is}
 use Rattle.sql_parse.proofs.KindFacts.{none_left, none_right, not_at, without_offences, found_finds, condition_of}
 
 -- ---- the entries
@@ -82,7 +82,7 @@ module _ (schema : Schema) (from : List Source) where
     named_outs alias None is = All-nil (IsOutOf schema from)
     named_outs alias (Some e) is = entry_outs e (named_is from (everything from) (name_of text alias) e (sym is))
 
-    column_out : (reference : ColumnText) (name : List ℕ) (found : Option Found) → found ≡ resolve schema text from (everything from) reference → at (is_none found) (head_of reference) ≡ []
+    column_out : (reference : ColumnText) (name : List ℕ) (found : Option EntryColumn) → found ≡ resolve schema text from (everything from) reference → at (is_none found) (head_of reference) ≡ []
         → IsOutOf schema from (record { column = reference_to found; name = name })
     column_out reference name None is none = absurd cc
     column_out reference name (Some found) is none =

@@ -14,10 +14,10 @@ use Rattle.schema_types.specs.declared.errors.LimitKind.TheVariants as limit
 use Rattle.sql_tokens.specs.declared.token.Token.{Token}
 use Rattle.sql_tokens.specs.Lexing.{IsLexed}
 use Rattle.sql_tokens.proofs.WholeTexts.{one_list, one_place, never_both}
-use Rattle.sql_parse.specs.declared.errors.QueryError.{QueryError}
-use Rattle.sql_parse.specs.declared.errors.QueryError.TheVariants as error
+use Rattle.query_names.specs.declared.errors.QueryError.{QueryError}
+use Rattle.query_names.specs.declared.errors.QueryError.TheVariants as error
 use Rattle.query_types.specs.declared.types.Query.{Query}
-use Rattle.sql_parse.specs.Numbers.{number_offences}
+use Rattle.query_names.specs.Numbers.{number_offences}
 use Rattle.sql_parse.specs.Bound.{bound, refusal}
 use Rattle.sql_parse.specs.Reading.{lexemes_of, least, unless_number, IsUnlexed, IsTooDeep, IsUnspelled, IsSpelled, IsAnswer}
 

@@ -8,17 +8,17 @@ use Rattle.schema_types.specs.declared.types.Column.{Column}
 use Rattle.schema_types.specs.declared.types.Table.{Table}
 use Rattle.schema_types.specs.declared.types.Schema.{Schema}
 use Rattle.schema_types.specs.Validity.{IsValid, IsValidTable}
-use Rattle.sql_parse.specs.declared.binder.Binder.{Binder}
-use Rattle.sql_parse.specs.declared.scope.Entry.{Entry}
-use Rattle.sql_parse.specs.declared.scope.Scope.{Scope}
+use Rattle.query_names.specs.declared.binder.Binder.{Binder}
+use Rattle.query_names.specs.declared.scope.Entry.{Entry}
+use Rattle.query_names.specs.declared.scope.Scope.{Scope}
 use Rattle.query_types.specs.declared.types.Source.{Source}
 use Rattle.query_types.specs.declared.types.Out.{Out}
-use Rattle.sql_parse.specs.Scopes.{in_scope, everything, numbered, entry_named}
-use Rattle.sql_parse.specs.Values.{outs_from, outs_of_table, outs_of_entry}
-use Rattle.sql_parse.specs.Binding.{schema_of, from_of}
+use Rattle.query_names.specs.Scopes.{in_scope, everything, numbered, entry_named}
+use Rattle.query_names.specs.Values.{outs_from, outs_of_table, outs_of_entry}
+use Rattle.query_names.specs.Binding.{schema_of, from_of}
 use Rattle.sql_parse.specs.Outputs.{capped, outs_of_entry_by, all_outs_by}
-use Rattle.sql_parse.proofs.Walk.{left_at}
-use Rattle.sql_parse.proofs.Resolved.{IsEntry, named_is}
+use Rattle.query_names.proofs.Walk.{left_at}
+use Rattle.query_names.proofs.Resolved.{IsEntry, named_is}
 
 -- ---- steps of a loop that adds or counts what is left
 

@@ -4,9 +4,9 @@ use Rattle.std.proofs.lemmas.Grind.{flat_map-append}
 use Rattle.std.proofs.lemmas.List.{length-append, length-map}
 use Rattle.std.specs.List.{flat_map}
 use Rattle.query_grammar.specs.declared.tree.PartText.{PartText}
-use Rattle.sql_parse.specs.Names.{sources_of}
-use Rattle.sql_parse.specs.Scopes.{joined, on_conditions, Scoped}
-use Rattle.sql_parse.proofs.Walk.{left_at}
+use Rattle.query_names.specs.Names.{sources_of}
+use Rattle.query_names.specs.Scopes.{joined, on_conditions, Scoped}
+use Rattle.query_names.proofs.Walk.{left_at}
 
 pub conditions_at : {C : Type 0} (f : Scoped → List C) (parts : List PartText) (first i : ℕ) (d : PartText) → i < length parts
     → flat_map f (on_conditions first (drop i parts))

@@ -8,7 +8,7 @@ use Rattle.query_grammar.specs.declared.tree.QueryText.{QueryText}
 use Rattle.query_grammar.specs.Grammar.{QuerySpecification}
 use Rattle.schema_types.specs.declared.types.Schema.{Schema}
 use Rattle.query_types.specs.declared.types.Source.{Source}
-use Rattle.sql_parse.specs.Names.{sources_of, entry_of, entries}
+use Rattle.query_names.specs.Names.{sources_of, entry_of, entries}
 
 some_parts : (tokens : List Lexeme) (query : QueryText) → QuerySpecification tokens query → 0 < length query.parts
 unfolding QuerySpecification

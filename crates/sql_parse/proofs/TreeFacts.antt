@@ -11,14 +11,15 @@ use Rattle.query_grammar.specs.declared.tree.QueryText.{QueryText}
 use Rattle.query_grammar.specs.declared.tree.SourceText.{SourceText}
 use Rattle.query_grammar.specs.Lexemes.{IsSourceOf, IsJoinOf, IsPartOf, IsQueryOf}
 use Rattle.schema_types.specs.declared.types.Schema.{Schema}
-use Rattle.sql_parse.specs.declared.binder.Binder.{Binder}
-use Rattle.sql_parse.specs.declared.errors.QueryError.{QueryError}
+use Rattle.query_names.specs.declared.binder.Binder.{Binder}
+use Rattle.query_names.specs.declared.errors.QueryError.{QueryError}
 use Rattle.query_types.specs.declared.types.Cond.{Cond}
 use Rattle.query_types.specs.declared.types.Out.{Out}
 use Rattle.query_types.specs.declared.types.Source.{Source}
-use Rattle.sql_parse.specs.Names.{sources_of, entry_of, entries, from_offences}
-use Rattle.sql_parse.specs.Bound.{first, bound}
-use Rattle.sql_parse.specs.Binding.{schema_of, from_of}
+use Rattle.query_names.specs.Names.{sources_of, entry_of, entries, from_offences}
+use Rattle.sql_parse.specs.Bound.{bound}
+use Rattle.query_names.specs.Answers.{first}
+use Rattle.query_names.specs.Binding.{schema_of, from_of}
 use Rattle.sql_parse.specs.Behind.{conjuncts_by}
 use Rattle.sql_parse.specs.Outputs.{selected_by}
 use Rattle.sql_parse.specs.Refusing.{refusals_behind, IsFirstOf, Answers}

@@ -2,14 +2,15 @@
 use Rattle.std.specs.Prelude.{ℕ, List, ◌++◌}
 use Rattle.std.specs.List.{flat_map}
 use Rattle.query_grammar.specs.declared.tree.QueryText.{QueryText}
-use Rattle.sql_parse.specs.declared.binder.Binder.{Binder}
+use Rattle.query_names.specs.declared.binder.Binder.{Binder}
 use Rattle.query_types.specs.declared.types.Cond.{Cond}
-use Rattle.sql_parse.specs.Scopes.{everything, conditions}
-use Rattle.sql_parse.specs.Binding.{from_of, outs_offences_of, names_in, kinds_in, lists_in, members_in}
+use Rattle.query_names.specs.Scopes.{everything, conditions}
+use Rattle.query_names.specs.Binding.{from_of, outs_offences_of, names_in, kinds_in, lists_in, members_in}
 
 -- the offences of the SELECT list, then those of the conditions
 unfoldable pub names_behind : Binder → QueryText → List ℕ
-names_behind binder query = outs_offences_of binder (everything (from_of binder)) query.outs ++ flat_map (names_in binder) (conditions (from_of binder) query)
+names_behind binder query =
+    outs_offences_of binder (everything (from_of binder)) query.outs ++ flat_map (names_in binder) (conditions (from_of binder) query)
 
 unfoldable pub kinds_behind : Binder → QueryText → List ℕ
 kinds_behind binder query = flat_map (kinds_in binder) (conditions (from_of binder) query)

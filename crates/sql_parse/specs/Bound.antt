@@ -1,48 +1,24 @@
 -- What a syntax tree gives: a query, or the first thing that is wrong with its names, its kinds or its numbers.
-use Rattle.std.specs.Prelude.{ℕ, ◌-◌, ◌^◌, nat_lt, min, if◌then◌else◌, List, [], ◌∷◌, ◌++◌, length, Option, Some, None, Result, Ok, Err}
+use Rattle.std.specs.Prelude.{ℕ, ◌-◌, ◌^◌, nat_lt, min, if◌then◌else◌, List, [], ◌∷◌, ◌++◌, length, Result, Ok, Err}
 use Rattle.std.specs.List.{flat_map}
-use Rattle.query_grammar.specs.declared.tree.TestText.{TestText}
-use Rattle.query_grammar.specs.declared.tree.TestText.TheVariants as test
+use Rattle.limits.specs.Profile.{most_conjuncts, most_entries, most_outputs}
 use Rattle.query_grammar.specs.declared.tree.QueryText.{QueryText}
 use Rattle.schema_types.specs.declared.types.Schema.{Schema}
 use Rattle.schema_types.specs.declared.errors.LimitKind.{LimitKind}
 use Rattle.schema_types.specs.declared.errors.LimitKind.TheVariants as limit
-use Rattle.sql_parse.specs.declared.errors.QueryError.{QueryError}
-use Rattle.sql_parse.specs.declared.errors.QueryError.TheVariants as error
+use Rattle.query_names.specs.declared.errors.QueryError.{QueryError}
+use Rattle.query_names.specs.declared.errors.QueryError.TheVariants as error
 use Rattle.query_types.specs.declared.types.Query.{Query}
 use Rattle.query_types.specs.declared.types.Source.{Source}
-use Rattle.sql_parse.specs.Names.{entries}
-use Rattle.sql_parse.specs.Scopes.{Scoped, conditions, tests}
-use Rattle.sql_parse.specs.Offences.{name_offences, all_kind_offences}
-use Rattle.sql_parse.specs.Values.{query_of}
-
-abbrev pub first : {A : Type 0} → List A → Option A
-first [] = None
-first (one ∷ rest) = Some one
+use Rattle.query_names.specs.Names.{entries}
+use Rattle.query_names.specs.Scopes.{Scoped, conditions, tests}
+use Rattle.query_names.specs.Offences.{name_offences, all_kind_offences, too_long}
+use Rattle.query_names.specs.Values.{query_of}
 
 -- ---- limits
 
--- at most 12 FROM entries, 1,000 values in each list of IN, 256 conjuncts and 1,024 outputs
-abbrev pub most_entries : ℕ
-most_entries = 12
-
-abbrev pub most_values : ℕ
-most_values = 1000
-
-abbrev pub most_conjuncts : ℕ
-most_conjuncts = 256
-
-abbrev pub most_outputs : ℕ
-most_outputs = 1024
-
 abbrev pub refusal : LimitKind → ℕ → QueryError
 refusal which n = error.Limit which (min n (2 ^ 64 - 1))
-
--- the number of values of a list of IN that is too long
-abbrev pub too_long : TestText → List ℕ
-too_long (test.Compare left op right) = []
-too_long (test.Between left negated low high) = []
-too_long (test.In left negated values) = if nat_lt most_values (length values) then length values ∷ [] else []
 
 abbrev pub too_long_in : Scoped → List ℕ
 too_long_in c = flat_map too_long (tests c.condition)

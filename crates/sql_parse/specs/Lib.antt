@@ -1,11 +1,4 @@
-pub mod Names
-pub mod Scopes
-pub mod Offences
-pub mod Numbers
-pub mod Values
 pub mod Bound
-pub mod Answers
-pub mod Binding
 pub mod Outputs
 pub mod Reading
 pub mod Behind

@@ -6,12 +6,12 @@ use Rattle.sql_tokens.specs.Words.{name_of}
 use Rattle.query_grammar.specs.declared.tree.ColumnText.{ColumnText}
 use Rattle.query_grammar.specs.declared.tree.OutText.{OutText}
 use Rattle.query_grammar.specs.declared.tree.OutsText.{OutsText}
-use Rattle.sql_parse.specs.declared.binder.Binder.{Binder}
-use Rattle.sql_parse.specs.declared.scope.Entry.{Entry}
+use Rattle.query_names.specs.declared.binder.Binder.{Binder}
+use Rattle.query_names.specs.declared.scope.Entry.{Entry}
 use Rattle.query_types.specs.declared.types.Out.{Out}
-use Rattle.sql_parse.specs.Scopes.{in_scope, everything, resolve}
-use Rattle.sql_parse.specs.Values.{outs_of_entry, outs_of, selected, reference_to}
-use Rattle.sql_parse.specs.Binding.{schema_of, from_of}
+use Rattle.query_names.specs.Scopes.{in_scope, everything, resolve}
+use Rattle.query_names.specs.Values.{outs_of_entry, outs_of, selected, reference_to}
+use Rattle.query_names.specs.Binding.{schema_of, from_of}
 
 unfoldable pub outs_of_entry_by : Binder → Entry → List Out
 outs_of_entry_by binder entry = outs_of_entry (schema_of binder) entry

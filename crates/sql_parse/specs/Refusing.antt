@@ -1,13 +1,15 @@
 -- The refusals behind FROM, as the binder knows the schema, the text and FROM.
 use Rattle.std.specs.Prelude.{◌≡◌, ◌⊎◌, ℕ, List, [], ◌∷◌, ◌++◌, length, Option, Some, None, Result, Err}
+use Rattle.limits.specs.Profile.{most_conjuncts, most_entries, most_outputs}
 use Rattle.query_grammar.specs.declared.tree.QueryText.{QueryText}
 use Rattle.schema_types.specs.declared.errors.LimitKind.TheVariants as limit
-use Rattle.sql_parse.specs.declared.binder.Binder.{Binder}
-use Rattle.sql_parse.specs.declared.errors.QueryError.{QueryError}
-use Rattle.sql_parse.specs.declared.errors.QueryError.TheVariants as error
+use Rattle.query_names.specs.declared.binder.Binder.{Binder}
+use Rattle.query_names.specs.declared.errors.QueryError.{QueryError}
+use Rattle.query_names.specs.declared.errors.QueryError.TheVariants as error
 use Rattle.query_types.specs.declared.types.Query.{Query}
-use Rattle.sql_parse.specs.Bound.{first, most_entries, most_conjuncts, most_outputs, refusal, over, first_list, first_place, name_error, kind_error}
-use Rattle.sql_parse.specs.Binding.{from_of}
+use Rattle.sql_parse.specs.Bound.{refusal, over, first_list, first_place, name_error, kind_error}
+use Rattle.query_names.specs.Answers.{first}
+use Rattle.query_names.specs.Binding.{from_of}
 use Rattle.sql_parse.specs.Behind.{names_behind, kinds_behind, lists_behind, conjuncts_by}
 use Rattle.sql_parse.specs.Outputs.{selected_by}
 

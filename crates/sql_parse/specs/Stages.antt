@@ -4,8 +4,8 @@ use Rattle.ll_grammars.specs.declared.lexeme.Lexeme.{Lexeme}
 use Rattle.sql_tokens.specs.declared.token.Token.{Token}
 use Rattle.sql_tokens.specs.Lexing.{IsLexed, IsBad}
 use Rattle.sql_tokens.specs.Words.{lexeme_of}
-use Rattle.sql_parse.specs.declared.errors.QueryError.{QueryError}
-use Rattle.sql_parse.specs.declared.errors.QueryError.TheVariants as error
+use Rattle.query_names.specs.declared.errors.QueryError.{QueryError}
+use Rattle.query_names.specs.declared.errors.QueryError.TheVariants as error
 
 -- these are the text's tokens, as grammars read them
 pub record AreLexemes (text : List ℕ) (lexemes : List Lexeme) : Type 0 where

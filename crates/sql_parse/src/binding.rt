@@ -3,23 +3,21 @@ ghost use Rattle.std.specs.Prelude.{◌≡◌, [], Ok, Err, IfOk, IfErr};
 ghost use Rattle.schema_types.specs.Validity.{IsValid};
 ghost use Rattle.sql_tokens.specs.Words.{IsLexemeOf};
 ghost use Rattle.query_grammar.specs.Lexemes.{IsQueryOf};
-ghost use Rattle.sql_parse.specs.Names.{entries, from_offences};
-ghost use Rattle.sql_parse.specs.Answers.{IsNameError};
+ghost use Rattle.query_names.specs.Names.{entries, from_offences};
+ghost use Rattle.query_names.specs.Answers.{IsNameError};
 ghost use Rattle.sql_parse.specs.Bound.{bound};
 ghost use Rattle.sql_parse.specs.Refusing.{Answers};
 
-use crate::QueryError;
-use crate::binder::Binder;
-use crate::catalog::Catalog;
-use crate::sources::{Entries, all_sources, read_entries};
+use crate::query_limits::behind_from;
 use base_io::Seq;
 use query_grammar::QueryText;
+use query_names::{Binder, Catalog, Entries, QueryError, all_sources, read_entries};
 use query_types::{Cond, Out, Query};
 use schema_types::Schema;
 use std::alloc::Global;
 
 /// The FROM entries of a query text, or the first offence against names among them.
-#[tactic(auto, using(crate::proofs::TreeFacts::sources_lie_in), unfolding(crate::specs::Names::entries, crate::specs::Names::from_offences))]
+#[tactic(auto, using(crate::proofs::TreeFacts::sources_lie_in), unfolding(query_names::specs::Names::entries, query_names::specs::Names::from_offences))]
 fn entries_of(
     alloc: Global,
     catalog: &Catalog<'_>,
@@ -48,7 +46,9 @@ fn bind_behind(
     requires tokens { IsQueryOf (IsLexemeOf text.now) query.now }
     requires from { from.now.sources ≡ entries catalog.now.schema.now text.now query.now }
     requires names { from_offences catalog.now.schema.now text.now query.now ≡ [] }
-    ensures ok { IfOk result (λ found. Answers (bound catalog.now.schema.now text.now query.now) (Ok (record { from = from.now.sources; conjuncts = found.0; select = found.1 }))) }
+    ensures ok { IfOk result (λ found.
+        Answers (bound catalog.now.schema.now text.now query.now)
+        (Ok (record { from = from.now.sources; conjuncts = found.0; select = found.1 }))) }
     ensures err { IfErr result (λ e. Answers (bound catalog.now.schema.now text.now query.now) (Err e)) }
 {
     let binder = Binder {
@@ -57,7 +57,7 @@ fn bind_behind(
         text,
         entries: from,
     };
-    binder.behind_from(query)
+    behind_from(&binder, query)
 }
 
 /// The query of a syntax tree, or the first refusal in the order names, kinds, limits.

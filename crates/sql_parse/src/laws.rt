@@ -2,14 +2,15 @@
 ghost use Rattle.std.specs.Prelude.{◌≡◌, ◌⊎◌, ℕ, List, Result, Ok, Err};
 ghost use Rattle.schema_types.specs.declared.types.Schema.{Schema};
 ghost use Rattle.query_types.specs.declared.types.Query.{Query};
-ghost use Rattle.sql_parse.specs.declared.errors.QueryError.{QueryError};
-ghost use Rattle.sql_parse.specs.declared.errors.QueryError.TheVariants as error;
+ghost use Rattle.query_names.specs.declared.errors.QueryError.{QueryError};
+ghost use Rattle.query_names.specs.declared.errors.QueryError.TheVariants as error;
 ghost use Rattle.query_types.specs.Validity.{IsOf};
 ghost use Rattle.sql_parse.specs.Reading.{IsAnswer};
 
 /// A text has one answer at most, besides that memory is wanting.
 pub fn one_answer()
-    ensures { (schema : Schema) (text : List ℕ) (a b : Result Query QueryError) → IsAnswer schema text a → IsAnswer schema text b → (a ≡ Err error.NoMemory) ⊎ (b ≡ Err error.NoMemory) ⊎ (a ≡ b) }
+    ensures { (schema : Schema) (text : List ℕ) (a b : Result Query QueryError) → IsAnswer schema text a → IsAnswer schema text b
+        → (a ≡ Err error.NoMemory) ⊎ (b ≡ Err error.NoMemory) ⊎ (a ≡ b) }
 {}
 
 /// Each query that a text may be answered with is a query of the schema.

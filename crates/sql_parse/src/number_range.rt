@@ -1,11 +1,11 @@
 //! Numbers outside the signed 64-bit range (SQL-92 5.3).
 ghost use Rattle.std.specs.Prelude.{◌≡◌, ◌^◌, ◌-◌, All};
 ghost use Rattle.sql_tokens.specs.Words.{IsLexemeOf};
-ghost use Rattle.sql_parse.specs.Bound.{first};
-ghost use Rattle.sql_parse.specs.Numbers.{is_too_large, sign_before, number_offence, number_offences};
+ghost use Rattle.query_names.specs.Answers.{first};
+ghost use Rattle.query_names.specs.Numbers.{is_too_large, sign_before, number_offence, number_offences};
 
-use crate::values::is_negative;
 use ll_grammars::{Lexeme, Terminal, is_among};
+use query_names::is_negative;
 use sql_tokens::number;
 
 const NUMBERS: &[Terminal] = &[Terminal::Zero, Terminal::Number];
@@ -48,7 +48,7 @@ fn number_offence(text: &[u8], sign: Option<Lexeme>, token: Lexeme) -> Option<u3
 }
 
 /// The place of the first number outside the range, at its sign where it has one.
-#[tactic(auto, using(crate::proofs::NumberRange::none_here, crate::proofs::NumberRange::offence_here, crate::proofs::NumberRange::none_at_end), unfolding(crate::specs::Numbers::number_offences))]
+#[tactic(auto, using(crate::proofs::NumberRange::none_here, crate::proofs::NumberRange::offence_here, crate::proofs::NumberRange::none_at_end), unfolding(query_names::specs::Numbers::number_offences))]
 pub fn check_numbers(text: &[u8], tokens: &[Lexeme]) -> Option<u32>
     requires { All (IsLexemeOf text.now) tokens.now }
     ensures { result ≡ first (number_offences text.now tokens.now) }

@@ -1,17 +1,18 @@
 //! Query texts as a whole.
 ghost use Rattle.std.specs.Prelude.{◌≡◌, ◌≤◌, All, IfOk, IfErr, length};
+ghost use Rattle.limits.specs.Profile.{most_text};
 ghost use Rattle.schema_types.specs.Validity.{IsValid};
 ghost use Rattle.sql_tokens.specs.Words.{IsLexemeOf};
 ghost use Rattle.query_types.specs.Validity.{IsOf};
 ghost use Rattle.sql_parse.specs.Stages.{AreLexemes, IsLexRefusal, least_of};
 ghost use Rattle.sql_parse.specs.Reading.{IsAnswer};
 
-use crate::QueryError;
 use crate::binding::bind;
 use crate::number_range::check_numbers;
 use base_io::Seq;
 use ll_grammars::{Lexeme, SyntaxError};
 use query_grammar::{MAX_NESTING, nesting, read_query_text};
+use query_names::QueryError;
 use query_types::Query;
 use schema_types::{LimitKind, Schema};
 use sql_tokens::{LexError, lexemes, tokens};
@@ -19,7 +20,7 @@ use std::alloc::Global;
 
 /// The tokens of a text as grammars read them.
 fn read_lexemes(alloc: Global, text: &[u8]) -> Result<Seq<Lexeme>, QueryError>
-    requires { length text.now ≤ 1048576 }
+    requires { length text.now ≤ most_text }
     ensures are { IfOk result (λ found. AreLexemes text.now found) }
     ensures within { IfOk result (λ found. All (IsLexemeOf text.now) found) }
     ensures bad { IfErr result (λ cause. IsLexRefusal text.now cause) }
@@ -53,7 +54,7 @@ fn answer(
     lexemes: &[Lexeme],
 ) -> Result<Query, QueryError>
     requires valid { IsValid schema.now }
-    requires small { length text.now ≤ 1048576 }
+    requires small { length text.now ≤ most_text }
     requires are { AreLexemes text.now lexemes.now }
     requires within { All (IsLexemeOf text.now) lexemes.now }
     ensures { IsAnswer schema.now text.now result }
@@ -85,7 +86,7 @@ fn answer(
 #[tactic(auto, using(crate::proofs::AnswerOfSchema::answer_of_schema, crate::proofs::Answered::unlexed))]
 pub fn read_query(alloc: Global, schema: &Schema, text: &[u8]) -> Result<Query, QueryError>
     requires valid { IsValid schema.now }
-    requires small { length text.now ≤ 1048576 }
+    requires small { length text.now ≤ most_text }
     ensures meaning { IsAnswer schema.now text.now result }
     ensures of_schema { IfOk result (IsOf schema.now) }
 {

@@ -1,20 +1,18 @@
 //! The outputs of a query (SQL-92 7.9), and how many there are.
-ghost use Rattle.std.specs.Prelude.{◌≡◌, ◌≤◌, ◌<◌, ◌++◌, All, IfOk, IfSome, length, option_map, slice_get};
+ghost use Rattle.std.specs.Prelude.{◌≡◌, ◌≤◌, ◌<◌, ◌++◌, All, IfOk, IfSome, length};
 ghost use Rattle.std.specs.List.{flat_map};
 ghost use Rattle.schema_types.specs.Validity.{IsValid};
 ghost use Rattle.sql_tokens.specs.Words.{IsLexemeOf};
 ghost use Rattle.query_grammar.specs.Lexemes.{IsNameOf, IsColumnOf, IsOutOf, IsOutListOf};
-ghost use Rattle.sql_parse.specs.Scopes.{everything};
-ghost use Rattle.sql_parse.specs.Values.{outs_from};
-ghost use Rattle.sql_parse.specs.Binding.{Shows, schema_of, from_of};
+ghost use Rattle.query_names.specs.Scopes.{everything};
+ghost use Rattle.query_names.specs.Values.{outs_from};
+ghost use Rattle.query_names.specs.Binding.{Shows, schema_of, from_of};
 ghost use Rattle.sql_parse.specs.Outputs.{outs_of_entry_by, all_outs_by, outs_by, column_out_by, selected_by};
 
-use crate::binder::Binder;
-use crate::scope::{Entry, Visible};
-use crate::values::reference_to;
 use base_io::{Name, NoMemory, Seq};
 use ll_grammars::Lexeme;
 use query_grammar::{ColumnText, OutText, OutsText};
+use query_names::{Binder, Entry, Visible, reference_to};
 use query_types::{ColumnRef, Out};
 use schema_types::{Column, Table};
 use sql_tokens::name;
@@ -46,135 +44,126 @@ fn add_columns(
     Ok(())
 }
 
-impl<'a> Binder<'a> {
-    /// The table of an entry.
-    pub fn table_at(&self, entry: Entry) -> Option<&Table>
-        ensures { option_map (λ table. table.now) result ≡ slice_get (schema_of self.now).tables entry.table }
-    {
-        self.catalog
-            .schema()
-            .tables
-            .as_slice()
-            .get(entry.table as usize)
+/// Adds all columns of an entry, in declared order.
+#[tactic(auto, using(crate::proofs::OutFacts::few_columns, crate::proofs::OutFacts::some_outs, crate::proofs::OutFacts::no_outs))]
+fn add_entry(binder: &Binder<'_>, entry: Entry, found: &mut Seq<Out>) -> Result<(), NoMemory>
+    requires valid { IsValid (schema_of binder.now) }
+    requires few { entry.number < 256 }
+    ensures { IfOk result (λ _. found.new ≡ found.old ++ outs_of_entry_by binder.now entry) }
+{
+    match binder.table_at(entry) {
+        Some(table) => add_columns(
+            binder.alloc,
+            entry.number as u8,
+            table.columns.as_slice(),
+            found,
+        ),
+        None => Ok(()),
     }
+}
 
-    /// Adds all columns of an entry, in declared order.
-    #[tactic(auto, using(crate::proofs::OutFacts::few_columns, crate::proofs::OutFacts::some_outs, crate::proofs::OutFacts::no_outs))]
-    fn add_entry(&self, entry: Entry, found: &mut Seq<Out>) -> Result<(), NoMemory>
-        requires valid { IsValid (schema_of self.now) }
-        requires few { entry.number < 256 }
-        ensures { IfOk result (λ _. found.new ≡ found.old ++ outs_of_entry_by self.now entry) }
-    {
-        match self.table_at(entry) {
-            Some(table) => add_columns(
-                self.alloc,
-                entry.number as u8,
-                table.columns.as_slice(),
-                found,
-            ),
-            None => Ok(()),
-        }
+/// Adds all columns of all entries.
+fn add_all(binder: &Binder<'_>, found: &mut Seq<Out>) -> Result<(), NoMemory>
+    requires valid { IsValid (schema_of binder.now) }
+    requires few { length (from_of binder.now) ≤ 12 }
+    ensures { IfOk result (λ _. found.new ≡ found.old ++ all_outs_by binder.now) }
+{
+    'all: for number in 0..binder.entries.sources.len() {
+        let table = binder.entries.sources.as_slice()[number].table;
+        add_entry(binder, Entry { number, table }, found)?;
     }
+    Ok(())
+}
 
-    /// Adds all columns of all entries.
-    fn add_all(&self, found: &mut Seq<Out>) -> Result<(), NoMemory>
-        requires valid { IsValid (schema_of self.now) }
-        requires few { length (from_of self.now) ≤ 12 }
-        ensures { IfOk result (λ _. found.new ≡ found.old ++ all_outs_by self.now) }
-    {
-        'all: for number in 0..self.entries.sources.len() {
-            let table = self.entries.sources.as_slice()[number].table;
-            self.add_entry(Entry { number, table }, found)?;
-        }
-        Ok(())
-    }
+/// The output that is a column, by its new name where one is written.
+#[tactic(auto, using(query_names::proofs::Meanings::found_small), unfolding(crate::specs::Outputs::column_out_by))]
+fn column_out(
+    binder: &Binder<'_>,
+    visible: &Visible,
+    column: &ColumnText,
+    new: &Option<Lexeme>,
+) -> Result<Out, NoMemory>
+    requires shows { Shows binder.now visible.now }
+    requires all { visible.now.scope ≡ everything (from_of binder.now) }
+    requires few { length (from_of binder.now) ≤ 12 }
+    requires tokens { IsColumnOf (IsLexemeOf binder.now.text.now) column.now × IfSome new.now (IsNameOf (IsLexemeOf binder.now.text.now)) }
+    ensures { IfOk result (λ one. one ≡ column_out_by binder.now column.now new.now) }
+{
+    let reference = reference_to(binder.resolve(visible, column)?);
+    let token = new.unwrap_or(column.column);
+    let name = name(binder.alloc, binder.text, &token)?;
+    Ok(Out {
+        column: reference,
+        name,
+    })
+}
 
-    /// The output that is a column, by its new name where one is written.
-    #[tactic(auto, using(crate::proofs::Meanings::found_small), unfolding(crate::specs::Outputs::column_out_by))]
-    fn column_out(
-        &self,
-        visible: &Visible,
-        column: &ColumnText,
-        new: &Option<Lexeme>,
-    ) -> Result<Out, NoMemory>
-        requires shows { Shows self.now visible.now }
-        requires all { visible.now.scope ≡ everything (from_of self.now) }
-        requires few { length (from_of self.now) ≤ 12 }
-        requires tokens { IsColumnOf (IsLexemeOf self.now.text.now) column.now × IfSome new.now (IsNameOf (IsLexemeOf self.now.text.now)) }
-        ensures { IfOk result (λ one. one ≡ column_out_by self.now column.now new.now) }
-    {
-        let reference = reference_to(self.resolve(visible, column)?);
-        let token = new.unwrap_or(column.column);
-        let name = name(self.alloc, self.text, &token)?;
-        Ok(Out {
-            column: reference,
-            name,
-        })
-    }
-
-    /// Adds what an item of the list gives.
-    #[tactic(auto, using(crate::proofs::OutFacts::named_small), unfolding(crate::specs::Outputs::outs_by, crate::specs::Outputs::column_out_by, crate::specs::Outputs::outs_of_entry_by))]
-    fn add_out(
-        &self,
-        visible: &Visible,
-        out: &OutText,
-        found: &mut Seq<Out>,
-    ) -> Result<(), NoMemory>
-        requires shows { Shows self.now visible.now }
-        requires all { visible.now.scope ≡ everything (from_of self.now) }
-        requires few { length (from_of self.now) ≤ 12 }
-        requires valid { IsValid (schema_of self.now) }
-        requires tokens { IsOutOf (IsLexemeOf self.now.text.now) out.now }
-        ensures { IfOk result (λ _. found.new ≡ found.old ++ outs_by self.now out.now) }
-    {
-        match out {
-            OutText::All(alias) => {
-                let alias = name(self.alloc, self.text, alias)?;
-                match self.entry_named(visible.scope, alias.as_str()) {
-                    Some(entry) => self.add_entry(entry, found),
-                    None => Ok(()),
-                }
-            }
-            OutText::Column { column, name } => {
-                found.push(self.column_out(visible, column, name)?)?;
-                Ok(())
+/// Adds what an item of the list gives.
+#[tactic(auto, using(crate::proofs::OutFacts::named_small), unfolding(crate::specs::Outputs::outs_by, crate::specs::Outputs::column_out_by, crate::specs::Outputs::outs_of_entry_by))]
+fn add_out(
+    binder: &Binder<'_>,
+    visible: &Visible,
+    out: &OutText,
+    found: &mut Seq<Out>,
+) -> Result<(), NoMemory>
+    requires shows { Shows binder.now visible.now }
+    requires all { visible.now.scope ≡ everything (from_of binder.now) }
+    requires few { length (from_of binder.now) ≤ 12 }
+    requires valid { IsValid (schema_of binder.now) }
+    requires tokens { IsOutOf (IsLexemeOf binder.now.text.now) out.now }
+    ensures { IfOk result (λ _. found.new ≡ found.old ++ outs_by binder.now out.now) }
+{
+    match out {
+        OutText::All(alias) => {
+            let alias = name(binder.alloc, binder.text, alias)?;
+            match binder.entry_named(visible.scope, alias.as_str()) {
+                Some(entry) => add_entry(binder, entry, found),
+                None => Ok(()),
             }
         }
-    }
-
-    /// What the items of a list give.
-    fn listed(&self, visible: &Visible, list: &[OutText]) -> Result<Seq<Out>, NoMemory>
-        requires shows { Shows self.now visible.now }
-        requires all { visible.now.scope ≡ everything (from_of self.now) }
-        requires few { length (from_of self.now) ≤ 12 }
-        requires valid { IsValid (schema_of self.now) }
-        requires tokens { All (IsOutOf (IsLexemeOf self.now.text.now)) list.now }
-        ensures { IfOk result (λ found. found ≡ flat_map (outs_by self.now) list.now) }
-    {
-        let mut found = Seq::new(self.alloc);
-        'all: for out in list {
-            self.add_out(visible, out, &mut found)?;
+        OutText::Column { column, name } => {
+            found.push(column_out(binder, visible, column, name)?)?;
+            Ok(())
         }
-        Ok(found)
     }
+}
 
-    /// The outputs of a query.
-    #[tactic(auto, unfolding(crate::specs::Outputs::selected_by, crate::specs::Outputs::all_outs_by, crate::specs::Outputs::outs_by))]
-    pub fn outputs(&self, visible: &Visible, outs: &OutsText) -> Result<Seq<Out>, NoMemory>
-        requires shows { Shows self.now visible.now }
-        requires all { visible.now.scope ≡ everything (from_of self.now) }
-        requires few { length (from_of self.now) ≤ 12 }
-        requires valid { IsValid (schema_of self.now) }
-        requires tokens { IsOutListOf (IsLexemeOf self.now.text.now) outs.now }
-        ensures { IfOk result (λ found. found ≡ selected_by self.now outs.now) }
-    {
-        match outs {
-            OutsText::All => {
-                let mut found = Seq::new(self.alloc);
-                self.add_all(&mut found)?;
-                Ok(found)
-            }
-            OutsText::Listed(list) => self.listed(visible, list.as_slice()),
+/// What the items of a list give.
+fn listed(binder: &Binder<'_>, visible: &Visible, list: &[OutText]) -> Result<Seq<Out>, NoMemory>
+    requires shows { Shows binder.now visible.now }
+    requires all { visible.now.scope ≡ everything (from_of binder.now) }
+    requires few { length (from_of binder.now) ≤ 12 }
+    requires valid { IsValid (schema_of binder.now) }
+    requires tokens { All (IsOutOf (IsLexemeOf binder.now.text.now)) list.now }
+    ensures { IfOk result (λ found. found ≡ flat_map (outs_by binder.now) list.now) }
+{
+    let mut found = Seq::new(binder.alloc);
+    'all: for out in list {
+        add_out(binder, visible, out, &mut found)?;
+    }
+    Ok(found)
+}
+
+/// The outputs of a query.
+#[tactic(auto, unfolding(crate::specs::Outputs::selected_by, crate::specs::Outputs::all_outs_by, crate::specs::Outputs::outs_by))]
+pub fn outputs(
+    binder: &Binder<'_>,
+    visible: &Visible,
+    outs: &OutsText,
+) -> Result<Seq<Out>, NoMemory>
+    requires shows { Shows binder.now visible.now }
+    requires all { visible.now.scope ≡ everything (from_of binder.now) }
+    requires few { length (from_of binder.now) ≤ 12 }
+    requires valid { IsValid (schema_of binder.now) }
+    requires tokens { IsOutListOf (IsLexemeOf binder.now.text.now) outs.now }
+    ensures { IfOk result (λ found. found ≡ selected_by binder.now outs.now) }
+{
+    match outs {
+        OutsText::All => {
+            let mut found = Seq::new(binder.alloc);
+            add_all(binder, &mut found)?;
+            Ok(found)
         }
+        OutsText::Listed(list) => listed(binder, visible, list.as_slice()),
     }
 }

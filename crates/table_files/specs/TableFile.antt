@@ -1,6 +1,7 @@
 -- The rows of one table, in its file.
 use Rattle.std.specs.Prelude.{ℕ, ◌+◌, List, ◌++◌, length, map, codes, nat_lt, Option, None, Some, Result, Ok, Err, if◌then◌else◌}
 use Rattle.std.specs.Char.{to_ascii_lowercase}
+use Rattle.limits.specs.Profile.{most_file}
 use Rattle.base_io.specs.Files.{Files, file_of}
 use Rattle.schema_types.specs.declared.errors.LimitKind.TheVariants as limit
 use Rattle.schema_types.specs.declared.types.Table.{Table}
@@ -32,5 +33,5 @@ rows_of_bytes number table bytes = told (table_refusal number) (rows_of_file tab
 -- the rows of that table: its file is absent, too long, or refused for what it holds, or these are its rows
 unfoldable pub file_rows : ℕ → Table → Files → Result (List Row) Refusal
 file_rows number table files = do
-  bytes ← read (file.Table number) 67108864 (file_name table) files
+  bytes ← read (file.Table number) most_file (file_name table) files
   rows_of_bytes number table bytes

@@ -1,5 +1,6 @@
 //! Tables, one after the other.
 ghost use Rattle.std.specs.Prelude.{◌≡◌, ◌≤◌, ◌<◌, [], All, length, IfOk};
+ghost use Rattle.limits.specs.Profile.{most_rows};
 ghost use Rattle.outcomes.specs.Devices.{reading};
 ghost use Rattle.outcomes.specs.Reads.{Reads, seen};
 ghost use Rattle.schema_types.specs.Validity.{IsValid};
@@ -26,7 +27,7 @@ pub(crate) fn read_each<S: Store>(
     requires few { length numbers.now ≤ 12 }
     requires empty { pool.old ≡ [] }
     ensures cells { IfOk result (AreCellsOfEach schema.now pool.new numbers.now) }
-    ensures few_rows { IfOk result (All (λ cells. cells.rows ≤ 4000000)) }
+    ensures few_rows { IfOk result (All (λ cells. cells.rows ≤ most_rows)) }
     ensures reads { Reads (reading S.files S.faults S.misses store.old store.new) (rows_of_each schema.now numbers.now)
         (IsReached schema.now numbers.now) (seen (rows_of_tables pool.new) result) }
 {

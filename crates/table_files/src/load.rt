@@ -1,5 +1,6 @@
 //! A file of a run.
 ghost use Rattle.std.specs.Prelude.{◌≡◌, ◌≤◌, length, IfOk};
+ghost use Rattle.limits.specs.Profile.{most_file};
 ghost use Rattle.outcomes.specs.Devices.{reading};
 ghost use Rattle.outcomes.specs.Reads.{AtFile, Reads};
 ghost use Rattle.table_files.specs.TableFile.{read};
@@ -17,7 +18,7 @@ pub fn load_file<S: Store>(
     name: &str,
     limit: u32,
 ) -> Result<Seq<u8>, Ending>
-    requires { limit ≤ 67108864 }
+    requires { limit ≤ most_file }
     ensures short { IfOk result (λ bytes. length bytes ≤ limit) }
     ensures reads { Reads (reading S.files S.faults S.misses store.old store.new) (read file limit name.now) (AtFile file) result }
 {

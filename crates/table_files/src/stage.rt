@@ -1,5 +1,6 @@
 //! The tables of a query.
 ghost use Rattle.std.specs.Prelude.{◌≡◌, ◌<◌, ◌≤◌, ℕ, All, IfOk, IsUtf8, length};
+ghost use Rattle.limits.specs.Profile.{most_rows};
 ghost use Rattle.csv_tables.specs.Pools.{AreDifferent};
 ghost use Rattle.outcomes.specs.Devices.{reading};
 ghost use Rattle.outcomes.specs.Reads.{Reads, seen};
@@ -41,7 +42,7 @@ pub fn read_tables<S: Store>(
     ensures once { IfOk result (λ db. length db.cells ≡ length (tables_of_query query.now.from)) }
 
     // No table has more rows than a file may have.
-    ensures few_rows { IfOk result (λ db. (entry : ℕ) → entry < length query.now.from → row_counts (tables_of db) entry ≤ 4000000) }
+    ensures few_rows { IfOk result (λ db. (entry : ℕ) → entry < length query.now.from → row_counts (tables_of db) entry ≤ most_rows) }
 
     // Its texts are UTF-8, and no two are equal.
     ensures texts { IfOk result (λ db. All IsUtf8 db.pool) }

@@ -1,5 +1,6 @@
 //! A table, from its file.
 ghost use Rattle.std.specs.Prelude.{◌≡◌, ◌≤◌, ◌+◌, length, IfOk, string_bytes};
+ghost use Rattle.limits.specs.Profile.{most_rows};
 ghost use Rattle.csv_tables.specs.Cells.{AreCellsOf, rows_of_cells};
 ghost use Rattle.csv_tables.specs.Pools.{BeginsWith};
 ghost use Rattle.outcomes.specs.Devices.{reading};
@@ -10,12 +11,10 @@ ghost use Rattle.table_files.specs.TableFile.{file_name, file_rows};
 use crate::load::load_file;
 use base_io::{NoMemory, Store};
 use csv_tables::{Cells, Pool, read_table};
+use limits::MOST_FILE;
 use outcomes::{Ending, FileId, table_ending};
 use schema_types::Table;
 use std::alloc::Global;
-
-/// The most bytes of a table's file.
-const TABLE_BYTES: u32 = 67_108_864;
 
 // The name of a table's file: the table's in lower case, and `.csv`.
 fn table_file_name(alloc: Global, table: &Table) -> Result<String, NoMemory>
@@ -37,17 +36,18 @@ pub(crate) fn load_table<S: Store>(
     requires valid { IsValidTable table.now }
     requires room { length pool.old ≤ 4000000000 }
     ensures cells { IfOk result (AreCellsOf table.now pool.new) }
-    ensures few { IfOk result (λ cells. cells.rows ≤ 4000000) }
+    ensures few { IfOk result (λ cells. cells.rows ≤ most_rows) }
     ensures begins { IfOk result (λ _. BeginsWith pool.old pool.new) }
     ensures more { IfOk result (λ _. length pool.new ≤ length pool.old + 256000000) }
-    ensures reads { Reads (reading S.files S.faults S.misses store.old store.new) (file_rows number table.now) (AtFile (FileId.Table number))
+    ensures reads { Reads (reading S.files S.faults S.misses store.old store.new) (file_rows number table.now)
+        (AtFile (FileId.Table number))
         (seen (rows_of_cells pool.new) result) }
 {
     let Ok(name) = table_file_name(alloc, table) else {
         return Err(Ending::NoMemory);
     };
     let file = FileId::Table(number);
-    let bytes = load_file(alloc, store, file, name.as_str(), TABLE_BYTES)?;
+    let bytes = load_file(alloc, store, file, name.as_str(), MOST_FILE)?;
     match read_table(alloc, table, bytes.as_slice(), pool) {
         Ok(cells) => Ok(cells),
         Err(error) => Err(table_ending(number, error)),

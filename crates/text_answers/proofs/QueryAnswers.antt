@@ -2,6 +2,7 @@
 use Rattle.std.proofs.Common.{◌≡◌, ◌≢◌, ◌⊎◌, inl, inr, ℕ, ◌≤◌, Bool, true, false, cond, nat_lt, List, [], ◌∷◌, ◌++◌, length, Result, Ok, Err, refl, subst}
 use Rattle.std.proofs.lemmas.Bool.{ltb-true, ltb-false}
 use Rattle.std.specs.Bool.{⊤}
+use Rattle.limits.specs.Profile.{most_conjuncts, most_entries, most_outputs}
 use Rattle.ll_grammars.specs.declared.lexeme.Lexeme.{Lexeme}
 use Rattle.query_grammar.specs.declared.tree.QueryText.{QueryText}
 use Rattle.query_grammar.specs.Grammar.{QuerySpecification}
@@ -14,13 +15,13 @@ use Rattle.schema_types.specs.declared.errors.LimitKind.TheVariants as limit
 use Rattle.schema_types.specs.declared.types.Schema.{Schema}
 use Rattle.query_types.specs.declared.types.Query.{Query}
 use Rattle.query_types.specs.Validity.{IsOf}
-use Rattle.sql_parse.specs.declared.errors.QueryError.{QueryError}
-use Rattle.sql_parse.specs.declared.errors.QueryError.TheVariants as error
-use Rattle.sql_parse.specs.Names.{entries}
-use Rattle.sql_parse.specs.Offences.{name_offences, all_kind_offences}
-use Rattle.sql_parse.specs.Values.{query_of}
-use Rattle.sql_parse.specs.Bound.{refusal, most_entries, most_conjuncts, most_outputs, over, first_list, limit_refusals, first_place, name_error, kind_error, long_lists, refusals, unless, bound}
-use Rattle.sql_parse.specs.Numbers.{number_offences}
+use Rattle.query_names.specs.declared.errors.QueryError.{QueryError}
+use Rattle.query_names.specs.declared.errors.QueryError.TheVariants as error
+use Rattle.query_names.specs.Names.{entries}
+use Rattle.query_names.specs.Offences.{name_offences, all_kind_offences}
+use Rattle.query_names.specs.Values.{query_of}
+use Rattle.sql_parse.specs.Bound.{refusal, over, first_list, limit_refusals, first_place, name_error, kind_error, long_lists, refusals, unless, bound}
+use Rattle.query_names.specs.Numbers.{number_offences}
 use Rattle.sql_parse.specs.Reading.{lexemes_of, most_nesting, unless_number, IsAnswer}
 use Rattle.sql_parse.proofs.OneAnswer.{one_answer}
 use Rattle.sql_parse.proofs.AnswerOfSchema.{answer_of_schema}

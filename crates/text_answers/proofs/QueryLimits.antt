@@ -1,17 +1,18 @@
 -- A query that a text is answered with keeps the limits.
 use Rattle.std.proofs.Common.{◌≡◌, inl, inr, ℕ, ◌≤◌, Bool, true, false, cond, nat_lt, List, [], ◌∷◌, ◌++◌, length, Result, Ok, Err, refl, sym, subst}
 use Rattle.std.proofs.lemmas.Bool.{ltb-false}
+use Rattle.limits.specs.Profile.{most_conjuncts, most_entries, most_outputs}
 use Rattle.query_grammar.specs.declared.tree.QueryText.{QueryText}
 use Rattle.schema_types.specs.declared.errors.LimitKind.{LimitKind}
 use Rattle.schema_types.specs.declared.errors.LimitKind.TheVariants as limit
 use Rattle.schema_types.specs.declared.types.Schema.{Schema}
 use Rattle.query_types.specs.declared.types.Query.{Query}
-use Rattle.sql_parse.specs.declared.errors.QueryError.{QueryError}
-use Rattle.sql_parse.specs.Names.{entries}
-use Rattle.sql_parse.specs.Offences.{name_offences, all_kind_offences}
-use Rattle.sql_parse.specs.Values.{query_of}
-use Rattle.sql_parse.specs.Bound.{refusal, most_entries, most_conjuncts, most_outputs, over, first_list, limit_refusals, first_place, name_error, kind_error, long_lists, refusals, unless, bound}
-use Rattle.sql_parse.specs.Numbers.{number_offences}
+use Rattle.query_names.specs.declared.errors.QueryError.{QueryError}
+use Rattle.query_names.specs.Names.{entries}
+use Rattle.query_names.specs.Offences.{name_offences, all_kind_offences}
+use Rattle.query_names.specs.Values.{query_of}
+use Rattle.sql_parse.specs.Bound.{refusal, over, first_list, limit_refusals, first_place, name_error, kind_error, long_lists, refusals, unless, bound}
+use Rattle.query_names.specs.Numbers.{number_offences}
 use Rattle.sql_parse.specs.Reading.{lexemes_of, unless_number, IsAnswer}
 use Rattle.text_answers.specs.QueryTexts.{query_answer}
 use Rattle.text_answers.proofs.QueryAnswers.{allowed}

@@ -8,10 +8,10 @@ use Rattle.query_grammar.specs.Readers.{read_condition, read_query}
 use Rattle.schema_types.specs.declared.errors.LimitKind.TheVariants as limit
 use Rattle.schema_types.specs.declared.types.Schema.{Schema}
 use Rattle.query_types.specs.declared.types.Query.{Query}
-use Rattle.sql_parse.specs.declared.errors.QueryError.{QueryError}
-use Rattle.sql_parse.specs.declared.errors.QueryError.TheVariants as error
+use Rattle.query_names.specs.declared.errors.QueryError.{QueryError}
+use Rattle.query_names.specs.declared.errors.QueryError.TheVariants as error
 use Rattle.sql_parse.specs.Bound.{bound, refusal}
-use Rattle.sql_parse.specs.Numbers.{number_offences}
+use Rattle.query_names.specs.Numbers.{number_offences}
 use Rattle.sql_parse.specs.Reading.{lexemes_of, most_nesting, least, unless_number}
 use Rattle.text_answers.specs.Stages.{after, tokens_of, parsed}
 
@@ -31,7 +31,8 @@ module _ (schema : Schema) (text : List ℕ) where
   -- the limit on nesting comes before the grammar
   unfoldable pub nested_answer : List Lexeme → Result Query QueryError
   nested_answer tokens =
-      if nat_lt most_nesting (nesting tokens) then Err (refusal limit.Nesting (nesting tokens)) else spelled_answer tokens (tree_of (length text) tokens)
+      if nat_lt most_nesting (nesting tokens) then Err (refusal limit.Nesting (nesting tokens))
+      else spelled_answer tokens (tree_of (length text) tokens)
 
   -- the query of a text, or its first refusal: Syntax of tokens, the limit on nesting, Syntax, then Name, Kind and Limit
   unfoldable pub query_answer : Result Query QueryError

@@ -9,7 +9,11 @@ use Rattle.query_types.specs.declared.types.Query.{Query}
 
 -- CREATE TABLE R (X INTEGER NOT NULL);
 abbrev pub one_column : Schema
-one_column = record { tables = record { name = codes "R"; columns = record { name = codes "X"; kind = kind.Int } ∷ []; keys = []; references = [] } ∷ [] }
+one_column =
+    record {
+      tables =
+          record { name = codes "R"; columns = record { name = codes "X"; kind = kind.Int } ∷ []; keys = []; references = [] } ∷ [];
+    }
 
 -- SELECT X FROM R WHERE X = 1
 abbrev pub ones : Query

@@ -2,7 +2,7 @@
 ghost use Rattle.std.specs.Prelude.{◌≡◌, Ok, Err, [], ◌∷◌, codes};
 ghost use Rattle.schema_types.specs.declared.errors.LimitKind.TheVariants as limit;
 ghost use Rattle.schema_types.specs.declared.errors.SchemaError.TheVariants as schema_error;
-ghost use Rattle.sql_parse.specs.declared.errors.QueryError.TheVariants as query_error;
+ghost use Rattle.query_names.specs.declared.errors.QueryError.TheVariants as query_error;
 ghost use Rattle.text_answers.specs.SmallTexts.{one_column, ones};
 ghost use Rattle.text_answers.specs.SchemaTexts.{schema_answer};
 ghost use Rattle.text_answers.specs.QueryTexts.{query_answer};
@@ -15,7 +15,8 @@ pub fn small_schemas()
     ensures no_length { schema_answer (codes "CREATE TABLE R (X VARCHAR(0) NOT NULL)") ≡ Err (schema_error.Syntax 26) }
     ensures one_name_twice { schema_answer (codes "CREATE TABLE R (X INTEGER, x INTEGER)") ≡ Err (schema_error.Name 27) }
     ensures may_be_null { schema_answer (codes "CREATE TABLE R (X INTEGER)") ≡ Err (schema_error.Nullable 16) }
-    ensures too_long { schema_answer (codes "CREATE TABLE R (X VARCHAR(1000001) NOT NULL)") ≡ Err (schema_error.Limit limit.TextLength 1000001) }
+    ensures too_long { schema_answer (codes "CREATE TABLE R (X VARCHAR(1000001) NOT NULL)")
+        ≡ Err (schema_error.Limit limit.TextLength 1000001) }
 {}
 
 /// What small query texts answer over the schema of one column. A number outside the range comes before an

@@ -2,7 +2,7 @@
 use Rattle.std.proofs.Common.{◌≡◌, ap, ◌∙◌}
 use Rattle.std.specs.List.{flat_map}
 use Rattle.sql_tokens.specs.Words.{IsLexemeOf}
-use Rattle.sql_parse.specs.Names.{sources_of}
+use Rattle.query_names.specs.Names.{sources_of}
 use Rattle.sql_parse.proofs.TreeFacts.{all_lie_in}
 use Rattle.sql_parse.proofs.binding.entries_of.Goals as goal
 

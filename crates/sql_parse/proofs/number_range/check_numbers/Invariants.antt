@@ -1,6 +1,6 @@
 use Rattle.std.proofs.Common.{◌≡◌, drop}
-use Rattle.sql_parse.specs.Bound.{first}
-use Rattle.sql_parse.specs.Numbers.{number_offences, offences_after}
+use Rattle.query_names.specs.Answers.{first}
+use Rattle.query_names.specs.Numbers.{number_offences, offences_after}
 use Rattle.sql_parse.proofs.number_range.check_numbers.Given as goal
 
 abbrev pub invariant-all : goal.invariant-all

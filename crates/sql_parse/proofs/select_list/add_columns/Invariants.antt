@@ -1,5 +1,5 @@
 use Rattle.std.proofs.Common.{◌≡◌, ◌++◌, drop}
-use Rattle.sql_parse.specs.Values.{outs_from}
+use Rattle.query_names.specs.Values.{outs_from}
 use Rattle.sql_parse.proofs.select_list.add_columns.Given as goal
 
 abbrev pub invariant-all : goal.invariant-all

@@ -1,0 +1,198 @@
+-- What texts mean, part by part.
+use Rattle.std.proofs.Common.{◌≡◌, ℕ, zero, suc, ◌+◌, ◌<◌, ◌≤◌, List, [], ◌∷◌, ◌++◌, length, map, take, get_or, Option, Some, None, ap, subst, sym, ◌∙◌, refl, arith}
+use Rattle.std.specs.Prelude.{IfSome, slice_get, Bool, true, false, if◌then◌else◌}
+use Rattle.std.proofs.lemmas.List.{append_assoc}
+use Rattle.query_grammar.specs.declared.tree.ColumnText.{ColumnText}
+use Rattle.query_names.specs.declared.binder.Binder.{Binder}
+use Rattle.query_names.specs.declared.scope.Scope.{Scope}
+use Rattle.query_names.specs.declared.scope.EntryColumn.{EntryColumn}
+use Rattle.query_types.specs.declared.types.Source.{Source}
+use Rattle.query_types.specs.declared.types.Cond.{Cond}
+use Rattle.query_types.specs.declared.types.Operand.{Operand}
+use Rattle.query_types.specs.declared.types.Cond.TheVariants as cond
+use Rattle.std.specs.List.{flat_map}
+use Rattle.std.specs.Prelude.{Result, Ok, Err, IfOk, OnOk, All}
+use Rattle.ll_grammars.specs.declared.lexeme.Lexeme.{Lexeme}
+use Rattle.query_grammar.specs.Lexemes.{IsCondOf, IsTestOf}
+use Rattle.query_grammar.proofs.CondTokens.{members_of_and, members_of_or, inner_of_not, test_in}
+use Rattle.query_grammar.specs.declared.tree.LiteralText.{LiteralText}
+use Rattle.query_grammar.specs.declared.tree.OperandText.{OperandText}
+use Rattle.query_grammar.specs.declared.tree.TestText.{TestText}
+use Rattle.query_grammar.specs.declared.tree.TestText.TheVariants as test
+use Rattle.query_grammar.specs.declared.tree.Op.{Op}
+use Rattle.query_grammar.specs.declared.tree.Op.TheVariants as op
+use Rattle.query_grammar.specs.declared.tree.CondText.{CondText}
+use Rattle.query_grammar.specs.declared.tree.CondText.TheVariants as text
+use Rattle.query_grammar.specs.declared.tree.CondText.TheVariants.{rolls-And, rolls-Or, rolls-Not, rolls-Test}
+use Rattle.query_grammar.specs.declared.tree.CondText.TheOpen.{CondText-F}
+use Rattle.query_grammar.specs.declared.tree.CondText.TheFolds.{fold-roll-CondText}
+use Rattle.query_names.specs.Offences.{of_literal}
+use Rattle.query_names.specs.Values.{any_of, all_of, equality, alone, wholes, negated_where, Meaning, meaning, meaning_step, test_meaning, literal_value}
+use Rattle.query_names.specs.Binding.{schema_of, from_of, resolved_by, operand_by, compared_by, test_value_by, test_members_by, value_by, members_by}
+use Rattle.query_names.proofs.Resolved.{Stands, resolve_stands}
+use Rattle.query_names.proofs.Walk.{map_more}
+
+within : (from : List Source) (n : ℕ) (source : Source) → slice_get from n ≡ Some source → n < length from
+within [] n source is = absurd cc
+within (x ∷ from) zero source is = omega arith
+within (x ∷ from) (suc n) source is = let more : n < length from = within from n source is in omega arith
+
+pub found_small : (binder : Binder) (scope : Scope) (reference : ColumnText) (found : Option EntryColumn) → found ≡ resolved_by binder scope reference → length (from_of binder) ≤ 12
+    → IfSome found (λ column. column.from < 256)
+found_small binder scope reference None is few = tt
+found_small binder scope reference (Some column) is few =
+    let stands : Stands (schema_of binder) (from_of binder) column = resolve_stands (schema_of binder) binder.text.now (from_of binder) scope reference column (sym is) in
+    let below : column.from < length (from_of binder) = within (from_of binder) column.from stands.source stands.entry in
+    omega arith
+
+pub one_of : (parts rest : List Cond) (one : Cond) → length parts ≡ 1 → parts ≡ rest ++ one ∷ [] → one ≡ (any_of parts).whole
+one_of [] rest one few is = absurd (omega arith)
+one_of (x ∷ []) [] one few is = cc
+one_of (x ∷ []) (y ∷ rest) one few is = absurd (let e : [] ≡ rest ++ one ∷ [] = cc in nothing rest e) where
+  nothing : (rest : List Cond) → [] ≡ rest ++ one ∷ [] → ⊥
+  nothing [] e = cc
+  nothing (z ∷ rest) e = cc
+one_of (x ∷ y ∷ parts) rest one few is = absurd (omega arith)
+
+pub several_of : (parts : List Cond) → (length parts ≡ 1 → ⊥) → cond.Or parts ≡ (any_of parts).whole
+several_of [] many = refl
+several_of (x ∷ []) many = absurd (many refl)
+several_of (x ∷ y ∷ parts) many = refl
+
+negated_whole : (negated : Bool) (m : Meaning) → (negated_where negated m).whole ≡ (if negated then cond.Not m.whole else m.whole)
+negated_whole true m = refl
+negated_whole false m = refl
+
+-- one more equality of IN, from what its operands mean
+pub equality_more : (binder : Binder) (scope : Scope) (left : OperandText) (values : List LiteralText) (i : ℕ) (d : LiteralText) {old new : List Cond} {subject copy right : Operand}
+    → i < length values → old ≡ map (λ value. compared_by binder scope op.Eq left (of_literal value)) (take i values)
+    → subject ≡ operand_by binder scope left → copy ≡ subject → right ≡ literal_value binder.text.now (get_or values i d)
+    → new ≡ old ++ cond.Compare op.Eq copy right ∷ []
+    → new ≡ map (λ value. compared_by binder scope op.Eq left (of_literal value)) (take (i + 1) values)
+unfolding operand_by compared_by
+equality_more binder scope left values i d {old} {new} {subject} {copy} {right} below so_far means same is pushed =
+    map_more (λ value. compared_by binder scope op.Eq left (of_literal value)) values i d old new (cond.Compare op.Eq copy right) below so_far
+    (ap (λ o. cond.Compare op.Eq o right) (same ∙ means) ∙ ap (λ o. cond.Compare op.Eq (operand_by binder scope left) o) is) pushed
+
+-- IN is the OR of the equalities, or NOT of it
+pub in_means : (binder : Binder) (scope : Scope) (left : OperandText) (negated : Bool) (values : List LiteralText) {each : List Cond} {one v : Cond}
+    → each ≡ map (λ value. compared_by binder scope op.Eq left (of_literal value)) values → one ≡ (any_of each).whole → v ≡ (if negated then cond.Not one else one)
+    → v ≡ test_value_by binder scope (test.In left negated values)
+unfolding test_value_by compared_by
+in_means binder scope left negated values {each} {one} {v} equal any made =
+    made ∙ ap (λ c. if negated then cond.Not c else c) (any ∙ ap (λ l. (any_of l).whole) equal) ∙ sym (negated_whole negated _)
+
+-- ---- conditions, member by member
+
+module _ (binder : Binder) (scope : Scope) where
+  abbrev step : CondText-F Meaning → Meaning
+  step = meaning_step (schema_of binder) binder.text.now (from_of binder) scope
+
+  wholes_map : (cs : List CondText) → wholes (map (meaning (schema_of binder) binder.text.now (from_of binder) scope) cs) ≡ map (value_by binder scope) cs
+  unfolding value_by
+  wholes_map [] = refl
+  wholes_map (c ∷ cs) = ap (λ rest. value_by binder scope c ∷ rest) (wholes_map cs)
+
+  members_map : (cs : List CondText) → flat_map (λ part. part.members) (map (meaning (schema_of binder) binder.text.now (from_of binder) scope) cs) ≡ flat_map (members_by binder scope) cs
+  unfolding members_by
+  members_map [] = refl
+  members_map (c ∷ cs) = ap (λ rest. members_by binder scope c ++ rest) (members_map cs)
+
+  meaning_and : (cs : List CondText) → meaning (schema_of binder) binder.text.now (from_of binder) scope (text.And cs) ≡ all_of (map (meaning (schema_of binder) binder.text.now (from_of binder) scope) cs)
+  meaning_and cs = ap (meaning (schema_of binder) binder.text.now (from_of binder) scope) (sym (rolls-And cs)) ∙ fold-roll-CondText Meaning step (CondText-F.And cs)
+
+  meaning_or : (cs : List CondText) → meaning (schema_of binder) binder.text.now (from_of binder) scope (text.Or cs) ≡ alone (cond.Or (wholes (map (meaning (schema_of binder) binder.text.now (from_of binder) scope) cs)))
+  meaning_or cs = ap (meaning (schema_of binder) binder.text.now (from_of binder) scope) (sym (rolls-Or cs)) ∙ fold-roll-CondText Meaning step (CondText-F.Or cs)
+
+  meaning_not : (c : CondText) → meaning (schema_of binder) binder.text.now (from_of binder) scope (text.Not c) ≡ alone (cond.Not (meaning (schema_of binder) binder.text.now (from_of binder) scope c).whole)
+  meaning_not c = ap (meaning (schema_of binder) binder.text.now (from_of binder) scope) (sym (rolls-Not c)) ∙ fold-roll-CondText Meaning step (CondText-F.Not c)
+
+  meaning_test : (t : TestText) → meaning (schema_of binder) binder.text.now (from_of binder) scope (text.Test t) ≡ test_meaning (schema_of binder) binder.text.now (from_of binder) scope t
+  meaning_test t = ap (meaning (schema_of binder) binder.text.now (from_of binder) scope) (sym (rolls-Test t)) ∙ fold-roll-CondText Meaning step (CondText-F.Test t)
+
+  pub value_and : (cs : List CondText) → value_by binder scope (text.And cs) ≡ cond.And (map (value_by binder scope) cs)
+  unfolding value_by
+  value_and cs = ap (λ m. m.whole) (meaning_and cs) ∙ ap cond.And (wholes_map cs)
+
+  pub value_or : (cs : List CondText) → value_by binder scope (text.Or cs) ≡ cond.Or (map (value_by binder scope) cs)
+  unfolding value_by
+  value_or cs = ap (λ m. m.whole) (meaning_or cs) ∙ ap cond.Or (wholes_map cs)
+
+  pub value_not : (c : CondText) → value_by binder scope (text.Not c) ≡ cond.Not (value_by binder scope c)
+  unfolding value_by
+  value_not c = ap (λ m. m.whole) (meaning_not c)
+
+  pub value_test : (t : TestText) → value_by binder scope (text.Test t) ≡ test_value_by binder scope t
+  unfolding value_by test_value_by
+  value_test t = ap (λ m. m.whole) (meaning_test t)
+
+  pub members_and : (cs : List CondText) → members_by binder scope (text.And cs) ≡ flat_map (members_by binder scope) cs
+  unfolding members_by
+  members_and cs = ap (λ m. m.members) (meaning_and cs) ∙ members_map cs
+
+  pub members_or : (cs : List CondText) → members_by binder scope (text.Or cs) ≡ value_by binder scope (text.Or cs) ∷ []
+  unfolding members_by value_by
+  members_or cs = ap (λ m. m.members) (meaning_or cs) ∙ ap (λ m. m.whole ∷ []) (sym (meaning_or cs))
+
+  pub members_not : (c : CondText) → members_by binder scope (text.Not c) ≡ value_by binder scope (text.Not c) ∷ []
+  unfolding members_by value_by
+  members_not c = ap (λ m. m.members) (meaning_not c) ∙ ap (λ m. m.whole ∷ []) (sym (meaning_not c))
+
+  pub members_test : (t : TestText) → members_by binder scope (text.Test t) ≡ test_members_by binder scope t
+  unfolding members_by test_members_by
+  members_test t = ap (λ m. m.members) (meaning_test t)
+
+  -- only a range has more than one member
+  pub members_compare : (left : OperandText) (how : Op) (right : OperandText) → test_members_by binder scope (test.Compare left how right) ≡ test_value_by binder scope (test.Compare left how right) ∷ []
+  unfolding test_members_by test_value_by
+  members_compare left how right = refl
+
+  pub members_between : (left low high : OperandText) → test_members_by binder scope (test.Between left false low high) ≡ compared_by binder scope op.Ge left low ∷ compared_by binder scope op.Le left high ∷ []
+  unfolding test_members_by compared_by
+  members_between left low high = refl
+
+  pub members_outside : (left low high : OperandText) → test_members_by binder scope (test.Between left true low high) ≡ test_value_by binder scope (test.Between left true low high) ∷ []
+  unfolding test_members_by test_value_by
+  members_outside left low high = refl
+
+  any_alone : (parts : List Cond) → (any_of parts).members ≡ (any_of parts).whole ∷ []
+  any_alone [] = refl
+  any_alone (x ∷ []) = refl
+  any_alone (x ∷ y ∷ parts) = refl
+
+  pub members_in : (left : OperandText) (negated : Bool) (values : List LiteralText) → test_members_by binder scope (test.In left negated values) ≡ test_value_by binder scope (test.In left negated values) ∷ []
+  unfolding test_members_by test_value_by
+  members_in left true values = refl
+  members_in left false values = any_alone (map (equality (schema_of binder) binder.text.now (from_of binder) scope left) values)
+
+-- ---- the tokens of a condition's members
+
+pub told_and : (P : Lexeme → Type 0) (c : CondText) (members items : List CondText) → c ≡ text.And members → items ≡ members → IsCondOf P c → All (IsCondOf P) items
+told_and P c members items is same h = subst (All (IsCondOf P)) (sym same) (members_of_and P members (subst (IsCondOf P) is h))
+
+pub told_or : (P : Lexeme → Type 0) (c : CondText) (members items : List CondText) → c ≡ text.Or members → items ≡ members → IsCondOf P c → All (IsCondOf P) items
+told_or P c members items is same h = subst (All (IsCondOf P)) (sym same) (members_of_or P members (subst (IsCondOf P) is h))
+
+pub told_not : (P : Lexeme → Type 0) (c member inner : CondText) → c ≡ text.Not member → inner ≡ member → IsCondOf P c → IsCondOf P inner
+told_not P c member inner is same h = subst (IsCondOf P) (sym same) (inner_of_not P member (subst (IsCondOf P) is h))
+
+pub told_test : (P : Lexeme → Type 0) (c : CondText) (t : TestText) → c ≡ text.Test t → IsCondOf P c → IsTestOf P t
+told_test P c t is h = test_in P t (subst (IsCondOf P) is h)
+
+pub if_ok_map : {A E : Type 0} (P Q : A → Type 0) (r : Result A E) → IfOk r P → ((v : A) → P v → Q v) → IfOk r Q
+if_ok_map P Q (Ok v) h f = f v h
+if_ok_map P Q (Err e) h f = tt
+
+pub on_ok_map : {A E : Type 0} (P Q : Type 0) (r : Result A E) → OnOk r P → (P → Q) → IfOk r (λ _. Q)
+on_ok_map P Q (Ok v) h f = f h
+on_ok_map P Q (Err e) h f = tt
+
+-- a range is two members
+pub range_members : (binder : Binder) (scope : Scope) (t : TestText) (left : OperandText) (negated : Bool) (low high : OperandText) (old mid new : List Cond) (above below : Cond)
+    → t ≡ test.Between left negated low high → negated ≡ false → mid ≡ old ++ above ∷ []
+    → above ≡ compared_by binder scope op.Ge left low → below ≡ compared_by binder scope op.Le left high → new ≡ mid ++ below ∷ []
+    → new ≡ old ++ test_members_by binder scope t
+range_members binder scope t left negated low high old mid new above below is plain first above_is below_is second =
+    second ∙ ap (λ l. l ++ below ∷ []) first ∙ append_assoc old (above ∷ []) (below ∷ [])
+    ∙ ap (λ a. old ++ (a ∷ below ∷ [])) above_is ∙ ap (λ b. old ++ (compared_by binder scope op.Ge left low ∷ b ∷ [])) below_is
+    ∙ ap (λ l. old ++ l) (sym (ap (test_members_by binder scope) (is ∙ ap (λ n. test.Between left n low high) plain) ∙ members_between binder scope left low high))

@@ -1,0 +1,102 @@
+-- Steps of the loops that walk over a syntax tree: what is left of a list, and of its offences.
+use Rattle.std.proofs.Common.{◌≡◌, ℕ, add-one, ◌+◌, ◌<◌, ◌≤◌, List, [], ◌∷◌, ◌++◌, length, map, take, drop, get_or, Option, Some, None, ap, subst, sym, ◌∙◌, refl}
+use Rattle.std.proofs.Math.Seq.{drop-cons}
+use Rattle.std.proofs.lemmas.List.{take_more, map-append, drop_all}
+use Rattle.std.specs.List.{flat_map}
+use Rattle.query_grammar.specs.declared.tree.SourceText.{SourceText}
+use Rattle.schema_types.specs.declared.types.Schema.{Schema}
+use Rattle.query_types.specs.declared.types.Source.{Source}
+use Rattle.query_names.specs.declared.errors.QueryError.{QueryError}
+use Rattle.query_names.specs.declared.errors.QueryError.TheVariants as error
+use Rattle.query_names.specs.Answers.{first}
+use Rattle.query_names.specs.Answers.{IsNameError, or_first}
+use Rattle.query_names.specs.Names.{source_offences, offences_behind, alias_of, entry_of}
+
+-- what is left at a place is the item there and the rest
+pub left_at : {A : Type 0} (xs : List A) (i : ℕ) (d : A) → i < length xs → drop i xs ≡ get_or xs i d ∷ drop (i + 1) xs
+left_at xs i d below = rw add-one (drop-cons xs i d below)
+
+-- one more item's image
+pub map_more : {A B : Type 0} (f : A → B) (xs : List A) (i : ℕ) (d : A) (old new : List B) (one : B)
+    → i < length xs → old ≡ map f (take i xs) → one ≡ f (get_or xs i d) → new ≡ old ++ one ∷ [] → new ≡ map f (take (i + 1) xs)
+map_more f xs i d old new one below so_far is pushed =
+    pushed ∙ ap (λ l. l ++ one ∷ []) so_far ∙ ap (λ y. map f (take i xs) ++ y ∷ []) is
+    ∙ sym (map-append f (take i xs) (get_or xs i d ∷ [])) ∙ ap (map f) (sym (take_more xs i d below))
+
+pub map_push : {A B : Type 0} (f : A → B) (old new : List A) (images images' : List B) (one : A)
+    → images ≡ map f old → images' ≡ images ++ f one ∷ [] → new ≡ old ++ one ∷ [] → images' ≡ map f new
+map_push f old new images images' one are more pushed =
+    more ∙ ap (λ l. l ++ f one ∷ []) are ∙ sym (map-append f old (one ∷ [])) ∙ ap (map f) (sym pushed)
+
+-- a source that isn't wrong leaves the offences of the rest, behind its alias
+pub no_offence_here : (schema : Schema) (text : List ℕ) (sources : List SourceText) (whole : List ℕ) (earlier earlier' : List (List ℕ)) (i : ℕ) (d : SourceText) (one : Source)
+    → i < length sources → whole ≡ offences_behind schema text earlier (drop i sources)
+    → (one ≡ entry_of schema text (get_or sources i d)) × (earlier' ≡ earlier ++ one.alias ∷ []) × (source_offences schema text earlier (get_or sources i d) ≡ [])
+    → whole ≡ offences_behind schema text earlier' (drop (i + 1) sources)
+no_offence_here schema text sources whole earlier earlier' i d one below left is =
+    let rest : List (List ℕ) → List ℕ = λ aliases. offences_behind schema text aliases (drop (i + 1) sources) in
+    left
+    ∙ ap (offences_behind schema text earlier) (left_at sources i d below)
+    ∙ ap (λ here. here ++ rest (earlier ++ alias_of schema text (get_or sources i d) ∷ [])) is.2
+    ∙ ap (λ alias. rest (earlier ++ alias ∷ [])) (sym (ap (λ entry. entry.alias) is.0))
+    ∙ ap rest (sym is.1)
+
+-- ---- offences item by item
+
+first-append : (xs ys : List ℕ) (n : ℕ) → first xs ≡ Some n → first (xs ++ ys) ≡ Some n
+first-append [] ys n is = cc
+first-append (x ∷ xs) ys n is = is
+
+pub name_error_append : (xs ys : List ℕ) (e : QueryError) → IsNameError xs e → IsNameError (xs ++ ys) e
+name_error_append xs ys (error.Name place) wrong = first-append xs ys place wrong
+name_error_append xs ys error.NoMemory wrong = tt
+name_error_append xs ys (error.Syntax place) wrong = wrong
+name_error_append xs ys (error.Kind place) wrong = wrong
+name_error_append xs ys (error.Limit which n) wrong = wrong
+
+pub or_first_append : (found : Option ℕ) (xs ys : List ℕ) → or_first found (xs ++ ys) ≡ or_first (or_first found xs) ys
+or_first_append (Some n) xs ys = refl
+or_first_append None [] ys = refl
+or_first_append None (x ∷ xs) ys = refl
+
+or_first-nil : (found : Option ℕ) → or_first found [] ≡ found
+or_first-nil (Some n) = refl
+or_first-nil None = refl
+
+-- what was found before is what was found first
+pub none_before : (found : Option ℕ) (xs : List ℕ) → or_first found xs ≡ None → found ≡ None
+none_before (Some n) xs none = absurd cc
+none_before None xs none = refl
+
+-- an error behind what has no offence
+pub error_behind : (xs ys : List ℕ) (e : QueryError) → xs ≡ [] → IsNameError ys e → IsNameError (xs ++ ys) e
+error_behind xs ys e none wrong = subst (λ l. IsNameError (l ++ ys) e) (sym none) wrong
+
+module _ {A : Type 0} (f : A → List ℕ) (xs : List A) where
+  left_here : (i : ℕ) (d : A) → i < length xs → flat_map f (drop i xs) ≡ f (get_or xs i d) ++ flat_map f (drop (i + 1) xs)
+  left_here i d below = ap (flat_map f) (left_at xs i d below)
+
+  nothing_left : (i : ℕ) → length xs ≤ i → flat_map f (drop i xs) ≡ []
+  nothing_left i done = ap (flat_map f) (drop_all i xs done)
+
+  -- an item without an offence
+  pub none_here : {i : ℕ} (d : A) {whole : List ℕ} → i < length xs → whole ≡ flat_map f (drop i xs) → f (get_or xs i d) ≡ [] → whole ≡ flat_map f (drop (i + 1) xs)
+  none_here {i} d {whole} below left none = left ∙ left_here i d below ∙ ap (λ here. here ++ flat_map f (drop (i + 1) xs)) none
+
+  -- an item whose first one is kept
+  pub first_here : {i : ℕ} (d : A) {whole : Option ℕ} (old : Option ℕ) {new : Option ℕ} → i < length xs → whole ≡ or_first old (flat_map f (drop i xs)) → new ≡ or_first old (f (get_or xs i d))
+      → whole ≡ or_first new (flat_map f (drop (i + 1) xs))
+  first_here {i} d {whole} old {new} below left is =
+      left ∙ ap (or_first old) (left_here i d below) ∙ or_first_append old (f (get_or xs i d)) (flat_map f (drop (i + 1) xs))
+      ∙ ap (λ found. or_first found (flat_map f (drop (i + 1) xs))) (sym is)
+
+  pub none_at_end : {i : ℕ} {whole : List ℕ} → length xs ≤ i → whole ≡ flat_map f (drop i xs) → whole ≡ []
+  none_at_end {i} {whole} done left = left ∙ nothing_left i done
+
+  pub first_at_end : {i : ℕ} {whole : Option ℕ} {found : Option ℕ} → length xs ≤ i → whole ≡ or_first found (flat_map f (drop i xs)) → found ≡ whole
+  first_at_end {i} {whole} {found} done left = sym (left ∙ ap (or_first found) (nothing_left i done) ∙ or_first-nil found)
+
+  -- an item whose first offence is answered
+  pub error_here : {i : ℕ} (d : A) {whole : List ℕ} (e : QueryError) → i < length xs → whole ≡ flat_map f (drop i xs) → IsNameError (f (get_or xs i d)) e → IsNameError whole e
+  error_here {i} d {whole} e below left wrong =
+      subst (λ l. IsNameError l e) (sym (left ∙ left_here i d below)) (name_error_append (f (get_or xs i d)) (flat_map f (drop (i + 1) xs)) e wrong)

@@ -1,0 +1,89 @@
+-- Tables, columns and FROM entries by name (SQL-92 5.2, 6.3). Equality of names is that of texts after folding.
+use Rattle.std.specs.Prelude.{ℕ, Bool, if◌then◌else◌, List, [], ◌∷◌, ◌++◌, map, Option, option_map, option_and_then, unwrap_or, slice_get, is_none, position}
+use Rattle.std.specs.List.{list_any, flat_map}
+use Rattle.std.specs.Str.{bytes_eq}
+use Rattle.ll_grammars.specs.declared.lexeme.Lexeme.{Lexeme}
+use Rattle.sql_tokens.specs.Words.{name_of}
+use Rattle.query_grammar.specs.declared.tree.SourceText.{SourceText}
+use Rattle.query_grammar.specs.declared.tree.PartText.{PartText}
+use Rattle.query_grammar.specs.declared.tree.QueryText.{QueryText}
+use Rattle.schema_types.specs.declared.types.Table.{Table}
+use Rattle.schema_types.specs.declared.types.Schema.{Schema}
+use Rattle.query_names.specs.declared.scope.Entry.{Entry}
+use Rattle.query_names.specs.declared.scope.EntryColumn.{EntryColumn}
+use Rattle.query_types.specs.declared.types.Source.{Source}
+
+-- the number of a name in a list of names, counted from 0
+abbrev pub number_in : List (List ℕ) → List ℕ → Option ℕ
+number_in names name = position (bytes_eq name) names
+
+abbrev pub is_among : List (List ℕ) → List ℕ → Bool
+is_among names name = list_any (bytes_eq name) names
+
+abbrev pub table_names : Schema → List (List ℕ)
+table_names schema = map (λ table. table.name) schema.tables
+
+abbrev pub column_names : Table → List (List ℕ)
+column_names table = map (λ column. column.name) table.columns
+
+-- the column of this number in the table of an entry
+abbrev pub column_at : ℕ → Table → ℕ → Option EntryColumn
+column_at from table number =
+    option_map (λ column. record { from = from; column = number; kind = column.kind }) (slice_get table.columns number)
+
+abbrev pub column_named : ℕ → Table → List ℕ → Option EntryColumn
+column_named from table name = option_and_then (column_at from table) (number_in (column_names table) name)
+
+-- the column of this name in an entry's table, where there is one
+unfoldable pub column_in : Schema → List ℕ → Entry → Option EntryColumn
+column_in schema name entry = option_and_then (λ table. column_named entry.number table name) (slice_get schema.tables entry.table)
+
+-- ---- the FROM entries
+
+-- the sources in text order
+abbrev pub sources_of : PartText → List SourceText
+sources_of part = part.first ∷ map (λ join. join.source) part.joins
+
+abbrev pub sources : QueryText → List SourceText
+sources query = flat_map sources_of query.parts
+
+-- the token that names an entry: the second name, else the table's
+abbrev pub alias_token : SourceText → Lexeme
+alias_token source = unwrap_or source.alias source.table
+
+module _ (schema : Schema) (text : List ℕ) where
+  abbrev pub alias_of : SourceText → List ℕ
+  alias_of source = name_of text (alias_token source)
+
+  abbrev pub table_of : SourceText → Option ℕ
+  table_of source = number_in (table_names schema) (name_of text source.table)
+
+  abbrev pub entry_of : SourceText → Source
+  entry_of source = record { table = unwrap_or (table_of source) 0; alias = alias_of source }
+
+  -- the FROM entries, numbered from 0 in text order
+  unfoldable pub entries : QueryText → List Source
+  entries query = map entry_of (sources query)
+
+abbrev pub aliases : List Source → List (List ℕ)
+aliases from = map (λ source. source.alias) from
+
+-- ---- offences
+
+-- the place of a token, where it is wrong
+abbrev pub at : Bool → Lexeme → List ℕ
+at wrong token = if wrong then token.start ∷ [] else []
+
+module _ (schema : Schema) (text : List ℕ) where
+  -- an unknown table, at its name; then an alias that is equal to an earlier one
+  abbrev pub source_offences : List (List ℕ) → SourceText → List ℕ
+  source_offences earlier source =
+      at (is_none (table_of schema text source)) source.table ++ at (is_among earlier (alias_of schema text source)) (alias_token source)
+
+  abbrev pub offences_behind : List (List ℕ) → List SourceText → List ℕ
+  offences_behind earlier [] = []
+  offences_behind earlier (source ∷ rest) =
+      source_offences earlier source ++ offences_behind (earlier ++ alias_of schema text source ∷ []) rest
+
+  unfoldable pub from_offences : QueryText → List ℕ
+  from_offences query = offences_behind [] (sources query)

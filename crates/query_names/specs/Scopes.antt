@@ -1,0 +1,108 @@
+-- What a reference to a column stands for, and the entries that are in scope at each condition.
+use Rattle.std.specs.Prelude.{ℕ, ◌+◌, Bool, ◌&&◌, nat_le, nat_lt, if◌then◌else◌, List, [], ◌∷◌, ◌++◌, length, Option, Some, None, option_map, option_and_then, unwrap_or, slice_get, slice_range}
+use Rattle.std.specs.List.{filter_map, flat_map}
+use Rattle.ll_grammars.specs.declared.lexeme.Lexeme.{Lexeme}
+use Rattle.sql_tokens.specs.Words.{name_of}
+use Rattle.query_grammar.specs.declared.tree.ColumnText.{ColumnText}
+use Rattle.query_grammar.specs.declared.tree.CondText.{CondText, fold-CondText}
+use Rattle.query_grammar.specs.declared.tree.CondText.TheOpen.{CondText-F}
+use Rattle.query_grammar.specs.declared.tree.TestText.{TestText}
+use Rattle.query_grammar.specs.declared.tree.JoinText.{JoinText}
+use Rattle.query_grammar.specs.declared.tree.PartText.{PartText}
+use Rattle.query_grammar.specs.declared.tree.QueryText.{QueryText}
+use Rattle.schema_types.specs.declared.types.Schema.{Schema}
+use Rattle.query_names.specs.declared.scope.Entry.{Entry}
+use Rattle.query_names.specs.declared.scope.EntryColumn.{EntryColumn}
+use Rattle.query_names.specs.declared.scope.Scope.{Scope}
+use Rattle.query_types.specs.declared.types.Source.{Source}
+use Rattle.query_names.specs.Names.{number_in, column_in, aliases}
+
+-- ---- what a reference stands for (SQL-92 6.4)
+
+abbrev pub numbered : ℕ → List Source → List Entry
+numbered number [] = []
+numbered number (source ∷ rest) = record { number = number; table = source.table } ∷ numbered (number + 1) rest
+
+-- the entries in scope, with their numbers
+unfoldable pub in_scope : List Source → Scope → List Entry
+in_scope from scope = numbered scope.first (slice_range from scope.first scope.end)
+
+-- the only one of a list, where it has just one
+abbrev pub only : {A : Type 0} → List A → Option A
+only [] = None
+only (one ∷ []) = Some one
+only (one ∷ other ∷ rest) = None
+
+abbrev pub is_in : Scope → ℕ → Bool
+is_in scope number = nat_le scope.first number && nat_lt number scope.end
+
+-- the entry of this number, where it is in scope
+abbrev pub entry_at : List Source → Scope → ℕ → Option Entry
+entry_at from scope number =
+    if is_in scope number then option_map (λ source. record { number = number; table = source.table }) (slice_get from number) else None
+
+-- the entry of this alias, where it is in scope
+unfoldable pub entry_named : List Source → Scope → List ℕ → Option Entry
+entry_named from scope alias = option_and_then (entry_at from scope) (number_in (aliases from) alias)
+
+module _ (schema : Schema) (text : List ℕ) (from : List Source) (scope : Scope) where
+  -- a column alone: of the one entry in scope whose table has it
+  unfoldable pub column_alone : List ℕ → Option EntryColumn
+  column_alone name = only (filter_map (column_in schema name) (in_scope from scope))
+
+  -- an alias and a column: of the entry of that alias, whose table has to have it
+  abbrev pub column_of : List ℕ → List ℕ → Option EntryColumn
+  column_of alias name = option_and_then (column_in schema name) (entry_named from scope alias)
+
+  abbrev pub resolved : Option Lexeme → Lexeme → Option EntryColumn
+  resolved None column = column_alone (name_of text column)
+  resolved (Some table) column = column_of (name_of text table) (name_of text column)
+
+  -- what a reference stands for, where it stands for just one column
+  unfoldable pub resolve : ColumnText → Option EntryColumn
+  resolve reference = resolved reference.table reference.column
+
+-- the first token of a reference
+abbrev pub head_of : ColumnText → Lexeme
+head_of reference = unwrap_or reference.table reference.column
+
+-- ---- conditions and tests, each with the entries in scope there
+
+pub record Scoped : Type 0 where
+  pub scope : Scope
+  pub condition : CondText
+
+-- the conditions of a part's joins: the entries from the part's first one up to the one just joined are in scope
+abbrev pub joined : ℕ → ℕ → List JoinText → List Scoped
+joined first end [] = []
+joined first end (join ∷ rest) =
+    record { scope = record { first = first; end = end + 1 }; condition = join.on } ∷ joined first (end + 1) rest
+
+abbrev pub on_conditions : ℕ → List PartText → List Scoped
+on_conditions first [] = []
+on_conditions first (part ∷ rest) = joined first (first + 1) part.joins ++ on_conditions (first + 1 + length part.joins) rest
+
+-- all entries are in scope
+abbrev pub everything : List Source → Scope
+everything from = record { first = 0; end = length from }
+
+abbrev pub filtered : List Source → Option CondText → List Scoped
+filtered from None = []
+filtered from (Some condition) = record { scope = everything from; condition = condition } ∷ []
+
+-- the ON conditions in text order, then that of WHERE
+unfoldable pub conditions : List Source → QueryText → List Scoped
+conditions from query = on_conditions 0 query.parts ++ filtered from query.filter
+
+abbrev pub one_by_one : List (List TestText) → List TestText
+one_by_one lists = flat_map (λ list. list) lists
+
+abbrev pub tests_step : CondText-F (List TestText) → List TestText
+tests_step (CondText-F.And members) = one_by_one members
+tests_step (CondText-F.Or members) = one_by_one members
+tests_step (CondText-F.Not member) = member
+tests_step (CondText-F.Test test) = test ∷ []
+
+-- the tests of a condition in text order
+abbrev pub tests : CondText → List TestText
+tests = fold-CondText (List TestText) tests_step

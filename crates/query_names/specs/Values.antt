@@ -1,0 +1,148 @@
+-- The query that a syntax tree means.
+use Rattle.std.specs.Prelude.{ℕ, ◌+◌, Bool, true, false, List, [], ◌∷◌, map, Option, Some, None, unwrap_or, slice_get}
+use Rattle.std.specs.List.{flat_map}
+use Rattle.sql_tokens.specs.Words.{name_of, literal_of}
+use Rattle.query_grammar.specs.declared.tree.Op.{Op}
+use Rattle.query_grammar.specs.declared.tree.Op.TheVariants as op
+use Rattle.query_grammar.specs.declared.tree.LiteralText.{LiteralText}
+use Rattle.query_grammar.specs.declared.tree.LiteralText.TheVariants as literal
+use Rattle.query_grammar.specs.declared.tree.OperandText.{OperandText}
+use Rattle.query_grammar.specs.declared.tree.OperandText.TheVariants as operand
+use Rattle.query_grammar.specs.declared.tree.TestText.{TestText}
+use Rattle.query_grammar.specs.declared.tree.TestText.TheVariants as test
+use Rattle.query_grammar.specs.declared.tree.CondText.{CondText, fold-CondText}
+use Rattle.query_grammar.specs.declared.tree.CondText.TheOpen.{CondText-F}
+use Rattle.query_grammar.specs.declared.tree.OutText.{OutText}
+use Rattle.query_grammar.specs.declared.tree.OutText.TheVariants as out
+use Rattle.query_grammar.specs.declared.tree.OutsText.{OutsText}
+use Rattle.query_grammar.specs.declared.tree.OutsText.TheVariants as outs
+use Rattle.query_grammar.specs.declared.tree.QueryText.{QueryText}
+use Rattle.schema_types.specs.declared.types.Column.{Column}
+use Rattle.schema_types.specs.declared.types.Table.{Table}
+use Rattle.schema_types.specs.declared.types.Schema.{Schema}
+use Rattle.query_names.specs.declared.scope.Entry.{Entry}
+use Rattle.query_names.specs.declared.scope.EntryColumn.{EntryColumn}
+use Rattle.query_names.specs.declared.scope.Scope.{Scope}
+use Rattle.query_types.specs.declared.types.ColumnRef.{ColumnRef}
+use Rattle.query_types.specs.declared.types.Operand.{Operand}
+use Rattle.query_types.specs.declared.types.Operand.TheVariants as value
+use Rattle.query_types.specs.declared.types.Cond.{Cond}
+use Rattle.query_types.specs.declared.types.Cond.TheVariants as cond
+use Rattle.query_types.specs.declared.types.Source.{Source}
+use Rattle.query_types.specs.declared.types.Out.{Out}
+use Rattle.query_types.specs.declared.types.Query.{Query}
+use Rattle.query_names.specs.Names.{entries}
+use Rattle.query_names.specs.Scopes.{resolve, entry_named, in_scope, everything, Scoped, conditions}
+use Rattle.query_names.specs.Numbers.{number_value}
+use Rattle.query_names.specs.Offences.{of_literal}
+
+-- a condition, and its members: where it is an AND the members of its operands, else the condition itself
+pub record Meaning : Type 0 where
+  pub whole : Cond
+  pub members : List Cond
+
+abbrev pub alone : Cond → Meaning
+alone c = record { whole = c; members = c ∷ [] }
+
+abbrev pub wholes : List Meaning → List Cond
+wholes parts = map (λ part. part.whole) parts
+
+abbrev pub all_of : List Meaning → Meaning
+all_of parts = record { whole = cond.And (wholes parts); members = flat_map (λ part. part.members) parts }
+
+abbrev pub negated_where : Bool → Meaning → Meaning
+negated_where true m = alone (cond.Not m.whole)
+negated_where false m = m
+
+-- one condition, or the OR of several
+abbrev pub any_of : List Cond → Meaning
+any_of [] = alone (cond.Or [])
+any_of (one ∷ []) = alone one
+any_of (one ∷ other ∷ rest) = alone (cond.Or (one ∷ other ∷ rest))
+
+-- what a reference stands for
+abbrev pub reference_to : Option EntryColumn → ColumnRef
+reference_to None = record { from = 0; column = 0 }
+reference_to (Some column) = record { from = column.from; column = column.column }
+
+abbrev pub literal_value : List ℕ → LiteralText → Operand
+literal_value text (literal.Number sign digits) = value.Int (number_value text sign digits)
+literal_value text (literal.Text token) = value.Text (literal_of text token)
+
+module _ (schema : Schema) (text : List ℕ) (from : List Source) (scope : Scope) where
+  abbrev pub operand_value : OperandText → Operand
+  operand_value (operand.Column reference) = value.Column (reference_to (resolve schema text from scope reference))
+  operand_value (operand.Literal l) = literal_value text l
+
+  abbrev pub comparison : Op → OperandText → OperandText → Cond
+  comparison how left right = cond.Compare how (operand_value left) (operand_value right)
+
+  abbrev pub equality : OperandText → LiteralText → Cond
+  equality left l = comparison op.Eq left (of_literal l)
+
+  -- BETWEEN is AND of >= and <=, IN is OR of the equalities; NOT before them is NOT of that
+  abbrev pub test_meaning : TestText → Meaning
+  test_meaning (test.Compare left how right) = alone (comparison how left right)
+  test_meaning (test.Between left negated low high) =
+      negated_where negated (all_of (alone (comparison op.Ge left low) ∷ alone (comparison op.Le left high) ∷ []))
+  test_meaning (test.In left negated values) = negated_where negated (any_of (map (equality left) values))
+
+  abbrev pub meaning_step : CondText-F Meaning → Meaning
+  meaning_step (CondText-F.And members) = all_of members
+  meaning_step (CondText-F.Or members) = alone (cond.Or (wholes members))
+  meaning_step (CondText-F.Not member) = alone (cond.Not member.whole)
+  meaning_step (CondText-F.Test t) = test_meaning t
+
+  -- what a condition's text means
+  abbrev pub meaning : CondText → Meaning
+  meaning = fold-CondText Meaning meaning_step
+
+module _ (schema : Schema) (text : List ℕ) (from : List Source) where
+  abbrev pub members_in : Scoped → List Cond
+  members_in c = (meaning schema text from c.scope c.condition).members
+
+  -- the members of the ON conditions in text order, then those of WHERE
+  unfoldable pub conjuncts : QueryText → List Cond
+  conjuncts query = flat_map members_in (conditions from query)
+
+-- ---- outputs (SQL-92 7.9)
+
+abbrev pub outs_from : ℕ → ℕ → List Column → List Out
+outs_from entry number [] = []
+outs_from entry number (column ∷ rest) =
+    record { column = record { from = entry; column = number }; name = column.name } ∷ outs_from entry (number + 1) rest
+
+abbrev pub outs_of_table : ℕ → Option Table → List Out
+outs_of_table entry None = []
+outs_of_table entry (Some table) = outs_from entry 0 table.columns
+
+-- all columns of an entry, in declared order
+unfoldable pub outs_of_entry : Schema → Entry → List Out
+outs_of_entry schema entry = outs_of_table entry.number (slice_get schema.tables entry.table)
+
+abbrev pub outs_of_found : Schema → Option Entry → List Out
+outs_of_found schema None = []
+outs_of_found schema (Some entry) = outs_of_entry schema entry
+
+module _ (schema : Schema) (text : List ℕ) (from : List Source) where
+  -- a column's name is the name after it, else its own
+  abbrev pub outs_of : OutText → List Out
+  outs_of (out.All alias) = outs_of_found schema (entry_named from (everything from) (name_of text alias))
+  outs_of (out.Column reference name) =
+      record {
+        column = reference_to (resolve schema text from (everything from) reference);
+        name = name_of text (unwrap_or name reference.column);
+      } ∷ []
+
+  -- * is all columns of all entries in order
+  abbrev pub selected : OutsText → List Out
+  selected outs.All = flat_map (outs_of_entry schema) (in_scope from (everything from))
+  selected (outs.Listed list) = flat_map outs_of list
+
+-- the query that a syntax tree means, where no name and no kind is wrong
+unfoldable pub query_of : Schema → List ℕ → QueryText → Query
+query_of schema text query = record {
+  from = entries schema text query;
+  conjuncts = conjuncts schema text (entries schema text query) query;
+  select = selected schema text (entries schema text query) query.outs;
+}

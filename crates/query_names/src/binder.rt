@@ -1,0 +1,147 @@
+//! What references to columns stand for.
+ghost use Rattle.std.specs.Prelude.{◌≡◌, ◌≤◌, ◌<◌, ◌+◌, IfOk, length, ◌==◌, count_by, option_map, slice_get};
+ghost use Rattle.sql_tokens.specs.Words.{IsLexemeOf};
+ghost use Rattle.query_names.specs.Scopes.{only, entry_named, in_scope, everything, column_of};
+ghost use Rattle.query_grammar.specs.Lexemes.{IsColumnOf};
+ghost use Rattle.query_names.specs.Binding.{schema_of, from_of, columns_in, Shows, resolved_by};
+
+use crate::catalog::Catalog;
+use crate::scope::{Entry, EntryColumn, Scope, Visible};
+use crate::sources::Entries;
+use base_io::{NoMemory, Seq};
+use query_grammar::ColumnText;
+use schema_types::Table;
+use sql_tokens::name;
+use std::alloc::Global;
+
+/// What is needed to bind names: the schema, the text and the FROM entries.
+#[derive(Drop)]
+pub struct Binder<'a> {
+    pub alloc: Global,
+    pub catalog: &'a Catalog<'a>,
+    pub text: &'a [u8],
+    pub entries: &'a Entries,
+}
+
+/// How many of these entries are of this table.
+fn count_of(entries: &[Entry], table: u32) -> usize
+    ensures { result ≡ count_by (λ entry. entry.table == table) entries.now }
+{
+    entries.iter().filter(|entry| entry.table == table).count()
+}
+
+impl<'a> Binder<'a> {
+    /// The only column of this name of some entries.
+    fn column_alone(&self, brief: &[Entry], name: &str) -> Option<EntryColumn>
+        ensures { result ≡ only (columns_in (schema_of self.now) name.now brief.now) }
+    {
+        let mut found = None;
+        'all: for entry in brief {
+            if let Some(column) = self.catalog.column(name, *entry) {
+                if found.is_some() {
+                    return None;
+                }
+                found = Some(column);
+            }
+        }
+        found
+    }
+
+    /// The entry of this alias, where it is in scope.
+    #[tactic(auto, unfolding(crate::specs::Scopes::entry_named))]
+    pub fn entry_named(&self, scope: Scope, alias: &str) -> Option<Entry>
+        ensures { result ≡ entry_named (from_of self.now) scope alias.now }
+    {
+        let number = self.entries.aliases.get(alias)?;
+        if scope.first <= number && number < scope.end {
+            let source = self.entries.sources.as_slice().get(number)?;
+            Some(Entry {
+                number,
+                table: source.table,
+            })
+        } else {
+            None
+        }
+    }
+
+    fn column_of(&self, scope: Scope, alias: &str, column: &str) -> Option<EntryColumn>
+        ensures { result ≡ column_of (schema_of self.now) self.now.text.now (from_of self.now) scope alias.now column.now }
+    {
+        let entry = self.entry_named(scope, alias)?;
+        self.catalog.column(column, entry)
+    }
+
+    /// What a reference stands for, where it stands for just one column.
+    #[tactic(auto, unfolding(crate::specs::Scopes::resolve, crate::specs::Scopes::column_alone))]
+    pub fn resolve(
+        &self,
+        visible: &Visible,
+        reference: &ColumnText,
+    ) -> Result<Option<EntryColumn>, NoMemory>
+        requires shows { Shows self.now visible.now }
+        requires tokens { IsColumnOf (IsLexemeOf self.now.text.now) reference.now }
+        ensures { IfOk result (λ found. found ≡ resolved_by self.now visible.now.scope reference.now) }
+    {
+        let column = name(self.alloc, self.text, &reference.column)?;
+        match &reference.table {
+            None => Ok(self.column_alone(visible.brief.as_slice(), column.as_str())),
+            Some(table) => {
+                let alias = name(self.alloc, self.text, table)?;
+                Ok(self.column_of(visible.scope, alias.as_str(), column.as_str()))
+            }
+        }
+    }
+
+    /// No entries in scope, before the one of this number.
+    #[tactic(auto, using(crate::proofs::ScopeFacts::none_shown))]
+    pub fn none_visible(&self, first: usize) -> Visible
+        ensures shows { Shows self.now result }
+        ensures scope { result.scope ≡ record { first = first; end = first } }
+    {
+        Visible {
+            scope: Scope { first, end: first },
+            brief: Seq::new(self.alloc),
+        }
+    }
+
+    /// Brings the next entry into scope.
+    #[tactic(auto, using(crate::proofs::ScopeFacts::one_more_shown, crate::proofs::ScopeFacts::third_not_shown))]
+    pub fn admit(&self, visible: &mut Visible) -> Result<(), NoMemory>
+        requires shows { Shows self.now visible.old }
+        requires begins { visible.old.scope.first ≤ visible.old.scope.end }
+        requires ends { visible.old.scope.end < length (from_of self.now) }
+        ensures shows { IfOk result (λ _. Shows self.now visible.new) }
+        ensures scope { IfOk result (λ _. visible.new.scope ≡ record { first = visible.old.scope.first; end = visible.old.scope.end + 1 }) }
+    {
+        let number = visible.scope.end;
+        let table = self.entries.sources.as_slice()[number].table;
+        if count_of(visible.brief.as_slice(), table) < 2 {
+            visible.brief.push(Entry { number, table })?;
+        }
+        visible.scope.end = number + 1;
+        Ok(())
+    }
+
+    /// The table of an entry.
+    pub fn table_at(&self, entry: Entry) -> Option<&Table>
+        ensures { option_map (λ table. table.now) result ≡ slice_get (schema_of self.now).tables entry.table }
+    {
+        self.catalog
+            .schema()
+            .tables
+            .as_slice()
+            .get(entry.table as usize)
+    }
+
+    /// All entries in scope.
+    pub fn all_visible(&self) -> Result<Visible, NoMemory>
+        ensures shows { IfOk result (λ visible. Shows self.now visible) }
+        ensures scope { IfOk result (λ visible. visible.scope ≡ everything (from_of self.now)) }
+    {
+        let mut visible = self.none_visible(0);
+        'all: for _ in 0..self.entries.sources.len() {
+            self.admit(&mut visible)?;
+        }
+        Ok(visible)
+    }
+}

@@ -1,0 +1,116 @@
+//! A schema's tables and columns by name.
+ghost use Rattle.std.specs.Prelude.{◌≡◌, IfOk, ◌<◌, ◌≤◌, length, map};
+ghost use Rattle.schema_types.specs.Validity.{IsValid, IsValidTable};
+ghost use Rattle.query_names.specs.Names.{table_names, column_names, column_named, column_in, number_in};
+
+use crate::name_numbers::NameNumbers;
+use crate::scope::{Entry, EntryColumn};
+use base_io::{NoMemory, Seq};
+use schema_types::{Schema, Table};
+use std::alloc::Global;
+
+/// A table, with its columns by name.
+#[derive(Drop)]
+pub struct Listed<'a> {
+    pub table: &'a Table,
+    pub columns: NameNumbers,
+    ghost few: { length table.now.columns ≤ 64 },
+    ghost named: { columns ≡ column_names table.now },
+}
+
+/// A schema, with its tables and the columns of each by name.
+#[derive(Drop)]
+pub struct Catalog<'a> {
+    pub schema: &'a Schema,
+    names: NameNumbers,
+    tables: Seq<Listed<'a>>,
+    ghost few: { length schema.now.tables ≤ 64 },
+    ghost named: { names ≡ table_names schema.now },
+    ghost listed: { map (λ listed. listed.table.now) tables ≡ schema.now.tables },
+}
+
+impl<'a> Listed<'a> {
+    pub fn new(alloc: Global, table: &'a Table) -> Result<Listed<'a>, NoMemory>
+        requires { IsValidTable table.now }
+        ensures { IfOk result (λ listed. listed.table.now ≡ table.now) }
+    {
+        let mut columns = NameNumbers::new(alloc);
+        'all: for column in table.columns.as_slice() {
+            let _ = columns.add(alloc, column.name.as_str())?;
+        }
+        Ok(Listed { table, columns })
+    }
+
+    /// The column of this name, in an entry of the table.
+    pub fn column(&self, from: usize, name: &str) -> Option<EntryColumn>
+        ensures { result ≡ column_named from self.now.table.now name.now }
+    {
+        let number = self.columns.get(name)?;
+        let column = self.table.columns.as_slice().get(number)?;
+        Some(EntryColumn {
+            from,
+            column: number as u32,
+            kind: column.kind,
+        })
+    }
+}
+
+fn table_numbers(alloc: Global, schema: &Schema) -> Result<NameNumbers, NoMemory>
+    requires { IsValid schema.now }
+    ensures { IfOk result (λ numbers. numbers ≡ table_names schema.now) }
+{
+    let mut numbers = NameNumbers::new(alloc);
+    'all: for table in schema.tables.as_slice() {
+        let _ = numbers.add(alloc, table.name.as_str())?;
+    }
+    Ok(numbers)
+}
+
+fn all_listed<'a>(alloc: Global, schema: &'a Schema) -> Result<Seq<Listed<'a>>, NoMemory>
+    requires { IsValid schema.now }
+    ensures { IfOk result (λ found. map (λ listed. listed.table.now) found ≡ schema.now.tables) }
+{
+    let mut found = Seq::new(alloc);
+    'all: for table in schema.tables.as_slice() {
+        found.push(Listed::new(alloc, table)?)?;
+    }
+    Ok(found)
+}
+
+impl<'a> Catalog<'a> {
+    pub fn new(alloc: Global, schema: &'a Schema) -> Result<Catalog<'a>, NoMemory>
+        requires { IsValid schema.now }
+        ensures { IfOk result (λ catalog. catalog.schema.now ≡ schema.now) }
+    {
+        let names = table_numbers(alloc, schema)?;
+        let tables = all_listed(alloc, schema)?;
+        Ok(Catalog {
+            schema,
+            names,
+            tables,
+        })
+    }
+
+    pub fn schema(&self) -> &'a Schema
+        ensures { result.now ≡ self.now.schema.now }
+    {
+        self.schema
+    }
+
+    /// The number of the table of this name.
+    pub fn table(&self, name: &str) -> Option<u32>
+        ensures { result ≡ number_in (table_names self.now.schema.now) name.now }
+    {
+        let number = self.names.get(name)?;
+        Some(number as u32)
+    }
+
+    /// The column of this name in an entry's table.
+    #[tactic(auto, unfolding(crate::specs::Names::column_in))]
+    pub fn column(&self, name: &str, entry: Entry) -> Option<EntryColumn>
+        ensures { result ≡ column_in self.now.schema.now name.now entry }
+    {
+        let listed = self.tables.as_slice().get(entry.table as usize)?;
+        listed.column(entry.number, name)
+    }
+}

@@ -1,0 +1,104 @@
+//! The FROM entries of a query text.
+ghost use Rattle.std.specs.Prelude.{◌≡◌, [], ◌∷◌, ◌++◌, All, IfOk, IfErr, map};
+ghost use Rattle.std.specs.List.{flat_map};
+ghost use Rattle.sql_tokens.specs.Words.{IsLexemeOf, name_of};
+ghost use Rattle.query_names.specs.Names.{sources_of, alias_token, entry_of, source_offences, offences_behind};
+ghost use Rattle.query_grammar.specs.Lexemes.{IsSourceOf};
+ghost use Rattle.query_names.specs.Answers.{IsNameError};
+
+use crate::QueryError;
+use crate::catalog::Catalog;
+use crate::name_numbers::NameNumbers;
+use base_io::{NoMemory, Seq};
+use ll_grammars::Lexeme;
+use query_grammar::{PartText, SourceText};
+use query_types::Source;
+use sql_tokens::name;
+use std::alloc::Global;
+
+/// The FROM entries in text order, with their aliases by name.
+#[derive(Drop)]
+pub struct Entries {
+    pub sources: Seq<Source>,
+    pub aliases: NameNumbers,
+    ghost named: { aliases ≡ map (λ source. source.alias) sources },
+}
+
+fn add_sources(found: &mut Seq<SourceText>, part: &PartText) -> Result<(), NoMemory>
+    ensures { IfOk result (λ _. found.new ≡ found.old ++ sources_of part.now) }
+{
+    found.push(part.first)?;
+    'all: for join in part.joins.as_slice() {
+        found.push(join.source)?;
+    }
+    Ok(())
+}
+
+/// The sources of FROM in text order.
+pub fn all_sources(alloc: Global, parts: &[PartText]) -> Result<Seq<SourceText>, NoMemory>
+    ensures { IfOk result (λ found. found ≡ flat_map sources_of parts.now) }
+{
+    let mut found = Seq::new(alloc);
+    'all: for part in parts {
+        add_sources(&mut found, part)?;
+    }
+    Ok(found)
+}
+
+/// The token that names an entry.
+fn alias_token(source: &SourceText) -> Lexeme
+    ensures { result ≡ alias_token source.now }
+{
+    source.alias.unwrap_or(source.table)
+}
+
+/// The entry of a source, behind entries with these aliases.
+fn entry(
+    alloc: Global,
+    catalog: &Catalog<'_>,
+    text: &[u8],
+    aliases: &mut NameNumbers,
+    source: &SourceText,
+) -> Result<Source, QueryError>
+    requires { IsSourceOf (IsLexemeOf text.now) source.now }
+    ensures ok { IfOk result (λ found. (found ≡ entry_of catalog.now.schema.now text.now source.now)
+        × (aliases.new ≡ aliases.old ++ found.alias ∷ []) × (source_offences catalog.now.schema.now text.now aliases.old source.now ≡ [])) }
+    ensures err { IfErr result (IsNameError (source_offences catalog.now.schema.now text.now aliases.old source.now)) }
+{
+    let table_name = name(alloc, text, &source.table)?;
+    let Some(table) = catalog.table(table_name.as_str()) else {
+        return Err(QueryError::Name {
+            at: source.table.start,
+        });
+    };
+    let token = alias_token(source);
+    let alias = name(alloc, text, &token)?;
+    if !aliases.add(alloc, alias.as_str())? {
+        return Err(QueryError::Name { at: token.start });
+    }
+    Ok(Source { table, alias })
+}
+
+/// The FROM entries, or the first offence against names among them.
+pub fn read_entries(
+    alloc: Global,
+    catalog: &Catalog<'_>,
+    text: &[u8],
+    sources: &[SourceText],
+) -> Result<Entries, QueryError>
+    requires { All (IsSourceOf (IsLexemeOf text.now)) sources.now }
+    ensures ok { IfOk result (λ found. (found.sources ≡ map (entry_of catalog.now.schema.now text.now) sources.now)
+        × (offences_behind catalog.now.schema.now text.now [] sources.now ≡ [])) }
+    ensures err { IfErr result (IsNameError (offences_behind catalog.now.schema.now text.now [] sources.now)) }
+{
+    let mut found = Seq::new(alloc);
+    let mut aliases = NameNumbers::new(alloc);
+    'all: for source in sources {
+        let one = entry(alloc, catalog, text, &mut aliases, source)?;
+        found.push(one)?;
+    }
+    Ok(Entries {
+        sources: found,
+        aliases,
+    })
+}

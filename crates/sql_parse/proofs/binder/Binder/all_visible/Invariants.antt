@@ -1,6 +1,0 @@
-use Rattle.std.proofs.Common.{◌≡◌}
-use Rattle.sql_parse.specs.Binding.{Shows}
-use Rattle.sql_parse.proofs.binder.Binder.all_visible.Given as goal
-
-abbrev pub invariant-all : goal.invariant-all
-invariant-all l = record { shown : Shows l.self l.visible; here : l.visible.scope ≡ record { first = 0; end = l.counter } }

@@ -1,7 +1,0 @@
-use Rattle.std.proofs.Common.{◌≡◌, ◌++◌, drop}
-use Rattle.sql_parse.specs.Binding.{schema_of, columns_in}
-use Rattle.sql_parse.proofs.ScopeFacts.{as_list}
-use Rattle.sql_parse.proofs.binder.Binder.column_alone.Given as goal
-
-abbrev pub invariant-all : goal.invariant-all
-invariant-all l = columns_in (schema_of l.self) l.name l.brief ≡ as_list l.found ++ columns_in (schema_of l.self) l.name (drop l.entry-index l.brief)

@@ -1,6 +1,0 @@
-use Rattle.std.proofs.Common.{◌≡◌, take}
-use Rattle.sql_parse.specs.Names.{table_names}
-use Rattle.sql_parse.proofs.catalog.table_numbers.Given as goal
-
-abbrev pub invariant-all : goal.invariant-all
-invariant-all l = l.numbers ≡ take l.table-index (table_names l.schema)

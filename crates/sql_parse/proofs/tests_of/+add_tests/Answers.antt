@@ -1,5 +1,0 @@
-use Rattle.sql_parse.proofs.TestFacts.{all_tests}
-use Rattle.sql_parse.proofs.tests_of.+add_tests.Goals as goal
-
-pub returns-after-all : goal.returns-after-all
-returns-after-all t c = all_tests c.in-And.members _ c.in-And.is c.as_slice-member-items.ensures c.all-test.false c.all.invariant
