@@ -71,7 +71,8 @@ once_if holds = if holds then 1 else 0
 -- how often a condition stands in a part: as an equality, for each of so many FROM entries, and among the others
 abbrev pub places_in_parts : ℕ → Cond → ℕ
 places_in_parts entries cond =
-    once_if (is_some (equality_of cond)) + length (filter (λ entry. names_just entry cond) (range_with_len 0 entries)) + once_if (is_residual cond)
+    once_if (is_some (equality_of cond)) + length (filter (λ entry. names_just entry cond) (range_with_len 0 entries))
+    + once_if (is_residual cond)
 
 -- the numbers, from a first one on, of the conditions that pass a test
 abbrev pub numbers_where : {A : Type 0} → (A → Bool) → ℕ → List A → List ℕ

@@ -39,9 +39,11 @@ AreConnected es a b = (side : ℕ → Bool) → AllByRecursion (λ e. side e.lef
 -- of equalities in an order, each is kept whose two entries aren't yet connected by kept ones: `kept` after those kept earlier
 pub data KeepsAfter : List Edge → List Edge → List Edge → Type 0 where
   at_end : (earlier : List Edge) → KeepsAfter earlier [] []
-  keeps : (earlier : List Edge) (e : Edge) (es kept : List Edge) → AreApart earlier e.left.entry e.right.entry → KeepsAfter (e ∷ earlier) es kept
+  keeps : (earlier : List Edge) (e : Edge) (es kept : List Edge) → AreApart earlier e.left.entry e.right.entry
+      → KeepsAfter (e ∷ earlier) es kept
       → KeepsAfter earlier (e ∷ es) (e ∷ kept)
-  leaves_out : (earlier : List Edge) (e : Edge) (es kept : List Edge) → AreConnected earlier e.left.entry e.right.entry → KeepsAfter earlier es kept
+  leaves_out : (earlier : List Edge) (e : Edge) (es kept : List Edge) → AreConnected earlier e.left.entry e.right.entry
+      → KeepsAfter earlier es kept
       → KeepsAfter earlier (e ∷ es) kept
 
 abbrev pub Keeps : List Edge → List Edge → Type 0

@@ -116,7 +116,8 @@ fn consider_all(
     Ok(())
 }
 
-/// The equalities that a set of entries keeps in a turn: of those of two of its entries, begun at element `turn` and gone round, each one whose two entries aren't yet connected by kept ones.
+/// The equalities that a set of entries keeps in a turn: of those of two of its entries, begun at element `turn` and gone round, each one
+/// whose two entries aren't yet connected by kept ones.
 ///
 /// `rooted` may be called on the answer with this set.
 pub fn kept(

@@ -1,8 +1,10 @@
 //! The join graph. From the conjuncts of a query to the equalities that a set of its entries keeps for a bound.
 //!
-//! In: a query. Out: its conjuncts in parts, by `split`, and for a set of entries and a turn the equalities that close no cycle, by `kept`; `rooted` makes join trees of them. A turn is below `turns`; each begins at another equality.
+//! In: a query. Out: its conjuncts in parts, by `split`, and for a set of entries and a turn the equalities that close no cycle, by `kept`;
+//! `rooted` makes join trees of them. A turn is below `turns`; each begins at another equality.
 //!
-//! Callers cite `local_of`, `equalities_of` and `residual_of` for the parts, `turn_count` and `kept_of` for what a set keeps, and `Keeps` for what that means.
+//! Callers cite `local_of`, `equalities_of` and `residual_of` for the parts, `turn_count` and `kept_of` for what a set keeps, and `Keeps`
+//! for what that means.
 #![tactic(auto)]
 
 mod keeping;

@@ -112,7 +112,8 @@ fn numbers_in(alloc: Global, parts: &[Part], part: Part) -> Result<Seq<u32>, NoM
 // For each FROM entry, the numbers of the conjuncts in its part.
 fn numbers_by_entry(alloc: Global, parts: &[Part], entries: u8) -> Result<Seq<Seq<u32>>, NoMemory>
     requires { length parts.now < 2 ^ 32 }
-    ensures { IfOk result (λ lists. lists ≡ map (λ entry. numbers_where (is_alike (part.Local entry)) 0 parts.now) (range_with_len 0 entries)) }
+    ensures { IfOk result
+        (λ lists. lists ≡ map (λ entry. numbers_where (is_alike (part.Local entry)) 0 parts.now) (range_with_len 0 entries)) }
 {
     let mut lists = Seq::new(alloc);
     for entry in 0..entries {

@@ -5,10 +5,11 @@ use Rattle.std.specs.List.{AllZip}
 use Rattle.std.proofs.lemmas.List.{get_or_default}
 use Rattle.std.proofs.lemmas.List.Elements.{All-from_recursion}
 use Rattle.plans.specs.declared.left_deep.Plan.{Plan}
+use Rattle.plans.specs.LeftDeep.{IsPlan}
 use Rattle.csv_tables.specs.declared.types.Database.{Database}
 use Rattle.query_types.specs.declared.types.Query.{Query}
 use Rattle.sql_meaning.specs.Databases.{IsDatabaseOf}
-use Rattle.sql_meaning.specs.Tables.{tables_of}
+use Rattle.sql_meaning.specs.Tables.{row_counts, tables_of}
 use Rattle.join_steps.specs.Lists.{IsOrderOf}
 use Rattle.reserve_plan.specs.declared.reserved.Reserved.{Reserved}
 use Rattle.reserve_plan.specs.Rooms.{rooms, HasRooms}
@@ -19,22 +20,47 @@ use Rattle.planned_joins.specs.PlansOf.{HaveFewRows, IsPlanOf, IsReadyFor}
 
 -- ---- lists of numbers, one by one
 
-zip_each : (ns ms : List ℕ) → length ns ≡ length ms → ((i : ℕ) → i < length ns → get_or ns i 0 ≤ get_or ms i 0)
+pub zip_each : (ns ms : List ℕ) → length ns ≡ length ms → ((i : ℕ) → i < length ns → get_or ns i 0 ≤ get_or ms i 0)
     → AllZip ◌≤◌ ns ms
 zip_each [] [] long each = tt
 zip_each [] (m ∷ ms) long each = absurd (omega arith)
 zip_each (n ∷ ns) [] long each = absurd (omega arith)
 zip_each (n ∷ ns) (m ∷ ms) long each = (each 0 (omega arith), zip_each ns ms (omega arith) (λ i low. each (suc i) (omega arith)))
 
-all_at_most : (most : ℕ) (ns : List ℕ) → ((i : ℕ) → i < length ns → get_or ns i 0 ≤ most) → All (λ n. n ≤ most) ns
+pub all_at_most : (most : ℕ) (ns : List ℕ) → ((i : ℕ) → i < length ns → get_or ns i 0 ≤ most) → All (λ n. n ≤ most) ns
 all_at_most most ns each i d low = subst (λ (n : ℕ). n ≤ most) (get_or_default ns i 0 d low) (each i low)
+
+-- ---- a plan for the entries of a query
+
+module _ (query : Query) (db : Database) (plan : Plan) (shape : IsPlan (length query.from) plan) where
+  pub order_of : IsOrderOf query plan.order
+  order_of = record { entries = shape.order.entries; once = shape.order.once; all = shape.order.all }
+
+  pub some_entry : IsDatabaseOf query db → 0 < length plan.order
+  some_entry database = omega (arith, database.some, shape.order.all)
+
+  pub few_levels : IsDatabaseOf query db → length plan.levels ≤ 12
+  few_levels database = omega (arith, database.few, shape.levels)
+
+  pub entries_have_scans : All (λ entry. entry < length plan.scans) plan.order
+  entries_have_scans k d low =
+      let named : get_or plan.order k d < length query.from =
+      All-from_recursion (λ entry. entry < length query.from) plan.order shape.order.entries k d low in
+      omega (arith, named, shape.scans)
+
+  pub small_scans : ((entry : ℕ) → entry < length query.from → get_or plan.scans entry 0 ≤ row_counts (tables_of db) entry)
+      → HaveFewRows (tables_of db) (length query.from) → All (λ rows. rows ≤ 4000000) plan.scans
+  small_scans within_tables few = all_at_most 4000000 plan.scans
+      (λ entry low.
+      let within : entry < length query.from = omega (arith, low, shape.scans) in
+      omega (arith, within_tables entry within, few entry within))
+
+  pub small_levels : ((k : ℕ) → k < length query.from → get_or plan.levels k 0 ≤ 20000000) → All (λ rows. rows ≤ 20000000) plan.levels
+  small_levels within_budget = all_at_most 20000000 plan.levels (λ k low. within_budget k (omega (arith, low, shape.levels)))
 
 -- ---- a plan of a query
 
 module _ (query : Query) (db : Database) (plan : Plan) (is : IsPlanOf query (tables_of db) plan) where
-  pub order_of : IsOrderOf query plan.order
-  order_of = record { entries = is.for_each_entry.order.entries; once = is.for_each_entry.order.once; all = is.for_each_entry.order.all }
-
   scans_fit : AllZip ◌≤◌ (scan_sizes query db) plan.scans
   scans_fit = zip_each (scan_sizes query db) plan.scans (scan_count query db ∙ sym is.for_each_entry.scans)
       (λ entry low.
@@ -55,27 +81,6 @@ module _ (query : Query) (db : Database) (plan : Plan) (is : IsPlanOf query (tab
   ready reserved has =
       less_room plan.order (scan_sizes query db) (level_sizes query db plan.order) plan.scans plan.levels reserved
       scans_fit levels_fit has
-
-  pub some_entry : IsDatabaseOf query db → 0 < length plan.order
-  some_entry database = omega (arith, database.some, is.for_each_entry.order.all)
-
-  pub few_levels : IsDatabaseOf query db → length plan.levels ≤ 12
-  few_levels database = omega (arith, database.few, is.for_each_entry.levels)
-
-  pub entries_have_scans : All (λ entry. entry < length plan.scans) plan.order
-  entries_have_scans k d low =
-      let named : get_or plan.order k d < length query.from =
-      All-from_recursion (λ entry. entry < length query.from) plan.order is.for_each_entry.order.entries k d low in
-      omega (arith, named, is.for_each_entry.scans)
-
-  pub small_scans : HaveFewRows (tables_of db) (length query.from) → All (λ rows. rows ≤ 4000000) plan.scans
-  small_scans few = all_at_most 4000000 plan.scans
-      (λ entry low.
-      let within : entry < length query.from = omega (arith, low, is.for_each_entry.scans) in
-      omega (arith, is.within_tables entry within, few entry within))
-
-  pub small_levels : All (λ rows. rows ≤ 20000000) plan.levels
-  small_levels = all_at_most 20000000 plan.levels (λ k low. is.within_budget k (omega (arith, low, is.for_each_entry.levels)))
 
   -- the levels themselves are no larger
   pub few_in_levels : All (λ rows. rows ≤ 20000000) (level_sizes query db plan.order)

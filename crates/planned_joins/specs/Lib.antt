@@ -1,1 +1,2 @@
 pub mod PlansOf
+pub mod PlansOver

@@ -1,5 +1,6 @@
 //! The execution of a plan.
 ghost use Rattle.std.specs.Prelude.{◌≡◌, ℕ, ◌+◌, ◌<◌, ◌≤◌, length};
+ghost use Rattle.limits.specs.Profile.{most_conjuncts};
 ghost use Rattle.link_index.specs.Forest.{rows_at};
 ghost use Rattle.sql_meaning.specs.Databases.{IsDatabaseOf};
 ghost use Rattle.sql_meaning.specs.Tables.{tables_of};
@@ -17,7 +18,7 @@ use reserve_plan::Reserved;
 /// can't fail.
 pub fn execute_plan(reserved: Reserved, plan: &Plan, query: &Query, db: &Database) -> Executed
     requires database { IsDatabaseOf query.now db.now }
-    requires few { length query.now.conjuncts ≤ 256 }
+    requires few { length query.now.conjuncts ≤ most_conjuncts }
     requires plan { IsPlanOf query.now (tables_of db.now) plan.now }
     requires ready { IsReadyFor query.now db.now plan.now.order reserved }
     ensures levels { (k : ℕ) → k < length plan.now.order → rows_at result k ≡ query_level query.now db.now plan.now.order (k + 1) }

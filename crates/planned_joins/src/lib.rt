@@ -8,14 +8,22 @@
 //! Callers cite `IsPlanOf` for what a plan says of a query over its tables, and `IsReadyFor` for buffers with room for all
 //! that there is.
 //!
+//! Where the rows of each entry stand in a list, as those of its reduced scan, `reserve_over` and `execute_over` do the same
+//! over these lists in place of scans. Callers cite `IsPlanOver` and `list_levels` of `reduced_bounds`, and `IsReadyOver`.
+//!
 //! ```text
 //! let reserved = reserve_plan(alloc, &query, &db, &plan)?;
 //! let executed = execute_plan(reserved, &plan, &query, &db);
+//!
+//! let reserved = reserve_over(alloc, &query, &db, &plan, &lists)?;
+//! let executed = execute_over(reserved, &plan, &query, &db, &lists);
 //! ```
 #![tactic(auto)]
 
 mod executing;
+mod over_lists;
 mod reserving;
 
 pub use executing::execute_plan;
+pub use over_lists::{execute_over, reserve_over};
 pub use reserving::reserve_plan;

@@ -7,6 +7,8 @@ pub mod Levels
 pub mod MarkedRows
 pub mod Bridge
 pub mod Wired
+pub mod FamilyRows
 pub mod SameLevel
+pub mod ByRounds
 pub mod OfQuery
 pub mod Pairs

@@ -2,3 +2,4 @@ pub mod Families
 pub mod Scans
 pub mod Lists
 pub mod Wiring
+pub mod Rounds

@@ -1,6 +1,7 @@
 -- Lists of rows in buffers, one for each FROM entry of a database.
 use Rattle.std.specs.Prelude.{◌≡◌, ℕ, ◌<◌, ◌≤◌, All, List, [], length, map, slice_index_or}
 use Rattle.std.specs.List.{Contains}
+use Rattle.limits.specs.Profile.{most_rows}
 use Rattle.berge_tree.specs.declared.edges.Edge.{Edge}
 use Rattle.berge_tree.specs.declared.edges.Place.{Place}
 use Rattle.csv_tables.specs.declared.types.Database.{Database}
@@ -27,7 +28,7 @@ pub record AreListsOf (db : Database) (lists : List (Rows ℕ)) : Type 0 where
   pub count : length lists ≡ length db.slots
   pub few : length lists ≤ 12
   pub rows : (entry : ℕ) → entry < length lists → All (λ row. row < (cells_of db entry).rows) (list_of lists entry)
-  pub sizes : (entry : ℕ) → length (list_of lists entry) ≤ 4000000
+  pub sizes : (entry : ℕ) → length (list_of lists entry) ≤ most_rows
 
 -- a column of an equality, as queries name it
 abbrev pub column_of : Place → ColumnRef

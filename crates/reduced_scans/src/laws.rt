@@ -10,6 +10,7 @@ ghost use Rattle.join_steps.specs.Lists.{level_over};
 ghost use Rattle.level_bounds.specs.Orders.{IsOrderOfSet};
 ghost use Rattle.level_bounds.specs.Scans.{query_level};
 ghost use Rattle.reduced_scans.specs.Families.{list_at};
+ghost use Rattle.reduced_scans.specs.Rounds.{reduced_of};
 ghost use Rattle.reduced_scans.specs.Scans.{AreReducedScans, SatisfiesEqualities};
 
 /// A query over its tables has exactly one family of reduced scans.
@@ -19,7 +20,17 @@ pub fn one_reduction()
         → AreReducedScans query tables a → AreReducedScans query tables b → a ≡ b }
 {}
 
-/// No row of the answer is lost: scanned rows that together satisfy all equalities are reduced rows, so are those of each choice of the last level, in any order of the entries, and over the reduced scans this level is the same list. Its choices, as the values of the outputs, are the answer, each row as often as there.
+/// Rounds end in the reduced scans: after a round for each scanned row and one more no row lacks a partner, and none went that
+/// stands in a family of which each row has its partners. So all reduced scans are this one family.
+pub fn reduced_scans_are_by_rounds()
+    ensures are { (query : Query) (tables : Tables) → AreReducedScans query tables (reduced_of query tables) }
+    ensures all { (query : Query) (tables : Tables) (reduced : List (List ℕ)) → AreReducedScans query tables reduced
+        → reduced ≡ reduced_of query tables }
+{}
+
+/// No row of the answer is lost: scanned rows that together satisfy all equalities are reduced rows, so are those of each choice of the
+/// last level, in any order of the entries, and over the reduced scans this level is the same list. Its choices, as the values of the
+/// outputs, are the answer, each row as often as there.
 pub fn no_row_of_the_answer_is_lost()
     ensures choices { (query : Query) (tables : Tables) (reduced : List (List ℕ)) (choice : List ℕ) → NamesItsEntries query
         → AreReducedScans query tables reduced → SatisfiesEqualities query tables choice

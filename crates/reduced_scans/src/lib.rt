@@ -1,8 +1,10 @@
 //! Scans that are reduced by semi-joins: of the rows of each scan those that find partners, until nothing changes.
 //!
-//! In: a query, its database, and the list of each entry's scan. Out: for each entry the list of its reduced rows, in file order, by `reduce_scans`.
+//! In: a query, its database, and the list of each entry's scan. Out: for each entry the list of its reduced rows, in file order, by
+//! `reduce_scans`.
 //!
-//! Callers cite `AreReducedScans`. That there is exactly one such family, and that no row of the answer is lost by it, are laws.
+//! Callers cite `AreReducedScans`, and `reduced_of` for the same lists as a function. That there is exactly one such family, that
+//! rounds end in it, and that no row of the answer is lost by it, are laws.
 #![tactic(auto)]
 
 mod classes;
@@ -10,5 +12,5 @@ mod laws;
 mod reducing;
 mod wiring;
 
-pub use laws::{no_row_of_the_answer_is_lost, one_reduction};
+pub use laws::{no_row_of_the_answer_is_lost, one_reduction, reduced_scans_are_by_rounds};
 pub use reducing::reduce_scans;

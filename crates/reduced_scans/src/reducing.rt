@@ -1,5 +1,6 @@
 //! The reduction of a query's scans.
 ghost use Rattle.std.specs.Prelude.{◌≡◌, ◌+◌, ◌<◌, ◌≤◌, ℕ, All, Bool, IfOk, length};
+ghost use Rattle.limits.specs.Profile.{most_conjuncts, most_rows};
 ghost use Rattle.berge_tree.specs.declared.edges.Edge.{Edge};
 ghost use Rattle.counted_sets.specs.Sets.{marked};
 ghost use Rattle.sql_meaning.specs.Databases.{IsDatabaseOf};
@@ -32,7 +33,7 @@ fn marks_of(
 ) -> Result<RowBuf<bool>, NoMemory>
     requires lists { AreListsOf db.now scans.now }
     requires columns { All (JoinsColumns db.now) equalities.now }
-    requires few { length equalities.now ≤ 256 }
+    requires few { length equalities.now ≤ most_conjuncts }
     ensures length { IfOk result (λ marks. length marks.items ≡ first_item (lists_of scans.now) (length scans.now)) }
     ensures reduced { IfOk result (λ marks. (equal : Edge → ℕ → ℕ → Bool)
         → TellsByKey (lists_of scans.now) equalities.now (cell_at db.now) equal
@@ -78,7 +79,7 @@ fn marked_lists(
     marks: &RowBuf<bool>,
 ) -> Result<Vec<RowBuf<u32>>, NoMemory>
     requires few { length scans.now ≤ 12 }
-    requires sizes { (k : ℕ) → length (list_of scans.now k) ≤ 4000000 }
+    requires sizes { (k : ℕ) → length (list_of scans.now k) ≤ most_rows }
     requires marks { length marks.now.items ≡ first_item (lists_of scans.now) (length scans.now) }
     requires few_marks { length marks.now.items ≤ 48000000 }
     ensures { IfOk result (λ lists. lists_of lists.items ≡ marked_family (marked marks.now.items) 0 (lists_of scans.now)) }
@@ -95,7 +96,8 @@ fn marked_lists(
 /// The reduced scans of a query: of each entry's scan the most rows such that each finds, for each equality of one of the entry's
 /// columns with a column of another entry, a row with the same value among those of that entry; in file order.
 ///
-/// `scans` has the scan of each FROM entry. Values are numbered by one hash of each cell, so the time is linear in the rows times their equalities, and so is the memory; all of it but the answer is let go before the call returns.
+/// `scans` has the scan of each FROM entry. Values are numbered by one hash of each cell, so the time is linear in the rows times their
+/// equalities, and so is the memory; all of it but the answer is let go before the call returns.
 pub fn reduce_scans(
     alloc: Global,
     query: &Query,
@@ -103,8 +105,8 @@ pub fn reduce_scans(
     scans: &[RowBuf<u32>],
 ) -> Result<Vec<RowBuf<u32>>, NoMemory>
     requires database { IsDatabaseOf query.now db.now }
-    requires few { length query.now.conjuncts ≤ 256 }
-    requires sizes { (entry : ℕ) → entry < length query.now.from → row_counts (tables_of db.now) entry ≤ 4000000 }
+    requires few { length query.now.conjuncts ≤ most_conjuncts }
+    requires sizes { (entry : ℕ) → entry < length query.now.from → row_counts (tables_of db.now) entry ≤ most_rows }
     requires count { length scans.now ≡ length query.now.from }
     requires scans { (entry : ℕ) → entry < length query.now.from → list_of scans.now entry ≡ scan_of query.now db.now entry }
     ensures { IfOk result (λ reduced. AreReducedScans query.now (tables_of db.now) (lists_of reduced.items)) }

@@ -1,5 +1,6 @@
 //! The uses of scanned rows: what each of them gives and needs for each equality at its entry.
 ghost use Rattle.std.specs.Prelude.{◌≡◌, ◌+◌, ◌*◌, ◌^◌, ◌<◌, ◌≤◌, ◌∷◌, ◌++◌, [], ℕ, All, List, OnOk, length};
+ghost use Rattle.limits.specs.Profile.{most_conjuncts, most_rows};
 ghost use Rattle.berge_tree.specs.declared.edges.Edge.{Edge};
 ghost use Rattle.counted_sets.specs.declared.uses.Use.{Use};
 ghost use Rattle.sql_meaning.specs.Databases.{IsColumnOf};
@@ -80,9 +81,9 @@ fn add_side(
 pub(crate) fn first_item(scans: &[RowBuf<u32>], entry: usize) -> u32
     requires entry { entry ≤ length scans.now }
     requires few { length scans.now ≤ 12 }
-    requires sizes { (k : ℕ) → length (list_of scans.now k) ≤ 4000000 }
+    requires sizes { (k : ℕ) → length (list_of scans.now k) ≤ most_rows }
     ensures first { result ≡ first_item (lists_of scans.now) entry }
-    ensures few { result ≤ 4000000 * entry }
+    ensures few { result ≤ most_rows * entry }
 {
     let mut first = 0;
     'lists: for k in 0..entry {
@@ -103,7 +104,7 @@ fn add_column(
 ) -> Result<(), NoMemory>
     requires lists { AreListsOf db.now scans.now }
     requires column { IsColumnOf db.now (column_of column) }
-    requires few { length classes.old + 4000000 < 2 ^ 31 }
+    requires few { length classes.old + most_rows < 2 ^ 31 }
     ensures { OnOk result (AddsUses equality on_left (first_item (lists_of scans.now) column.entry) (column_cells db.now (column_of column))
         (list_at (lists_of scans.now) column.entry) (length (list_at (lists_of scans.now) column.entry))
         classes.old classes.new uses.old.items uses.new.items) }
@@ -152,7 +153,7 @@ pub(crate) fn wire(
 ) -> Result<(), NoMemory>
     requires lists { AreListsOf db.now scans.now }
     requires columns { All (JoinsColumns db.now) equalities.now }
-    requires few { length equalities.now ≤ 256 }
+    requires few { length equalities.now ≤ most_conjuncts }
     requires no_classes { classes.old ≡ [] }
     requires no_uses { uses.old.items ≡ [] }
     ensures wired { OnOk result (AreWired (lists_of scans.now) equalities.now (cell_at db.now) classes.new
@@ -169,8 +170,8 @@ pub(crate) fn wire(
 /// How many uses there will be.
 pub(crate) fn count_uses(scans: &[RowBuf<u32>], equalities: &[Edge]) -> u64
     requires entries { All (λ e. (e.left.entry < length scans.now) × (e.right.entry < length scans.now)) equalities.now }
-    requires sizes { (k : ℕ) → length (list_of scans.now k) ≤ 4000000 }
-    requires few { length equalities.now ≤ 256 }
+    requires sizes { (k : ℕ) → length (list_of scans.now k) ≤ most_rows }
+    requires few { length equalities.now ≤ most_conjuncts }
 {
     let mut count = 0;
     'equalities: for edge in equalities {

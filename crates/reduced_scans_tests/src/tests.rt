@@ -59,7 +59,8 @@ fn scan_entries(alloc: Global, query: &Query, db: &Database) -> Result<Vec<RowBu
     requires few { length query.now.conjuncts ≤ 256 }
     requires sizes { (entry : ℕ) → entry < length query.now.from → row_counts (tables_of db.now) entry ≤ 4000000 }
     ensures count { IfOk result (λ scans. length scans.items ≡ length query.now.from) }
-    ensures scans { IfOk result (λ scans. (entry : ℕ) → entry < length query.now.from → list_of scans.items entry ≡ scan_of query.now db.now entry) }
+    ensures scans { IfOk result (λ scans. (entry : ℕ) → entry < length query.now.from
+        → list_of scans.items entry ≡ scan_of query.now db.now entry) }
 {
     let mut scans = Vec::new(alloc);
     'entries: for entry in 0..query.from.len() as u8 {

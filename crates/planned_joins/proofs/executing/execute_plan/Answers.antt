@@ -8,7 +8,7 @@ use Rattle.planned_joins.proofs.executing.execute_plan.Goals as goal
 
 pub execute-requires-clause-order : goal.execute-requires-clause-order
 execute-requires-clause-order c =
-    subst (IsOrderOf c.args.query.now) (sym c.as_slice.ensures) (order_of c.args.query.now c.args.db.now c.args.plan.now c.requires.plan)
+    subst (IsOrderOf c.args.query.now) (sym c.as_slice.ensures) (order_of c.args.query.now c.args.db.now c.args.plan.now c.requires.plan.for_each_entry)
 
 pub execute-requires-clause-rooms : goal.execute-requires-clause-rooms
 execute-requires-clause-rooms c =

@@ -13,12 +13,12 @@ reserve-requires c =
     let plan = c.args.plan.now in
     let is = c.requires.plan in
     record {
-      some = omega (arith, ap (λ (s : List ℕ). length s) c.as_slice.ensures, some_entry query db plan is c.requires.database);
+      some = omega (arith, ap (λ (s : List ℕ). length s) c.as_slice.ensures, some_entry query db plan is.for_each_entry c.requires.database);
       entries = subst (λ (order : List ℕ). All (λ entry. entry < length c.as_slice-2.result.now) order) (sym c.as_slice.ensures)
-          (subst (λ (scans : List ℕ). All (λ entry. entry < length scans) plan.order) (sym c.as_slice-2.ensures) (entries_have_scans query db plan is));
-      few_levels = omega (arith, ap (λ (s : List ℕ). length s) c.as_slice-3.ensures, few_levels query db plan is c.requires.database);
-      small_scans = subst (All (λ rows. rows ≤ 4000000)) (sym c.as_slice-2.ensures) (small_scans query db plan is c.requires.few_rows);
-      small_levels = subst (All (λ rows. rows ≤ 20000000)) (sym c.as_slice-3.ensures) (small_levels query db plan is);
+          (subst (λ (scans : List ℕ). All (λ entry. entry < length scans) plan.order) (sym c.as_slice-2.ensures) (entries_have_scans query db plan is.for_each_entry));
+      few_levels = omega (arith, ap (λ (s : List ℕ). length s) c.as_slice-3.ensures, few_levels query db plan is.for_each_entry c.requires.database);
+      small_scans = subst (All (λ rows. rows ≤ 4000000)) (sym c.as_slice-2.ensures) (small_scans query db plan is.for_each_entry is.within_tables c.requires.few_rows);
+      small_levels = subst (All (λ rows. rows ≤ 20000000)) (sym c.as_slice-3.ensures) (small_levels query db plan is.for_each_entry is.within_budget);
     }
 
 pub returns : goal.returns

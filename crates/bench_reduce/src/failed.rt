@@ -1,0 +1,53 @@
+//! Why nothing was measured.
+use base_io::NoMemory;
+use outcomes::Ending;
+use schema_types::SchemaError;
+use sql_parse::QueryError;
+use std::alloc::AllocError;
+use std::io;
+
+/// Nothing was measured.
+#[derive(Clone, Copy, Debug)]
+pub(crate) struct Failed;
+
+impl From<NoMemory> for Failed {
+    fn from(_: NoMemory) -> Self {
+        Failed
+    }
+}
+
+impl From<AllocError> for Failed {
+    fn from(_: AllocError) -> Self {
+        Failed
+    }
+}
+
+impl From<SchemaError> for Failed {
+    fn from(_: SchemaError) -> Self {
+        Failed
+    }
+}
+
+impl From<QueryError> for Failed {
+    fn from(_: QueryError) -> Self {
+        Failed
+    }
+}
+
+impl From<Ending> for Failed {
+    fn from(_: Ending) -> Self {
+        Failed
+    }
+}
+
+impl From<io::Error> for Failed {
+    fn from(_: io::Error) -> Self {
+        Failed
+    }
+}
+
+impl From<Failed> for io::Error {
+    fn from(_: Failed) -> Self {
+        io::Error::from(io::ErrorKind::Other)
+    }
+}

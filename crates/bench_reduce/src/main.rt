@@ -1,0 +1,93 @@
+//! The proved side of the benchmark of reduced scans; bench/reduce.rs is the plain one.
+//!
+//! It reduces the scans of a chain of three tables, of which one row in a hundred stays, and of a cycle of two tables, in which rows go
+//! one after another, and writes for each how many rows stay and the sum of their numbers. Without a word the tables are small. With
+//! one, as `time`, the chain has three tables of 1,000,000 rows, and the cycle 500,000 rows in all and then 1,000,000; it writes to
+//! standard error the nanoseconds of scans and reduction together, the least of three.
+#![tactic(auto)]
+
+ghost use Rattle.std.specs.Prelude.{◌≤◌};
+
+mod failed;
+mod reducing;
+mod tables;
+
+use base_io::MemStore;
+use failed::Failed;
+use reducing::{Reduced, timed};
+use schema_types::read_schema;
+use sql_parse::read_query;
+use std::alloc::Global;
+use std::rt::Runtime;
+use std::{env, io};
+use table_files::read_tables;
+use tables::{CHAIN, CYCLE, SCHEMA, chain, cycle};
+
+const ROUNDS: u32 = 3;
+
+// The most bytes of a schema text and of a query text.
+const MOST_BYTES: usize = 1_048_576;
+
+// The least time of a reduction of the scans of a query.
+fn least_of<R: Runtime>(
+    rt: &R,
+    alloc: Global,
+    text: &str,
+    store: &mut MemStore,
+    rounds: u32,
+) -> Result<Reduced, Failed> {
+    if SCHEMA.len() > MOST_BYTES || text.len() > MOST_BYTES {
+        return Err(Failed);
+    }
+    let schema = read_schema(alloc, SCHEMA.as_bytes())?;
+    let query = read_query(alloc, &schema, text.as_bytes())?;
+    let db = read_tables(alloc, store, &schema, &query)?;
+    if query.conjuncts.len() > 256 {
+        return Err(Failed);
+    }
+    let mut least = timed(rt, alloc, &query, &db)?;
+    for _ in 1..rounds {
+        let next = timed(rt, alloc, &query, &db)?;
+        if next.nanos < least.nanos {
+            least = next;
+        }
+    }
+    Ok(least)
+}
+
+fn show(rt: &HostRuntime, name: &str, least: Reduced, rounds: u32) -> io::Result<()> {
+    println!(rt; "{name} {} {}", least.rows, least.sum)?;
+    if rounds > 1 {
+        eprintln!(rt; "{}", least.nanos)?;
+    }
+    Ok(())
+}
+
+fn show_chain(rt: &HostRuntime, name: &str, rows: u32, rounds: u32) -> io::Result<()>
+    requires { rows ≤ 1000000 }
+{
+    let alloc = rt.alloc();
+    let mut store = chain(alloc, rows)?;
+    let least = least_of(rt, alloc, CHAIN, &mut store, rounds)?;
+    show(rt, name, least, rounds)
+}
+
+fn show_cycle(rt: &HostRuntime, name: &str, rows: u32, rounds: u32) -> io::Result<()>
+    requires { rows ≤ 1000000 }
+{
+    let alloc = rt.alloc();
+    let mut store = cycle(alloc, rows)?;
+    let least = least_of(rt, alloc, CYCLE, &mut store, rounds)?;
+    show(rt, name, least, rounds)
+}
+
+fn main(rt: HostRuntime) -> io::Result<()> {
+    if env::args(&rt)?.count() <= 1 {
+        show_chain(&rt, "chain", 1_000, 1)?;
+        show_cycle(&rt, "half", 10, 1)?;
+        return show_cycle(&rt, "whole", 20, 1);
+    }
+    show_chain(&rt, "chain", 1_000_000, ROUNDS)?;
+    show_cycle(&rt, "half", 250_000, ROUNDS)?;
+    show_cycle(&rt, "whole", 500_000, ROUNDS)
+}

@@ -1,0 +1,145 @@
+-- Where equalities close no cycle, a row of a family with all partners goes on to a choice for all connected entries.
+use Rattle.std.proofs.Common.{◌≡◌, ℕ, Bool, true, eqb, List, [], ◌∷◌, refl, ap, sym, ◌∙◌, subst, inl, inr}
+use Rattle.std.specs.Prelude.{◌⊎◌, if◌then◌else◌}
+use Rattle.std.specs.List.{Contains}
+use Rattle.std.proofs.lemmas.Bool.{cases_eq, eq-eqb, ne_eqb}
+use Rattle.berge_tree.specs.declared.edges.Edge.{Edge}
+use Rattle.reduced_scans.specs.Families.{HasPartner, HavePartners, list_at}
+use Rattle.reduced_scans.proofs.Members.{behind, in_cases, in_front, not_in_none}
+use Rattle.reduced_bounds.specs.Connected.{CloseNoCycle}
+use Rattle.reduced_bounds.proofs.Components.{closed_at, component, merged_cases, same_connects}
+
+module _ (equal : Edge → ℕ → ℕ → Bool) (family : List (List ℕ)) where
+  -- each row has its partners on both sides
+  abbrev pub HaveAll : List Edge → Type 0
+  HaveAll es = (e : Edge) → Contains es e
+      → HavePartners (equal e) (list_at family e.left.entry) (list_at family e.right.entry)
+      × HavePartners (λ right left. equal e left right) (list_at family e.right.entry) (list_at family e.left.entry)
+
+  abbrev Holds : (ℕ → ℕ) → Edge → Type 0
+  Holds row_of e = equal e (row_of e.left.entry) (row_of e.right.entry) ≡ true
+
+  pub record Extends (es : List Edge) (entry row : ℕ) : Type 0 where
+    pub row_of : ℕ → ℕ
+    pub its_own : row_of entry ≡ row
+    pub listed : (other : ℕ) → component es other ≡ component es entry → Contains (list_at family other) (row_of other)
+    pub holds : (e : Edge) → Contains es e → component es e.left.entry ≡ component es entry → Holds row_of e
+
+  -- ---- an equality more
+
+  -- which does not touch the component
+  untouched : (e : Edge) (es : List Edge) (entry row : ℕ) → Extends es entry row
+      → (component es entry ≡ component es e.left.entry → ⊥) → (component es entry ≡ component es e.right.entry → ⊥) → Extends (e ∷ es) entry row
+  untouched e es entry row f not_left not_right = record {
+    row_of = f.row_of;
+    its_own = f.its_own;
+    listed = λ other same. f.listed other (stays other same);
+    holds = λ g has same. elim (in_cases g e es has) [
+      | inl here ↦ absurd (not_left (sym (stays e.left.entry (subst (λ (k : Edge). component (e ∷ es) k.left.entry ≡ component (e ∷ es) entry) (sym here) same))))
+      | inr there ↦ f.holds g there (stays g.left.entry same)
+    ];
+  }
+    where
+      stays : (other : ℕ) → component (e ∷ es) other ≡ component (e ∷ es) entry → component es other ≡ component es entry
+      stays other same = elim (merged_cases (component es e.left.entry) (component es e.right.entry) (component es other) (component es entry) same) [
+        | inl one ↦ one
+        | inr sides ↦ elim sides [
+          | inl there ↦ absurd (not_right there.1)
+          | inr back ↦ absurd (not_left back.1)
+        ]
+      ]
+
+  -- which joins the component with another one
+  module _ (e : Edge) (es : List Edge) (entry row near far partner : ℕ) (f : Extends es entry row) (g : Extends es far partner)
+      (at_near : component es entry ≡ component es near) (apart : component es near ≡ component es far → ⊥) where
+    abbrev both : ℕ → ℕ
+    both x = if eqb (component es x) (component es far) then g.row_of x else f.row_of x
+
+    on_far : (x : ℕ) → component es x ≡ component es far → both x ≡ g.row_of x
+    on_far x there = rw (eq-eqb (component es x) (component es far) there) refl
+
+    on_near : (x : ℕ) → component es x ≡ component es near → both x ≡ f.row_of x
+    on_near x here = rw (ne_eqb (component es x) (component es far) (λ there. apart (sym here ∙ there))) refl
+
+    glued : ((other : ℕ) → component (e ∷ es) other ≡ component (e ∷ es) entry → (component es other ≡ component es near) ⊎ (component es other ≡ component es far))
+        → Holds both e → Extends (e ∷ es) entry row
+    glued tell meets = record {
+      row_of = both;
+      its_own = on_near entry at_near ∙ f.its_own;
+      listed = λ other same. elim (tell other same) [
+        | inl here ↦ subst (Contains (list_at family other)) (sym (on_near other here)) (f.listed other (here ∙ sym at_near))
+        | inr there ↦ subst (Contains (list_at family other)) (sym (on_far other there)) (g.listed other there)
+      ];
+      holds = λ k has same. elim (in_cases k e es has) [
+        | inl first ↦ subst (Holds both) first meets
+        | inr later ↦ elim (tell k.left.entry same) [
+          | inl here ↦ (let also : component es k.right.entry ≡ component es near = sym (closed_at es k later) ∙ here in
+              ap (λ (n : ℕ). equal k n (both k.right.entry)) (on_near k.left.entry here) ∙ ap (λ (n : ℕ). equal k (f.row_of k.left.entry) n) (on_near k.right.entry also)
+              ∙ f.holds k later (here ∙ sym at_near))
+          | inr there ↦ (let also : component es k.right.entry ≡ component es far = sym (closed_at es k later) ∙ there in
+              ap (λ (n : ℕ). equal k n (both k.right.entry)) (on_far k.left.entry there) ∙ ap (λ (n : ℕ). equal k (g.row_of k.left.entry) n) (on_far k.right.entry also)
+              ∙ g.holds k later there)
+        ]
+      ];
+    }
+
+  -- one more equality, where each listed row extends along the others
+  one_more : (e : Edge) (es : List Edge) → CloseNoCycle (e ∷ es) → HaveAll (e ∷ es) → ((entry row : ℕ) → Contains (list_at family entry) row → Extends es entry row)
+      → (entry row : ℕ) → Contains (list_at family entry) row → Extends (e ∷ es) entry row
+  one_more e es none have rest entry row listed = elim (cases_eq (component es entry) (component es e.left.entry)) [
+    | inl at_left ↦ (let partner : HasPartner (equal e) (list_at family e.right.entry) (f.row_of e.left.entry) =
+        (have e (in_front e e es refl)).0 (f.row_of e.left.entry) (f.listed e.left.entry (sym at_left)) in
+        let g : Extends es e.right.entry partner.0 = rest e.right.entry partner.0 partner.1 in
+        glued e es entry row e.left.entry e.right.entry partner.0 f g at_left apart (from_left at_left)
+        (ap (λ (n : ℕ). equal e n (both e es entry row e.left.entry e.right.entry partner.0 f g at_left apart e.right.entry))
+        (on_near e es entry row e.left.entry e.right.entry partner.0 f g at_left apart e.left.entry refl)
+        ∙ ap (λ (n : ℕ). equal e (f.row_of e.left.entry) n) (on_far e es entry row e.left.entry e.right.entry partner.0 f g at_left apart e.right.entry refl ∙ g.its_own)
+        ∙ partner.2))
+    | inr not_left ↦ elim (cases_eq (component es entry) (component es e.right.entry)) [
+      | inl at_right ↦ (let partner : HasPartner (λ right left. equal e left right) (list_at family e.left.entry) (f.row_of e.right.entry) =
+          (have e (in_front e e es refl)).1 (f.row_of e.right.entry) (f.listed e.right.entry (sym at_right)) in
+          let g : Extends es e.left.entry partner.0 = rest e.left.entry partner.0 partner.1 in
+          let apart_too : component es e.right.entry ≡ component es e.left.entry → ⊥ = λ same. apart (sym same) in
+          glued e es entry row e.right.entry e.left.entry partner.0 f g at_right apart_too (from_right at_right)
+          (ap (λ (n : ℕ). equal e n (both e es entry row e.right.entry e.left.entry partner.0 f g at_right apart_too e.right.entry))
+          (on_far e es entry row e.right.entry e.left.entry partner.0 f g at_right apart_too e.left.entry refl ∙ g.its_own)
+          ∙ ap (λ (n : ℕ). equal e partner.0 n) (on_near e es entry row e.right.entry e.left.entry partner.0 f g at_right apart_too e.right.entry refl)
+          ∙ partner.2))
+      | inr not_right ↦ untouched e es entry row f not_left not_right
+    ]
+  ]
+    where
+      apart : component es e.left.entry ≡ component es e.right.entry → ⊥
+      apart same = none.0 (same_connects es e.left.entry e.right.entry same)
+
+      f : Extends es entry row
+      f = rest entry row listed
+
+      from_left : component es entry ≡ component es e.left.entry → (other : ℕ) → component (e ∷ es) other ≡ component (e ∷ es) entry
+          → (component es other ≡ component es e.left.entry) ⊎ (component es other ≡ component es e.right.entry)
+      from_left at other same = elim (merged_cases (component es e.left.entry) (component es e.right.entry) (component es other) (component es entry) same) [
+        | inl one ↦ inl (one ∙ at)
+        | inr sides ↦ elim sides [
+          | inl there ↦ inl there.0
+          | inr back ↦ inr back.0
+        ]
+      ]
+
+      from_right : component es entry ≡ component es e.right.entry → (other : ℕ) → component (e ∷ es) other ≡ component (e ∷ es) entry
+          → (component es other ≡ component es e.right.entry) ⊎ (component es other ≡ component es e.left.entry)
+      from_right at other same = elim (merged_cases (component es e.left.entry) (component es e.right.entry) (component es other) (component es entry) same) [
+        | inl one ↦ inl (one ∙ at)
+        | inr sides ↦ elim sides [
+          | inl there ↦ inr there.0
+          | inr back ↦ inl back.0
+        ]
+      ]
+
+  pub extended : (es : List Edge) → CloseNoCycle es → HaveAll es → (entry row : ℕ) → Contains (list_at family entry) row → Extends es entry row
+  extended [] none have entry row listed = record {
+    row_of = λ x. row;
+    its_own = refl;
+    listed = λ other same. subst (λ (k : ℕ). Contains (list_at family k) row) (sym same) listed;
+    holds = λ e has same. absurd (not_in_none e has);
+  }
+  extended (e ∷ es) none have entry row listed = one_more e es none have (extended es none.1 (λ k has. have k (behind k e es has))) entry row listed

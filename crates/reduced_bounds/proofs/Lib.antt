@@ -1,0 +1,9 @@
+pub mod ListBounds
+pub mod ListedLevels
+pub mod NeverUnder
+pub mod PlanFacts
+pub mod ReducedPlans
+pub mod Components
+pub mod Extending
+pub mod TakingPart
+pub mod SmallReductions

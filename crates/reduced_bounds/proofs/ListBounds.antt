@@ -1,0 +1,92 @@
+-- The lists of columns over listed rows: they fall, sum to the number of rows, and dominate all keys that tell values.
+use Rattle.std.proofs.Common.{◌≡◌, ℕ, ◌<◌, ◌≤◌, true, List, length, map, get_or, refl, ap, ◌∙◌, subst, arith}
+use Rattle.std.specs.List.{Contains}
+use Rattle.std.proofs.lemmas.List.{get_or-map, length-map}
+use Rattle.csv_tables.specs.Values.{Value}
+use Rattle.degree_sequences.specs.Degrees.{degree_list}
+use Rattle.degree_sequences.specs.Domination.{DominatesKeys}
+use Rattle.degree_sequences.proofs.CompressedLists.{IsFalling-compressed, compressed_dominates, sum-compressed}
+use Rattle.degree_sequences.proofs.DegreeLists.{IsFalling-degree_list, sum-degree_list}
+use Rattle.berge_tree.specs.declared.edges.Edge.{Edge}
+use Rattle.berge_tree.specs.declared.edges.Place.{Place}
+use Rattle.berge_tree.specs.Equalities.{places_of}
+use Rattle.entry_sets.specs.Sets.{entries_of_set}
+use Rattle.query_types.specs.declared.types.Query.{Query}
+use Rattle.join_graph.specs.Kept.{equalities_within}
+use Rattle.tree_bounds.specs.Scans.{scanned}
+use Rattle.tree_bounds.specs.SetBounds.{SetHasLists}
+use Rattle.tree_bounds.specs.Tables.{Dominates, RowsFit, SetDominates}
+use Rattle.tree_bounds.specs.TreeBounds.{EntryBounds, HasList}
+use Rattle.sql_meaning.specs.Tables.{Tables}
+use Rattle.filtered_lists.specs.Standing.{value_in_row}
+use Rattle.level_bounds.specs.Keys.{Keys}
+use Rattle.level_bounds.proofs.Lists.{all_from, map_both}
+use Rattle.renamed_lists.specs.Renaming.{AreEqualAlike}
+use Rattle.renamed_lists.proofs.Dominated.{rows_dominated}
+use Rattle.table_stats.specs.Columns.{first_row, numbered}
+use Rattle.table_stats.specs.Keys.{TellsValues}
+use Rattle.table_stats.proofs.EqualValues.{equal_itself, is_equal}
+use Rattle.table_stats.proofs.FirstRows.{equal_firsts, first_there, same_first}
+use Rattle.reduced_scans.specs.Families.{list_at}
+use Rattle.reduced_scans.proofs.FamilyRows.{row_low}
+use Rattle.reduced_bounds.specs.Bounds.{entry_bounds_over, listed_values}
+use Rattle.reduced_bounds.specs.Plans.{AreOfScans}
+
+module _ (tables : Tables) (lists : List (List ℕ)) (accuracy : ℕ) where
+  abbrev bounds : EntryBounds
+  bounds = entry_bounds_over tables lists accuracy
+
+  has_list : (entry column : ℕ) → HasList bounds entry column
+  has_list entry column =
+      let values : List Value = listed_values tables lists entry column in
+      record {
+        falls = IsFalling-compressed accuracy (degree_list (numbered values)) (IsFalling-degree_list (numbered values));
+        total =
+            sum-compressed accuracy (degree_list (numbered values)) (IsFalling-degree_list (numbered values)) ∙ sum-degree_list (numbered values)
+            ∙ length-map values (first_row values) ∙ length-map (list_at lists entry) (value_in_row tables entry column);
+      }
+
+  pub set_has_lists : (es : List Edge) (subset : ℕ) → SetHasLists bounds es subset
+  set_has_lists es subset = all_from (λ (p : Place). HasList bounds p.entry p.column) (places_of (equalities_within subset es)) (λ p there. has_list p.entry p.column)
+
+  module _ (query : Query) (are : AreOfScans query tables lists) (key : Keys) (tells : (entry column : ℕ) → TellsValues tables entry column (key entry column)) where
+    module _ (entry column : ℕ) where
+      abbrev rows : List ℕ
+      rows = list_at lists entry
+
+      abbrev value_at : ℕ → Value
+      value_at row = value_in_row tables entry column row
+
+      abbrev values : List Value
+      values = listed_values tables lists entry column
+
+      -- the number of a row's value
+      abbrev number_at : ℕ → ℕ
+      number_at row = first_row values (value_at row)
+
+      number_there : (row : ℕ) → Contains rows row → number_at row < length values
+      number_there row listed =
+          first_there values (value_at row) listed.0 (value_at row) (omega (arith, listed.1, length-map rows value_at))
+          (ap (λ (v : Value). is_equal v (value_at row)) (get_or-map value_at rows listed.0 row (value_at row) listed.1 ∙ ap value_at listed.2) ∙ equal_itself (value_at row))
+
+      -- rows have one number exactly where they have one key
+      alike : AreEqualAlike number_at (key entry column) rows
+      alike row other listed also =
+          let told = tells entry column row other (row_low query tables lists are entry row listed) (row_low query tables lists are entry other also) in (
+            (λ same. told.1 (equal_firsts values (value_at row) (value_at other) (number_there row listed) same)),
+            (λ same. same_first values (value_at row) (value_at other) (told.0 same)),
+          )
+
+      dominates : DominatesKeys (bounds.list entry column) (map (key entry column) rows)
+      dominates =
+          (rows_dominated (bounds.list entry column) number_at (key entry column) rows alike).0
+          (subst (DominatesKeys (bounds.list entry column)) (map_both (first_row values) value_at number_at (λ row. refl) rows) (compressed_dominates accuracy (numbered values)))
+
+    pub set_dominates : (es : List Edge) (subset : ℕ) → SetDominates bounds (scanned (list_at lists) key) es subset
+    set_dominates es subset = record {
+      rows = all_from (RowsFit bounds (scanned (list_at lists) key)) (entries_of_set subset) (λ entry there. omega arith);
+      columns = all_from (λ (p : Place). Dominates bounds (scanned (list_at lists) key) p.entry p.column) (places_of (equalities_within subset es)) (λ p there. record {
+        keys = dominates p.entry p.column;
+        key_per_row = length-map (list_at lists p.entry) (key p.entry p.column);
+      });
+    }

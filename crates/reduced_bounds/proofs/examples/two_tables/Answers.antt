@@ -1,0 +1,8 @@
+use Rattle.reduced_bounds.proofs.SmallReductions.{pair_plan, pair_reduced}
+use Rattle.reduced_bounds.proofs.examples.two_tables.Goals as goal
+
+pub returns-clause-reduced : goal.returns-clause-reduced
+returns-clause-reduced c = pair_reduced
+
+pub returns-clause-plan : goal.returns-clause-plan
+returns-clause-plan c = pair_plan

@@ -1,0 +1,68 @@
+-- Queries over small tables, for worked examples.
+use Rattle.std.specs.Prelude.{ℕ, ◌==◌, if◌then◌else◌, List, [], ◌∷◌, ◌++◌, map, pos}
+use Rattle.csv_tables.specs.Rows.{Row}
+use Rattle.csv_tables.specs.Values.{Int}
+use Rattle.query_grammar.specs.declared.tree.Op.TheVariants as op
+use Rattle.query_types.specs.declared.types.Cond.{Cond, Compare}
+use Rattle.query_types.specs.declared.types.Operand.TheVariants as operand
+use Rattle.query_types.specs.declared.types.Query.{Query}
+use Rattle.query_types.specs.declared.types.Source.{Source}
+use Rattle.join_graph.specs.Conjuncts.{column_operand}
+use Rattle.query_bounds.specs.Examples.{pair}
+use Rattle.sql_meaning.specs.Tables.{Tables}
+
+-- a row of numbers
+abbrev pub numbers : List ℕ → Row
+numbers row = map (λ n. Int (pos n)) row
+
+-- a table of an alias of one letter, by its number
+abbrev pub source : ℕ → ℕ → Source
+source table letter = record { table = table; alias = letter ∷ [] }
+
+-- two columns are equal, each given by its entry and its number
+abbrev pub columns_equal : ℕ → ℕ → ℕ → ℕ → Cond
+columns_equal left a right b = Compare op.Eq (column_operand left a) (column_operand right b)
+
+-- SELECT O.N FROM O, C WHERE O.CID = C.ID AND C.REG = 3
+abbrev pub by_region : Query
+by_region = record {
+  from = source 0 79 ∷ source 1 67 ∷ [];
+  conjuncts = columns_equal 0 1 1 0 ∷ Compare op.Eq (column_operand 1 1) (operand.Int (pos 3)) ∷ [];
+  select = record { column = record { from = 0; column = 0 }; name = 78 ∷ [] } ∷ [];
+}
+
+-- O(N, CID) of (1, 1), (2, 2), (3, 2), (4, 2), (5, 2) and C(ID, REG) of (1, 3), (2, 4), (3, 4), (4, 4)
+abbrev pub region_tables : Tables
+region_tables entry =
+    map numbers (if entry == 0 then (1 ∷ 1 ∷ []) ∷ (2 ∷ 2 ∷ []) ∷ (3 ∷ 2 ∷ []) ∷ (4 ∷ 2 ∷ []) ∷ (5 ∷ 2 ∷ []) ∷ []
+    else (1 ∷ 3 ∷ []) ∷ (2 ∷ 4 ∷ []) ∷ (3 ∷ 4 ∷ []) ∷ (4 ∷ 4 ∷ []) ∷ [])
+
+-- SELECT A.X FROM A, B, D WHERE A.X = B.X AND B.Y = D.Y
+abbrev pub along : Query
+along = record {
+  from = source 0 65 ∷ source 1 66 ∷ source 2 68 ∷ [];
+  conjuncts = columns_equal 0 0 1 0 ∷ columns_equal 1 1 2 0 ∷ [];
+  select = record { column = record { from = 0; column = 0 }; name = 88 ∷ [] } ∷ [];
+}
+
+-- A(X) of 1, 2, 3, B(X, Y) of (1, 1), (2, 2), (3, 9) and D(Y) of 1
+abbrev pub chain_tables : Tables
+chain_tables entry =
+    map numbers (if entry == 0 then (1 ∷ []) ∷ (2 ∷ []) ∷ (3 ∷ []) ∷ []
+    else if entry == 1 then (1 ∷ 1 ∷ []) ∷ (2 ∷ 2 ∷ []) ∷ (3 ∷ 9 ∷ []) ∷ []
+    else (1 ∷ []) ∷ [])
+
+-- SELECT R.X FROM R, S, U WHERE R.X = S.X, where no row is in R, and U is joined with none
+abbrev pub with_another : Query
+with_another = record { from = pair.from ++ source 2 85 ∷ []; conjuncts = pair.conjuncts; select = pair.select }
+
+abbrev pub empty_first : Tables
+empty_first entry = map numbers (if entry == 0 then [] else (1 ∷ []) ∷ (2 ∷ []) ∷ [])
+
+-- SELECT R.X FROM R, S WHERE R.X = S.X AND 1 = 2
+abbrev pub never_true : Query
+never_true = record {
+  from = pair.from;
+  conjuncts = pair.conjuncts ++ Compare op.Eq (operand.Int (pos 1)) (operand.Int (pos 2)) ∷ [];
+  select = pair.select;
+}

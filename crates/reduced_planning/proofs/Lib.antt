@@ -1,0 +1,4 @@
+pub mod SameBounds
+pub mod SameDegrees
+pub mod Knowing
+pub mod Reduced

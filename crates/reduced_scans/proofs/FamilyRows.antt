@@ -1,0 +1,46 @@
+-- Lists of scanned rows: each has the rows of its table that stand in it, and a level over them has those choices.
+use Rattle.std.proofs.Common.{◌≡◌, ℕ, ◌<◌, ◌≤◌, Bool, List, ap, ◌∙◌, subst, arith, inl, inr, length}
+use Rattle.std.specs.List.{Contains, filter, range_with_len}
+use Rattle.std.proofs.lemmas.Bool.{cases_lt}
+use Rattle.query_types.specs.declared.types.Query.{Query}
+use Rattle.sql_meaning.specs.Answers.{conjuncts_of}
+use Rattle.sql_meaning.specs.Choices.{choices}
+use Rattle.sql_meaning.specs.Levels.{all_hold, row_in}
+use Rattle.sql_meaning.specs.Tables.{Tables, row_counts}
+use Rattle.join_steps.specs.Lists.{all_pass, level_over}
+use Rattle.join_steps.proofs.LevelsOver.{over_restricted}
+use Rattle.level_bounds.specs.Scans.{query_level}
+use Rattle.level_bounds.proofs.Lists.{from_filter, in_filter, in_range, map_alike}
+use Rattle.reduced_scans.specs.Families.{IsFamily, list_at}
+use Rattle.reduced_scans.specs.Scans.{scans_of}
+use Rattle.reduced_scans.proofs.Bridge.{contains-has, has, has-contains}
+use Rattle.reduced_scans.proofs.Members.{not_in_none}
+use Rattle.reduced_scans.proofs.OneReduced.{same_members}
+use Rattle.reduced_scans.proofs.QueryScans.{filter_ascends, range_ascends, scan_at, scan_past, scanned_low}
+
+module _ (query : Query) (tables : Tables) (family : List (List ℕ)) (is : IsFamily (scans_of query tables) family) where
+  -- whether the row is one of its entry's list
+  abbrev pub stays : ℕ → ℕ → Bool
+  stays entry row = has row (list_at family entry)
+
+  pub row_low : (entry row : ℕ) → Contains (list_at family entry) row → row < row_counts tables entry
+  row_low entry row listed =
+      let scanned : Contains (list_at (scans_of query tables) entry) row = is.scanned entry row listed in
+      elim (cases_lt entry (length query.from)) [
+        | inl low ↦ scanned_low query tables entry row (subst (λ l. Contains l row) (scan_at query tables entry low) scanned)
+        | inr past ↦ absurd (not_in_none row (subst (λ l. Contains l row) (scan_past query tables entry past) scanned))
+      ]
+
+  pub family_list : (entry : ℕ) → list_at family entry ≡ filter (stays entry) (range_with_len 0 (row_counts tables entry))
+  family_list entry =
+      same_members (list_at family entry) (filter (stays entry) (range_with_len 0 (row_counts tables entry))) (is.ascending entry)
+      (filter_ascends (stays entry) (range_with_len 0 (row_counts tables entry)) (range_ascends 0 (row_counts tables entry)))
+      (λ row listed. in_filter (stays entry) (range_with_len 0 (row_counts tables entry)) row (in_range 0 (row_counts tables entry) row (omega arith) (omega (arith, row_low entry row listed)))
+      (contains-has row (list_at family entry) listed))
+      (λ row kept. has-contains row (list_at family entry) (from_filter (stays entry) (range_with_len 0 (row_counts tables entry)) row kept).1)
+
+  pub family_level : (order : List ℕ) → level_over (conjuncts_of query tables) (list_at family) order ≡ filter (all_pass stays order) (query_level query tables order)
+  family_level order =
+      ap (λ lists. filter (λ choice. all_hold (conjuncts_of query tables) order (row_in order choice)) (choices lists))
+      (map_alike (list_at family) (λ entry. filter (stays entry) (range_with_len 0 (row_counts tables entry))) order (λ entry here. family_list entry))
+      ∙ over_restricted (conjuncts_of query tables) (row_counts tables) stays order
