@@ -1,0 +1,11 @@
+use Rattle.std.proofs.Common.{ℕ, [], ◌∷◌, List, map, ap}
+use Rattle.hash_join.specs.Examples.{one_is_two, twice_three}
+use Rattle.hash_join.proofs.Worked.{level_is, scan_is}
+use Rattle.bushy_join_tests.proofs.examples.constants.Goals as goal
+
+pub returns : goal.returns
+returns c = record {
+  alone = level_is (one_is_two ∷ []) twice_three (0 ∷ []) 1;
+  inner = level_is (one_is_two ∷ []) twice_three (0 ∷ 1 ∷ []) 2;
+  leaf = ap (λ (s : List ℕ). map (λ row. row ∷ []) s) (scan_is (one_is_two ∷ []) twice_three 0);
+}

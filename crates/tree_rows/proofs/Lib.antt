@@ -1,0 +1,3 @@
+pub mod NodeFacts
+pub mod Once
+pub mod RoomFacts

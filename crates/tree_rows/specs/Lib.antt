@@ -1,0 +1,4 @@
+pub mod Trees
+pub mod Nodes
+pub mod Rooms
+pub mod Seen
