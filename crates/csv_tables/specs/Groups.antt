@@ -22,7 +22,8 @@ AreFirsts like group = (i : ℕ) → i < length group → IsFirst like i (slice_
 
 -- two rows have the same cells in the columns of a key
 abbrev pub have_same_cells : List (List ℕ) → List ℕ → ℕ → ℕ → Bool
-have_same_cells columns key i j = list_all (λ column. slice_index (slice_index_or columns column []) i == slice_index (slice_index_or columns column []) j) key
+have_same_cells columns key i j = list_all
+    (λ column. slice_index (slice_index_or columns column []) i == slice_index (slice_index_or columns column []) j) key
 
 -- the first place, counted from `at`, that is not numbered by itself, as records that are numbered from 1
 abbrev pub repeat_from : ℕ → List ℕ → Option Repeat

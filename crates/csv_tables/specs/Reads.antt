@@ -37,6 +37,7 @@ add_row (column ∷ columns) [] = column ∷ columns
 add_row (column ∷ columns) (cell ∷ cells) = (column ++ cell ∷ []) ∷ add_row columns cells
 
 -- the columns of the rows that are stated
-pub record HoldsColumns (stated : Result (List Row) TableError) (texts : List (List ℕ)) (kinds : List Kind) (columns : List (List ℕ)) (rows : ℕ) : Type 0 where
+pub record HoldsColumns (stated : Result (List Row) TableError) (texts : List (List ℕ)) (kinds : List Kind) (columns : List (List ℕ))
+    (rows : ℕ) : Type 0 where
   pub rows_are : stated ≡ Ok (rows_of_columns texts kinds columns rows)
   pub are_columns : AreColumns texts rows kinds columns

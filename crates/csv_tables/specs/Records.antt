@@ -1,6 +1,7 @@
 -- The records of a file's bytes, and those that a reader has left.
 use Rattle.std.specs.Prelude.{ℕ, ◌≡◌, ◌≤◌, ◌+◌, false, List, [], length, Option, None, Some, IsUtf8}
 use Rattle.std.proofs.Common.{Bor}
+use Rattle.limits.specs.Profile.{most_file}
 use Rattle.csv.specs.Machine.{ends_at_end}
 use Rattle.csv.specs.Reading.{default_config, records, records_from, reader_config, reader_state, reader_trim, source_of, Ready}
 use Rattle.csv.specs.declared.parser.State.{State}
@@ -39,5 +40,5 @@ pub record IsReading (reader : Source) : Type 0 where
   pub bytes : List ℕ
   pub known : unread reader ≡ Some bytes
   pub text : IsUtf8 bytes
-  pub few : length bytes ≤ 67108864
+  pub few : length bytes ≤ most_file
   pub between : ends_at_end (reader_state reader) ≡ false

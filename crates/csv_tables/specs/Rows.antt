@@ -1,5 +1,6 @@
 -- The rows of a file's records.
 use Rattle.std.specs.Prelude.{ℕ, ◌+◌, ◌==◌, not, nat_lt, List, [], ◌∷◌, length, slice_index_or, Result, Ok}
+use Rattle.limits.specs.Profile.{most_rows}
 use Rattle.schema_types.specs.declared.types.Column.{Column}
 use Rattle.csv_tables.specs.declared.types.TableError.{TableError}
 use Rattle.csv_tables.specs.declared.types.TableError.TheVariants as error
@@ -23,7 +24,7 @@ values_of_record number at (column ∷ columns) (place ∷ places) fields =
 -- the row of the record with this number in a file whose header has so many fields
 abbrev pub row_of_record : List Column → List ℕ → ℕ → ℕ → Record → Result Row TableError
 row_of_record columns places width number fields =
-    refuse_if (nat_lt 4000000 number) (error.Limit 4000001)
+    refuse_if (nat_lt most_rows number) (error.Limit (most_rows + 1))
     (refuse_if (not (length fields == width)) (error.Width number (length fields))
     (values_of_record number 0 columns places fields))
 

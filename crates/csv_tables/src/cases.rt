@@ -24,6 +24,7 @@ pub fn examples()
     ensures twice { column_place (codes "X") (codes "X" ∷ codes "x" ∷ []) ≡ None }
 
     // The key's values 4, 5, 4: the third record repeats the first.
-    ensures repeat { first_repeat (0 ∷ []) ((Int (pos 4) ∷ []) ∷ (Int (pos 5) ∷ []) ∷ (Int (pos 4) ∷ []) ∷ []) ≡ Some (record { later = 3; earlier = 1 }) }
+    ensures repeat { first_repeat (0 ∷ []) ((Int (pos 4) ∷ []) ∷ (Int (pos 5) ∷ []) ∷ (Int (pos 4) ∷ []) ∷ [])
+        ≡ Some (record { later = 3; earlier = 1 }) }
     ensures none { first_repeat (0 ∷ 1 ∷ []) ((Int (pos 4) ∷ Int (pos 1) ∷ []) ∷ (Int (pos 4) ∷ Int (pos 2) ∷ []) ∷ []) ≡ None }
 {}

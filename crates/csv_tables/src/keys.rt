@@ -1,6 +1,7 @@
 //! Records that repeat the values of a key.
 ghost use Rattle.std.specs.Prelude.{◌≡◌, ◌<◌, ◌≤◌, ℕ, All, IfErr, IfOk, Ok, OnOk, Some, false, if◌then◌else◌, length, slice_index, true, unwrap_or};
 ghost use Rattle.std.specs.HashMap.{get};
+ghost use Rattle.limits.specs.Profile.{most_rows};
 ghost use Rattle.schema_types.specs.Validity.{IsValidTable};
 ghost use Rattle.csv_tables.specs.Cells.{rows_of_columns, AreColumns};
 ghost use Rattle.csv_tables.specs.Groups.{are_alike, have_same_cells, repeat_from, same_pair, AreFirsts, IsRepeat};
@@ -19,7 +20,8 @@ use std::collections::HashMap;
 // The place that is kept for a pair, which is this one where none is.
 fn first_of(seen: &mut HashMap<(u32, u64), u32>, pair: (u32, u64), at: u32) -> Result<u32, NoMemory>
     ensures first { IfOk result (λ first. first ≡ unwrap_or (get same_pair seen.old pair) at) }
-    ensures kept { IfOk result (λ first. (q : ℕ × ℕ) → get same_pair seen.new q ≡ (if same_pair pair q then Some first else get same_pair seen.old q)) }
+    ensures kept { IfOk result (λ first. (q : ℕ × ℕ)
+        → get same_pair seen.new q ≡ (if same_pair pair q then Some first else get same_pair seen.old q)) }
 {
     if let Some(first) = seen.get(&pair) {
         return Ok(*first);
@@ -31,7 +33,7 @@ fn first_of(seen: &mut HashMap<(u32, u64), u32>, pair: (u32, u64), at: u32) -> R
 // Numbers each place by the first one with the same number and the same cell.
 fn number_pairs(alloc: Global, group: &mut [u32], cells: &[u64]) -> Result<(), NoMemory>
     requires long { length group.old ≡ length cells.now }
-    requires few { length cells.now ≤ 4000000 }
+    requires few { length cells.now ≤ most_rows }
     ensures { OnOk result (AreFirsts (are_alike group.old cells.now) group.new) }
 {
     let mut seen = HashMap::new(alloc);
@@ -44,7 +46,7 @@ fn number_pairs(alloc: Global, group: &mut [u32], cells: &[u64]) -> Result<(), N
 
 // The first place that is not numbered by itself.
 fn repeat_in(group: &[u32]) -> Option<Repeat>
-    requires few { length group.now ≤ 4000000 }
+    requires few { length group.now ≤ most_rows }
     requires below { (i : ℕ) → i < length group.now → slice_index group.now i ≤ i }
     ensures { result ≡ repeat_from 0 group.now }
 {
@@ -94,7 +96,7 @@ fn repeat_of_key(
 ) -> Result<Option<Repeat>, NoMemory>
     requires heights { All (λ column. length column ≡ rows) columns.now }
     requires key { All (λ column. column < length columns.now) key.now }
-    requires few { rows ≤ 4000000 }
+    requires few { rows ≤ most_rows }
     ensures { IfOk result (IsRepeat columns.now key.now rows) }
 {
     // Keys mostly ascend in their file, and then no table of what was seen is needed.
@@ -118,9 +120,11 @@ pub(crate) fn check_keys(
 ) -> Result<(), TableError>
     requires valid { IsValidTable table.now }
     requires columns { AreColumns pool.now rows (kinds_of table.now.columns) columns.now }
-    requires few { rows ≤ 4000000 }
-    ensures ok { let stated = rows_of_columns pool.now (kinds_of table.now.columns) columns.now rows in OnOk result (rows_with_keys table.now.keys stated ≡ Ok stated) }
-    ensures refused { let stated = rows_of_columns pool.now (kinds_of table.now.columns) columns.now rows in IfErr result (Refuses (rows_with_keys table.now.keys stated)) }
+    requires few { rows ≤ most_rows }
+    ensures ok { let stated = rows_of_columns pool.now (kinds_of table.now.columns) columns.now rows
+        in OnOk result (rows_with_keys table.now.keys stated ≡ Ok stated) }
+    ensures refused { let stated = rows_of_columns pool.now (kinds_of table.now.columns) columns.now rows
+        in IfErr result (Refuses (rows_with_keys table.now.keys stated)) }
 {
     // The pool says with its length that its texts are different, so equal values have equal cells.
     let _count = pool.len();

@@ -25,6 +25,3 @@ pub use cell::{cell_of, compare, value_of};
 pub use pool::Pool;
 pub use table::read_table;
 pub use types::{Cells, Database, TableError};
-
-#[cfg(test)]
-mod tests;

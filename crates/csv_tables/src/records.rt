@@ -1,5 +1,6 @@
 //! The records of a file, one after another.
 ghost use Rattle.std.specs.Prelude.{◌≡◌, ◌≤◌, ◌∷◌, [], length, true, false, IfOk, IsUtf8};
+ghost use Rattle.limits.specs.Profile.{most_file};
 ghost use Rattle.csv.specs.Reading.{strip_bom};
 ghost use Rattle.csv.specs.Records.{fields_of, AllText};
 ghost use Rattle.csv_tables.specs.Records.{left, records_of, IsReading};
@@ -11,7 +12,7 @@ use std::alloc::Global;
 /// A reader before the first record of a file, the header. It passes over one byte order mark.
 pub(crate) fn open_records<'a>(alloc: Global, bytes: &'a [u8]) -> Reader<&'a [u8]>
     requires text { IsUtf8 bytes.now }
-    requires few { length bytes.now ≤ 67108864 }
+    requires few { length bytes.now ≤ most_file }
     ensures reading { IsReading result }
     ensures left { left result ≡ records_of (strip_bom bytes.now) }
 {

@@ -1,6 +1,7 @@
 //! The records of a file as cells.
 ghost use Rattle.std.specs.Prelude.{◌≡◌, ◌<◌, ◌≤◌, ◌+◌, ◌^◌, ◌∷◌, [], nat_le, length, map, option_map, replicate, slice_index_or, vec_len, IfErr, IfOk, IfSome, IsUtf8, OnOk, Ok};
 ghost use Rattle.std.specs.Str.{chars};
+ghost use Rattle.limits.specs.Profile.{most_rows};
 ghost use Rattle.csv.specs.Records.{fields_of, AllText};
 ghost use Rattle.csv_tables.specs.Cells.{value_of_cell, IsCell};
 ghost use Rattle.csv_tables.specs.Pools.{BeginsWith};
@@ -17,11 +18,9 @@ use crate::pool::Pool;
 use crate::records::next_record;
 use base_io::{NoMemory, Seq};
 use csv::{ByteRecord, Reader};
+use limits::MOST_ROWS;
 use schema_types::{Column, Kind};
 use std::alloc::Global;
-
-// How many records after the header are read.
-const MOST_ROWS: u32 = 4_000_000;
 
 // Whether a text has at most so many characters.
 fn is_short(text: &str, most: u32) -> bool
@@ -34,7 +33,8 @@ fn is_short(text: &str, most: u32) -> bool
 fn cell_of_text(pool: &mut Pool, most: u32, field: &[u8]) -> Result<Option<u64>, NoMemory>
     requires text { IsUtf8 field.now }
     requires room { length pool.old < 4294967295 }
-    ensures value { IfOk result (λ cell. option_map (value_of_cell pool.new (Kind.Text most)) cell ≡ value_of_field (Kind.Text most) field.now) }
+    ensures value { IfOk result (λ cell. option_map (value_of_cell pool.new (Kind.Text most)) cell
+        ≡ value_of_field (Kind.Text most) field.now) }
     ensures cell { IfOk result (λ cell. IfSome cell (IsCell pool.new (Kind.Text most))) }
     ensures begins { BeginsWith pool.old pool.new }
     ensures few { length pool.new ≤ length pool.old + 1 }
@@ -89,7 +89,8 @@ fn read_row(
     requires columns { length columns.now ≤ 64 }
     requires text { AllText (fields_of row.now) }
     requires room { length pool.old + 64 < 4294967295 }
-    ensures ok { OnOk result (HoldsRow (values_of_record number 0 columns.now places.now (fields_of row.now)) pool.new (kinds_of columns.now) cells.new.items) }
+    ensures ok { OnOk result
+        (HoldsRow (values_of_record number 0 columns.now places.now (fields_of row.now)) pool.new (kinds_of columns.now) cells.new.items) }
     ensures refused { IfErr result (Refuses (values_of_record number 0 columns.now places.now (fields_of row.now))) }
     ensures begins { BeginsWith pool.old pool.new }
     ensures few { length pool.new ≤ length pool.old + length columns.now }
@@ -133,12 +134,13 @@ fn read_record(
     requires text { AllText (fields_of row.now) }
     requires fields { length (fields_of row.now) < 2 ^ 32 }
     requires room { length pool.old + 64 < 4294967295 }
-    ensures ok { OnOk result (HoldsRow (row_of_record columns.now places.now width number (fields_of row.now)) pool.new (kinds_of columns.now) cells.new.items) }
+    ensures ok { OnOk result
+        (HoldsRow (row_of_record columns.now places.now width number (fields_of row.now)) pool.new (kinds_of columns.now) cells.new.items) }
     ensures refused { IfErr result (Refuses (row_of_record columns.now places.now width number (fields_of row.now))) }
     ensures begins { BeginsWith pool.old pool.new }
-    ensures few { number ≤ 4000000 → length pool.new ≤ length pool.old + 64 }
-    ensures past { 4000000 < number → pool.new ≡ pool.old }
-    ensures number { OnOk result (number ≤ 4000000) }
+    ensures few { number ≤ most_rows → length pool.new ≤ length pool.old + 64 }
+    ensures past { most_rows < number → pool.new ≡ pool.old }
+    ensures number { OnOk result (number ≤ most_rows) }
 {
     if number > MOST_ROWS {
         return Err(TableError::Limit {
@@ -179,8 +181,10 @@ pub(crate) fn read_rows(
     requires paired { length places.now ≡ length columns.now }
     requires columns { length columns.now ≤ 64 }
     requires room { length pool.old ≤ 4000000000 }
-    ensures ok { IfOk result (λ found. HoldsColumns (rows_of_records columns.now places.now width 1 (left reader.old)) pool.new (kinds_of columns.now) found.0.items found.1) }
-    ensures limit { IfOk result (λ found. found.1 ≤ 4000000) }
+    ensures ok { IfOk result
+        (λ found. HoldsColumns (rows_of_records columns.now places.now width 1 (left reader.old)) pool.new
+        (kinds_of columns.now) found.0.items found.1) }
+    ensures limit { IfOk result (λ found. found.1 ≤ most_rows) }
     ensures refused { IfErr result (Refuses (rows_of_records columns.now places.now width 1 (left reader.old))) }
     ensures begins { BeginsWith pool.old pool.new }
     ensures few { length pool.new ≤ length pool.old + 256000000 }

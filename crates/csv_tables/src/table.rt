@@ -2,6 +2,7 @@
 ghost use Rattle.std.specs.Prelude.{◌≡◌, ◌<◌, ◌≤◌, ◌+◌, false, Err, IfErr, IfOk, IsUtf8, Ok, OnErr, OnOk, length};
 ghost use Rattle.std.specs.Str.{is_utf8};
 ghost use Rattle.std.specs.Str.Lossy.{utf8_valid_len};
+ghost use Rattle.limits.specs.Profile.{most_file, most_rows};
 ghost use Rattle.csv.specs.Reading.{strip_bom};
 ghost use Rattle.csv.specs.Records.{fields_of};
 ghost use Rattle.schema_types.specs.Validity.{IsValidTable};
@@ -26,7 +27,7 @@ use std::alloc::Global;
 // Whether the bytes are UTF-8.
 #[tactic(auto, using(crate::proofs::TextFacts::text_steps))]
 fn check_text(bytes: &[u8]) -> Result<(), TableError>
-    requires { length bytes.now ≤ 67108864 }
+    requires { length bytes.now ≤ most_file }
     ensures ok { OnOk result (IsUtf8 bytes.now) }
     ensures other { OnErr result (is_utf8 bytes.now ≡ false) }
     ensures at { IfErr result (λ e. e ≡ TableError.Utf8 (utf8_valid_len bytes.now)) }
@@ -59,11 +60,13 @@ fn read_columns(
 ) -> Result<(Vec<Seq<u64>>, u32), TableError>
     requires some { 0 < length columns.now }
     requires columns { length columns.now ≤ 64 }
-    requires few { length bytes.now ≤ 67108864 }
+    requires few { length bytes.now ≤ most_file }
     requires text { IsUtf8 bytes.now }
     requires room { length pool.old ≤ 4000000000 }
-    ensures ok { IfOk result (λ found. HoldsColumns (rows_under_header columns.now (records_of (strip_bom bytes.now))) pool.new (kinds_of columns.now) found.0.items found.1) }
-    ensures limit { IfOk result (λ found. found.1 ≤ 4000000) }
+    ensures ok { IfOk result
+        (λ found. HoldsColumns (rows_under_header columns.now (records_of (strip_bom bytes.now))) pool.new
+        (kinds_of columns.now) found.0.items found.1) }
+    ensures limit { IfOk result (λ found. found.1 ≤ most_rows) }
     ensures refused { IfErr result (Refuses (rows_under_header columns.now (records_of (strip_bom bytes.now)))) }
     ensures begins { BeginsWith pool.old pool.new }
     ensures more { length pool.new ≤ length pool.old + 256000000 }
@@ -90,7 +93,7 @@ pub fn read_table(
     pool: &mut Pool,
 ) -> Result<Cells, TableError>
     requires valid { IsValidTable table.now }
-    requires few { length bytes.now ≤ 67108864 }
+    requires few { length bytes.now ≤ most_file }
     requires room { length pool.old ≤ 4000000000 }
 
     // The rows of the cells are the rows of the file, or the refusal is the file's.

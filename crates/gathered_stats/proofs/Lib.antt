@@ -7,4 +7,3 @@ pub mod Kept
 pub mod Joined
 pub mod Entries
 pub mod Telling
-pub mod SixRows

@@ -3,4 +3,3 @@ pub mod Asked
 pub mod Columns
 pub mod Filters
 pub mod Rests
-pub mod Examples

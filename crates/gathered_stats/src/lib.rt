@@ -20,7 +20,5 @@ mod gather;
 mod lists;
 mod literals;
 mod rests;
-#[cfg(test)]
-mod tests;
 
 pub use gather::gather_query;

@@ -22,8 +22,6 @@ mod reading;
 mod running;
 mod stats;
 mod steps;
-#[cfg(test)]
-mod tests;
 
 pub use columns::{ColumnSteps, EntryStats, QueryStats};
 pub use reading::read_steps;

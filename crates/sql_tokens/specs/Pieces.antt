@@ -26,7 +26,8 @@ further k (Some n) = Some (k + n)
 unfoldable pub closed : ℕ → List ℕ → Option ℕ
 closed quote [] = None
 closed quote (b ∷ []) = if b == quote then Some 1 else None
-closed quote (b ∷ c ∷ rest) = if b == quote then (if c == quote then further 2 (closed quote rest) else Some 1) else further 1 (closed quote (c ∷ rest))
+closed quote (b ∷ c ∷ rest) = if b == quote then (if c == quote then further 2 (closed quote rest) else Some 1)
+    else further 1 (closed quote (c ∷ rest))
 
 -- behind the quote that opens a delimited identifier, which is closed so many bytes on
 abbrev pub identifier_to : Option ℕ → List ℕ → Piece
@@ -46,7 +47,8 @@ unfoldable pub literal : List ℕ → Piece
 literal rest = literal_to (closed 39 rest)
 
 unfoldable pub symbol : ℕ → List ℕ → Piece
-symbol b rest = if is_pair b (slice_index rest 0) then piece_.Token kind.Symbol 2 else (if is_sign b then piece_.Token kind.Symbol 1 else piece_.Wrong 0)
+symbol b rest = if is_pair b (slice_index rest 0) then piece_.Token kind.Symbol 2
+    else (if is_sign b then piece_.Token kind.Symbol 1 else piece_.Wrong 0)
 
 -- what stands at the front of a text
 unfoldable pub piece : List ℕ → Piece

@@ -97,7 +97,8 @@ pair_terminal b c = if b == 62 then terminal.GreaterOrEqual else (if c == 62 the
 
 -- the terminal of a symbol's bytes
 abbrev pub symbol_terminal : List ℕ → Terminal
-symbol_terminal bytes = if length bytes == 2 then pair_terminal (slice_index bytes 0) (slice_index bytes 1) else sign_terminal (slice_index bytes 0)
+symbol_terminal bytes = if length bytes == 2 then pair_terminal (slice_index bytes 0) (slice_index bytes 1)
+    else sign_terminal (slice_index bytes 0)
 
 abbrev pub is_zero_digit : ℕ → Bool
 is_zero_digit b = b == 48

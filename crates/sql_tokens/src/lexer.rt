@@ -1,5 +1,6 @@
 //! The tokens of a text, from its front to its end.
 ghost use Rattle.std.specs.Prelude.{◌≡◌, ◌+◌, ◌<◌, ◌≤◌, drop, length, IfOk, IfErr, All};
+ghost use Rattle.limits.specs.Profile.{most_text};
 ghost use Rattle.sql_tokens.specs.Words.{IsTokenOf};
 ghost use Rattle.sql_tokens.specs.Pieces.{tokens_at, Gave};
 ghost use Rattle.sql_tokens.specs.Lexing.{mark_len, IsLexed, IsRefusal, AreInOrder};
@@ -12,7 +13,7 @@ use std::alloc::Global;
 /// The tokens of what stands from the place `start` on, or the first place where it goes wrong.
 #[tactic(auto, using(crate::proofs::Walk::walk_gap, crate::proofs::Walk::walk_token, crate::proofs::Walk::walk_wrong, crate::proofs::Walk::walk_done, crate::proofs::Walk::walk_start))]
 fn tokens_from(alloc: Global, start: u32, text: &[u8]) -> Result<Seq<Token>, LexError>
-    requires { start + length text.now ≤ 1048576 }
+    requires { start + length text.now ≤ most_text }
     ensures { Gave result (tokens_at start text.now) }
 {
     let mut tokens = Seq::new(alloc);
@@ -59,7 +60,7 @@ fn mark_len_of(text: &[u8]) -> usize
 /// closes or an identifier of no characters (at the quote that opens), or a control character in a
 /// delimited identifier (at it).
 pub fn tokens(alloc: Global, text: &[u8]) -> Result<Seq<Token>, LexError>
-    requires { length text.now ≤ 1048576 }
+    requires { length text.now ≤ most_text }
     ensures ok { IfOk result (λ found. IsLexed text.now found) }
     ensures bad { IfErr result (λ error. IsRefusal text.now error) }
     ensures in_order { IfOk result (λ found. AreInOrder 0 (length text.now) found) }

@@ -23,6 +23,3 @@ pub use lexer::tokens;
 pub use names::{literal, name, number};
 pub use terminals::lexemes;
 pub use token::{LexError, Token, TokenKind};
-
-#[cfg(test)]
-mod tests;

@@ -1,5 +1,6 @@
 //! What stands at the front of a text: a separator, a token or an offence.
 ghost use Rattle.std.specs.Prelude.{◌≡◌, ◌∷◌, ◌+◌, ◌<◌, ◌≤◌, length, slice_index, IfSome};
+ghost use Rattle.limits.specs.Profile.{most_text};
 ghost use Rattle.sql_tokens.specs.Tokens.{is_blank, is_sign, is_pair};
 ghost use Rattle.sql_tokens.specs.Pieces.{closed, identifier, literal, symbol, piece, Fits};
 
@@ -37,7 +38,7 @@ fn closed_len(quote: u8, bytes: &[u8]) -> Option<usize>
 
 #[tactic(auto, unfolding(crate::specs::Pieces::identifier))]
 fn identifier_piece(rest: &[u8]) -> Piece
-    requires { length rest.now < 1048576 }
+    requires { length rest.now < most_text }
     ensures value { result ≡ identifier rest.now }
     ensures fits { Fits result (length rest.now + 1) }
 {
@@ -59,7 +60,7 @@ fn identifier_piece(rest: &[u8]) -> Piece
 
 #[tactic(auto, unfolding(crate::specs::Pieces::literal))]
 fn literal_piece(rest: &[u8]) -> Piece
-    requires { length rest.now < 1048576 }
+    requires { length rest.now < most_text }
     ensures value { result ≡ literal rest.now }
     ensures fits { Fits result (length rest.now + 1) }
 {
@@ -124,7 +125,7 @@ fn symbol_piece(first: u8, rest: &[u8]) -> Piece
 /// What the bytes begin with.
 #[tactic(auto, unfolding(crate::specs::Pieces::piece))]
 pub fn piece_at(first: u8, rest: &[u8]) -> Piece
-    requires { length rest.now < 1048576 }
+    requires { length rest.now < most_text }
     ensures value { result ≡ piece (first ∷ rest.now) }
     ensures fits { Fits result (length rest.now + 1) }
 {

@@ -13,3 +13,7 @@ mod query_rules;
 mod schema_rules;
 #[cfg(test)]
 mod schemas;
+#[cfg(test)]
+mod tables;
+#[cfg(test)]
+mod tokens;

@@ -1,9 +1,10 @@
+//! Steps that are put together, and the steps of an entry without conjuncts.
 ghost use Rattle.std.specs.Prelude.{◌≡◌, ◌<◌, length, IfOk, IsSome};
 ghost use Rattle.predicate_bounds.specs.Told.{column_steps, first_steps};
 
-use super::*;
 use base_io::{NoMemory, Seq};
 use piece_math::Pieces;
+use predicate_bounds::{ColumnSteps, EntryStats, ListStep, QueryStats, read_steps};
 use query_types::Query;
 use std::alloc::Global;
 use std::test::Fail;

@@ -1,8 +1,9 @@
+//! Table files: what is read, what is refused, and the pool of texts.
 ghost use Rattle.std.specs.Prelude.{◌≡◌, ◌<◌, All, IfOk};
 ghost use Rattle.schema_types.specs.Validity.{IsValidTable};
 
-use crate::{Cells, Pool, TableError, cell_of, compare, examples, read_table, value_of};
 use base_io::{Name, NoMemory, Seq};
+use csv_tables::{Cells, Pool, TableError, cell_of, compare, examples, read_table, value_of};
 use schema_types::{Column, Kind, Table};
 use std::alloc::Global;
 use std::cmp::Ordering;

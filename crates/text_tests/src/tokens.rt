@@ -1,12 +1,13 @@
+//! Tokens of schema and query texts.
 ghost use Rattle.std.specs.Prelude.{IfOk, All};
 ghost use Rattle.sql_tokens.specs.Words.{IsLexemeOf};
 
-use crate::{
+use base_io::Seq;
+use ll_grammars::{Lexeme, Terminal};
+use sql_tokens::{
     LexError, TokenKind, each_text, forms, lexemes, literal, longest, name, not_both, number,
     one_offence, one_reading, spans, tokens,
 };
-use base_io::Seq;
-use ll_grammars::{Lexeme, Terminal};
 use std::alloc::Global;
 use std::process::Abort;
 use std::rt::HostRuntime;
