@@ -84,7 +84,8 @@ impl Buffer {
 
     /// Adds the bytes of several parts, in order.
     pub fn put_parts<N: Sink>(&mut self, sink: &mut N, parts: &[&[u8]]) -> Result<(), Failed>
-        ensures ok { OnOk result (TookBut (N.taken sink.old) (N.taken sink.new) self.new (self.old ++ flat_map (λ part. part.now) parts.now)) }
+        ensures ok { OnOk result (TookBut (N.taken sink.old) (N.taken sink.new) self.new (self.old ++ flat_map
+            (λ part. part.now) parts.now)) }
         ensures prefix { GrewByPrefix (N.taken sink.old) (N.taken sink.new) (self.old ++ flat_map (λ part. part.now) parts.now) }
         ensures later { N.faults sink.old ≤ N.faults sink.new }
         ensures failed { OnErr result (Rose (N.faults sink.old) (N.faults sink.new)) }

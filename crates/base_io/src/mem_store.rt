@@ -1,4 +1,5 @@
 ghost use Rattle.std.specs.Prelude.{◌≡◌, ◌<◌, ◌≤◌, ◌-◌, min, if◌then◌else◌, length, option_map, IfOk, List, Some, ℕ, IsErrOf};
+ghost use Rattle.limits.specs.Profile.{most_file};
 ghost use Rattle.base_io.specs.Causes.{Rose, one_more};
 ghost use Rattle.base_io.specs.Files.{file_of, Fills, ReadsAt, told};
 ghost use Rattle.base_io.specs.Planned.{has_failed, is_listed};
@@ -73,7 +74,7 @@ impl Store for MemStore {
 
     /// As every store's, and exactly the listed calls fail.
     fn read_at(&mut self, name: &str, at: u64, into: &mut [u8]) -> Result<usize, StoreError>
-        requires place { at ≤ 67108864 }
+        requires place { at ≤ most_file }
         requires room { 0 < length into.old }
         ensures read { ReadsAt (told (Some self.old.files) name.now) at result into.new }
         ensures files { Some self.new.files ≡ Some self.old.files }

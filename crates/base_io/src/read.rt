@@ -1,5 +1,6 @@
 //! A whole file at once.
 ghost use Rattle.std.specs.Prelude.{◌≡◌, ◌≤◌, IsErrOf};
+ghost use Rattle.limits.specs.Profile.{most_file};
 ghost use Rattle.base_io.specs.Causes.{Rose, one_more};
 ghost use Rattle.base_io.specs.Files.{ReadsFile, told};
 
@@ -19,7 +20,7 @@ pub fn read_file<S: Store>(
     name: &str,
     limit: u32,
 ) -> Result<Seq<u8>, ReadError>
-    requires { limit ≤ 67108864 }
+    requires { limit ≤ most_file }
 
     // The whole file, or the answer that fits what the store tells of the name.
     ensures read { ReadsFile (told (S.files store.old) name.now) limit result }

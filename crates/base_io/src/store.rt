@@ -1,5 +1,6 @@
 //! A source of files.
 ghost use Rattle.std.specs.Prelude.{◌≡◌, ◌<◌, ◌≤◌, ℕ, Option, length, IsErrOf};
+ghost use Rattle.limits.specs.Profile.{most_file};
 ghost use Rattle.base_io.specs.Causes.{Rose, one_more};
 ghost use Rattle.base_io.specs.Files.{Files, ReadsAt, told};
 
@@ -21,7 +22,7 @@ pub trait Store {
     /// Reads a file's bytes from a place on into the front of a buffer, and answers how many.
     /// 0 bytes come exactly at the file's end or past it.
     fn read_at(&mut self, name: &str, at: u64, into: &mut [u8]) -> Result<usize, StoreError>
-        requires place { at ≤ 67108864 }
+        requires place { at ≤ most_file }
         requires room { 0 < length into.old }
         ensures read { ReadsAt (told (files self.old) name.now) at result into.new }
         ensures files { files self.new ≡ files self.old }

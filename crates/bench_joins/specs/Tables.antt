@@ -12,7 +12,8 @@ use Rattle.query_types.specs.declared.types.Query.{Query}
 use Rattle.reserve_plan.specs.Rooms.{rooms, Rooms}
 
 abbrev pub compared : Op → ℕ → Cond
-compared op number = Compare op (operand.Column (record { from = 0; column = number })) (operand.Column (record { from = 1; column = number }))
+compared op number = Compare op (operand.Column (record { from = 0; column = number }))
+    (operand.Column (record { from = 1; column = number }))
 
 -- what is asked of the values, if anything
 abbrev pub values_compared : Option Op → List Cond

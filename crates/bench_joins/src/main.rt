@@ -1,6 +1,8 @@
 //! The proved side of the benchmark of hash_join; bench/joins.rs is the plain one.
 //!
-//! It joins pairs of tables, and writes for each pair how many rows the join has and the sum of their row numbers. Without a word the tables are small; with one, as `time`, they have up to 1,000,000 rows, and it writes to standard error the nanoseconds of an execution, the least of three.
+//! It joins pairs of tables, and writes for each pair how many rows the join has and the sum of their row numbers. Without a word the
+//! tables are small; with one, as `time`, they have up to 1,000,000 rows, and it writes to standard error the nanoseconds of an execution,
+//! the least of three.
 #![tactic(auto)]
 
 ghost use Rattle.std.specs.Prelude.{◌≡◌, ◌*◌, ◌<◌, ◌≤◌, IfOk, length};
@@ -107,7 +109,8 @@ fn timed<R: Runtime>(
     execution(rt, reserved, sizes, values, query, db)
 }
 
-// Joins two tables of these sizes, and writes what came. The right one has each key so many times, so the join has at most so many rows for each row of the left one.
+// Joins two tables of these sizes, and writes what came. The right one has each key so many times, so the join has at most so many rows for
+// each row of the left one.
 fn show(
     rt: &HostRuntime,
     name: &str,

@@ -1,6 +1,7 @@
 //! The proved side of the benchmark of link_index; bench/link_index.rs is the plain one.
 //!
-//! With no argument it makes the calls over few keys and writes what they gave. With one it makes them over 4,000,000 keys, and writes to standard error the nanoseconds that `load`, `first` and `after` took for all of them, the least of five rounds.
+//! With no argument it makes the calls over few keys and writes what they gave. With one it makes them over 4,000,000 keys, and writes to
+//! standard error the nanoseconds that `load`, `first` and `after` took for all of them, the least of five rounds.
 #![tactic(auto)]
 
 ghost use Rattle.std.specs.Prelude.{◌≡◌, ◌<◌, ◌≤◌, length, vec_len, IfOk};

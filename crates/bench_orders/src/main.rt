@@ -1,6 +1,7 @@
 //! The proved side of the benchmark of order_search; bench/orders.rs is the plain one.
 //!
-//! It chooses orders of twelve entries over several kinds of bounds, and writes what was chosen. With an argument it also writes to standard error the nanoseconds of a choice, the least of 50.
+//! It chooses orders of twelve entries over several kinds of bounds, and writes what was chosen. With an argument it also writes to
+//! standard error the nanoseconds of a choice, the least of 50.
 #![tactic(auto)]
 
 ghost use Rattle.std.specs.Prelude.{◌≡◌, ◌<◌, length, vec_len, IfOk};

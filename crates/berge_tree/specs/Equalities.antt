@@ -51,7 +51,9 @@ class_of es = classes_from (λ p. p) es
 
 -- what is equal along all equalities is equal at the two columns
 abbrev pub AreJoined : List Edge → Place → Place → Type 0
-AreJoined es p q = (key : ℕ → ℕ → ℕ) → AllByRecursion (λ e. key e.left.entry e.left.column ≡ key e.right.entry e.right.column) es → key p.entry p.column ≡ key q.entry q.column
+AreJoined es p q =
+    (key : ℕ → ℕ → ℕ) → AllByRecursion (λ e. key e.left.entry e.left.column ≡ key e.right.entry e.right.column) es
+    → key p.entry p.column ≡ key q.entry q.column
 
 -- ---- no cycle of entries and classes
 
@@ -59,7 +61,8 @@ AreJoined es p q = (key : ℕ → ℕ → ℕ) → AllByRecursion (λ e. key e.l
 abbrev pub side_seen : (ℕ → Bool) → Place → Place → Bool
 side_seen side p q = if same_place q p then not (side q.entry) else side q.entry
 
--- the link of p's entry with p's class is the only way between them: the entries fall into two sides, and each class lies on one, where p's entry alone is seen on the other
+-- the link of p's entry with p's class is the only way between them: the entries fall into two sides, and each class
+-- lies on one, where p's entry alone is seen on the other
 pub record IsBridge (class : Place → Place) (p : Place) : Type 0 where
   pub side : ℕ → Bool
   pub together : (q r : Place) → class q ≡ class r → side_seen side p q ≡ side_seen side p r

@@ -16,7 +16,12 @@ four_entries =
 
 -- the class of X has the children S and T, the class of Y has the child U
 abbrev pub four_entries_tree : JoinTree
-four_entries_tree = record { root = 0; below = and_class 0 (and_member 1 0 (and_class 1 (one_member 3 1 no_class) no_class) (one_member 2 0 no_class)) no_class }
+four_entries_tree =
+    record {
+      root = 0;
+      below = and_class 0
+          (and_member 1 0 (and_class 1 (one_member 3 1 no_class) no_class) (one_member 2 0 no_class)) no_class;
+    }
 
 abbrev pub four_entries_nodes : List Node
 four_entries_nodes =

@@ -34,15 +34,28 @@ abbrev mutual
   pub nodes_of_classes : ℕ → ℕ → Classes → List Node
   nodes_of_classes at number no_class = []
   nodes_of_classes at number (and_class column members rest) =
-      record { kind = kind.Class number; via = column; first_child = Some (at + 1); next_sibling = link_to rest (at + 1 + nodes_within members) }
-      ∷ (nodes_of_members (at + 1) (number + 1) members ++ nodes_of_classes (at + 1 + nodes_within members) (number + 1 + classes_within members) rest)
+      record {
+        kind = kind.Class number;
+        via = column;
+        first_child = Some (at + 1);
+        next_sibling = link_to rest (at + 1 + nodes_within members);
+      }
+      ∷ (nodes_of_members (at + 1) (number + 1) members
+      ++ nodes_of_classes (at + 1 + nodes_within members) (number + 1 + classes_within members) rest)
 
   pub nodes_of_members : ℕ → ℕ → Members → List Node
   nodes_of_members at number (one_member entry column below) =
-      record { kind = kind.Entry entry; via = column; first_child = link_to below (at + 1); next_sibling = None } ∷ nodes_of_classes (at + 1) number below
+      record { kind = kind.Entry entry; via = column; first_child = link_to below (at + 1); next_sibling = None }
+      ∷ nodes_of_classes (at + 1) number below
   nodes_of_members at number (and_member entry column below rest) =
-      record { kind = kind.Entry entry; via = column; first_child = link_to below (at + 1); next_sibling = Some (at + 1 + nodes_below below) }
+      record {
+        kind = kind.Entry entry;
+        via = column;
+        first_child = link_to below (at + 1);
+        next_sibling = Some (at + 1 + nodes_below below);
+      }
       ∷ (nodes_of_classes (at + 1) number below ++ nodes_of_members (at + 1 + nodes_below below) (number + classes_below below) rest)
 
 abbrev pub nodes_of : JoinTree → List Node
-nodes_of t = record { kind = kind.Entry t.root; via = 0; first_child = link_to t.below 1; next_sibling = None } ∷ nodes_of_classes 1 0 t.below
+nodes_of t =
+    record { kind = kind.Entry t.root; via = 0; first_child = link_to t.below 1; next_sibling = None } ∷ nodes_of_classes 1 0 t.below

@@ -38,11 +38,14 @@ pub record AreItsOthers (es : List Edge) (above : Place) (ms : Members) : Type 0
 abbrev mutual
   pub FollowsBelow : List Edge → ℕ → Classes → Type 0
   FollowsBelow es entry no_class = ⊤
-  FollowsBelow es entry (and_class column members rest) = AreItsOthers es (place entry column) members × FollowsWithin es members × FollowsBelow es entry rest
+  FollowsBelow es entry (and_class column members rest) =
+      AreItsOthers es (place entry column) members × FollowsWithin es members × FollowsBelow es entry rest
 
   pub FollowsWithin : List Edge → Members → Type 0
-  FollowsWithin es (one_member entry column below) = AreItsColumns es entry (Some column) (class_columns below) × FollowsBelow es entry below
-  FollowsWithin es (and_member entry column below rest) = AreItsColumns es entry (Some column) (class_columns below) × FollowsBelow es entry below × FollowsWithin es rest
+  FollowsWithin es (one_member entry column below) =
+      AreItsColumns es entry (Some column) (class_columns below) × FollowsBelow es entry below
+  FollowsWithin es (and_member entry column below rest) =
+      AreItsColumns es entry (Some column) (class_columns below) × FollowsBelow es entry below × FollowsWithin es rest
 
 -- a component's tree, which stands at the component's least entry
 pub record IsTreeOf (es : List Edge) (t : JoinTree) : Type 0 where

@@ -16,13 +16,16 @@ abbrev mutual
   pub AreClassesAt : List Node → Classes → Option ℕ → Type 0
   AreClassesAt nodes no_class link = link ≡ None
   AreClassesAt nodes (and_class column members rest) link =
-      (i : ℕ) × (n : Node) × LeadsTo nodes link i n × IsClass n.kind × (n.via ≡ column) × AreMembersAt nodes members n.first_child × AreClassesAt nodes rest n.next_sibling
+      (i : ℕ) × (n : Node) × LeadsTo nodes link i n × IsClass n.kind × (n.via ≡ column) × AreMembersAt nodes members n.first_child
+      × AreClassesAt nodes rest n.next_sibling
 
   pub AreMembersAt : List Node → Members → Option ℕ → Type 0
   AreMembersAt nodes (one_member entry column below) link =
-      (i : ℕ) × (n : Node) × LeadsTo nodes link i n × (n.kind ≡ kind.Entry entry) × (n.via ≡ column) × AreClassesAt nodes below n.first_child × (n.next_sibling ≡ None)
+      (i : ℕ) × (n : Node) × LeadsTo nodes link i n × (n.kind ≡ kind.Entry entry) × (n.via ≡ column)
+      × AreClassesAt nodes below n.first_child × (n.next_sibling ≡ None)
   AreMembersAt nodes (and_member entry column below rest) link =
-      (i : ℕ) × (n : Node) × LeadsTo nodes link i n × (n.kind ≡ kind.Entry entry) × (n.via ≡ column) × AreClassesAt nodes below n.first_child × AreMembersAt nodes rest n.next_sibling
+      (i : ℕ) × (n : Node) × LeadsTo nodes link i n × (n.kind ≡ kind.Entry entry) × (n.via ≡ column)
+      × AreClassesAt nodes below n.first_child × AreMembersAt nodes rest n.next_sibling
 
 -- the tree stands in the nodes, with its root at node 0
 pub record StandsIn (nodes : List Node) (t : JoinTree) : Type 0 where

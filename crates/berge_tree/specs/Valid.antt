@@ -51,9 +51,12 @@ entries_in (n ∷ nodes) = entry_then n.kind (entries_in nodes)
 pub record IsValid (nodes : List Node) : Type 0 where
   pub some : 0 < length nodes
   pub root : (d : Node) → IsEntry (slice_index_or nodes 0 d).kind × ((slice_index_or nodes 0 d).next_sibling ≡ None)
-  pub later : (i : ℕ) (d : Node) → i < length nodes → LeadsLater i (length nodes) (slice_index_or nodes i d).first_child × LeadsLater i (length nodes) (slice_index_or nodes i d).next_sibling
+  pub later : (i : ℕ) (d : Node) → i < length nodes
+      → LeadsLater i (length nodes) (slice_index_or nodes i d).first_child
+      × LeadsLater i (length nodes) (slice_index_or nodes i d).next_sibling
   pub named_once : (i : ℕ) → 1 ≤ i → i < length nodes → times_named nodes i ≡ 1
-  pub alternates : (i : ℕ) (d : Node) → i < length nodes → Alternates nodes (slice_index_or nodes i d).kind (slice_index_or nodes i d).first_child (slice_index_or nodes i d).next_sibling
+  pub alternates : (i : ℕ) (d : Node) → i < length nodes
+      → Alternates nodes (slice_index_or nodes i d).kind (slice_index_or nodes i d).first_child (slice_index_or nodes i d).next_sibling
   pub once : AllPairs (λ e f. e ≢ f) (entries_in nodes)
 
 -- the link to the sibling of node i

@@ -22,7 +22,9 @@ is_before p q = nat_lt p.entry q.entry || ((p.entry == q.entry) && nat_lt p.colu
 -- a column that is a class of its own, put in where it belongs, unless it is there
 abbrev pub put : Place → List Column → List Column
 put p [] = record { place = p; class = p } ∷ []
-put p (c ∷ cs) = if same_place c.place p then c ∷ cs else if is_before c.place p then c ∷ put p cs else record { place = p; class = p } ∷ (c ∷ cs)
+put p (c ∷ cs) =
+    if same_place c.place p then c ∷ cs
+    else if is_before c.place p then c ∷ put p cs else record { place = p; class = p } ∷ (c ∷ cs)
 
 abbrev pub with_places : List Column → List Edge → List Column
 with_places cs [] = cs
@@ -90,16 +92,19 @@ classes_with members (c ∷ cs) = joined_classes c.place.column (members c) (cla
 abbrev pub walked : ℕ → List Column → ℕ → Option ℕ → Classes
 walked zero columns entry above = no_class
 walked (suc depth) columns entry above =
-    classes_with (λ c. members_with (λ d. walked depth columns d.place.entry (Some d.place.column)) (filter (is_other c) columns)) (filter (is_at entry above) columns)
+    classes_with (λ c. members_with (λ d. walked depth columns d.place.entry (Some d.place.column)) (filter (is_other c) columns))
+    (filter (is_at entry above) columns)
 
 -- the classes of those columns of an entry that stand from a place on, with the members to a depth below them
 abbrev pub classes_at : ℕ → List Column → ℕ → ℕ → Option ℕ → Classes
 classes_at depth columns from entry above =
-    classes_with (λ c. members_with (λ d. walked depth columns d.place.entry (Some d.place.column)) (filter (is_other c) columns)) (filter (is_at entry above) (drop from columns))
+    classes_with (λ c. members_with (λ d. walked depth columns d.place.entry (Some d.place.column)) (filter (is_other c) columns))
+    (filter (is_at entry above) (drop from columns))
 
 -- those members of a class whose columns stand from a place on
 abbrev pub members_at : ℕ → List Column → ℕ → Column → Option Members
-members_at depth columns from above = members_with (λ d. walked depth columns d.place.entry (Some d.place.column)) (filter (is_other above) (drop from columns))
+members_at depth columns from above =
+    members_with (λ d. walked depth columns d.place.entry (Some d.place.column)) (filter (is_other above) (drop from columns))
 
 -- each column has another one in its class
 abbrev pub HaveOthers : List Column → Type 0
@@ -108,7 +113,10 @@ HaveOthers columns = (c : Column) → Contains columns c → filter (is_other c)
 -- the next column from a place on that passes the test
 abbrev pub IsNext : (Column → Bool) → List Column → ℕ → Option ℕ → Type 0
 IsNext test columns from None = filter test (drop from columns) ≡ []
-IsNext test columns from (Some i) = (from ≤ i) × (i < length columns) × ((d : Column) → filter test (drop from columns) ≡ slice_index_or columns i d ∷ filter test (drop (i + 1) columns)) × ((d : Column) → test (slice_index_or columns i d) ≡ true)
+IsNext test columns from (Some i) =
+    (from ≤ i) × (i < length columns)
+    × ((d : Column) → filter test (drop from columns) ≡ slice_index_or columns i d ∷ filter test (drop (i + 1) columns))
+    × ((d : Column) → test (slice_index_or columns i d) ≡ true)
 
 -- the link to a node, where nodes end behind it
 abbrev pub link_where : ℕ → ℕ → Option ℕ
@@ -140,7 +148,8 @@ is_among (y ∷ ys) x = if y == x then true else is_among ys x
 abbrev pub forest : ℕ → List Column → List ℕ → List ℕ → List JoinTree
 forest depth columns done [] = []
 forest depth columns done (x ∷ xs) =
-    if is_among done x then forest depth columns done xs else tree_at depth columns x ∷ forest depth columns (entries (tree_at depth columns x) ++ done) xs
+    if is_among done x then forest depth columns done xs
+    else tree_at depth columns x ∷ forest depth columns (entries (tree_at depth columns x) ++ done) xs
 
 -- the node is this entry
 abbrev pub is_kind : NodeKind → ℕ → Bool

@@ -1,8 +1,11 @@
 //! Join trees. From the equalities that a plan keeps to the tree of entries and classes that a bound is folded over.
 //!
-//! In: equalities of columns that close no cycle between entries, and a set of entries, an `EntrySet`. Out: one tree for each component of the set, as nodes in the order of a walk. A class is a largest set of columns that the equalities connect; below an entry stand the classes of its other columns, below a class its other entries.
+//! In: equalities of columns that close no cycle between entries, and a set of entries, an `EntrySet`. Out: one tree for each component of
+//! the set, as nodes in the order of a walk. A class is a largest set of columns that the equalities connect; below an entry stand the
+//! classes of its other columns, below a class its other entries.
 //!
-//! Callers cite `ClosesNoCycle` and `AreWithin` for what they hand in, `AreRooted` for the trees, `IsValid` for the nodes of any tree, and `children_of`.
+//! Callers cite `ClosesNoCycle` and `AreWithin` for what they hand in, `AreRooted` for the trees, `IsValid` for the nodes of any tree, and
+//! `children_of`.
 #![tactic(auto)]
 
 mod columns;

@@ -87,7 +87,8 @@ fn add_classes(
     requires fits { length walk.old.nodes.items + nodes_below (classes_at depth columns.now from entry above) < 2 ^ 32 }
     ensures nodes { IfOk result (λ _. walk.new.nodes.items ≡ walk.old.nodes.items
         ++ nodes_of_classes (length walk.old.nodes.items) walk.old.classes (classes_at depth columns.now from entry above)) }
-    ensures classes { IfOk result (λ _. walk.new.classes ≡ walk.old.classes + classes_below (classes_at depth columns.now from entry above)) }
+    ensures classes { IfOk result (λ _. walk.new.classes
+        ≡ walk.old.classes + classes_below (classes_at depth columns.now from entry above)) }
 {
     let Some(i) = next_at(columns, from, entry, above) else {
         return Ok(());
@@ -246,7 +247,8 @@ fn add_tree(
 
 /// The trees of the set: one for each component, in the order of their roots, each rooted at its least entry.
 ///
-/// The children of an entry are its classes other than the one above, in the order of the columns' numbers; those of a class are its other entries, in FROM order. The nodes stand in the order of the walk, and classes are numbered from 0 in that order.
+/// The children of an entry are its classes other than the one above, in the order of the columns' numbers; those of a class are its other
+/// entries, in FROM order. The nodes stand in the order of the walk, and classes are numbered from 0 in that order.
 pub fn rooted(alloc: Global, edges: &[Edge], subset: EntrySet) -> Result<Seq<Tree>, NoMemory>
     requires within { AreWithin (entries_of_set subset) edges.now }
     requires no_cycle { ClosesNoCycle edges.now }

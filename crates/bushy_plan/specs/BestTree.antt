@@ -13,7 +13,8 @@ inner_greatest bounds (node left right) =
 -- the sum of the bounds of the inner nodes' sets
 abbrev pub inner_sum : List ℕ → JoinTree → ℕ
 inner_sum bounds (leaf entry) = 0
-inner_sum bounds (node left right) = slice_index bounds (entries_of left + entries_of right) + inner_sum bounds left + inner_sum bounds right
+inner_sum bounds (node left right) = slice_index bounds (entries_of left + entries_of right) + inner_sum bounds left
+    + inner_sum bounds right
 
 -- the cost of a whole tree: the largest bound of its inner nodes, and of a leaf alone its own
 abbrev pub cost : List ℕ → JoinTree → ℕ
@@ -42,8 +43,10 @@ all_of n = 2 ^ n - 1
 pub record IsBest (bounds : List ℕ) (n : ℕ) (best : JoinTree) : Type 0 where
   pub is_tree : IsTreeOver (all_of n) best
   pub none_cheaper : (other : JoinTree) → IsTreeOver (all_of n) other → cost bounds best ≤ cost bounds other
-  pub none_smaller : (other : JoinTree) → IsTreeOver (all_of n) other → cost bounds other ≡ cost bounds best → total bounds best ≤ total bounds other
-  pub none_earlier : (other : JoinTree) → IsTreeOver (all_of n) other → cost bounds other ≡ cost bounds best → total bounds other ≡ total bounds best → ¬ IsBefore other best
+  pub none_smaller : (other : JoinTree) → IsTreeOver (all_of n) other → cost bounds other ≡ cost bounds best
+      → total bounds best ≤ total bounds other
+  pub none_earlier : (other : JoinTree) → IsTreeOver (all_of n) other → cost bounds other ≡ cost bounds best
+      → total bounds other ≡ total bounds best → ¬ IsBefore other best
 
 -- joins are those of the best tree, with the bounds of their sets, and this is its cost
 pub record AreOfBest (bounds : List ℕ) (n cheapest : ℕ) (joins : List Join) : Type 0 where

@@ -28,7 +28,8 @@ pub record IsSplit (set left right : ℕ) : Type 0 where
 -- the trees over a set: of one entry its leaf, and of more a split and a tree over each side
 abbrev pub IsTreeOver : ℕ → JoinTree → Type 0
 IsTreeOver set (leaf entry) = set ≡ 2 ^ entry
-IsTreeOver set (node left right) = IsSplit set (entries_of left) (entries_of right) × IsTreeOver (entries_of left) left × IsTreeOver (entries_of right) right
+IsTreeOver set (node left right) = IsSplit set (entries_of left) (entries_of right) × IsTreeOver (entries_of left) left
+    × IsTreeOver (entries_of right) right
 
 -- how many inner nodes a tree has
 abbrev pub inner_count : JoinTree → ℕ

@@ -21,7 +21,8 @@ joined (weight.SumWithin most) bound left right = if nat_le bound most then (min
 -- the weight of a tree: the bounds of its inner nodes, joined
 abbrev pub weight_of : Weight → List ℕ → JoinTree → ℕ
 weight_of w bounds (leaf entry) = 0
-weight_of w bounds (node left right) = joined w (slice_index bounds (entries_of left + entries_of right)) (weight_of w bounds left) (weight_of w bounds right)
+weight_of w bounds (node left right) = joined w (slice_index bounds (entries_of left
+    + entries_of right)) (weight_of w bounds left) (weight_of w bounds right)
 
 -- a tree over the set has this weight, and none is lighter
 pub record IsLeastWeight (w : Weight) (bounds : List ℕ) (set least : ℕ) : Type 0 where
@@ -42,7 +43,8 @@ weight_through w bounds table set right = joined w (slice_index bounds set) (sli
 pub record IsFirstLightestSplit (w : Weight) (bounds table : List ℕ) (set right : ℕ) : Type 0 where
   pub is_split : IsSplit set (set - right) right
   pub lightest : weight_through w bounds table set right ≡ slice_index table set
-  pub first : (other : ℕ) → IsSplit set (set - other) other → right < other → weight_through w bounds table set other ≢ slice_index table set
+  pub first : (other : ℕ) → IsSplit set (set - other) other → right < other
+      → weight_through w bounds table set other ≢ slice_index table set
 
 -- no tree over the set is lighter, and none of its weight comes before it
 pub record IsFirstLightest (w : Weight) (bounds : List ℕ) (set : ℕ) (tree : JoinTree) : Type 0 where

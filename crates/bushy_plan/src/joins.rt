@@ -27,7 +27,8 @@ fn first_right(weight: Weight, bounds: &[u128], table: &[u128], set: usize, behi
     right
 }
 
-// Appends the joins of the first of the lightest trees over the set, and tells the number of its root. Its depth is the tree's: at most that of twelve entries.
+// Appends the joins of the first of the lightest trees over the set, and tells the number of its root. Its depth is the tree's: at most
+// that of twelve entries.
 pub(crate) fn push_joins(
     most: u128,
     count: u8,

@@ -15,7 +15,8 @@ pub fn one_best_tree()
     ensures one { (bounds : List ℕ) (n : ℕ) (a b : JoinTree) → IsBest bounds n a → IsBest bounds n b → a ≡ b }
 {}
 
-/// Where the best tree costs no more than the budget, no refusal has a cause but want of memory; and besides that one refusal at most has one.
+/// Where the best tree costs no more than the budget, no refusal has a cause but want of memory; and besides that one refusal at most has
+/// one.
 pub fn one_answer()
     ensures accepted { (bounds : List ℕ) (n budget : ℕ) (best : JoinTree) (e : BushyError) → budget ≤ most_rows
         → IsBest bounds n best → cost bounds best ≤ budget → IsCause bounds n budget e → e ≡ error.NoMemory }

@@ -17,10 +17,13 @@ use limits::TOP_BOUND;
 use std::alloc::Global;
 use tree_plans::{BushyPlan, Join};
 
-/// The best join tree of n entries, n from 1 to 12, over a bound for each of the 2^n sets: the tree of least cost, which is the greatest bound of its inner nodes; among those the one of least sum of these bounds; among those the first by the number of the left set at the root, then by the left tree, then by the right one.
+/// The best join tree of n entries, n from 1 to 12, over a bound for each of the 2^n sets: the tree of least cost, which is the greatest
+/// bound of its inner nodes; among those the one of least sum of these bounds; among those the first by the number of the left set at the
+/// root, then by the left tree, then by the right one.
 ///
 /// All bounds and the budget are in rows. A bound of 2^128 - 1 stands for all from there on.
-/// It fills two tables of 2^n numbers in 3^n steps each, of which one stands at a time: the least cost over sets, then the least sum by trees within that cost. A set's left part has its first entry, so each tree is looked at once.
+/// It fills two tables of 2^n numbers in 3^n steps each, of which one stands at a time: the least cost over sets, then the least sum by
+/// trees within that cost. A set's left part has its first entry, so each tree is looked at once.
 ///
 /// `Budget` and `PastBits` come exactly where `IsCause` says; `NoMemory` where memory is wanting.
 pub fn choose_bushy(
@@ -39,7 +42,8 @@ pub fn choose_bushy(
     ensures best { IfOk result (IsBestPlan bounds.now (length scans.now)) }
     ensures within { IfOk result (λ plan. plan.cost ≤ budget) }
     ensures scans { IfOk result (λ plan. plan.scans ≡ scans.now) }
-    ensures no_dearer { IfOk result (λ plan. (order : List ℕ) → IsOrder (length scans.now) order → plan.cost ≤ left_deep_cost bounds.now order) }
+    ensures no_dearer { IfOk result (λ plan. (order : List ℕ) → IsOrder (length scans.now) order
+        → plan.cost ≤ left_deep_cost bounds.now order) }
     ensures refused { IfErr result (IsCause bounds.now (length scans.now) budget) }
 {
     let count = scans.len() as u8;

@@ -41,7 +41,7 @@ fn number_of_sets(count: usize) -> usize
 
 // The choice over these bounds, where each entry's scan has two rows.
 fn chosen(alloc: Global, count: usize, bounds: Vec<u128>, budget: u64) -> Result<BushyPlan, Fail> {
-    if count == 0 || count > MOST_ENTRIES || budget > MOST_ROWS {
+    if count == 0 || count > MOST_ENTRIES || budget > MOST_ROWS as u64 {
         return Err(Fail::Unfit);
     }
     if bounds.len() != number_of_sets(count) {

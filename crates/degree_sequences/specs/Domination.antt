@@ -5,7 +5,8 @@ use Rattle.degree_sequences.specs.RunningSums.{running_sum}
 
 -- however different keys are picked, they stand at no more places than as many first elements of s sum to
 abbrev pub DominatesKeys : List ℕ → List ℕ → Type 0
-DominatesKeys s keys = (picked : List ℕ) → IsDistinct ◌==◌ picked → count_by (λ key. list_any (λ a. key == a) picked) keys ≤ running_sum s (length picked)
+DominatesKeys s keys = (picked : List ℕ) → IsDistinct ◌==◌ picked
+    → count_by (λ key. list_any (λ a. key == a) picked) keys ≤ running_sum s (length picked)
 
 -- however different keys are picked, they weigh no more than as many first elements of s sum to
 abbrev pub DominatesWeights : List ℕ → (ℕ → ℕ) → Type 0

@@ -24,4 +24,5 @@ weight_of_row (child ∷ children) i = child.weight (slice_index child.keys i) *
 
 -- the weight that the rows give to a parent key: the sum of the weights of the rows that have it
 abbrev pub weight_of_key : List ℕ → List ChildKeys → ℕ → ℕ
-weight_of_key parent_keys children a = sum_by (λ i. if slice_index parent_keys i == a then weight_of_row children i else 0) (range_with_len 0 (length parent_keys))
+weight_of_key parent_keys children a = sum_by (λ i. if slice_index parent_keys i == a then weight_of_row children i
+    else 0) (range_with_len 0 (length parent_keys))

@@ -14,10 +14,9 @@ ghost use Rattle.joined_texts.specs.Printed.{printed_rows};
 use base_io::{Buffer, Failed, Sink};
 use csv_tables::Database;
 use hash_join::{Executed, Joining};
+use limits::MOST_ENTRIES;
 use printed_texts::{Line, put_line};
 use query_types::Query;
-
-const MOST_ENTRIES: usize = 12;
 
 // Writes the rows of a choice at the places of their entries.
 fn place(order: &[u8], choice: &[u32], rows: &mut [u32])

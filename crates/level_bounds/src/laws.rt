@@ -56,7 +56,8 @@ pub fn cells_are_keys()
     ensures cells { (query : Query) (db : Database) → IsDatabaseOf query db → HaveDifferentCharacters db.pool
         → AreKeys (tables_of db) (cell_at db) (equalities_of query) }
     ensures columns { (query : Query) (db : Database) (column : ColumnRef) → IsDatabaseOf query db → IsColumnOf db column
-        → keys_of (tables_of db) (cell_at db) column.from column.column ≡ slice_index_or (cells_of db column.from).columns column.column [] }
+        → keys_of (tables_of db) (cell_at db) column.from column.column
+        ≡ slice_index_or (cells_of db column.from).columns column.column [] }
     ensures texts { (texts : List (List ℕ)) → All IsUtf8 texts → AreDifferentTexts texts → HaveDifferentCharacters texts }
 {}
 
@@ -95,7 +96,8 @@ pub fn levels_are_never_under()
     // over any tables, and any keys that rows share where an equality joins them
     ensures tables { (query : Query) (tables : Tables) (key : Keys) (b : EntryBounds) (subset : ℕ) (order : List ℕ)
         → AreKeys tables key (equalities_in query subset) → BoundsScans b query tables key subset
-        → IsOrderOfSet (entries_of_set subset) order → length (query_level query tables order) ≤ bound_of_set b (equalities_of query) subset }
+        → IsOrderOfSet (entries_of_set subset) order
+        → length (query_level query tables order) ≤ bound_of_set b (equalities_of query) subset }
     // over any conjuncts
     ensures conjuncts { (conjuncts : List Conjunct) (rows : ℕ → ℕ) (key : Keys) (es : List Edge) (b : EntryBounds) (subset : ℕ)
         (order : List ℕ) → AllByRecursion AsksOnly conjuncts → AllByRecursion (IsAsked conjuncts rows key) (equalities_within subset es)
@@ -124,7 +126,8 @@ pub fn levels_are_of_sets()
 /// each row as often as there.
 pub fn last_levels_are_the_answer()
     ensures tables { (query : Query) (tables : Tables) (order : List ℕ) → NamesItsEntries query → IsOrderOfSet (entries_of query) order
-        → IsPermutation (map (λ choice. selected query tables (row_in order choice)) (query_level query tables order)) (answer query tables) }
+        → IsPermutation (map (λ choice. selected query tables (row_in order choice)) (query_level query tables order))
+        (answer query tables) }
     ensures database { (query : Query) (db : Database) (order : List ℕ) → IsDatabaseOf query db → IsOrderOfSet (entries_of query) order
         → IsPermutation (map (λ choice. selected query (tables_of db) (row_in order choice)) (query_level query (tables_of db) order))
         (answer query (tables_of db)) }

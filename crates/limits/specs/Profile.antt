@@ -1,13 +1,47 @@
--- The limits within which queries are planned.
+-- The limits within which texts are read and queries are planned.
 use Rattle.std.specs.Prelude.{ℕ, ◌-◌, ◌^◌}
+
+-- ---- what is read
+
+-- bytes of a schema text, and of a query text
+abbrev pub most_text : ℕ
+most_text = 1048576
+
+-- bytes of a table's file
+abbrev pub most_file : ℕ
+most_file = 67108864
+
+-- tables of a schema, and columns of a table
+abbrev pub most_tables : ℕ
+most_tables = 64
+
+abbrev pub most_columns : ℕ
+most_columns = 64
+
+-- characters that a column of texts may declare
+abbrev pub most_length : ℕ
+most_length = 1000000
+
+-- rows of a table
+abbrev pub most_rows : ℕ
+most_rows = 4000000
 
 -- FROM entries of a query
 abbrev pub most_entries : ℕ
 most_entries = 12
 
--- rows of a table
-abbrev pub most_rows : ℕ
-most_rows = 4000000
+-- values of a list of IN
+abbrev pub most_values : ℕ
+most_values = 1000
+
+-- conjuncts of a query, and its outputs
+abbrev pub most_conjuncts : ℕ
+most_conjuncts = 256
+
+abbrev pub most_outputs : ℕ
+most_outputs = 1024
+
+-- ---- what is planned
 
 -- rows that the bound of each level of a plan may say, and how many where none is named
 abbrev pub least_budget : ℕ

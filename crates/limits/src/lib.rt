@@ -1,4 +1,4 @@
-//! The limits within which queries are planned, each named once: here for the code, and in specs/Profile for contracts.
+//! The limits within which texts are read and queries are planned, each named once: here for the code, and in specs/Profile for contracts.
 //!
 //! Callers cite the names of specs/Profile.
 #![tactic(auto)]
@@ -6,11 +6,35 @@
 ghost use Rattle.std.specs.Prelude.{◌≡◌};
 ghost use Rattle.limits.specs.Profile as profile;
 
+/// How many bytes a schema text has at most, and a query text.
+pub const MOST_TEXT: u32 = 1_048_576;
+
+/// How many bytes a table's file has at most.
+pub const MOST_FILE: u32 = 67_108_864;
+
+/// How many tables a schema has at most.
+pub const MOST_TABLES: usize = 64;
+
+/// How many columns a table has at most.
+pub const MOST_COLUMNS: usize = 64;
+
+/// How many characters a column of texts may declare at most.
+pub const MOST_LENGTH: u64 = 1_000_000;
+
+/// How many rows a table has at most.
+pub const MOST_ROWS: u32 = 4_000_000;
+
 /// How many FROM entries a query has at most.
 pub const MOST_ENTRIES: usize = 12;
 
-/// How many rows a table has at most.
-pub const MOST_ROWS: u64 = 4_000_000;
+/// How many values a list of IN has at most.
+pub const MOST_VALUES: usize = 1000;
+
+/// How many conjuncts a query has at most.
+pub const MOST_CONJUNCTS: usize = 256;
+
+/// How many outputs a query has at most.
+pub const MOST_OUTPUTS: usize = 1024;
 
 /// The least budget, in rows.
 pub const LEAST_BUDGET: u64 = 1;
@@ -22,22 +46,28 @@ pub const MOST_BUDGET: u64 = 20_000_000;
 pub const USUAL_BUDGET: u64 = 1_000_000;
 
 /// The least accuracy of compressed lists.
-pub const LEAST_ACCURACY: u32 = 1;
+pub const LEAST_ACCURACY: u8 = 1;
 
 /// The greatest accuracy of compressed lists.
-pub const MOST_ACCURACY: u32 = 64;
+pub const MOST_ACCURACY: u8 = 64;
 
 /// The accuracy where none is named.
-pub const USUAL_ACCURACY: u32 = 1;
+pub const USUAL_ACCURACY: u8 = 1;
 
 /// The bound that stands for all from there on.
 pub const TOP_BOUND: u128 = u128::MAX;
 
 /// The limits are as they are named in specs/Profile. It does nothing.
 pub fn limits_are_named()
-    ensures entries { MOST_ENTRIES ≡ profile.most_entries }
+    ensures texts { MOST_TEXT ≡ profile.most_text }
+    ensures files { MOST_FILE ≡ profile.most_file }
+    ensures tables { (MOST_TABLES ≡ profile.most_tables) × (MOST_COLUMNS ≡ profile.most_columns) × (MOST_LENGTH ≡ profile.most_length) }
     ensures rows { MOST_ROWS ≡ profile.most_rows }
+    ensures entries { MOST_ENTRIES ≡ profile.most_entries }
+    ensures queries { (MOST_VALUES ≡ profile.most_values) × (MOST_CONJUNCTS ≡ profile.most_conjuncts)
+        × (MOST_OUTPUTS ≡ profile.most_outputs) }
     ensures budget { (LEAST_BUDGET ≡ profile.least_budget) × (MOST_BUDGET ≡ profile.most_budget) × (USUAL_BUDGET ≡ profile.usual_budget) }
-    ensures accuracy { (LEAST_ACCURACY ≡ profile.least_accuracy) × (MOST_ACCURACY ≡ profile.most_accuracy) × (USUAL_ACCURACY ≡ profile.usual_accuracy) }
+    ensures accuracy { (LEAST_ACCURACY ≡ profile.least_accuracy) × (MOST_ACCURACY ≡ profile.most_accuracy)
+        × (USUAL_ACCURACY ≡ profile.usual_accuracy) }
     ensures bound { TOP_BOUND ≡ profile.top_bound }
 {}

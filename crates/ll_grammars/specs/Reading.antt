@@ -73,7 +73,8 @@ abbrev pub read_tails_up_to : {A : Type 0} → ℕ → List Terminal → List Te
 read_tails_up_to zero separators first p text = give [] text
 read_tails_up_to (suc n) separators first p [] = give [] []
 read_tails_up_to (suc n) separators first p (token ∷ rest) =
-    if among separators token.terminal then (if starts first rest then (p rest >>= read_others (read_tails_up_to n separators first p)) else give [] rest) else give [] (token ∷ rest)
+    if among separators token.terminal then (if starts first rest
+    then (p rest >>= read_others (read_tails_up_to n separators first p)) else give [] rest) else give [] (token ∷ rest)
 
 unfoldable pub read_tails : {A : Type 0} → List Terminal → List Terminal → Parser A → Parser (List A)
 read_tails separators first p text = read_tails_up_to (length text) separators first p text

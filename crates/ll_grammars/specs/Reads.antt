@@ -50,4 +50,5 @@ pub record Reads {A : Type 0} (L : Language A) (s : Shape) (p : Parser A) : Type
   -- each text is found, whatever follows with which the parser doesn't go on
   pub complete : (front rest : List Lexeme) (value : A) → L front value → Stops s.more rest → p (front ++ rest) ≡ (Some value, rest)
   -- it looks at no token past the one at which it stops
-  pub looks : (front rest other : List Lexeme) → SameHead rest other → (p (front ++ rest)).1 ≡ rest → p (front ++ other) ≡ ((p (front ++ rest)).0, other)
+  pub looks : (front rest other : List Lexeme) → SameHead rest other → (p (front ++ rest)).1 ≡ rest
+      → p (front ++ other) ≡ ((p (front ++ rest)).0, other)

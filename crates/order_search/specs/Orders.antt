@@ -1,4 +1,5 @@
--- Orders in which entries are joined, and which order is best. Bounds are given for every set of entries, each at the number whose bits are the set.
+-- Orders in which entries are joined, and which order is best. Bounds are given for every set of entries, each at the number whose bits are
+-- the set.
 use Rattle.std.specs.Prelude.{◌≡◌, ℕ, ◌+◌, ◌^◌, ◌<◌, ◌≤◌, ◌⊎◌, max, List, [], ◌∷◌, map, slice_index, ⊤}
 use Rattle.std.specs.List.{sum}
 use Rattle.entry_sets.specs.Sets.{set_of}
@@ -36,7 +37,8 @@ pub record IsBest (bounds : List ℕ) (n : ℕ) (best : List ℕ) : Type 0 where
   pub is_order : IsOrder n best
   pub none_cheaper : (other : List ℕ) → IsOrder n other → cost bounds best ≤ cost bounds other
   pub none_smaller : (other : List ℕ) → IsOrder n other → cost bounds other ≡ cost bounds best → total bounds best ≤ total bounds other
-  pub none_earlier : (other : List ℕ) → IsOrder n other → cost bounds other ≡ cost bounds best → total bounds other ≡ total bounds best → IsNotAfter best other
+  pub none_earlier : (other : List ℕ) → IsOrder n other → cost bounds other ≡ cost bounds best → total bounds other ≡ total bounds best
+      → IsNotAfter best other
 
 -- an order has this cost, and none has a lower one
 pub record IsLeastCost (bounds : List ℕ) (n least : ℕ) : Type 0 where

@@ -23,7 +23,8 @@ bound_with bounds all left entry = slice_index bounds (all - (left - 2 ^ entry))
 -- the weight of a way: the bounds of the sets on it, joined
 abbrev pub weight_of : Weight → List ℕ → ℕ → ℕ → List ℕ → ℕ
 weight_of w bounds all left [] = 0
-weight_of w bounds all left (entry ∷ entries) = joined w (bound_with bounds all left entry) (weight_of w bounds all (left - 2 ^ entry) entries)
+weight_of w bounds all left (entry ∷ entries) = joined w (bound_with bounds all left entry)
+    (weight_of w bounds all (left - 2 ^ entry) entries)
 
 -- a way has this weight, and none is lighter
 pub record IsLeastWeight (w : Weight) (bounds : List ℕ) (all left least : ℕ) : Type 0 where
@@ -49,4 +50,5 @@ pub record BeginsLightest (w : Weight) (bounds table : List ℕ) (all left entry
 pub record IsFirstLightest (w : Weight) (bounds : List ℕ) (all left : ℕ) (way : List ℕ) : Type 0 where
   pub is_way : IsWay left way
   pub none_lighter : (other : List ℕ) → IsWay left other → weight_of w bounds all left way ≤ weight_of w bounds all left other
-  pub none_earlier : (other : List ℕ) → IsWay left other → weight_of w bounds all left other ≡ weight_of w bounds all left way → IsNotAfter way other
+  pub none_earlier : (other : List ℕ) → IsWay left other → weight_of w bounds all left other ≡ weight_of w bounds all left way
+      → IsNotAfter way other

@@ -21,7 +21,8 @@ pub fn one_best_order()
     ensures one { (bounds : List ℕ) (n : ℕ) (a b : List ℕ) → IsBest bounds n a → IsBest bounds n b → a ≡ b }
 {}
 
-/// Where the best order costs no more than the budget, no refusal has a cause but want of memory; and besides that one refusal at most has one.
+/// Where the best order costs no more than the budget, no refusal has a cause but want of memory; and besides that one refusal at most has
+/// one.
 pub fn one_answer()
     ensures accepted { (bounds : List ℕ) (n budget : ℕ) (best : List ℕ) (e : PlanError) → budget ≤ most_budget
         → IsBest bounds n best → cost bounds best ≤ budget → IsCause bounds n budget e → e ≡ error.NoMemory }

@@ -15,10 +15,13 @@ use limits::TOP_BOUND;
 use plans::Plan;
 use std::alloc::Global;
 
-/// The best order of n entries, n from 1 to 12, over a bound for each of the 2^n sets: the order of least cost, which is the greatest bound of its first k entries, k from 1; among those the one of least sum of these bounds; among those the first in lexicographic order.
+/// The best order of n entries, n from 1 to 12, over a bound for each of the 2^n sets: the order of least cost, which is the greatest bound
+/// of its first k entries, k from 1; among those the one of least sum of these bounds; among those the first in lexicographic order.
 ///
 /// All bounds and the budget are in rows. A bound of 2^128 - 1 stands for all from there on.
-/// It fills two tables of 2^n numbers in n 2^n steps each, of which one stands at a time: the least cost over sets, then the least sum by ways within that cost. To choose left-deep orders by tables over sets is from *Access Path Selection in a Relational Database Management System* (Selinger and others, SIGMOD 1979).
+/// It fills two tables of 2^n numbers in n 2^n steps each, of which one stands at a time: the least cost over sets, then the least sum by
+/// ways within that cost. To choose left-deep orders by tables over sets is from *Access Path Selection in a Relational Database Management
+/// System* (Selinger and others, SIGMOD 1979).
 ///
 /// `Budget` and `PastBits` come exactly where `IsCause` says; `NoMemory` where memory is wanting.
 pub fn choose(

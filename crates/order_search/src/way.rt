@@ -57,7 +57,8 @@ pub(crate) fn first_lightest(
     requires filled { length table.now ≡ length bounds.now }
     requires table { IsTable (Weight.SumWithin most) bounds.now (length bounds.now - 1) table.now (length bounds.now) }
     requires light { slice_index table.now (length bounds.now - 1) < top_bound }
-    ensures { IfOk result (λ order. IsFirstLightest (Weight.SumWithin most) bounds.now (length bounds.now - 1) (length bounds.now - 1) order.items) }
+    ensures { IfOk result
+        (λ order. IsFirstLightest (Weight.SumWithin most) bounds.now (length bounds.now - 1) (length bounds.now - 1) order.items) }
 {
     let mut order = Vec::new(alloc);
     let mut left = EntrySet::from_bits((bounds.len() - 1) as u16);

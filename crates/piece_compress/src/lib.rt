@@ -93,7 +93,8 @@ fn extended(pieces: &mut Pieces, run: Run, value: u64) -> Result<Run, NoMemory>
     requires room { length pieces.old + run.count + 1 < 2 ^ 64 }
     ensures value { IfOk result (λ longer. longer.value ≡ value) }
     ensures one_more { IfOk result (λ longer. 0 < longer.count) }
-    ensures before { IfOk result (λ longer. pieces.new ++ replicate (longer.count - 1) longer.value ≡ pieces.old ++ replicate run.count run.value) }
+    ensures before { IfOk result (λ longer. pieces.new ++ replicate (longer.count - 1) longer.value ≡ pieces.old
+        ++ replicate run.count run.value) }
     ensures falls { IfOk result (λ longer. All (λ x. longer.value ≤ x) pieces.new) }
 {
     if run.value == value {

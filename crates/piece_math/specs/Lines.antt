@@ -14,4 +14,5 @@ pub record IsBend (line other : Line) (count : ℕ) (bend : Bend) : Type 0 where
   pub between : (k : ℕ) → k < bend.between.count
       → lower_at line other (bend.before.count + k + 1) ≡ lower_at line other (bend.before.count + k) + bend.between.value
   pub after : (k : ℕ) → k < bend.after.count
-      → lower_at line other (bend.before.count + bend.between.count + k + 1) ≡ lower_at line other (bend.before.count + bend.between.count + k) + bend.after.value
+      → lower_at line other (bend.before.count + bend.between.count + k + 1)
+      ≡ lower_at line other (bend.before.count + bend.between.count + k) + bend.after.value

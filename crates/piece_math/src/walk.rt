@@ -59,7 +59,8 @@ pub fn passed(pieces: &[Piece], place: Place, count: u64) -> Place
     ensures place { IsPlace pieces.now result }
     ensures stays { place.at ≤ result.at }
     ensures ends { place.at < length pieces.now → count ≡ (ahead_of pieces.now place).count → result.at ≡ place.at + 1 }
-    ensures within { place.at < length pieces.now → count < (ahead_of pieces.now place).count → result ≡ record { at = place.at; used = place.used + count } }
+    ensures within { place.at < length pieces.now → count < (ahead_of pieces.now place).count
+        → result ≡ record { at = place.at; used = place.used + count } }
 {
     if place.at >= pieces.len() {
         return place;

@@ -2,7 +2,8 @@ use base_io::Seq;
 
 /// A left-deep order of n entries, which are named by their FROM positions from 0 on.
 ///
-/// `scans` are the bounds of the entries' scans in FROM order, in rows. `levels` are the bounds of the joins of the first k entries of the order, k from 1 to n, in rows.
+/// `scans` are the bounds of the entries' scans in FROM order, in rows. `levels` are the bounds of the joins of the first k entries of the
+/// order, k from 1 to n, in rows.
 #[derive(Debug, Drop)]
 pub struct Plan {
     pub order: Seq<u8>,

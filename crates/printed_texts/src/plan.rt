@@ -91,7 +91,8 @@ fn write_levels<N: Sink>(
 ) -> Result<(), Failed>
     requires entries { AllByRecursion (λ entry. entry < length sources.now) order.now }
     requires bounds { length bounds.now ≡ length order.now }
-    ensures { Put (growth N.taken N.faults sink.old sink.new) buffer.old buffer.new (level_lines 1 sources.now order.now bounds.now) result }
+    ensures { Put (growth N.taken N.faults sink.old sink.new) buffer.old buffer.new
+        (level_lines 1 sources.now order.now bounds.now) result }
 {
     'levels: for i in 0..order.len() {
         let alias = alias_at(sources, order[i]);

@@ -37,7 +37,8 @@ fn field<'a>(out: &'a Out, line: Line, db: &'a Database) -> ValueRef<'a>
 }
 
 fn put_value<N: Sink>(value: ValueRef, buffer: &mut Buffer, sink: &mut N) -> Result<(), Failed>
-    ensures { Put (growth N.taken N.faults sink.old sink.new) buffer.old buffer.new (field_text (value_text (value_seen value.entry))) result }
+    ensures { Put (growth N.taken N.faults sink.old sink.new) buffer.old buffer.new
+        (field_text (value_text (value_seen value.entry))) result }
 {
     match value {
         ValueRef::Int(number) => {
@@ -50,7 +51,8 @@ fn put_value<N: Sink>(value: ValueRef, buffer: &mut Buffer, sink: &mut N) -> Res
 
 // The same of a record's only field.
 fn put_lone_value<N: Sink>(value: ValueRef, buffer: &mut Buffer, sink: &mut N) -> Result<(), Failed>
-    ensures { Put (growth N.taken N.faults sink.old sink.new) buffer.old buffer.new (lone_field_text (value_text (value_seen value.entry))) result }
+    ensures { Put (growth N.taken N.faults sink.old sink.new) buffer.old buffer.new
+        (lone_field_text (value_text (value_seen value.entry))) result }
 {
     match value {
         ValueRef::Int(number) => {
@@ -72,7 +74,8 @@ fn put_next<N: Sink>(
     requires tables { AreTables db.now }
     requires column { IsColumnOf db.now out.now.column }
     requires line { IsLineOf db.now line }
-    ensures { Put (growth N.taken N.faults sink.old sink.new) buffer.old buffer.new (next_field (tables_of db.now) line.entry out.now) result }
+    ensures { Put (growth N.taken N.faults sink.old sink.new) buffer.old buffer.new
+        (next_field (tables_of db.now) line.entry out.now) result }
 {
     put_comma(buffer, sink)?;
     put_value(field(out, line, db), buffer, sink)
@@ -89,7 +92,8 @@ fn put_others<N: Sink>(
     requires tables { AreTables db.now }
     requires columns { All (λ out. IsColumnOf db.now out.column) outs.now }
     requires line { IsLineOf db.now line }
-    ensures { Put (growth N.taken N.faults sink.old sink.new) buffer.old buffer.new (flat_map (next_field (tables_of db.now) line.entry) outs.now) result }
+    ensures { Put (growth N.taken N.faults sink.old sink.new) buffer.old buffer.new
+        (flat_map (next_field (tables_of db.now) line.entry) outs.now) result }
 {
     'outs: for out in outs {
         put_next(out, line, db, buffer, sink)?;
@@ -109,7 +113,8 @@ fn put_several<N: Sink>(
     requires tables { AreTables db.now }
     requires columns { All (λ out. IsColumnOf db.now out.column) outs.now }
     requires line { IsLineOf db.now line }
-    ensures { Put (growth N.taken N.faults sink.old sink.new) buffer.old buffer.new (fields_at outs.now (tables_of db.now) line.entry) result }
+    ensures { Put (growth N.taken N.faults sink.old sink.new) buffer.old buffer.new
+        (fields_at outs.now (tables_of db.now) line.entry) result }
 {
     let first = &outs[0];
     put_value(field(first, line, db), buffer, sink)?;
@@ -127,7 +132,8 @@ fn put_fields<N: Sink>(
     requires tables { AreTables db.now }
     requires columns { All (λ out. IsColumnOf db.now out.column) outs.now }
     requires line { IsLineOf db.now line }
-    ensures { Put (growth N.taken N.faults sink.old sink.new) buffer.old buffer.new (fields_at outs.now (tables_of db.now) line.entry) result }
+    ensures { Put (growth N.taken N.faults sink.old sink.new) buffer.old buffer.new
+        (fields_at outs.now (tables_of db.now) line.entry) result }
 {
     match outs.len() {
         0 => buffer.put(sink, b""),
@@ -147,7 +153,8 @@ pub fn put_line<N: Sink>(
     requires tables { AreTables db.now }
     requires columns { All (λ out. IsColumnOf db.now out.column) outs.now }
     requires line { IsLineOf db.now line }
-    ensures { Put (growth N.taken N.faults sink.old sink.new) buffer.old buffer.new (line_at outs.now (tables_of db.now) line.entry) result }
+    ensures { Put (growth N.taken N.faults sink.old sink.new) buffer.old buffer.new
+        (line_at outs.now (tables_of db.now) line.entry) result }
 {
     put_fields(outs, line, db, buffer, sink)?;
     put_record_end(buffer, sink)
@@ -164,7 +171,8 @@ fn put_row<N: Sink>(
     requires tables { AreTables db.now }
     requires columns { All (λ out. IsColumnOf db.now out.column) outs.now }
     requires row { IsChoice db.now (row ∷ []) }
-    ensures { Put (growth N.taken N.faults sink.old sink.new) buffer.old buffer.new (choice_text outs.now (tables_of db.now) (row ∷ [])) result }
+    ensures { Put (growth N.taken N.faults sink.old sink.new) buffer.old buffer.new (choice_text outs.now (tables_of db.now) (row
+        ∷ [])) result }
 {
     put_line(outs, Line::Rows(&[row]), db, buffer, sink)
 }
@@ -180,7 +188,8 @@ fn put_rows<N: Sink>(
     requires tables { AreTables db.now }
     requires columns { All (λ out. IsColumnOf db.now out.column) outs.now }
     requires rows { All (λ row. IsChoice db.now (row ∷ [])) rows.now }
-    ensures { Put (growth N.taken N.faults sink.old sink.new) buffer.old buffer.new (flat_map (λ row. choice_text outs.now (tables_of db.now) (row ∷ [])) rows.now) result }
+    ensures { Put (growth N.taken N.faults sink.old sink.new) buffer.old buffer.new (flat_map
+        (λ row. choice_text outs.now (tables_of db.now) (row ∷ [])) rows.now) result }
 {
     'rows: for row in rows {
         put_row(outs, *row, db, buffer, sink)?;

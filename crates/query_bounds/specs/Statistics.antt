@@ -49,7 +49,8 @@ pub record IsTold (query : Query) (stats : QueryStats) : Type 0 where
 -- the numbers of rows stand for the table of each entry, and the lists for the keys of each column that an equality joins
 pub record StandFor (query : Query) (known : Statistics) (tables : Tables) (key : Keys) : Type 0 where
   pub counts : (entry : ℕ) → entry < length query.from → CountsStandFor (known.counts entry) tables entry
-  pub lists : EachNamedColumn (λ entry column. ListsStandFor (known.lists entry column) tables entry (key entry column)) (equalities_of query)
+  pub lists : EachNamedColumn
+      (λ entry column. ListsStandFor (known.lists entry column) tables entry (key entry column)) (equalities_of query)
 
 -- ---- whole columns
 
@@ -58,5 +59,6 @@ pub record StandFor (query : Query) (known : Statistics) (tables : Tables) (key 
 pub record AreWhole (query : Query) (known : Statistics) (tables : Tables) (key : Keys) (accuracy : ℕ) : Type 0 where
   pub unfiltered : (entry : ℕ) → own_conjuncts entry query.conjuncts ≡ []
   pub counts : (entry : ℕ) → entry < length query.from → (known.counts entry).whole ≡ row_counts tables entry
-  pub lists : EachNamedColumn (λ entry column. (known.lists entry column).whole ≡ compressed accuracy (degree_list (keys_of tables key entry column)))
+  pub lists : EachNamedColumn (λ entry column. (known.lists entry column).whole
+      ≡ compressed accuracy (degree_list (keys_of tables key entry column)))
       (equalities_of query)

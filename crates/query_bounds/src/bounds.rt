@@ -38,9 +38,12 @@ pub fn scans_of(alloc: Global, query: &Query, stats: &QueryStats) -> Result<Seq<
     Ok(scans)
 }
 
-/// The bounds of all sets of entries, each at the number whose bits are the set, in rows; `u128::MAX` where a bound is larger, and 1 for the empty set.
+/// The bounds of all sets of entries, each at the number whose bits are the set, in rows; `u128::MAX` where a bound is larger, and 1 for
+/// the empty set.
 ///
-/// A set's bound is the least over its turns of the product over its trees, from the filtered lists of its columns (SafeBound, SIGMOD 2023; Degree Sequence Bound, ICDT 2023). Where the statistics stand for a database of the query, no level over just these entries has more rows, in whatever order they stand.
+/// A set's bound is the least over its turns of the product over its trees, from the filtered lists of its columns (SafeBound, SIGMOD 2023;
+/// Degree Sequence Bound, ICDT 2023). Where the statistics stand for a database of the query, no level over just these entries has more
+/// rows, in whatever order they stand.
 pub fn bounds_of(alloc: Global, query: &Query, stats: &QueryStats) -> Result<Seq<u128>, NoMemory>
     requires few { length query.now.from ≤ most_entries }
     requires few_conjuncts { length query.now.conjuncts < 2 ^ 32 }

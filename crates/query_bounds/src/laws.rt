@@ -10,7 +10,8 @@ ghost use Rattle.level_bounds.specs.Whole.{uncompressed};
 ghost use Rattle.query_bounds.specs.Bounds.{set_bounds};
 ghost use Rattle.query_bounds.specs.Statistics.{AreWhole, Statistics};
 
-/// Near, where no conjunct names just one entry: at accuracy K, K^n times the bound of a set of n entries from compressed lists of whole columns is at most (K + 1)^n times its bound from the degree lists themselves.
+/// Near, where no conjunct names just one entry: at accuracy K, K^n times the bound of a set of n entries from compressed lists of whole
+/// columns is at most (K + 1)^n times its bound from the degree lists themselves.
 pub fn unfiltered_bounds_are_near()
     ensures { (query : Query) (known : Statistics) (tables : Tables) (key : Keys) (accuracy subset : ℕ)
         → AreWhole query known tables key accuracy → subset < 2 ^ length query.from

@@ -1,8 +1,10 @@
 //! The bounds of a query: of the scan of each entry, and of each set of entries.
 //!
-//! In: a query, and the statistics of its entries. Out: for each FROM entry a number of rows that its scan does not pass, and for each set of entries one that no level over just these entries passes.
+//! In: a query, and the statistics of its entries. Out: for each FROM entry a number of rows that its scan does not pass, and for each set
+//! of entries one that no level over just these entries passes.
 //!
-//! Callers cite `Tells` for what statistics tell of a query, `StandFor` for when that stands for tables, and `scan_bounds` and `set_bounds` for the answers.
+//! Callers cite `Tells` for what statistics tell of a query, `StandFor` for when that stands for tables, and `scan_bounds` and `set_bounds`
+//! for the answers.
 #![tactic(auto)]
 
 mod bounds;

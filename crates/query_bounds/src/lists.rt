@@ -55,7 +55,8 @@ fn add_list(
     Ok(())
 }
 
-/// The row bound of each FROM entry, and the list of each column that an equality of the query joins, once each. The equalities are those of `split`.
+/// The row bound of each FROM entry, and the list of each column that an equality of the query joins, once each. The equalities are those
+/// of `split`.
 pub fn entry_lists(
     alloc: Global,
     query: &Query,

@@ -140,7 +140,9 @@ WhereClause C = maybe (made second (word terminal.Where ▸ C))
 
 -- SELECT outs FROM part { "," part } [ WHERE cond ] [ ";" ]
 abbrev pub QueryOf : Language CondText → Language QueryText
-QueryOf C = made query (word terminal.Select ▸ SelectList ▸ word terminal.From ▸ listed terminal.Comma (FromPart C) ▸ WhereClause C ▸ maybe (word terminal.Semicolon))
+QueryOf C =
+    made query (word terminal.Select ▸ SelectList
+    ▸ word terminal.From ▸ listed terminal.Comma (FromPart C) ▸ WhereClause C ▸ maybe (word terminal.Semicolon))
 
 unfoldable pub QuerySpecification : Language QueryText
 QuerySpecification = QueryOf SearchCondition

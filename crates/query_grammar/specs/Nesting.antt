@@ -6,7 +6,9 @@ use Rattle.ll_grammars.specs.Terminals.{among}
 
 -- how many parentheses are open behind a token, where so many are open before it; a ")" where none is open closes nothing
 abbrev pub behind : ℕ → Lexeme → ℕ
-behind open_ token = if among (terminal.Open ∷ []) token.terminal then suc open_ else (if among (terminal.Close ∷ []) token.terminal then open_ - 1 else open_)
+behind open_ token =
+    if among (terminal.Open ∷ []) token.terminal then suc open_
+    else (if among (terminal.Close ∷ []) token.terminal then open_ - 1 else open_)
 
 -- how many are open before the first token, and behind each one
 abbrev pub open_counts : ℕ → List Lexeme → List ℕ

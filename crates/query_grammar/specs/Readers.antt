@@ -63,7 +63,8 @@ abbrev pub number_first : List Terminal
 number_first = terminal.Plus ∷ terminal.Minus ∷ digit_terminals
 
 abbrev pub operator_terminals : List Terminal
-operator_terminals = terminal.Equal ∷ terminal.NotEqual ∷ terminal.Less ∷ terminal.LessOrEqual ∷ terminal.Greater ∷ terminal.GreaterOrEqual ∷ []
+operator_terminals =
+    terminal.Equal ∷ terminal.NotEqual ∷ terminal.Less ∷ terminal.LessOrEqual ∷ terminal.Greater ∷ terminal.GreaterOrEqual ∷ []
 
 abbrev pub join_first : List Terminal
 join_first = terminal.Inner ∷ terminal.Join ∷ []
@@ -120,8 +121,12 @@ unfoldable pub read_value_list : Parser (List LiteralText)
 read_value_list = read_in_parentheses read_literals
 
 unfoldable pub read_predicate : Parser TestText
-read_predicate = read_made applied (read_then read_operand (read_either operator_terminals (read_made compare (read_then read_operator read_operand))
-    (read_made applied (read_then read_negation (read_either (terminal.Between ∷ []) (read_made ranged (read_then (read_word terminal.Between) (read_then read_operand (read_then (read_word terminal.And) read_operand))))
+read_predicate =
+    read_made applied (read_then read_operand (read_either operator_terminals
+    (read_made compare (read_then read_operator read_operand))
+    (read_made applied (read_then read_negation (read_either (terminal.Between ∷ [])
+    (read_made ranged (read_then (read_word terminal.Between)
+    (read_then read_operand (read_then (read_word terminal.And) read_operand))))
     (read_made listed_in (read_then (read_word terminal.In) read_value_list)))))))
 
 unfoldable pub read_flat : Parser CondText
@@ -171,7 +176,9 @@ unfoldable pub read_source : Parser SourceText
 read_source = read_made source (read_then read_name read_new_name)
 
 unfoldable pub read_join : Parser CondText → Parser JoinText
-read_join c = read_made join (read_then (read_maybe (terminal.Inner ∷ []) (read_word terminal.Inner)) (read_then (read_word terminal.Join) (read_then read_source (read_then (read_word terminal.On) c))))
+read_join c =
+    read_made join (read_then (read_maybe (terminal.Inner ∷ []) (read_word terminal.Inner))
+    (read_then (read_word terminal.Join) (read_then read_source (read_then (read_word terminal.On) c))))
 
 unfoldable pub read_joins : Parser CondText → Parser (List JoinText)
 read_joins c = read_many join_first (read_join c)
@@ -186,7 +193,10 @@ unfoldable pub read_parts : Parser CondText → Parser (List PartText)
 read_parts c = read_made all (read_then (read_part c) (read_many (terminal.Comma ∷ []) (read_next_part c)))
 
 unfoldable pub read_dotted_out : Parser (Lexeme → OutText)
-read_dotted_out = read_made second (read_then (read_word terminal.Dot) (read_either (terminal.Star ∷ []) (read_made star_of (read_word terminal.Star)) (read_made qualified (read_then read_name read_new_name))))
+read_dotted_out =
+    read_made second (read_then (read_word terminal.Dot) (read_either (terminal.Star ∷ [])
+    (read_made star_of (read_word terminal.Star))
+    (read_made qualified (read_then read_name read_new_name))))
 
 unfoldable pub read_out : Parser OutText
 read_out = read_made applied (read_then read_name (read_either (terminal.Dot ∷ []) read_dotted_out (read_made plain read_new_name)))
@@ -207,4 +217,7 @@ unfoldable pub read_filter : Parser CondText → Parser (Option CondText)
 read_filter c = read_maybe (terminal.Where ∷ []) (read_condition_behind_where c)
 
 unfoldable pub read_query : Parser CondText → Parser QueryText
-read_query c = read_made query (read_then (read_word terminal.Select) (read_then read_outs (read_then (read_word terminal.From) (read_then (read_parts c) (read_then (read_filter c) (read_maybe (terminal.Semicolon ∷ []) (read_word terminal.Semicolon)))))))
+read_query c =
+    read_made query (read_then (read_word terminal.Select) (read_then read_outs
+    (read_then (read_word terminal.From) (read_then (read_parts c)
+    (read_then (read_filter c) (read_maybe (terminal.Semicolon ∷ []) (read_word terminal.Semicolon)))))))

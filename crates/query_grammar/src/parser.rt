@@ -26,7 +26,8 @@ pub fn read_query_text(
     ensures ok { IfOk result (λ query. QuerySpecification tokens.now query) }
     ensures from_tokens { IfOk result (IsQueryOf (Contains tokens.now)) }
     ensures syntax { IfErr result (IsSyntaxError QuerySpecification tokens.now text_len) }
-    ensures complete { (query : QueryText) → QuerySpecification tokens.now query → MatchResult result (λ found. found ≡ query) (λ e. e ≡ SyntaxError.NoMemory) }
+    ensures complete { (query : QueryText) → QuerySpecification tokens.now query
+        → MatchResult result (λ found. found ≡ query) (λ e. e ≡ SyntaxError.NoMemory) }
 {
     let mut reader = Reader::new(alloc, tokens);
     match query(&mut reader) {

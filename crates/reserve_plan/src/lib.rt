@@ -1,8 +1,10 @@
 //! All memory of a plan, taken before its first row is looked at.
 //!
-//! The stage after the order is chosen. In: an order of the FROM entries, and how many rows each entry's scan and each level have at most. Out: buffers with room for so many. `reserve` is the last step of a query that can want memory: whoever fills the buffers needs none.
+//! The stage after the order is chosen. In: an order of the FROM entries, and how many rows each entry's scan and each level have at most.
+//! Out: buffers with room for so many. `reserve` is the last step of a query that can want memory: whoever fills the buffers needs none.
 //!
-//! Callers cite `rooms`, which says how many items each buffer of a plan has to take, and `HasRooms`. Where the bounds of a plan are above what is true, `less_needs_less_room` says that there is room for what is true.
+//! Callers cite `rooms`, which says how many items each buffer of a plan has to take, and `HasRooms`. Where the bounds of a plan are above
+//! what is true, `less_needs_less_room` says that there is room for what is true.
 //!
 //! Of the greatest plan, the levels take 1.92 GB, the chains 0.70 GB, and scans and keys 0.23 GB.
 #![tactic(auto)]

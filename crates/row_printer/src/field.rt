@@ -54,7 +54,8 @@ fn put_doubled<N: Sink>(field: &[u8], buffer: &mut Buffer, sink: &mut N) -> Resu
 }
 
 fn put_quoted<N: Sink>(field: &[u8], buffer: &mut Buffer, sink: &mut N) -> Result<(), Failed>
-    ensures ok { OnOk result (TookBut (N.taken sink.old) (N.taken sink.new) buffer.new (buffer.old ++ (codes "\"" ++ (doubled field.now ++ codes "\"")))) }
+    ensures ok { OnOk result (TookBut (N.taken sink.old) (N.taken sink.new) buffer.new (buffer.old
+        ++ (codes "\"" ++ (doubled field.now ++ codes "\"")))) }
     ensures prefix { GrewByPrefix (N.taken sink.old) (N.taken sink.new) (buffer.old ++ (codes "\"" ++ (doubled field.now ++ codes "\""))) }
     ensures later { N.faults sink.old ≤ N.faults sink.new }
     ensures failed { OnErr result (Rose (N.faults sink.old) (N.faults sink.new)) }

@@ -6,8 +6,8 @@ use Rattle.schema_types.specs.declared.errors.SchemaError.TheVariants as schema
 use Rattle.schema_types.specs.declared.types.Schema.{Schema}
 use Rattle.query_types.specs.declared.types.Query.{Query}
 use Rattle.sql_parse.specs.Reading.{IsAnswer}
-use Rattle.sql_parse.specs.declared.errors.QueryError.{QueryError}
-use Rattle.sql_parse.specs.declared.errors.QueryError.TheVariants as query
+use Rattle.query_names.specs.declared.errors.QueryError.{QueryError}
+use Rattle.query_names.specs.declared.errors.QueryError.TheVariants as query
 use Rattle.text_answers.specs.QueryTexts.{query_answer}
 use Rattle.text_answers.specs.SchemaTexts.{schema_answer}
 use Rattle.text_answers.proofs.QueryAnswers as queries

@@ -31,7 +31,8 @@ pub record Told (notes : Growth) (line : List ℕ) : Type 0 where
 -- both texts were handed to the sinks, the plan text to the notes and then the other one, if any, to out; the first failure ends it
 abbrev pub AreWritten : Growth → Growth → Accepted → Result (Unit {0}) SinkId → Type 0
 AreWritten out notes run (Ok u) = Grew notes (plan_text run) × GrewWhole out (out_text_of run)
-AreWritten out notes run (Err sink.Notes) = FaultsRose notes × DidNotGrow out × GrewByPrefix notes.taken_before notes.taken_after (plan_text run)
+AreWritten out notes run (Err sink.Notes) = FaultsRose notes × DidNotGrow out
+    × GrewByPrefix notes.taken_before notes.taken_after (plan_text run)
 AreWritten out notes run (Err sink.Out) = FaultsRose out × Grew notes (plan_text run) × WasCut out (out_text_of run)
 
 pub record Written (out notes : Growth) (run : Accepted) (result : Result (Unit {0}) SinkId) : Type 0 where
@@ -50,12 +51,15 @@ pub data Ended (s : Status) (out notes : Growth) (run : Accepted) (line : List �
   CutInNotes : s ≡ status.WriteFault sink.Notes → FaultsRose notes → DidNotGrow out
       → CutThenTold notes.taken_before notes.taken_after (plan_text run) line → Ended s out notes run line
   CutInOut : s ≡ status.WriteFault sink.Out → FaultsRose out → WasCut out (out_text_of run)
-      → Tells (appended notes.taken_before (plan_text run)) notes.taken_after notes.faults_before notes.faults_after line → Ended s out notes run line
+      → Tells (appended notes.taken_before (plan_text run)) notes.taken_after notes.faults_before notes.faults_after line
+      → Ended s out notes run line
 
 -- a stage was read to its end and its texts were handed to the sinks, or its reading ended and that was told
-pub data Ran (s : Status) (store : Reading) (out notes : Growth) (stage : Files → Result Accepted Refusal) (ComesTo : Files → FileId → Type 0)
+pub data Ran (s : Status) (store : Reading) (out notes : Growth) (stage : Files → Result Accepted Refusal) (ComesTo : Files → FileId
+    → Type 0)
     (line : List ℕ) : Type 0 where
-  Stopped : (e : Ending) → s ≡ ended e → Reads store stage ComesTo (Err e) → DidNotGrow out → Told notes line → Ran s store out notes stage ComesTo line
+  Stopped : (e : Ending) → s ≡ ended e → Reads store stage ComesTo (Err e) → DidNotGrow out → Told notes line
+      → Ran s store out notes stage ComesTo line
   Went : (run : Accepted) → Reads store stage ComesTo (Ok run) → Ended s out notes run line → Ran s store out notes stage ComesTo line
 
 -- the words are refused: no name was missed, and that was told

@@ -51,15 +51,15 @@ FaultsRose sink = Rose sink.faults_before sink.faults_after
 abbrev pub GrewByLine : Growth → List ℕ → Type 0
 GrewByLine sink line = Tells sink.taken_before sink.taken_after sink.faults_before sink.faults_after line
 
--- 1. Done comes only where the verdict is accepted. The notes grew by exactly its plan text. For `run`, out grew by exactly its rows text; for
---    `audit` and `demo`, by exactly its audit text; for `plan`, out took nothing.
+-- 1. Done comes only where the verdict is accepted. The notes grew by exactly its plan text. For `run`, out grew by exactly its rows
+--    text; for `audit` and `demo`, by exactly its audit text; for `plan`, out took nothing.
 abbrev pub DoneIsExact : Call → Type 0
 DoneIsExact call = call.status ≡ status.Done
     → OverFiles call (λ files v. IsOkAnd v (λ run. Grew call.notes (plan_text run) × GrewWhole call.out (out_text_of run)))
 
--- 2. Where the verdict is accepted, the scan of each FROM entry and each level of the plan's order have at most as many rows as the plan text
---    of 1 prints for it; for `plan` too, though they are never listed. The audit text of 1 prints each level's number of rows beside
---    its bound.
+-- 2. Where the verdict is accepted, the scan of each FROM entry and each level of the plan's order have at most as many rows as the plan
+--    text of 1 prints for it; for `plan` too, though they are never listed. The audit text of 1 prints each level's number of rows
+--    beside its bound.
 abbrev pub EveryBoundHolds : Call → Type 0
 EveryBoundHolds call = OverFiles call (λ files v. IfOk v BoundsHold)
 
@@ -93,7 +93,8 @@ pub record RefusalsAreTheVerdict (call : Call) : Type 0 where
 -- 7. A read fault comes only where the verdict is that status, or where the store's count rose and the verdict comes to this file. The
 --    notes grew by its line, and out didn't grow. No count of the store that `demo` reads rises.
 pub record ReadFaultsHaveTheirCause (call : Call) : Type 0 where
-  pub told : (file : FileId) → call.status ≡ status.ReadFault file → DidNotGrow call.out × OverFiles call (λ files v. ((v ≡ Err (refusal.Missing file))
+  pub told : (file : FileId) → call.status ≡ status.ReadFault file → DidNotGrow call.out
+      × OverFiles call (λ files v. ((v ≡ Err (refusal.Missing file))
       ⊎ (Rose call.store.faults_before call.store.faults_after × IsReached call.words files file))
       × GrewByLine call.notes (fault_text call.status call.words files))
   -- a store that doesn't tell its files never answers that one is missing
@@ -110,7 +111,8 @@ status_of (Err r) = refused r
 --    memory; where no sink's count rose either, it is the verdict's, or want of memory.
 pub record NothingIsRefusedWithoutCause (call : Call) : Type 0 where
   pub by_the_store : (Rose call.store.faults_before call.store.faults_after → ⊥)
-      → OverFiles call (λ files v. (call.status ≡ status_of v) ⊎ ((which : SinkId) × (call.status ≡ status.WriteFault which)) ⊎ (call.status ≡ status.NoMemory))
+      → OverFiles call (λ files v. (call.status ≡ status_of v) ⊎ ((which : SinkId) × (call.status ≡ status.WriteFault which))
+      ⊎ (call.status ≡ status.NoMemory))
   pub by_the_sinks : (Rose call.store.faults_before call.store.faults_after → ⊥) → (FaultsRose call.out → ⊥) → (FaultsRose call.notes → ⊥)
       → OverFiles call (λ files v. (call.status ≡ status_of v) ⊎ (call.status ≡ status.NoMemory))
 

@@ -1,5 +1,6 @@
 -- What was read and planned, as what a run is over.
 use Rattle.std.specs.Prelude.{ℕ, ◌≡◌, ◌≤◌, List, length, Option, None, Some, ⊤}
+use Rattle.limits.specs.Profile.{most_conjuncts}
 use Rattle.query_types.specs.declared.types.Query.{Query}
 use Rattle.csv_tables.specs.declared.types.Database.{Database}
 use Rattle.plans.specs.declared.left_deep.Plan.{Plan}
@@ -47,7 +48,7 @@ accepted_of prepared = record {
 -- a query, the database of its tables, a plan of which no bound is too low, and the room for what is left to do
 pub record IsReady (prepared : Prepared) : Type 0 where
   pub database : IsDatabaseOf prepared.query prepared.db
-  pub few : length prepared.query.conjuncts ≤ 256
+  pub few : length prepared.query.conjuncts ≤ most_conjuncts
   pub plan : IsPlanOf prepared.query (tables_of prepared.db) prepared.plan
   pub tables : tables_in (entry_rows prepared.db) ≡ tables_of prepared.db
   pub room : HasRoom prepared.query prepared.db prepared.plan prepared.rest

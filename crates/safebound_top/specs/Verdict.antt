@@ -1,5 +1,6 @@
 -- What the words and the files determine, in stages: the words, the schema, the query, the tables, the plan.
 use Rattle.std.specs.Prelude.{ℕ, List, Result, Ok, Err, IsOk}
+use Rattle.limits.specs.Profile.{most_text}
 use Rattle.base_io.specs.Files.{Files}
 use Rattle.text_answers.specs.SchemaTexts.{schema_answer}
 use Rattle.schema_types.specs.declared.types.Schema.{Schema}
@@ -25,7 +26,7 @@ schema_of_text text = told schema_refusal (schema_answer text)
 
 unfoldable pub schema_stage : List ℕ → Files → Result Schema Refusal
 schema_stage name files = do
-  text ← read file.Schema 1048576 name files
+  text ← read file.Schema most_text name files
   schema_of_text text
 
 -- the query, in the file of this name
@@ -34,7 +35,7 @@ query_of_text schema text = told query_refusal (query_answer schema text)
 
 unfoldable pub query_stage : List ℕ → Schema → Files → Result Query Refusal
 query_stage name schema files = do
-  text ← read file.Query 1048576 name files
+  text ← read file.Query most_text name files
   query_of_text schema text
 
 -- the plan of a query over its entries' rows: the best order with its bounds, or PastBits, or Budget with the least cost

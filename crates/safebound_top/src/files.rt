@@ -1,5 +1,6 @@
 //! The two texts, from their files.
 ghost use Rattle.std.specs.Prelude.{◌≤◌, IfOk, length};
+ghost use Rattle.limits.specs.Profile.{most_conjuncts};
 ghost use Rattle.outcomes.specs.Devices.{reading};
 ghost use Rattle.outcomes.specs.Reads.{AtFile, Reads};
 ghost use Rattle.schema_types.specs.Validity.{IsValid};
@@ -7,6 +8,7 @@ ghost use Rattle.query_types.specs.Validity.{IsOf};
 ghost use Rattle.safebound_top.specs.Verdict.{query_stage, schema_stage};
 
 use base_io::Store;
+use limits::MOST_TEXT;
 use outcomes::{Ending, FileId};
 use query_types::Query;
 use schema_types::{Schema, read_schema};
@@ -14,15 +16,12 @@ use sql_parse::read_query;
 use std::alloc::Global;
 use table_files::load_file;
 
-/// The most bytes of a schema or query file.
-const TEXT_BYTES: u32 = 1_048_576;
-
 /// Reads the schema in the file of this name.
 pub fn load_schema<S: Store>(alloc: Global, store: &mut S, name: &str) -> Result<Schema, Ending>
     ensures valid { IfOk result IsValid }
     ensures reads { Reads (reading S.files S.faults S.misses store.old store.new) (schema_stage name.now) (AtFile FileId.Schema) result }
 {
-    let text = load_file(alloc, store, FileId::Schema, name, TEXT_BYTES)?;
+    let text = load_file(alloc, store, FileId::Schema, name, MOST_TEXT)?;
     match read_schema(alloc, text.as_slice()) {
         Ok(schema) => Ok(schema),
         Err(error) => Err(Ending::from(error)),
@@ -38,10 +37,11 @@ pub fn load_query<S: Store>(
 ) -> Result<Query, Ending>
     requires { IsValid schema.now }
     ensures of_schema { IfOk result (IsOf schema.now) }
-    ensures few { IfOk result (λ query. length query.conjuncts ≤ 256) }
-    ensures reads { Reads (reading S.files S.faults S.misses store.old store.new) (query_stage name.now schema.now) (AtFile FileId.Query) result }
+    ensures few { IfOk result (λ query. length query.conjuncts ≤ most_conjuncts) }
+    ensures reads { Reads (reading S.files S.faults S.misses store.old store.new) (query_stage name.now schema.now)
+        (AtFile FileId.Query) result }
 {
-    let text = load_file(alloc, store, FileId::Query, name, TEXT_BYTES)?;
+    let text = load_file(alloc, store, FileId::Query, name, MOST_TEXT)?;
     match read_query(alloc, schema, text.as_slice()) {
         Ok(query) => Ok(query),
         Err(error) => Err(Ending::from(error)),

@@ -10,7 +10,7 @@ ghost use Rattle.schema_types.specs.declared.errors.SchemaError.TheVariants as s
 ghost use Rattle.schema_types.specs.declared.types.Schema.{Schema};
 ghost use Rattle.schema_types.specs.declared.types.Table.{Table};
 ghost use Rattle.sql_meaning.specs.Tables.{Tables};
-ghost use Rattle.sql_parse.specs.declared.errors.QueryError.TheVariants as query_error;
+ghost use Rattle.query_names.specs.declared.errors.QueryError.TheVariants as query_error;
 ghost use Rattle.text_answers.specs.QueryTexts.{query_answer};
 ghost use Rattle.text_answers.specs.SchemaTexts.{schema_answer};
 ghost use Rattle.safebound_words.specs.Answer.{command_of};
@@ -38,5 +38,6 @@ pub fn no_reader_wants_memory()
     ensures schemas { (text : List ℕ) → schema_answer text ≢ Err schema_error.NoMemory }
     ensures queries { (schema : Schema) (text : List ℕ) → query_answer schema text ≢ Err query_error.NoMemory }
     ensures tables { (table : Table) (bytes : List ℕ) → rows_of_file table bytes ≢ Err table_error.NoMemory }
-    ensures plans { (query : Query) (tables : Tables) (accuracy budget : ℕ) → planned query tables accuracy budget ≢ Err plan_error.NoMemory }
+    ensures plans { (query : Query) (tables : Tables) (accuracy budget : ℕ)
+        → planned query tables accuracy budget ≢ Err plan_error.NoMemory }
 {}

@@ -1,5 +1,6 @@
 //! Everything that a run takes memory for, before it writes.
 ghost use Rattle.std.specs.Prelude.{ℕ, ◌≡◌, ◌⊎◌, ◌<◌, ◌≤◌, IfErr, IfOk, Ok, length};
+ghost use Rattle.limits.specs.Profile.{most_budget, most_conjuncts};
 ghost use Rattle.level_bounds.specs.Keys.{HaveDifferentCharacters};
 ghost use Rattle.outcomes.specs.Devices.{reading};
 ghost use Rattle.outcomes.specs.Reads.{Reads, Tells, seen};
@@ -72,12 +73,12 @@ fn make_room(
 // Plans a query over its database, and takes the memory for what is left to do.
 fn prepare_plan(alloc: Global, task: &Task, query: Query, db: Database) -> Result<Prepared, Ending>
     requires database { IsDatabaseOf query db }
-    requires few { length query.conjuncts ≤ 256 }
+    requires few { length query.conjuncts ≤ most_conjuncts }
     requires few_rows { HaveFewRows (tables_of db) (length query.from) }
     requires texts { HaveDifferentCharacters db.pool }
     requires tables { tables_in (entry_rows db) ≡ tables_of db }
     requires accuracy { (0 < task.now.accuracy) × (task.now.accuracy ≤ 64) }
-    requires budget { task.now.budget ≤ 20000000 }
+    requires budget { task.now.budget ≤ most_budget }
     ensures ready { IfOk result IsReady }
     ensures run { IfOk result (λ p. plan_stage (asked task.now) query (entry_rows db) ≡ Ok (accepted_of p)) }
     ensures refused { IfErr result (Tells (plan_stage (asked task.now) query (entry_rows db))) }
@@ -102,9 +103,9 @@ fn prepare_query<S: Store>(
 ) -> Result<Prepared, Ending>
     requires schema { IsValid schema.now }
     requires query { IsOf schema.now query }
-    requires few { length query.conjuncts ≤ 256 }
+    requires few { length query.conjuncts ≤ most_conjuncts }
     requires accuracy { (0 < task.now.accuracy) × (task.now.accuracy ≤ 64) }
-    requires budget { task.now.budget ≤ 20000000 }
+    requires budget { task.now.budget ≤ most_budget }
     ensures ready { IfOk result IsReady }
     ensures reads { Reads (reading S.files S.faults S.misses store.old store.new) (query_run (asked task.now) schema.now query)
         (IsReached schema.now (tables_of_query query.from)) (seen accepted_of result) }
@@ -122,10 +123,11 @@ pub fn prepare<S: Store>(
 ) -> Result<Prepared, Ending>
     requires schema { IsValid schema.now }
     requires accuracy { (0 < task.now.accuracy) × (task.now.accuracy ≤ 64) }
-    requires budget { task.now.budget ≤ 20000000 }
+    requires budget { task.now.budget ≤ most_budget }
     ensures ready { IfOk result IsReady }
     ensures reads { Reads (reading S.files S.faults S.misses store.old store.new) (schema_run (asked task.now) schema.now)
-        (λ files file. (file ≡ FileId.Query) ⊎ IsTableOf (query_from (asked task.now) schema.now files) files file) (seen accepted_of result) }
+        (λ files file. (file ≡ FileId.Query) ⊎ IsTableOf (query_from (asked task.now) schema.now files) files file)
+        (seen accepted_of result) }
 {
     let query = load_query(alloc, store, task.query_file, schema)?;
     prepare_query(alloc, store, task, schema, query)

@@ -40,7 +40,8 @@ pub fn write_fault<N: Sink>(
     sink: &mut N,
 ) -> Result<(), Failed>
     requires { status ≢ Status.Done }
-    ensures { Wrote (growth N.taken N.faults sink.old sink.new) (status_line status (ask_of task.entry) (option_copied schema.entry)) result }
+    ensures { Wrote (growth N.taken N.faults sink.old sink.new)
+        (status_line status (ask_of task.entry) (option_copied schema.entry)) result }
 {
     write_line(status, names_of(task, schema), sink)
 }

@@ -1,16 +1,13 @@
 //! What the words of a command line ask of a run.
 ghost use Rattle.std.specs.Prelude.{◌≡◌, ◌<◌, ◌≤◌, Err, IfSome, MatchOption, None, Ok, map};
+ghost use Rattle.limits.specs.Profile.{most_budget};
 ghost use Rattle.outcomes.specs.declared.refusal.Refusal.TheVariants as refusal;
 ghost use Rattle.safebound_words.specs.Requests.{request_of};
 ghost use Rattle.safebound_top.specs.Asks.{ask_for, asked, asks, command_stage};
 ghost use Rattle.safebound_top.specs.Shops.{shop_asked, shop_of};
 
+use limits::{USUAL_ACCURACY, USUAL_BUDGET};
 use safebound_words::{Command, read_words};
-
-// The budget and the accuracy where none is given.
-const BUDGET: u64 = 1_000_000;
-
-const ACCURACY: u8 = 1;
 
 /// Which text a run writes to `out`.
 #[derive(Clone, Copy, Debug, PartialEq, Eq)]
@@ -76,7 +73,13 @@ fn task_of<'a>(command: Command<'a>) -> Task<'a>
         } => over(schema, query, budget, accuracy, OutText::Audit),
         Command::Demo { number } => Task {
             shop: Some(number),
-            ..over("schema.sql", "query.sql", BUDGET, ACCURACY, OutText::Audit)
+            ..over(
+                "schema.sql",
+                "query.sql",
+                USUAL_BUDGET,
+                USUAL_ACCURACY,
+                OutText::Audit,
+            )
         },
     }
 }
@@ -88,7 +91,7 @@ pub fn read_task<'a>(words: &[&'a str]) -> Option<Task<'a>>
     ensures shop { MatchOption result (shop_of (map (λ w. w.now) words.now) ≡ None)
         (λ task. shop_of (map (λ w. w.now) words.now) ≡ task.shop) }
     ensures accuracy { IfSome result (λ task. (0 < task.accuracy) × (task.accuracy ≤ 64)) }
-    ensures budget { IfSome result (λ task. task.budget ≤ 20000000) }
+    ensures budget { IfSome result (λ task. task.budget ≤ most_budget) }
 {
     match read_words(words) {
         Ok(command) => Some(task_of(command)),

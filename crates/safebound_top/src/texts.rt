@@ -1,5 +1,6 @@
 //! The texts that a run leaves in its two streams. Nothing here takes memory.
 ghost use Rattle.std.specs.Prelude.{◌≤◌, length};
+ghost use Rattle.limits.specs.Profile.{most_conjuncts};
 ghost use Rattle.outcomes.specs.Devices.{growth};
 ghost use Rattle.outcomes.specs.Writes.{Wrote};
 ghost use Rattle.planned_joins.specs.PlansOf.{IsPlanOf, IsReadyFor};
@@ -32,10 +33,11 @@ fn list_rows<O: Sink>(
     out: &mut O,
 ) -> Result<(), Failed>
     requires database { IsDatabaseOf query.now db.now }
-    requires few { length query.now.conjuncts ≤ 256 }
+    requires few { length query.now.conjuncts ≤ most_conjuncts }
     requires plan { IsPlanOf query.now (tables_of db.now) plan.now }
     requires ready { IsReadyFor query.now db.now plan.now.order reserved }
-    ensures { Wrote (growth O.taken O.faults out.old out.new) (rows_lines query.now.select (printed_rows query.now db.now plan.now.order)) result }
+    ensures { Wrote (growth O.taken O.faults out.old out.new)
+        (rows_lines query.now.select (printed_rows query.now db.now plan.now.order)) result }
 {
     let executed = execute_plan(reserved, plan, query, db);
     write_rows(&executed, plan.order.as_slice(), query, db, out)
@@ -50,7 +52,7 @@ fn audit_levels<O: Sink>(
     out: &mut O,
 ) -> Result<(), Failed>
     requires database { IsDatabaseOf query.now db.now }
-    requires few { length query.now.conjuncts ≤ 256 }
+    requires few { length query.now.conjuncts ≤ most_conjuncts }
     requires plan { IsPlanOf query.now (tables_of db.now) plan.now }
     requires ready { IsReadyFor query.now db.now plan.now.order reserved }
     ensures { Wrote (growth O.taken O.faults out.old out.new)
@@ -69,7 +71,7 @@ fn write_rest<O: Sink>(
     out: &mut O,
 ) -> Result<(), Failed>
     requires database { IsDatabaseOf query.now db.now }
-    requires few { length query.now.conjuncts ≤ 256 }
+    requires few { length query.now.conjuncts ≤ most_conjuncts }
     requires plan { IsPlanOf query.now (tables_of db.now) plan.now }
     requires room { HasRoom query.now db.now plan.now rest }
     ensures { WroteIfAny (growth O.taken O.faults out.old out.new) (text_from rest query.now db.now plan.now) result }
@@ -88,7 +90,8 @@ pub fn write_texts<O: Sink, N: Sink>(
     notes: &mut N,
 ) -> Result<(), SinkId>
     requires { IsReady prepared }
-    ensures { Written (growth O.taken O.faults out.old out.new) (growth N.taken N.faults notes.old notes.new) (accepted_of prepared) result }
+    ensures { Written (growth O.taken O.faults out.old out.new) (growth N.taken N.faults notes.old notes.new)
+        (accepted_of prepared) result }
 {
     let Prepared {
         query,

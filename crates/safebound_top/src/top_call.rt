@@ -1,5 +1,6 @@
 //! The top call, stage by stage.
 ghost use Rattle.std.specs.Prelude.{◌≡◌, ◌⊎◌, ◌<◌, ◌≤◌, IfSome, List, ℕ, Ok, Some, map, option_copied};
+ghost use Rattle.limits.specs.Profile.{most_budget};
 ghost use Rattle.outcomes.specs.Devices.{growth, reading};
 ghost use Rattle.outcomes.specs.Statuses.{ended};
 ghost use Rattle.schema_types.specs.Validity.{IsValid};
@@ -25,7 +26,8 @@ use std::alloc::Global;
 // Tells how a reading ended.
 fn stopped<N: Sink>(ending: Ending, task: &Task, schema: Option<&Schema>, notes: &mut N) -> Status
     ensures status { result ≡ ended ending }
-    ensures told { Told (growth N.taken N.faults notes.old notes.new) (status_line result (Some (asked task.now)) (option_copied schema.entry)) }
+    ensures told { Told (growth N.taken N.faults notes.old notes.new)
+        (status_line result (Some (asked task.now)) (option_copied schema.entry)) }
 {
     let status = Status::from(ending);
     report(status, Some(task), schema, notes);
@@ -65,7 +67,7 @@ fn run_over<S: Store, O: Sink, N: Sink>(
 ) -> Status
     requires schema { IsValid schema.now }
     requires accuracy { (0 < task.now.accuracy) × (task.now.accuracy ≤ 64) }
-    requires budget { task.now.budget ≤ 20000000 }
+    requires budget { task.now.budget ≤ most_budget }
     ensures { Ran result (reading S.files S.faults S.misses store.old store.new) (growth O.taken O.faults out.old out.new)
         (growth N.taken N.faults notes.old notes.new) (schema_run (asked task.now) schema.now)
         (λ files file. (file ≡ FileId.Query) ⊎ IsTableOf (query_from (asked task.now) schema.now files) files file)
@@ -86,7 +88,7 @@ fn run<S: Store, O: Sink, N: Sink>(
     notes: &mut N,
 ) -> Status
     requires accuracy { (0 < task.now.accuracy) × (task.now.accuracy ≤ 64) }
-    requires budget { task.now.budget ≤ 20000000 }
+    requires budget { task.now.budget ≤ most_budget }
     ensures { (words : List (List ℕ)) → command_stage words ≡ Ok (asked task.now) → Course (record {
       words = words;
       status = result;
@@ -110,7 +112,7 @@ fn run_shop<O: Sink, N: Sink>(
     notes: &mut N,
 ) -> Status
     requires accuracy { (0 < task.now.accuracy) × (task.now.accuracy ≤ 64) }
-    requires budget { task.now.budget ≤ 20000000 }
+    requires budget { task.now.budget ≤ most_budget }
     ensures { (words : List (List ℕ)) → command_stage words ≡ Ok (asked task.now) → Course (record {
       words = words;
       status = result;
@@ -134,7 +136,7 @@ fn run_task<S: Store, O: Sink, N: Sink>(
     notes: &mut N,
 ) -> Status
     requires accuracy { (0 < task.now.accuracy) × (task.now.accuracy ≤ 64) }
-    requires budget { task.now.budget ≤ 20000000 }
+    requires budget { task.now.budget ≤ most_budget }
     ensures course { (words : List (List ℕ)) → command_stage words ≡ Ok (asked task.now) → Course (record {
       words = words;
       status = result;

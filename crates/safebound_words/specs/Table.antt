@@ -1,6 +1,7 @@
 -- The table of commands and options: a new one is one line here.
 use Rattle.std.specs.Prelude.{ℕ, ◌^◌, ◌-◌, List, [], ◌∷◌, Option, Some, None, codes}
 use Rattle.std.specs.Option.{option_map}
+use Rattle.limits.specs.Profile.{least_accuracy, least_budget, most_accuracy, most_budget, usual_accuracy, usual_budget}
 use Rattle.safebound_words.specs.Numbers.{number_within}
 use Rattle.safebound_words.specs.Requests.{Request, Run, Plan, Audit, Demo}
 use Rattle.safebound_words.specs.Words.{Word}
@@ -21,8 +22,8 @@ number_option word least most otherwise = record { word = word; least = least; m
 
 -- one line for each option
 abbrev pub option_row : OptionName → OptionRow
-option_row option.Budget = number_option (codes "--budget") 1 20000000 1000000
-option_row option.Accuracy = number_option (codes "--accuracy") 1 64 1
+option_row option.Budget = number_option (codes "--budget") least_budget most_budget usual_budget
+option_row option.Accuracy = number_option (codes "--accuracy") least_accuracy most_accuracy usual_accuracy
 
 -- the words that a line gives to each option, in order
 abbrev pub Given : Type 0

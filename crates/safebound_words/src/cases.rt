@@ -25,7 +25,8 @@ pub fn small_commands()
 pub fn small_options()
     ensures joined { command_of (codes "run" ∷ codes "--budget=12" ∷ codes "--" ∷ codes "s" ∷ codes "q" ∷ [])
         ≡ Some (Run (codes "s") (codes "q") 12 1) }
-    ensures beside { command_of (codes "plan" ∷ codes "s" ∷ codes "--accuracy" ∷ codes "64" ∷ codes "q" ∷ codes "--budget" ∷ codes "007" ∷ [])
+    ensures beside { command_of (codes "plan" ∷ codes "s" ∷ codes "--accuracy" ∷ codes "64" ∷ codes "q" ∷ codes "--budget" ∷ codes "007"
+        ∷ [])
         ≡ Some (Plan (codes "s") (codes "q") 7 64) }
     ensures most { command_of (codes "audit" ∷ codes "s" ∷ codes "q" ∷ codes "--budget" ∷ codes "20000000" ∷ [])
         ≡ Some (Audit (codes "s") (codes "q") 20000000 1) }

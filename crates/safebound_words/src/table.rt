@@ -3,6 +3,10 @@ ghost use Rattle.std.specs.Prelude.{◌≡◌};
 ghost use Rattle.safebound_words.specs.Answer.{command_named as named_command, option_named as named_option};
 ghost use Rattle.safebound_words.specs.Table.{option_row};
 
+use limits::{
+    LEAST_ACCURACY, LEAST_BUDGET, MOST_ACCURACY, MOST_BUDGET, USUAL_ACCURACY, USUAL_BUDGET,
+};
+
 /// The name of a command.
 #[derive(Clone, Copy, Debug, PartialEq, Eq)]
 pub enum CommandName {
@@ -36,14 +40,14 @@ impl OptionName {
     {
         match self {
             OptionName::Budget => Range {
-                least: 1,
-                most: 20_000_000,
-                otherwise: 1_000_000,
+                least: LEAST_BUDGET,
+                most: MOST_BUDGET,
+                otherwise: USUAL_BUDGET,
             },
             OptionName::Accuracy => Range {
-                least: 1,
-                most: 64,
-                otherwise: 1,
+                least: LEAST_ACCURACY as u64,
+                most: MOST_ACCURACY as u64,
+                otherwise: USUAL_ACCURACY as u64,
             },
         }
     }

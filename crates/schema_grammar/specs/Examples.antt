@@ -18,14 +18,20 @@ head = token terminal.Create 0 6 ∷ token terminal.Table 7 12 ∷ token termina
 -- CREATE TABLE R (X INT UNIQUE);
 abbrev pub whole : List Lexeme
 whole =
-    token terminal.Create 0 6 ∷ token terminal.Table 7 12 ∷ token terminal.Name 13 14 ∷ token terminal.Open 15 16 ∷ token terminal.Name 16 17 ∷ token terminal.Int 18 21 ∷ token terminal.Unique 22 28 ∷ token terminal.Close 28 29
+    token terminal.Create 0 6 ∷ token terminal.Table 7 12 ∷ token terminal.Name 13 14 ∷ token terminal.Open 15 16
+    ∷ token terminal.Name 16 17 ∷ token terminal.Int 18 21 ∷ token terminal.Unique 22 28 ∷ token terminal.Close 28 29
     ∷ token terminal.Semicolon 29 30 ∷ []
 
 abbrev pub table_of_whole : TableText
-table_of_whole = record { name = token terminal.Name 13 14; elements = element.Column (record { name = token terminal.Name 16 17; kind = type.Number; rules = column_rule.Unique ∷ [] }) ∷ [] }
+table_of_whole = record {
+  name = token terminal.Name 13 14;
+  elements = element.Column
+      (record { name = token terminal.Name 16 17; kind = type.Number; rules = column_rule.Unique ∷ [] }) ∷ [];
+}
 
 -- CREATE TABLE R (X VARCHAR(0))
 abbrev pub no_length : List Lexeme
 no_length =
-    token terminal.Create 0 6 ∷ token terminal.Table 7 12 ∷ token terminal.Name 13 14 ∷ token terminal.Open 15 16 ∷ token terminal.Name 16 17 ∷ token terminal.Varchar 18 25 ∷ token terminal.Open 25 26 ∷ token terminal.Zero 26 27
+    token terminal.Create 0 6 ∷ token terminal.Table 7 12 ∷ token terminal.Name 13 14 ∷ token terminal.Open 15 16
+    ∷ token terminal.Name 16 17 ∷ token terminal.Varchar 18 25 ∷ token terminal.Open 25 26 ∷ token terminal.Zero 26 27
     ∷ token terminal.Close 27 28 ∷ token terminal.Close 28 29 ∷ []

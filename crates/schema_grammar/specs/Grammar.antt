@@ -152,4 +152,5 @@ TableDefinition = made table (word terminal.Create ▸ word terminal.Table ▸ N
 
 -- table { ";" table } [ ";" ]
 unfoldable pub SchemaText : Language (List TableText)
-SchemaText = made tables (TableDefinition ▸ many (made second (word terminal.Semicolon ▸ TableDefinition)) ▸ maybe (word terminal.Semicolon))
+SchemaText = made tables
+    (TableDefinition ▸ many (made second (word terminal.Semicolon ▸ TableDefinition)) ▸ maybe (word terminal.Semicolon))

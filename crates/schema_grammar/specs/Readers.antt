@@ -36,7 +36,8 @@ read_length = read_in_parentheses (read_word terminal.Number)
 unfoldable pub read_type : Parser TypeText
 read_type = read_either number_types (read_made number_type (read_one number_types))
     (read_either (terminal.Varchar ∷ []) (read_made text_type (read_then (read_word terminal.Varchar) read_length))
-    (read_made varying_type (read_then (read_one (terminal.Char ∷ terminal.Character ∷ [])) (read_then (read_word terminal.Varying) read_length))))
+    (read_made varying_type (read_then (read_one (terminal.Char ∷ terminal.Character
+    ∷ [])) (read_then (read_word terminal.Varying) read_length))))
 
 -- ---- references
 
@@ -46,7 +47,8 @@ read_action = read_either (terminal.No ∷ []) (read_made nothing (read_then (re
     (read_made nothing (read_then (read_word terminal.Set) (read_one (terminal.Null ∷ terminal.Default ∷ [])))))
 
 unfoldable pub read_triggered_action : Parser (Unit {0})
-read_triggered_action = read_made nothing (read_then (read_word terminal.On) (read_then (read_one (terminal.Delete ∷ terminal.Update ∷ [])) read_action))
+read_triggered_action = read_made nothing (read_then (read_word terminal.On) (read_then (read_one (terminal.Delete ∷ terminal.Update
+    ∷ [])) read_action))
 
 unfoldable pub read_triggered_actions : Parser (Unit {0})
 read_triggered_actions = read_made nothing (read_many (terminal.On ∷ []) read_triggered_action)
@@ -76,10 +78,12 @@ read_column_rules = read_many column_rule_first read_column_rule
 
 unfoldable pub read_foreign_key : Parser TableRule
 read_foreign_key = read_made foreign_key
-    (read_then (read_word terminal.Foreign) (read_then (read_word terminal.Key) (read_then read_name_list (read_then (read_word terminal.References) read_target))))
+    (read_then (read_word terminal.Foreign)
+    (read_then (read_word terminal.Key) (read_then read_name_list (read_then (read_word terminal.References) read_target))))
 
 unfoldable pub read_table_constraint : Parser TableRule
-read_table_constraint = read_either (terminal.Primary ∷ []) (read_made primary_key_over (read_then (read_word terminal.Primary) (read_then (read_word terminal.Key) read_name_list)))
+read_table_constraint = read_either (terminal.Primary ∷ [])
+    (read_made primary_key_over (read_then (read_word terminal.Primary) (read_then (read_word terminal.Key) read_name_list)))
     (read_either (terminal.Unique ∷ []) (read_made unique_over (read_then (read_word terminal.Unique) read_name_list))
     read_foreign_key)
 
@@ -104,7 +108,8 @@ unfoldable pub read_element_list : Parser (List Element)
 read_element_list = read_in_parentheses read_elements
 
 unfoldable pub read_table : Parser TableText
-read_table = read_made table (read_then (read_word terminal.Create) (read_then (read_word terminal.Table) (read_then read_name read_element_list)))
+read_table = read_made table
+    (read_then (read_word terminal.Create) (read_then (read_word terminal.Table) (read_then read_name read_element_list)))
 
 unfoldable pub read_other_tables : Parser (List TableText)
 read_other_tables = read_tails (terminal.Semicolon ∷ []) (terminal.Create ∷ []) read_table

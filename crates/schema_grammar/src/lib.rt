@@ -42,7 +42,8 @@ pub fn read_tables(
     ensures ok { IfOk result (λ tables. SchemaText tokens.now tables) }
     ensures from_tokens { IfOk result (λ tables. AreOf (Contains tokens.now) tables) }
     ensures syntax { IfErr result (λ e. IsSyntaxError SchemaText tokens.now text_len e) }
-    ensures complete { (tables : List Table) → SchemaText tokens.now tables → MatchResult result (λ found. found ≡ tables) (λ e. e ≡ SyntaxError.NoMemory) }
+    ensures complete { (tables : List Table) → SchemaText tokens.now tables
+        → MatchResult result (λ found. found ≡ tables) (λ e. e ≡ SyntaxError.NoMemory) }
 {
     let mut reader = Reader::new(alloc, tokens);
     match tables::tables(&mut reader) {

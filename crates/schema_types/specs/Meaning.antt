@@ -1,6 +1,7 @@
 -- The schema that a schema text declares, or its refusal.
 use Rattle.std.specs.Prelude.{ℕ, List, [], ◌∷◌, map, length, Option, Some, None, option_map, unwrap_or, Result, Ok, Err}
 use Rattle.std.specs.List.{flat_map}
+use Rattle.limits.specs.Profile.{most_columns, most_length, most_tables}
 use Rattle.ll_grammars.specs.declared.lexeme.Lexeme.{Lexeme}
 use Rattle.schema_grammar.specs.declared.tree.TargetText.{TargetText}
 use Rattle.schema_grammar.specs.declared.tree.TypeText.{TypeText}
@@ -122,9 +123,9 @@ unless_found (Some found) cause rest = Err (cause found)
 -- at most 64 tables, 64 columns in each table, and 1,000,000 characters in a text, in this order
 unfoldable pub within_limits : List ℕ → List TableText → Result Schema SchemaError → Result Schema SchemaError
 within_limits text tables rest =
-    unless_found (first (above 64 (length tables ∷ []))) (λ found. error.Limit limit.Tables (in_64_bits found))
-    (unless_found (first (above 64 (column_counts tables))) (λ found. error.Limit limit.Columns (in_64_bits found))
-    (unless_found (first (above 1000000 (text_lengths text tables))) (λ found. error.Limit limit.TextLength (in_64_bits found)) rest))
+    unless_found (first (above most_tables (length tables ∷ []))) (λ found. error.Limit limit.Tables (in_64_bits found))
+    (unless_found (first (above most_columns (column_counts tables))) (λ found. error.Limit limit.Columns (in_64_bits found))
+    (unless_found (first (above most_length (text_lengths text tables))) (λ found. error.Limit limit.TextLength (in_64_bits found)) rest))
 
 -- the schema that these tables declare, or the first refusal: names, then nullability, then limits
 unfoldable pub bound : List ℕ → List TableText → Result Schema SchemaError

@@ -16,7 +16,8 @@ impl Scope<'_> {
     #[tactic(auto, unfolding(crate::specs::Meaning::within_limits))]
     fn limited(&self) -> Result<Schema, SchemaError>
         requires { All (IsTableOf (IsLexemeOf self.now.text.now)) self.now.tables.now }
-        ensures { Answers result (within_limits self.now.text.now self.now.tables.now (Ok (schema_of self.now.text.now self.now.tables.now))) }
+        ensures { Answers result (within_limits self.now.text.now self.now.tables.now
+            (Ok (schema_of self.now.text.now self.now.tables.now))) }
     {
         self.check_table_count()?;
         self.check_column_counts()?;

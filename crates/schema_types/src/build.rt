@@ -91,7 +91,8 @@ impl Scope<'_> {
     fn add_rule(&self, number: u32, rule: &ColumnRule, links: &mut Links) -> Result<(), NoMemory>
         requires { IsColumnRuleOf (IsLexemeOf self.now.text.now) rule.now }
         ensures keys { OnOk result (links.new.keys ≡ links.old.keys ++ rule_keys number rule.now) }
-        ensures references { OnOk result (links.new.references ≡ links.old.references ++ rule_references self.now.text.now self.now.tables.now number rule.now) }
+        ensures references { OnOk result (links.new.references
+            ≡ links.old.references ++ rule_references self.now.text.now self.now.tables.now number rule.now) }
     {
         match rule {
             ColumnRule::NotNull => Ok(()),
@@ -120,7 +121,8 @@ impl Scope<'_> {
     ) -> Result<(), NoMemory>
         requires { IsColumnOf (IsLexemeOf self.now.text.now) column.now }
         ensures keys { OnOk result (links.new.keys ≡ links.old.keys ++ column_keys self.now.text.now declared.now column.now) }
-        ensures references { OnOk result (links.new.references ≡ links.old.references ++ column_references self.now.text.now self.now.tables.now declared.now column.now) }
+        ensures references { OnOk result (links.new.references
+            ≡ links.old.references ++ column_references self.now.text.now self.now.tables.now declared.now column.now) }
     {
         let number = self.number(declared, &column.name)?;
         'rules: for rule in column.rules.as_slice() {
@@ -138,7 +140,8 @@ impl Scope<'_> {
     ) -> Result<(), NoMemory>
         requires { IsTableRuleOf (IsLexemeOf self.now.text.now) rule.now }
         ensures keys { OnOk result (links.new.keys ≡ links.old.keys ++ table_rule_keys self.now.text.now declared.now rule.now) }
-        ensures references { OnOk result (links.new.references ≡ links.old.references ++ table_rule_references self.now.text.now self.now.tables.now declared.now rule.now) }
+        ensures references { OnOk result (links.new.references
+            ≡ links.old.references ++ table_rule_references self.now.text.now self.now.tables.now declared.now rule.now) }
     {
         match rule {
             TableRule::PrimaryKey { columns, .. } => {
@@ -165,7 +168,8 @@ impl Scope<'_> {
     ) -> Result<(), NoMemory>
         requires { IsElementOf (IsLexemeOf self.now.text.now) element.now }
         ensures keys { OnOk result (links.new.keys ≡ links.old.keys ++ element_keys self.now.text.now declared.now element.now) }
-        ensures references { OnOk result (links.new.references ≡ links.old.references ++ element_references self.now.text.now self.now.tables.now declared.now element.now) }
+        ensures references { OnOk result (links.new.references
+            ≡ links.old.references ++ element_references self.now.text.now self.now.tables.now declared.now element.now) }
     {
         match element {
             Element::Column(column) => self.add_column(declared, column, links),
@@ -177,7 +181,8 @@ impl Scope<'_> {
     pub fn links(&self, declared: &NameList, elements: &[Element]) -> Result<Links, NoMemory>
         requires { All (IsElementOf (IsLexemeOf self.now.text.now)) elements.now }
         ensures keys { IfOk result (λ found. found.keys ≡ flat_map (element_keys self.now.text.now declared.now) elements.now) }
-        ensures references { IfOk result (λ found. found.references ≡ flat_map (element_references self.now.text.now self.now.tables.now declared.now) elements.now) }
+        ensures references { IfOk result (λ found.
+            found.references ≡ flat_map (element_references self.now.text.now self.now.tables.now declared.now) elements.now) }
     {
         let mut links = Links {
             keys: Seq::new(self.alloc),

@@ -87,7 +87,8 @@ impl Scope<'_> {
     #[tactic(auto, using(crate::proofs::Places::stands_in_is))]
     pub fn take_name(&self, taken: &mut NameList, token: &Lexeme) -> Result<(), SchemaError>
         requires { IsNameOf (IsLexemeOf self.now.text.now) token.now }
-        ensures offence { (before : List (List ℕ)) → taken.old ≡ map upper_case before → Finds result (when (is_taken (name_of self.now.text.now token.now) before) token.now.start) }
+        ensures offence { (before : List (List ℕ)) → taken.old ≡ map upper_case before
+            → Finds result (when (is_taken (name_of self.now.text.now token.now) before) token.now.start) }
         ensures added { OnOk result (taken.new ≡ taken.old ++ upper_case (name_of self.now.text.now token.now) ∷ []) }
     {
         let name = name(self.alloc, self.text, token)?;
@@ -108,7 +109,8 @@ impl Scope<'_> {
         column: &ColumnText,
     ) -> Result<(), SchemaError>
         requires { IsColumnOf (IsLexemeOf self.now.text.now) column.now }
-        ensures offence { (before : List Element) → keyed ≡ list_any is_primary before → taken.old ≡ map upper_case (column_names self.now.text.now before)
+        ensures offence { (before : List Element) → keyed ≡ list_any is_primary before
+            → taken.old ≡ map upper_case (column_names self.now.text.now before)
             → Finds result (column_offences self.now.text.now self.now.tables.now before column.now) }
         ensures added { OnOk result (taken.new ≡ taken.old ++ upper_case (name_of self.now.text.now column.now.name) ∷ []) }
     {
@@ -155,7 +157,8 @@ impl Scope<'_> {
         element: &Element,
     ) -> Result<(), SchemaError>
         requires { IsElementOf (IsLexemeOf self.now.text.now) element.now }
-        ensures offence { (before : List Element) → keyed ≡ list_any is_primary before → taken.old ≡ map upper_case (column_names self.now.text.now before)
+        ensures offence { (before : List Element) → keyed ≡ list_any is_primary before
+            → taken.old ≡ map upper_case (column_names self.now.text.now before)
             → Finds result (element_offences self.now.text.now self.now.tables.now declared.now before element.now) }
         ensures added { OnOk result (taken.new ≡ taken.old ++ map upper_case (column_names self.now.text.now (element.now ∷ []))) }
     {

@@ -8,7 +8,8 @@ ghost use Rattle.schema_types.specs.Validity.{IsValid};
 
 /// A schema text has one answer at most, want of memory aside.
 pub fn one_answer()
-    ensures { (text : List ℕ) (a b : Result Schema SchemaError) → IsSchemaOf text a → IsSchemaOf text b → a ≢ Err error.NoMemory → b ≢ Err error.NoMemory → a ≡ b }
+    ensures { (text : List ℕ) (a b : Result Schema SchemaError) → IsSchemaOf text a → IsSchemaOf text b → a ≢ Err error.NoMemory
+        → b ≢ Err error.NoMemory → a ≡ b }
 {}
 
 /// The schema of a text is valid.

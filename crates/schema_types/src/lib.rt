@@ -12,7 +12,6 @@ mod elements;
 mod errors;
 mod index;
 mod laws;
-mod limits;
 mod lists;
 mod name_list;
 mod names;
@@ -21,6 +20,7 @@ mod read;
 mod references;
 mod schema;
 mod scope;
+mod size_limits;
 mod types;
 
 pub use errors::{LimitKind, SchemaError};

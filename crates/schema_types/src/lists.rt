@@ -23,7 +23,8 @@ fn check_listed(
     column: &Lexeme,
 ) -> Result<(), SchemaError>
     requires { IsNameOf (IsLexemeOf text.now) column.now }
-    ensures offence { (before : List Lexeme) → earlier.old ≡ names_of text.now before → Finds result (listed_offences text.now declared.now before column.now) }
+    ensures offence { (before : List Lexeme) → earlier.old ≡ names_of text.now before
+        → Finds result (listed_offences text.now declared.now before column.now) }
     ensures added { OnOk result (earlier.new ≡ earlier.old ++ name_of text.now column.now ∷ []) }
 {
     let name = name(alloc, text, column)?;

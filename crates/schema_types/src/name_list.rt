@@ -36,7 +36,8 @@ fn note_place(
     name: &str,
     place: u32,
 ) -> Result<(), NoMemory>
-    ensures ok { OnOk result ((other : List ℕ) → get_by_text places.new other ≡ or_last (get_by_text places.old other) place (bytes_eq other name.now)) }
+    ensures ok { OnOk result ((other : List ℕ)
+        → get_by_text places.new other ≡ or_last (get_by_text places.old other) place (bytes_eq other name.now)) }
     ensures err { OnErr result (IsUnchanged places.old places.new) }
 {
     if places.get(name).is_none() {

@@ -32,7 +32,9 @@ impl Scope<'_> {
     fn check_table_name(&self, taken: &mut NameList, token: &Lexeme) -> Result<(), SchemaError>
         requires { IsNameOf (IsLexemeOf self.now.text.now) token.now }
         ensures offence { (before : List (List ℕ)) → taken.old ≡ map upper_case before
-            → Finds result (when (not (is_plain (name_of self.now.text.now token.now)) || is_taken (name_of self.now.text.now token.now) before) token.now.start) }
+            → Finds result
+            (when (not (is_plain (name_of self.now.text.now token.now)) || is_taken (name_of self.now.text.now token.now) before)
+            token.now.start) }
         ensures added { OnOk result (taken.new ≡ taken.old ++ upper_case (name_of self.now.text.now token.now) ∷ []) }
     {
         let name = name(self.alloc, self.text, token)?;

@@ -1,5 +1,6 @@
 //! Schema texts as a whole.
 ghost use Rattle.std.specs.Prelude.{◌≡◌, ◌≤◌, All, IfOk, IfErr, length};
+ghost use Rattle.limits.specs.Profile.{most_text};
 ghost use Rattle.sql_tokens.specs.Words.{IsLexemeOf};
 ghost use Rattle.schema_types.specs.Answers.{AreLexemes, IsLexRefusal};
 ghost use Rattle.schema_types.specs.Texts.{IsSchemaOf};
@@ -16,7 +17,7 @@ use std::alloc::Global;
 
 // The tokens of a text as grammars see them.
 fn read_lexemes(alloc: Global, text: &[u8]) -> Result<Seq<Lexeme>, SchemaError>
-    requires { length text.now ≤ 1048576 }
+    requires { length text.now ≤ most_text }
     ensures are { IfOk result (λ found. AreLexemes text.now found) }
     ensures within { IfOk result (λ found. All (IsLexemeOf text.now) found) }
     ensures bad { IfErr result (λ cause. IsLexRefusal text.now cause) }
@@ -34,7 +35,7 @@ fn read_lexemes(alloc: Global, text: &[u8]) -> Result<Seq<Lexeme>, SchemaError>
 // The answer to a text.
 #[tactic(auto, using(crate::proofs::Stages::answered, crate::proofs::Stages::spells_from, crate::proofs::Stages::lie_in))]
 fn answer(alloc: Global, text: &[u8]) -> Result<Schema, SchemaError>
-    requires { length text.now ≤ 1048576 }
+    requires { length text.now ≤ most_text }
     ensures { IsSchemaOf text.now result }
 {
     let lexemes = read_lexemes(alloc, text)?;
@@ -50,7 +51,7 @@ fn answer(alloc: Global, text: &[u8]) -> Result<Schema, SchemaError>
 /// bytes of the text, a byte order mark included. The text has at most 1,048,576 bytes.
 #[tactic(auto, using(crate::proofs::Valid::answers_valid))]
 pub fn read_schema(alloc: Global, text: &[u8]) -> Result<Schema, SchemaError>
-    requires { length text.now ≤ 1048576 }
+    requires { length text.now ≤ most_text }
     ensures meaning { IsSchemaOf text.now result }
     ensures valid { IfOk result IsValid }
 {

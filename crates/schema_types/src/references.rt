@@ -21,7 +21,9 @@ impl Scope<'_> {
     #[tactic(auto, using(crate::proofs::Targets::no_target, crate::proofs::Targets::target_found, crate::proofs::Places::place_of_within))]
     pub fn target(&self, target: &TargetText) -> Result<Option<&TableIndex>, NoMemory>
         requires { IsTargetOf (IsLexemeOf self.now.text.now) target.now }
-        ensures { IfOk result (λ found. option_copied found ≡ option_map (table_index self.now.text.now) (target_table self.now.text.now self.now.tables.now target.now)) }
+        ensures { IfOk result (λ found.
+            option_copied found
+            ≡ option_map (table_index self.now.text.now) (target_table self.now.text.now self.now.tables.now target.now)) }
     {
         match self.table_place(&target.table)? {
             None => Ok(None),
@@ -38,7 +40,8 @@ impl Scope<'_> {
         table: &TableIndex,
     ) -> Result<(), SchemaError>
         requires { IsTargetOf (IsLexemeOf self.now.text.now) target.now }
-        ensures { (declared : TableText) → table.now ≡ table_index self.now.text.now declared → Finds result (target_offences_in self.now.text.now count target.now (Some declared)) }
+        ensures { (declared : TableText) → table.now ≡ table_index self.now.text.now declared
+            → Finds result (target_offences_in self.now.text.now count target.now (Some declared)) }
     {
         let at = target.table.start;
         match &target.columns {

@@ -1,6 +1,7 @@
 //! The tables of a schema, built within the limits.
 ghost use Rattle.std.specs.Prelude.{◌≡◌, [], ◌++◌, All, IfOk, OnOk};
 ghost use Rattle.std.specs.List.{flat_map};
+ghost use Rattle.limits.specs.Profile.{most_length};
 ghost use Rattle.sql_tokens.specs.Words.{IsLexemeOf};
 ghost use Rattle.schema_grammar.specs.Lexemes.{IsTypeOf, IsColumnOf, IsElementOf, IsTableOf};
 ghost use Rattle.schema_types.specs.Index.{table_index};
@@ -19,7 +20,7 @@ impl Scope<'_> {
     #[tactic(auto, using(crate::proofs::Above::not_above))]
     fn kind(&self, kind: &TypeText) -> Kind
         requires tokens { IsTypeOf (IsLexemeOf self.now.text.now) kind.now }
-        requires within { above 1000000 (type_lengths self.now.text.now kind.now) ≡ [] }
+        requires within { above most_length (type_lengths self.now.text.now kind.now) ≡ [] }
         ensures { result ≡ kind_of self.now.text.now kind.now }
     {
         match kind {
@@ -30,7 +31,7 @@ impl Scope<'_> {
 
     fn column(&self, column: &ColumnText) -> Result<Column, NoMemory>
         requires tokens { IsColumnOf (IsLexemeOf self.now.text.now) column.now }
-        requires within { above 1000000 (type_lengths self.now.text.now column.now.kind) ≡ [] }
+        requires within { above most_length (type_lengths self.now.text.now column.now.kind) ≡ [] }
         ensures { IfOk result (λ found. found ≡ column_of self.now.text.now column.now) }
     {
         let name = name(self.alloc, self.text, &column.name)?;
@@ -44,7 +45,7 @@ impl Scope<'_> {
         columns: &mut Seq<Column>,
     ) -> Result<(), NoMemory>
         requires tokens { IsElementOf (IsLexemeOf self.now.text.now) element.now }
-        requires within { above 1000000 (element_lengths self.now.text.now element.now) ≡ [] }
+        requires within { above most_length (element_lengths self.now.text.now element.now) ≡ [] }
         ensures { OnOk result (columns.new ≡ columns.old ++ element_column self.now.text.now element.now) }
     {
         match element {
@@ -58,7 +59,7 @@ impl Scope<'_> {
 
     fn columns(&self, elements: &[Element]) -> Result<Seq<Column>, NoMemory>
         requires tokens { All (IsElementOf (IsLexemeOf self.now.text.now)) elements.now }
-        requires within { flat_map (λ element. above 1000000 (element_lengths self.now.text.now element)) elements.now ≡ [] }
+        requires within { flat_map (λ element. above most_length (element_lengths self.now.text.now element)) elements.now ≡ [] }
         ensures { IfOk result (λ found. found ≡ flat_map (element_column self.now.text.now) elements.now) }
     {
         let mut found = Seq::new(self.alloc);
@@ -73,7 +74,7 @@ impl Scope<'_> {
     fn table(&self, table: &TableText, index: &TableIndex) -> Result<Table, NoMemory>
         requires tokens { IsTableOf (IsLexemeOf self.now.text.now) table.now }
         requires indexed { index.now ≡ table_index self.now.text.now table.now }
-        requires within { flat_map (λ element. above 1000000 (element_lengths self.now.text.now element)) table.now.elements ≡ [] }
+        requires within { flat_map (λ element. above most_length (element_lengths self.now.text.now element)) table.now.elements ≡ [] }
         ensures { IfOk result (λ found. found ≡ table_of self.now.text.now self.now.tables.now table.now) }
     {
         let name = name(self.alloc, self.text, &table.name)?;
@@ -92,7 +93,7 @@ impl Scope<'_> {
     #[tactic(auto, unfolding(crate::specs::Meaning::schema_of))]
     pub fn schema(&self) -> Result<Schema, NoMemory>
         requires tokens { All (IsTableOf (IsLexemeOf self.now.text.now)) self.now.tables.now }
-        requires within { above 1000000 (text_lengths self.now.text.now self.now.tables.now) ≡ [] }
+        requires within { above most_length (text_lengths self.now.text.now self.now.tables.now) ≡ [] }
         ensures { IfOk result (λ found. found ≡ schema_of self.now.text.now self.now.tables.now) }
     {
         let mut tables = Seq::new(self.alloc);

@@ -79,7 +79,8 @@ impl<'a> Scope<'a> {
     /// The number of the table that a token names.
     pub fn table_place(&self, token: &Lexeme) -> Result<Option<u32>, NoMemory>
         requires { IsNameOf (IsLexemeOf self.now.text.now) token.now }
-        ensures { IfOk result (λ place. place ≡ place_of (table_names self.now.text.now self.now.tables.now) (name_of self.now.text.now token.now)) }
+        ensures { IfOk result (λ place.
+            place ≡ place_of (table_names self.now.text.now self.now.tables.now) (name_of self.now.text.now token.now)) }
     {
         let name = name(self.alloc, self.text, token)?;
         Ok(self.names.get(name.as_str()))

@@ -1,4 +1,5 @@
 ghost use Rattle.std.specs.Prelude.{◌≡◌, ◌<◌, ◌≤◌, ◌-◌, min, if◌then◌else◌, length, drop, IfOk, List, Some, ℕ, IsErrOf};
+ghost use Rattle.limits.specs.Profile.{most_file};
 ghost use Rattle.base_io.specs.Causes.{Rose, one_more};
 ghost use Rattle.base_io.specs.Files.{file_of, ReadsAt, told};
 ghost use Rattle.base_io.specs.Planned.{has_failed, is_listed};
@@ -34,7 +35,7 @@ impl Store for SlowStore {
 
     /// As every store's, and the bytes that are handed on are read as the inner store reads them.
     fn read_at(&mut self, name: &str, at: u64, into: &mut [u8]) -> Result<usize, StoreError>
-        requires place { at ≤ 67108864 }
+        requires place { at ≤ most_file }
         requires room { 0 < length into.old }
         ensures read { ReadsAt (told (Some self.old.inner.files) name.now) at result into.new }
         ensures files { Some self.new.inner.files ≡ Some self.old.inner.files }
@@ -48,7 +49,8 @@ impl Store for SlowStore {
         // A read gives as many bytes as there are, as fit and as are handed on.
         ensures most { IfOk result (λ n. (bytes : List ℕ) → file_of self.old.inner.files name.now ≡ Some bytes
             → n ≡ min (length bytes - at) (most_bytes self.old.most (length into.new))) }
-        ensures behind { drop (most_bytes self.old.most (length into.old)) into.new ≡ drop (most_bytes self.old.most (length into.old)) into.old }
+        ensures behind { drop (most_bytes self.old.most (length into.old)) into.new
+            ≡ drop (most_bytes self.old.most (length into.old)) into.old }
         ensures same_most { self.new.most ≡ self.old.most }
 
         // Exactly the calls fail that the inner store lists.

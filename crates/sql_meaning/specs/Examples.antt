@@ -46,14 +46,18 @@ three_rows first second = record { kinds = kind.Int ∷ kind.Int ∷ []; columns
 abbrev pub triangle : Query
 triangle = record {
   from = record { table = 0; alias = 82 ∷ [] } ∷ record { table = 1; alias = 83 ∷ [] } ∷ record { table = 2; alias = 84 ∷ [] } ∷ [];
-  conjuncts = Compare op.Eq (column_at 0 0) (column_at 1 0) ∷ Compare op.Eq (column_at 1 1) (column_at 2 0) ∷ Compare op.Eq (column_at 2 1) (column_at 0 1) ∷ [];
-  select = record { column = record { from = 0; column = 0 }; name = 65 ∷ [] } ∷ record { column = record { from = 1; column = 1 }; name = 66 ∷ [] } ∷ record { column = record { from = 2; column = 1 }; name = 67 ∷ [] } ∷ [];
+  conjuncts = Compare op.Eq (column_at 0 0) (column_at 1 0) ∷ Compare op.Eq (column_at 1 1) (column_at 2 0)
+      ∷ Compare op.Eq (column_at 2 1) (column_at 0 1) ∷ [];
+  select = record { column = record { from = 0; column = 0 }; name = 65 ∷ [] }
+      ∷ record { column = record { from = 1; column = 1 }; name = 66 ∷ [] }
+      ∷ record { column = record { from = 2; column = 1 }; name = 67 ∷ [] } ∷ [];
 }
 
 -- the rows (1, 1), (1, 2), (2, 1) of R and of S, and (1, 1), (2, 1), (1, 2) of T
 abbrev pub triangle_tables : Database
 triangle_tables = record {
   pool = [];
-  cells = three_rows (1 ∷ 1 ∷ 2 ∷ []) (1 ∷ 2 ∷ 1 ∷ []) ∷ three_rows (1 ∷ 1 ∷ 2 ∷ []) (1 ∷ 2 ∷ 1 ∷ []) ∷ three_rows (1 ∷ 2 ∷ 1 ∷ []) (1 ∷ 1 ∷ 2 ∷ []) ∷ [];
+  cells = three_rows (1 ∷ 1 ∷ 2 ∷ []) (1 ∷ 2 ∷ 1 ∷ []) ∷ three_rows (1 ∷ 1 ∷ 2 ∷ []) (1 ∷ 2 ∷ 1 ∷ [])
+      ∷ three_rows (1 ∷ 2 ∷ 1 ∷ []) (1 ∷ 1 ∷ 2 ∷ []) ∷ [];
   slots = 0 ∷ 1 ∷ 2 ∷ [];
 }

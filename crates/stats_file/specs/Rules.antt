@@ -6,6 +6,7 @@ use Rattle.std.specs.Ordering.{int_cmp, nat_cmp}
 use Rattle.std.specs.declared.cmp.Ordering.{Ordering}
 use Rattle.std.specs.declared.cmp.Ordering.TheVariants.{Less, Greater}
 use Rattle.std.specs.Str.{IsUtf8}
+use Rattle.limits.specs.Profile.{most_rows}
 use Rattle.degree_sequences.specs.Falling.{IsFalling}
 use Rattle.schema_types.specs.declared.types.Column.{Column}
 use Rattle.schema_types.specs.declared.types.Kind.{Kind}
@@ -90,7 +91,7 @@ pub record Agree (a b : Pair) : Type 0 where
 pub record IsSection (schema : Schema) (section : TableStats) : Type 0 where
   pub table : Table
   pub table_is : slice_get schema.tables section.table ≡ Some table
-  pub rows : section.rows ≤ 4000000
+  pub rows : section.rows ≤ most_rows
   pub pairs : All (IsPair table section.rows) section.pairs
   pub order : AllPairs StandsBefore section.pairs
   pub agree : AllPairs Agree section.pairs

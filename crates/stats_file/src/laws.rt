@@ -3,6 +3,7 @@ ghost use Rattle.std.specs.Prelude.{ℕ, ℤ, ◌^◌, ◌<◌, ◌≤◌, List,
 ghost use Rattle.schema_types.specs.declared.types.Schema.{Schema};
 ghost use Rattle.std.specs.Int.{w64};
 ghost use Rattle.std.specs.Fmt.{signed_decimal};
+ghost use Rattle.limits.specs.Profile.{most_rows};
 ghost use Rattle.stats_file.specs.Bytes.{AreBytes, ConsistOfBytes};
 ghost use Rattle.stats_file.specs.declared.types.StatsFile.{StatsFile};
 ghost use Rattle.stats_file.specs.FileText.{file_lines};
@@ -16,7 +17,7 @@ pub fn words_are_grammatical()
     ensures numbers { (n : ℕ) → n < 2 ^ 64 → IsNumeral (decimal n) }
     ensures signed { (z : ℤ) → FitsSigned w64 z → IsSignedNumeral (signed_decimal z) }
     ensures bytes { (bytes : List ℕ) → AreBytes bytes → IsHexWord (hex_text bytes) }
-    ensures lists { (rows : ℕ) (list : List ℕ) → rows ≤ 4000000 → IsList rows list → IsListWord (runs_text (runs_of list)) }
+    ensures lists { (rows : ℕ) (list : List ℕ) → rows ≤ most_rows → IsList rows list → IsListWord (runs_text (runs_of list)) }
 {}
 
 /// The lines of a file that keeps the rules are a text of the grammar.

@@ -9,12 +9,15 @@ use Rattle.tree_bounds.specs.Tables.{KeyedTables}
 abbrev mutual
   pub child_keys : KeyedTables → ℕ → Classes → List ChildKeys
   child_keys tables entry no_class = []
-  child_keys tables entry (and_class column members rest) = record { keys = tables.keys entry column; weight = choices_for tables members } ∷ child_keys tables entry rest
+  child_keys tables entry
+      (and_class column members rest) = record { keys = tables.keys entry column; weight = choices_for tables members }
+      ∷ child_keys tables entry rest
 
   -- how many choices below a class have a key there
   pub choices_for : KeyedTables → Members → ℕ → ℕ
   choices_for tables (one_member entry column below) = weight_of_key (tables.keys entry column) (child_keys tables entry below)
-  choices_for tables (and_member entry column below rest) = λ key. weight_of_key (tables.keys entry column) (child_keys tables entry below) key * choices_for tables rest key
+  choices_for tables (and_member entry column below rest) = λ key. weight_of_key (tables.keys entry column)
+      (child_keys tables entry below) key * choices_for tables rest key
 
 abbrev pub number_of_choices : KeyedTables → JoinTree → ℕ
 number_of_choices tables t = sum_by (weight_of_row (child_keys tables t.root t.below)) (range_with_len 0 (tables.rows t.root))
@@ -31,16 +34,19 @@ paired xs ys = flat_map (λ x. map (λ y. x ++ y) ys) xs
 
 -- the rows that have a key, each with what is chosen below it
 abbrev pub rows_with_key : List ℕ → (ℕ → List (List ℕ)) → ℕ → List (List ℕ)
-rows_with_key keys below key = flat_map (λ row. if slice_index keys row == key then with_row row (below row) else []) (range_with_len 0 (length keys))
+rows_with_key keys below key = flat_map (λ row. if slice_index keys row == key then with_row row (below row)
+    else []) (range_with_len 0 (length keys))
 
 abbrev mutual
   pub chosen_below : KeyedTables → ℕ → Classes → ℕ → List (List ℕ)
   chosen_below tables entry no_class = λ row. [] ∷ []
-  chosen_below tables entry (and_class column members rest) = λ row. paired (chosen_within tables members (slice_index (tables.keys entry column) row)) (chosen_below tables entry rest row)
+  chosen_below tables entry (and_class column members rest) = λ row. paired
+      (chosen_within tables members (slice_index (tables.keys entry column) row)) (chosen_below tables entry rest row)
 
   pub chosen_within : KeyedTables → Members → ℕ → List (List ℕ)
   chosen_within tables (one_member entry column below) = rows_with_key (tables.keys entry column) (chosen_below tables entry below)
-  chosen_within tables (and_member entry column below rest) = λ key. paired (rows_with_key (tables.keys entry column) (chosen_below tables entry below) key) (chosen_within tables rest key)
+  chosen_within tables (and_member entry column below rest) = λ key. paired
+      (rows_with_key (tables.keys entry column) (chosen_below tables entry below) key) (chosen_within tables rest key)
 
 abbrev pub chosen_rows : KeyedTables → JoinTree → List (List ℕ)
 chosen_rows tables t = flat_map (λ row. with_row row (chosen_below tables t.root t.below row)) (range_with_len 0 (tables.rows t.root))

@@ -11,4 +11,5 @@ scanned scans key = record { rows = λ entry. length (scans entry); keys = λ en
 -- the choice takes a scanned row for each of the entries, and satisfies each equality
 pub record SatisfiesScanned (scans : ℕ → List ℕ) (key : ℕ → ℕ → ℕ → ℕ) (entries : List ℕ) (es : List Edge) (choice : ℕ → ℕ) : Type 0 where
   pub rows : AllByRecursion (λ entry. Contains (scans entry) (choice entry)) entries
-  pub equal : AllByRecursion (λ e. key e.left.entry e.left.column (choice e.left.entry) ≡ key e.right.entry e.right.column (choice e.right.entry)) es
+  pub equal : AllByRecursion (λ e. key e.left.entry e.left.column (choice e.left.entry)
+      ≡ key e.right.entry e.right.column (choice e.right.entry)) es

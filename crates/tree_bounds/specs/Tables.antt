@@ -32,7 +32,8 @@ abbrev mutual
   AgreesWithin tables choice key (one_member entry column below) =
       (choice entry < tables.rows entry) × (key_of tables choice entry column ≡ key) × AgreesBelow tables choice entry below
   AgreesWithin tables choice key (and_member entry column below rest) =
-      (choice entry < tables.rows entry) × (key_of tables choice entry column ≡ key) × AgreesBelow tables choice entry below × AgreesWithin tables choice key rest
+      (choice entry < tables.rows entry) × (key_of tables choice entry column ≡ key) × AgreesBelow tables choice entry below
+      × AgreesWithin tables choice key rest
 
 -- the choice takes a row for each entry of a tree, and their keys agree in each class
 abbrev pub Agrees : KeyedTables → JoinTree → (ℕ → ℕ) → Type 0

@@ -28,12 +28,14 @@ HasLists b t = EachColumn (HasList b) t
 abbrev mutual
   pub child_lists : EntryBounds → ℕ → Classes → List ChildLists
   child_lists b entry no_class = []
-  child_lists b entry (and_class column members rest) = record { column = b.list entry column; class = class_list b members } ∷ child_lists b entry rest
+  child_lists b entry (and_class column members rest) = record { column = b.list entry column; class = class_list b members }
+      ∷ child_lists b entry rest
 
   -- the list of a class: the rank-wise product of the lists of the entries below it, each composed with what lies below that entry
   pub class_list : EntryBounds → Members → List ℕ
   class_list b (one_member entry column below) = composed (b.list entry column) (child_lists b entry below)
-  class_list b (and_member entry column below rest) = rank_product (composed (b.list entry column) (child_lists b entry below)) (class_list b rest)
+  class_list b (and_member entry column below rest) = rank_product (composed (b.list entry column) (child_lists b entry below))
+      (class_list b rest)
 
 -- the bound of a tree: what the rows of the root weigh together
 abbrev pub bound_of_tree : EntryBounds → JoinTree → ℕ

@@ -120,7 +120,8 @@ pub fn nodes_have_the_bound_of_their_tree()
         → bound_of_nodes b nodes ≡ bound_of_tree b t }
     ensures lists { (b : EntryBounds) (nodes : List Node) → IsValid nodes → (i : ℕ) → i < length nodes
         → node_list b nodes i ≡ list_at b nodes (node_list b nodes) (children_of nodes i) (slice_get nodes i) }
-    ensures later { (nodes : List Node) → IsValid nodes → (i : ℕ) → AllByRecursion (λ child. (i < child) × (child < length nodes)) (children_of nodes i) }
+    ensures later { (nodes : List Node) → IsValid nodes → (i : ℕ)
+        → AllByRecursion (λ child. (i < child) × (child < length nodes)) (children_of nodes i) }
 {}
 
 /// A number that is saturated at each step is the saturated bound, and what is never under stays so, or is 2^128 - 1.

@@ -1,8 +1,12 @@
 //! The bound of a tree of joins, and of a set of entries, as mathematics: what the number is, and that no join passes it.
 //!
-//! In: for each entry a row bound and falling lists of its joined columns, and the trees of the equalities that a set of entries keeps. Out: definitions and laws, and nothing that runs. From the leaves of a tree up, an entry composes its list with the lists of the classes below it, and a class multiplies the lists of the entries below it rank by rank; the root's rows are weighed in the same way. A set of entries has in each turn the product over its trees, and of the turns the least.
+//! In: for each entry a row bound and falling lists of its joined columns, and the trees of the equalities that a set of entries keeps.
+//! Out: definitions and laws, and nothing that runs. From the leaves of a tree up, an entry composes its list with the lists of the classes
+//! below it, and a class multiplies the lists of the entries below it rank by rank; the root's rows are weighed in the same way. A set of
+//! entries has in each turn the product over its trees, and of the turns the least.
 //!
-//! Callers cite `EntryBounds`, `bound_of_tree`, `bound_of_nodes` and `bound_of_set` for the numbers, `KeyedTables`, `TreeDominates` and `SetDominates` for what they bound, and `TreeIsNear` and `SetIsNear` for how near they are.
+//! Callers cite `EntryBounds`, `bound_of_tree`, `bound_of_nodes` and `bound_of_set` for the numbers, `KeyedTables`, `TreeDominates` and
+//! `SetDominates` for what they bound, and `TreeIsNear` and `SetIsNear` for how near they are.
 #![tactic(auto)]
 
 mod examples;

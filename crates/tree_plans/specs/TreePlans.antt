@@ -1,4 +1,5 @@
--- Plans over join trees. A node is named by a number: the n leaves by their FROM positions, and the inner nodes by the numbers from n on, in the plan's order.
+-- Plans over join trees. A node is named by a number: the n leaves by their FROM positions, and the inner nodes by the numbers from n on,
+-- in the plan's order.
 use Rattle.std.specs.Prelude.{◌≡◌, ℕ, ◌+◌, ◌-◌, ◌*◌, ◌<◌, ◌≤◌, ◌==◌, List, [], ◌∷◌, length, ⊤}
 use Rattle.std.specs.List.{AllByRecursion, count_by}
 use Rattle.limits.specs.Profile.{most_entries, most_rows}

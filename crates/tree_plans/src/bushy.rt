@@ -12,7 +12,9 @@ pub struct Join {
 
 /// A join tree over n entries.
 ///
-/// `joins` are its inner nodes in the order of their numbers, each behind the two that it joins; the last one is the root. One entry has none. `scans` are the bounds of the entries' scans in FROM order, in rows. `cost` is the greatest bound of an inner node, and of one entry its own, in rows.
+/// `joins` are its inner nodes in the order of their numbers, each behind the two that it joins; the last one is the root. One entry has
+/// none. `scans` are the bounds of the entries' scans in FROM order, in rows. `cost` is the greatest bound of an inner node, and of one
+/// entry its own, in rows.
 #[derive(Debug, Drop)]
 pub struct BushyPlan {
     pub joins: Seq<Join>,

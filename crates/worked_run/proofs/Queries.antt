@@ -7,11 +7,11 @@ use Rattle.query_grammar.specs.Nesting.{nesting}
 use Rattle.query_grammar.specs.Readers.{read_name, read_other_name, read_new_name, read_dotted_name, read_column, read_number, read_literal, read_operand, read_operator, read_negation, read_next_literal, read_literals, read_value_list, read_predicate, read_flat, read_factor, read_next_factor, read_factors, read_term, read_next_term, read_terms, read_cond, read_inside, read_test, read_within, read_condition, read_source, read_join, read_joins, read_part, read_next_part, read_parts, read_dotted_out, read_out, read_next_out, read_listed_outs, read_outs, read_condition_behind_where, read_filter, read_query}
 use Rattle.sql_tokens.specs.Pieces.{closed, identifier, literal, symbol, piece, tokens_at}
 use Rattle.sql_tokens.specs.Words.{terminal_of, name_of, literal_of, number_of}
-use Rattle.sql_parse.specs.Names.{column_in, entries, from_offences}
-use Rattle.sql_parse.specs.Scopes.{in_scope, entry_named, column_alone, resolve, conditions}
-use Rattle.sql_parse.specs.Offences.{name_offences, all_kind_offences}
-use Rattle.sql_parse.specs.Numbers.{number_value, number_offences}
-use Rattle.sql_parse.specs.Values.{conjuncts, outs_of_entry, query_of}
+use Rattle.query_names.specs.Names.{column_in, entries, from_offences}
+use Rattle.query_names.specs.Scopes.{in_scope, entry_named, column_alone, resolve, conditions}
+use Rattle.query_names.specs.Offences.{name_offences, all_kind_offences}
+use Rattle.query_names.specs.Numbers.{number_value, number_offences}
+use Rattle.query_names.specs.Values.{conjuncts, outs_of_entry, query_of}
 use Rattle.sql_parse.specs.Bound.{long_lists, refusals, bound}
 use Rattle.text_answers.specs.Stages.{tokens_of}
 use Rattle.text_answers.specs.QueryTexts.{tree_of, nested_answer, query_answer}
@@ -25,9 +25,9 @@ use Rattle.query_grammar.specs.declared.tree.OutText.TheVariants as out
 use Rattle.query_grammar.specs.declared.tree.OutsText.TheVariants as outs
 use Rattle.query_grammar.specs.declared.tree.QueryText.{QueryText}
 use Rattle.query_grammar.specs.Examples.{token}
-use Rattle.sql_parse.specs.Values.{Meaning}
+use Rattle.query_names.specs.Values.{Meaning}
 use Rattle.sql_parse.proofs.KindFacts.{means_test}
-use Rattle.sql_parse.proofs.TestFacts.{tests_test}
+use Rattle.query_names.proofs.TestFacts.{tests_test}
 use Rattle.table_files.specs.Examples.{two_tables}
 use Rattle.query_bounds.specs.Examples.{pair}
 use Rattle.worked_run.specs.TwoTables.{query_text}

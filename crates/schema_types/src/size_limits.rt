@@ -1,6 +1,7 @@
 //! Limits on tables, columns and lengths of texts.
 ghost use Rattle.std.specs.Prelude.{◌≡◌, [], ◌∷◌, All, length};
 ghost use Rattle.std.specs.List.{flat_map};
+ghost use Rattle.limits.specs.Profile.{most_columns, most_length, most_tables};
 ghost use Rattle.sql_tokens.specs.Words.{IsLexemeOf};
 ghost use Rattle.schema_grammar.specs.Lexemes.{IsTypeOf, IsElementOf, IsTableOf};
 ghost use Rattle.schema_types.specs.declared.errors.LimitKind.TheVariants as limit;
@@ -9,21 +10,13 @@ ghost use Rattle.schema_types.specs.Finds.{FindsAbove};
 
 use crate::scope::Scope;
 use crate::{LimitKind, SchemaError};
+use limits::{MOST_COLUMNS, MOST_LENGTH, MOST_TABLES};
 use schema_grammar::{Element, TypeText};
 use sql_tokens::number;
 
-/// The most tables of a schema.
-const MOST_TABLES: usize = 64;
-
-/// The most columns of a table.
-const MOST_COLUMNS: usize = 64;
-
-/// The most characters of a text.
-const MOST_LENGTH: u64 = 1_000_000;
-
 impl Scope<'_> {
     pub fn check_table_count(&self) -> Result<(), SchemaError>
-        ensures { FindsAbove limit.Tables result (above 64 (length self.now.tables.now ∷ [])) }
+        ensures { FindsAbove limit.Tables result (above most_tables (length self.now.tables.now ∷ [])) }
     {
         let found = self.tables.len();
         if found > MOST_TABLES {
@@ -37,7 +30,7 @@ impl Scope<'_> {
 
     // A table's number of columns.
     fn check_column_count(&self, found: usize) -> Result<(), SchemaError>
-        ensures { FindsAbove limit.Columns result (above 64 (found ∷ [])) }
+        ensures { FindsAbove limit.Columns result (above most_columns (found ∷ [])) }
     {
         if found > MOST_COLUMNS {
             return Err(SchemaError::Limit {
@@ -49,7 +42,7 @@ impl Scope<'_> {
     }
 
     pub fn check_column_counts(&self) -> Result<(), SchemaError>
-        ensures { FindsAbove limit.Columns result (above 64 (column_counts self.now.tables.now)) }
+        ensures { FindsAbove limit.Columns result (above most_columns (column_counts self.now.tables.now)) }
     {
         let indexes = self.indexes.as_slice();
         'indexes: for index in indexes {
@@ -61,7 +54,7 @@ impl Scope<'_> {
     // The length that a type gives to its texts.
     fn check_length(&self, kind: &TypeText) -> Result<(), SchemaError>
         requires { IsTypeOf (IsLexemeOf self.now.text.now) kind.now }
-        ensures { FindsAbove limit.TextLength result (above 1000000 (type_lengths self.now.text.now kind.now)) }
+        ensures { FindsAbove limit.TextLength result (above most_length (type_lengths self.now.text.now kind.now)) }
     {
         match kind {
             TypeText::Number => Ok(()),
@@ -80,7 +73,7 @@ impl Scope<'_> {
 
     fn check_element_length(&self, element: &Element) -> Result<(), SchemaError>
         requires { IsElementOf (IsLexemeOf self.now.text.now) element.now }
-        ensures { FindsAbove limit.TextLength result (above 1000000 (element_lengths self.now.text.now element.now)) }
+        ensures { FindsAbove limit.TextLength result (above most_length (element_lengths self.now.text.now element.now)) }
     {
         match element {
             Element::Column(column) => self.check_length(&column.kind),
@@ -90,7 +83,8 @@ impl Scope<'_> {
 
     fn check_lengths(&self, elements: &[Element]) -> Result<(), SchemaError>
         requires { All (IsElementOf (IsLexemeOf self.now.text.now)) elements.now }
-        ensures { FindsAbove limit.TextLength result (flat_map (λ element. above 1000000 (element_lengths self.now.text.now element)) elements.now) }
+        ensures { FindsAbove limit.TextLength result
+            (flat_map (λ element. above most_length (element_lengths self.now.text.now element)) elements.now) }
     {
         'elements: for element in elements {
             self.check_element_length(element)?;
@@ -100,7 +94,7 @@ impl Scope<'_> {
 
     pub fn check_text_lengths(&self) -> Result<(), SchemaError>
         requires { All (IsTableOf (IsLexemeOf self.now.text.now)) self.now.tables.now }
-        ensures { FindsAbove limit.TextLength result (above 1000000 (text_lengths self.now.text.now self.now.tables.now)) }
+        ensures { FindsAbove limit.TextLength result (above most_length (text_lengths self.now.text.now self.now.tables.now)) }
     {
         'tables: for table in self.tables {
             self.check_lengths(table.elements.as_slice())?;
