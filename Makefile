@@ -30,20 +30,26 @@ bench: build
 	@cd crates/bench_link_index && rt run -- time > build.log 2>&1 || { cat build.log; exit 1; }
 	@cd crates/bench_tables && rt run -- time > build.log 2>&1 || { cat build.log; exit 1; }
 	@cd crates/bench_orders && rt run -- time > build.log 2>&1 || { cat build.log; exit 1; }
+	@cd crates/bench_bushy && rt run -- time > build.log 2>&1 || { cat build.log; exit 1; }
 	@cd crates/bench_queries && rt run -- time > build.log 2>&1 || { cat build.log; exit 1; }
 	@cd crates/bench_fold && rt run -- time > build.log 2>&1 || { cat build.log; exit 1; }
 	@cd crates/bench_joins && rt run -- time > build.log 2>&1 || { cat build.log; exit 1; }
 	@cd crates/bench_stats && rt run -- time > build.log 2>&1 || { cat build.log; exit 1; }
+	@cd crates/bench_gather && rt run -- time > build.log 2>&1 || { cat build.log; exit 1; }
+	@cd crates/bench_reduce && rt run -- time > build.log 2>&1 || { cat build.log; exit 1; }
 	bench/one-table
 	bench/degrees
 	bench/link-index
 	bench/tables
 	bench/orders
+	bench/bushy-plan
 	bench/queries
 	bench/fold
 	bench/joins
 	bench/stats
+	bench/reduce
 	bench/demo
+	bench/shop
 
 # Runs over memory, with each request for memory refused in turn. It takes minutes.
 memory:
