@@ -111,6 +111,15 @@ fn refuses(
     }
 }
 
+// The text with a number, and nothing where the pool has none.
+fn text_of(pool: &Pool, number: u32) -> &str {
+    if (number as usize) < pool.len() {
+        pool.text(number)
+    } else {
+        ""
+    }
+}
+
 #[test]
 fn reads_numbers(rt: HostRuntime) -> Result<(), Fail> {
     examples();
@@ -185,7 +194,15 @@ fn reads_texts(rt: HostRuntime) -> Result<(), Fail> {
     let cells: Cells = read_table(alloc, &table, bytes, &mut pool)?;
     assert_eq!(rt; cells.rows, 2);
     assert_eq!(rt; pool.len(), 2);
-    assert!(&rt; pool.len() == 2 && pool.text(0) == "a,\"b\"\r\nc" && pool.text(1) == "");
+    assert_eq!(rt; text_of(&pool, 0), "a,\"b\"\r\nc");
+    assert_eq!(rt; text_of(&pool, 1), "");
+    Ok(())
+}
+
+// The length of a text is counted in characters, not in bytes.
+#[test]
+fn texts_have_lengths(rt: HostRuntime) -> Result<(), Fail> {
+    let alloc = rt.alloc();
     let short = one(alloc, Kind::Text(2), false)?;
     let field = TableError::Field { row: 1, column: 0 };
     assert!(&rt; gives(&rt, alloc, &short, b"X\r\nn\xC3\xA9\r\n", &[0])?);
@@ -201,7 +218,8 @@ fn pools_number_texts(rt: HostRuntime) -> Result<(), Fail> {
     assert_eq!(rt; (b, a), (0, 1));
     assert_eq!(rt; pool.find("a"), Some(1));
     assert_eq!(rt; pool.find("c"), None);
-    assert!(&rt; pool.len() == 2 && pool.text(0) == "b");
+    assert_eq!(rt; pool.len(), 2);
+    assert_eq!(rt; text_of(&pool, 0), "b");
     assert_eq!(rt;
         compare(Kind::Int, &pool, cell_of(-1), cell_of(1)),
         Ordering::Less
