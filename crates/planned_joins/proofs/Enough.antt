@@ -4,6 +4,7 @@ use Rattle.std.specs.Prelude.{All}
 use Rattle.std.specs.List.{AllZip}
 use Rattle.std.proofs.lemmas.List.{get_or_default}
 use Rattle.std.proofs.lemmas.List.Elements.{All-from_recursion}
+use Rattle.limits.specs.Profile.{most_budget, most_entries, most_rows}
 use Rattle.plans.specs.declared.left_deep.Plan.{Plan}
 use Rattle.plans.specs.LeftDeep.{IsPlan}
 use Rattle.csv_tables.specs.declared.types.Database.{Database}
@@ -39,7 +40,7 @@ module _ (query : Query) (db : Database) (plan : Plan) (shape : IsPlan (length q
   pub some_entry : IsDatabaseOf query db → 0 < length plan.order
   some_entry database = omega (arith, database.some, shape.order.all)
 
-  pub few_levels : IsDatabaseOf query db → length plan.levels ≤ 12
+  pub few_levels : IsDatabaseOf query db → length plan.levels ≤ most_entries
   few_levels database = omega (arith, database.few, shape.levels)
 
   pub entries_have_scans : All (λ entry. entry < length plan.scans) plan.order
@@ -49,14 +50,14 @@ module _ (query : Query) (db : Database) (plan : Plan) (shape : IsPlan (length q
       omega (arith, named, shape.scans)
 
   pub small_scans : ((entry : ℕ) → entry < length query.from → get_or plan.scans entry 0 ≤ row_counts (tables_of db) entry)
-      → HaveFewRows (tables_of db) (length query.from) → All (λ rows. rows ≤ 4000000) plan.scans
-  small_scans within_tables few = all_at_most 4000000 plan.scans
+      → HaveFewRows (tables_of db) (length query.from) → All (λ rows. rows ≤ most_rows) plan.scans
+  small_scans within_tables few = all_at_most most_rows plan.scans
       (λ entry low.
       let within : entry < length query.from = omega (arith, low, shape.scans) in
       omega (arith, within_tables entry within, few entry within))
 
-  pub small_levels : ((k : ℕ) → k < length query.from → get_or plan.levels k 0 ≤ 20000000) → All (λ rows. rows ≤ 20000000) plan.levels
-  small_levels within_budget = all_at_most 20000000 plan.levels (λ k low. within_budget k (omega (arith, low, shape.levels)))
+  pub small_levels : ((k : ℕ) → k < length query.from → get_or plan.levels k 0 ≤ most_budget) → All (λ rows. rows ≤ most_budget) plan.levels
+  small_levels within_budget = all_at_most most_budget plan.levels (λ k low. within_budget k (omega (arith, low, shape.levels)))
 
 -- ---- a plan of a query
 
@@ -83,8 +84,8 @@ module _ (query : Query) (db : Database) (plan : Plan) (is : IsPlanOf query (tab
       scans_fit levels_fit has
 
   -- the levels themselves are no larger
-  pub few_in_levels : All (λ rows. rows ≤ 20000000) (level_sizes query db plan.order)
-  few_in_levels = all_at_most 20000000 (level_sizes query db plan.order)
+  pub few_in_levels : All (λ rows. rows ≤ most_budget) (level_sizes query db plan.order)
+  few_in_levels = all_at_most most_budget (level_sizes query db plan.order)
       (λ k low.
       let reached : k < length plan.order = omega (arith, low, level_count query db plan.order) in
       let within : k < length query.from = omega (arith, reached, is.for_each_entry.order.all) in

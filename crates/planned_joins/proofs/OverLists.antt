@@ -7,6 +7,7 @@ use Rattle.std.proofs.lemmas.Bool.{cases_lt}
 use Rattle.std.proofs.lemmas.List.{get_or-drop, get_or-map, length-drop, length-map}
 use Rattle.std.proofs.lemmas.List.Elements.{All-from_recursion, Contains-get_or}
 use Rattle.std.proofs.lemmas.List.FromFn.{get_or-map-range_with_len, length-map-range_with_len}
+use Rattle.limits.specs.Profile.{most_budget}
 use Rattle.plans.specs.declared.left_deep.Plan.{Plan}
 use Rattle.csv_tables.specs.declared.types.Database.{Database}
 use Rattle.link_index.specs.Forest.{Level, rows_at, spare_at}
@@ -25,7 +26,6 @@ use Rattle.hash_join.specs.Rooms.{no_chains, HasChains, HasKeys, HasLevels}
 use Rattle.hash_join.proofs.PlanRooms.{zip_at, zip_long}
 use Rattle.reduced_scans.specs.Families.{list_at}
 use Rattle.reduced_scans.specs.Lists.{lists_of}
-use Rattle.reduced_scans.proofs.OfQuery.{list_is}
 use Rattle.reduced_scans.proofs.QueryScans.{scan_at}
 use Rattle.reduced_bounds.specs.Bounds.{rows_listed, scan_bounds_over}
 use Rattle.reduced_bounds.specs.Plans.{AreOfScans, IsPlanOver, list_levels}
@@ -33,8 +33,13 @@ use Rattle.planned_joins.specs.PlansOver.{IsReadyOver, level_sizes_over}
 use Rattle.planned_joins.proofs.Enough.{zip_each}
 
 -- the lists as the join reads them
+list_read : (lists : List (Rows ℕ)) (entry : ℕ) → list_at (lists_of lists) entry ≡ list_of lists entry
+list_read [] entry = refl
+list_read (list ∷ lists) zero = refl
+list_read (list ∷ lists) (suc entry) = list_read lists entry
+
 pub lists_read : (lists : List (Rows ℕ)) → list_at (lists_of lists) ≡ list_of lists
-lists_read lists = fun_ext (list_is lists)
+lists_read lists = fun_ext (list_read lists)
 
 -- ---- lists of buffers
 
@@ -127,7 +132,7 @@ module _ (query : Query) (db : Database) (lists : List (List ℕ)) where
     pub has_keys : (keys : Rows ℕ) → IsRoomFor (greatest (scan_bounds_over query lists)) keys → HasKeys (list_at lists) order keys
     has_keys keys room k low = omega (arith, size_of k low, at_most_greatest (scan_bounds_over query lists) (get_or order k 0), room.room)
 
-    pub has_levels : (levels : List Level) → AllZip IsRoomForLevel (levels_of order) levels → ((k : ℕ) → k < length order → size_at order k ≤ 20000000)
+    pub has_levels : (levels : List Level) → AllZip IsRoomForLevel (levels_of order) levels → ((k : ℕ) → k < length order → size_at order k ≤ most_budget)
         → HasLevels query db (list_at lists) order levels 0
     has_levels levels all small =
         let many : length levels ≡ length order = sym (zip_long IsRoomForLevel (levels_of order) levels all) ∙ level_count order in
@@ -145,7 +150,7 @@ module _ (query : Query) (db : Database) (lists : List (List ℕ)) where
         }
 
   -- no level of a plan has more rows than can be counted
-  pub few_in_level : (plan : Plan) → IsPlanOver query (tables_of db) lists plan → (k : ℕ) → k < length plan.order → size_at plan.order k ≤ 20000000
+  pub few_in_level : (plan : Plan) → IsPlanOver query (tables_of db) lists plan → (k : ℕ) → k < length plan.order → size_at plan.order k ≤ most_budget
   few_in_level plan is k low =
       let within : k < length query.from = omega (arith, low, is.for_each_entry.order.all) in
       omega (arith, is.levels k within, is.within_budget k within)

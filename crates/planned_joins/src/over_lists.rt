@@ -20,8 +20,8 @@ use row_buf::RowBuf;
 use std::alloc::Global;
 
 /// Takes all memory of a run over lists of rows, one list for each FROM entry: buffers with room for each list and each level by the
-/// plan's bounds, in rows. How many bytes a row takes is said at `reserve`. The query, its database and the lists are what the buffers
-/// are ready for; no step looks at them.
+/// plan's bounds, in rows. How many bytes a row takes is said at `reserve`. The buffers for lists stay empty, since the lists are joined
+/// where they stand. The query, its database and the lists are what the buffers are ready for; no step looks at them.
 pub fn reserve_over(
     alloc: Global,
     query: &Query,

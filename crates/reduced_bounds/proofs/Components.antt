@@ -6,7 +6,7 @@ use Rattle.std.proofs.lemmas.Bool.{cases_eq, eq-eqb, eqb-true, ne_eqb}
 use Rattle.berge_tree.specs.declared.edges.Edge.{Edge}
 use Rattle.level_bounds.proofs.Lists.{all_from}
 use Rattle.reduced_scans.proofs.Members.{in_cases, not_in_none}
-use Rattle.reduced_bounds.specs.Connected.{AreConnected, IsClosedAlong}
+use Rattle.join_graph.specs.Kept.{AreConnected}
 
 -- the number of one side becomes that of the other
 abbrev pub merged : ℕ → ℕ → ℕ → ℕ
@@ -57,7 +57,7 @@ pub connected_same : (es : List Edge) (a b : ℕ) → AreConnected es a b → co
 connected_same es a b connected =
     let in_component : ℕ → Bool = λ x. eqb (component es x) (component es a) in
     eqb-true (component es b) (component es a)
-    (sym (connected in_component (all_from (IsClosedAlong in_component) es (λ e there. ap (λ (n : ℕ). eqb n (component es a)) (closed_at es e there))))
+    (sym (connected in_component (all_from (λ e. in_component e.left.entry ≡ in_component e.right.entry) es (λ e there. ap (λ (n : ℕ). eqb n (component es a)) (closed_at es e there))))
     ∙ eq-eqb (component es a) (component es a) refl)
 
 pub same_connects : (es : List Edge) (a b : ℕ) → component es a ≡ component es b → AreConnected es a b

@@ -1,20 +1,48 @@
 -- Where equalities close no cycle, a row of a family with all partners goes on to a choice for all connected entries.
 use Rattle.std.proofs.Common.{◌≡◌, ℕ, Bool, true, eqb, List, [], ◌∷◌, refl, ap, sym, ◌∙◌, subst, inl, inr}
 use Rattle.std.specs.Prelude.{◌⊎◌, if◌then◌else◌}
-use Rattle.std.specs.List.{Contains}
+use Rattle.std.specs.List.{AllByRecursion, Contains}
 use Rattle.std.proofs.lemmas.Bool.{cases_eq, eq-eqb, ne_eqb}
 use Rattle.berge_tree.specs.declared.edges.Edge.{Edge}
+use Rattle.berge_tree.specs.Equalities.{AreApart, ClosesNoCycle, ClosesNoCycleAfter}
+use Rattle.join_graph.specs.Kept.{AreConnected}
 use Rattle.reduced_scans.specs.Families.{HasPartner, HavePartners, list_at}
 use Rattle.reduced_scans.proofs.Members.{behind, in_cases, in_front, not_in_none}
-use Rattle.reduced_bounds.specs.Connected.{CloseNoCycle}
 use Rattle.reduced_bounds.proofs.Components.{closed_at, component, merged_cases, same_connects}
+
+-- ---- equalities looked at in their order
+
+-- those before, when these have come too
+abbrev pub come : List Edge → List Edge → List Edge
+come earlier [] = earlier
+come earlier (e ∷ es) = come (e ∷ earlier) es
+
+come_before : (earlier es : List Edge) (e : Edge) → Contains earlier e → Contains (come earlier es) e
+come_before earlier [] e has = has
+come_before earlier (f ∷ es) e has = come_before (f ∷ earlier) es e (behind e f earlier has)
+
+pub come_too : (earlier es : List Edge) (e : Edge) → Contains es e → Contains (come earlier es) e
+come_too earlier [] e has = absurd (not_in_none e has)
+come_too earlier (f ∷ es) e has = elim (in_cases e f es has) [
+  | inl here ↦ come_before (f ∷ earlier) es e (in_front e f earlier here)
+  | inr there ↦ come_too (f ∷ earlier) es e there
+]
+
+all_come : (P : Edge → Type 0) (earlier es : List Edge) → AllByRecursion P (come earlier es) → AllByRecursion P earlier × AllByRecursion P es
+all_come P earlier [] all = (all, tt)
+all_come P earlier (e ∷ es) all = (let parts : AllByRecursion P (e ∷ earlier) × AllByRecursion P es = all_come P (e ∷ earlier) es all in (parts.0.1, (parts.0.0, parts.1)))
+
+pub still_connected : (es : List Edge) (a b : ℕ) → AreConnected es a b → AreConnected (come [] es) a b
+still_connected es a b connected side all = connected side (all_come (λ e. side e.left.entry ≡ side e.right.entry) [] es all).1
 
 module _ (equal : Edge → ℕ → ℕ → Bool) (family : List (List ℕ)) where
   -- each row has its partners on both sides
-  abbrev pub HaveAll : List Edge → Type 0
-  HaveAll es = (e : Edge) → Contains es e
-      → HavePartners (equal e) (list_at family e.left.entry) (list_at family e.right.entry)
+  abbrev pub Meet : Edge → Type 0
+  Meet e = HavePartners (equal e) (list_at family e.left.entry) (list_at family e.right.entry)
       × HavePartners (λ right left. equal e left right) (list_at family e.right.entry) (list_at family e.left.entry)
+
+  abbrev pub HaveAll : List Edge → Type 0
+  HaveAll es = (e : Edge) → Contains es e → Meet e
 
   abbrev Holds : (ℕ → ℕ) → Edge → Type 0
   Holds row_of e = equal e (row_of e.left.entry) (row_of e.right.entry) ≡ true
@@ -84,11 +112,11 @@ module _ (equal : Edge → ℕ → ℕ → Bool) (family : List (List ℕ)) wher
     }
 
   -- one more equality, where each listed row extends along the others
-  one_more : (e : Edge) (es : List Edge) → CloseNoCycle (e ∷ es) → HaveAll (e ∷ es) → ((entry row : ℕ) → Contains (list_at family entry) row → Extends es entry row)
+  one_more : (e : Edge) (es : List Edge) → AreApart es e.left.entry e.right.entry → Meet e → ((entry row : ℕ) → Contains (list_at family entry) row → Extends es entry row)
       → (entry row : ℕ) → Contains (list_at family entry) row → Extends (e ∷ es) entry row
   one_more e es none have rest entry row listed = elim (cases_eq (component es entry) (component es e.left.entry)) [
     | inl at_left ↦ (let partner : HasPartner (equal e) (list_at family e.right.entry) (f.row_of e.left.entry) =
-        (have e (in_front e e es refl)).0 (f.row_of e.left.entry) (f.listed e.left.entry (sym at_left)) in
+        have.0 (f.row_of e.left.entry) (f.listed e.left.entry (sym at_left)) in
         let g : Extends es e.right.entry partner.0 = rest e.right.entry partner.0 partner.1 in
         glued e es entry row e.left.entry e.right.entry partner.0 f g at_left apart (from_left at_left)
         (ap (λ (n : ℕ). equal e n (both e es entry row e.left.entry e.right.entry partner.0 f g at_left apart e.right.entry))
@@ -97,7 +125,7 @@ module _ (equal : Edge → ℕ → ℕ → Bool) (family : List (List ℕ)) wher
         ∙ partner.2))
     | inr not_left ↦ elim (cases_eq (component es entry) (component es e.right.entry)) [
       | inl at_right ↦ (let partner : HasPartner (λ right left. equal e left right) (list_at family e.left.entry) (f.row_of e.right.entry) =
-          (have e (in_front e e es refl)).1 (f.row_of e.right.entry) (f.listed e.right.entry (sym at_right)) in
+          have.1 (f.row_of e.right.entry) (f.listed e.right.entry (sym at_right)) in
           let g : Extends es e.left.entry partner.0 = rest e.left.entry partner.0 partner.1 in
           let apart_too : component es e.right.entry ≡ component es e.left.entry → ⊥ = λ same. apart (sym same) in
           glued e es entry row e.right.entry e.left.entry partner.0 f g at_right apart_too (from_right at_right)
@@ -110,7 +138,7 @@ module _ (equal : Edge → ℕ → ℕ → Bool) (family : List (List ℕ)) wher
   ]
     where
       apart : component es e.left.entry ≡ component es e.right.entry → ⊥
-      apart same = none.0 (same_connects es e.left.entry e.right.entry same)
+      apart same = none.across (same_connects es e.left.entry e.right.entry same none.side none.together)
 
       f : Extends es entry row
       f = rest entry row listed
@@ -135,11 +163,19 @@ module _ (equal : Edge → ℕ → ℕ → Bool) (family : List (List ℕ)) wher
         ]
       ]
 
-  pub extended : (es : List Edge) → CloseNoCycle es → HaveAll es → (entry row : ℕ) → Contains (list_at family entry) row → Extends es entry row
-  extended [] none have entry row listed = record {
+  extended_from : (earlier es : List Edge) → ClosesNoCycleAfter earlier es → HaveAll es → ((entry row : ℕ) → Contains (list_at family entry) row → Extends earlier entry row)
+      → (entry row : ℕ) → Contains (list_at family entry) row → Extends (come earlier es) entry row
+  extended_from earlier [] none have rest = rest
+  extended_from earlier (e ∷ es) none have rest =
+      extended_from (e ∷ earlier) es none.1 (λ k has. have k (behind k e es has)) (one_more e earlier none.0 (have e (in_front e e es refl)) rest)
+
+  alone : (entry row : ℕ) → Contains (list_at family entry) row → Extends [] entry row
+  alone entry row listed = record {
     row_of = λ x. row;
     its_own = refl;
     listed = λ other same. subst (λ (k : ℕ). Contains (list_at family k) row) (sym same) listed;
     holds = λ e has same. absurd (not_in_none e has);
   }
-  extended (e ∷ es) none have entry row listed = one_more e es none have (extended es none.1 (λ k has. have k (behind k e es has))) entry row listed
+
+  pub extended : (es : List Edge) → ClosesNoCycle es → HaveAll es → (entry row : ℕ) → Contains (list_at family entry) row → Extends (come [] es) entry row
+  extended es none have = extended_from [] es none have alone

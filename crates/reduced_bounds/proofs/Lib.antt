@@ -7,3 +7,4 @@ pub mod Components
 pub mod Extending
 pub mod TakingPart
 pub mod SmallReductions
+pub mod SmallAnswers

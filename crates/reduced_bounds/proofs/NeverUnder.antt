@@ -1,6 +1,7 @@
 -- No level over lists of scanned rows has more rows than the bound of its set says.
-use Rattle.std.proofs.Common.{◌≡◌, ◌⊎◌, inl, inr, ℕ, ◌-◌, ◌<◌, ◌≤◌, ◌^◌, List, min, length, get_or, refl, arith}
+use Rattle.std.proofs.Common.{◌≡◌, ◌⊎◌, inl, inr, ℕ, ◌<◌, ◌≤◌, ◌^◌, List, min, length, get_or, refl, arith}
 use Rattle.std.proofs.lemmas.Bool.{cases_lt}
+use Rattle.limits.specs.Profile.{top_bound}
 use Rattle.entry_sets.specs.Sets.{entries_of_set}
 use Rattle.query_types.specs.declared.types.Query.{Query}
 use Rattle.join_graph.specs.Conjuncts.{equalities_of}
@@ -19,8 +20,8 @@ use Rattle.reduced_bounds.proofs.ListBounds.{set_dominates, set_has_lists}
 use Rattle.reduced_bounds.proofs.ListedLevels.{level_within}
 
 -- a bound through 128 bits
-capped : (rows bound told : ℕ) → rows ≤ bound → told ≡ min bound (2 ^ 128 - 1) → (rows ≤ told) ⊎ (told ≡ 2 ^ 128 - 1)
-capped rows bound told fits is = elim (cases_lt bound (2 ^ 128 - 1)) [
+capped : (rows bound told : ℕ) → rows ≤ bound → told ≡ min bound (top_bound) → (rows ≤ told) ⊎ (told ≡ top_bound)
+capped rows bound told fits is = elim (cases_lt bound (top_bound)) [
   | inl below ↦ inl (omega arith)
   | inr above ↦ inr (omega arith)
 ]
@@ -28,7 +29,7 @@ capped rows bound told fits is = elim (cases_lt bound (2 ^ 128 - 1)) [
 pub level_never_under : (query : Query) (tables : Tables) (lists : List (List ℕ)) (accuracy subset : ℕ) (order : List ℕ) → AreOfScans query tables lists
     → subset < 2 ^ length query.from → IsOrderOfSet (entries_of_set subset) order
     → (length (level_over (conjuncts_of query tables) (list_at lists) order) ≤ get_or (set_bounds_over query tables lists accuracy) subset 0)
-    ⊎ (get_or (set_bounds_over query tables lists accuracy) subset 0 ≡ 2 ^ 128 - 1)
+    ⊎ (get_or (set_bounds_over query tables lists accuracy) subset 0 ≡ top_bound)
 level_never_under query tables lists accuracy subset order are fits o =
     let keys = have_keys tables in
     capped (length (level_over (conjuncts_of query tables) (list_at lists) order))

@@ -4,6 +4,7 @@ use Rattle.std.specs.Prelude.{◌≢◌}
 use Rattle.std.specs.List.{filter, range_with_len}
 use Rattle.std.proofs.lemmas.List.{take_all}
 use Rattle.std.proofs.lemmas.List.FromFn.{get_or-map-range_with_len, length-map-range_with_len, length-range_with_len}
+use Rattle.limits.specs.Profile.{most_budget, most_entries}
 use Rattle.entry_sets.specs.Sets.{set_of}
 use Rattle.plans.specs.declared.left_deep.Plan.{Plan}
 use Rattle.plans.specs.LeftDeep.{IsPlan}
@@ -76,7 +77,7 @@ module _ (query : Query) (tables : Tables) (lists : List (List ℕ)) (accuracy b
     level_is : (k : ℕ) → k < length query.from → get_or plan.levels k 0 ≡ get_or bounds (set_of (take (k + 1) plan.order)) 0
     level_is k low = ap (λ (s : List ℕ). get_or s k 0) promised.levels ∙ level_at bounds plan.order k (omega (arith, is_best.is_order.all))
 
-    module _ (are : AreOfScans query tables lists) (few : length query.from ≤ 12) (small : budget ≤ 20000000) where
+    module _ (are : AreOfScans query tables lists) (few : length query.from ≤ most_entries) (small : budget ≤ most_budget) where
       level_fits : (k : ℕ) → k < length query.from → length (list_levels query tables lists plan.order (k + 1)) ≤ get_or plan.levels k 0
       level_fits k low =
           elim (level_never_under query tables lists accuracy (set_of (take (k + 1) plan.order)) (take (k + 1) plan.order) are

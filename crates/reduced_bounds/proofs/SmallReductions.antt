@@ -35,14 +35,14 @@ use Rattle.reduced_bounds.specs.Plans.{planned_over, planned_reduced}
 
 -- ---- from equalities, scans and bounds to what is computed of them
 
-reduced_from : (query : Query) (tables : Tables) (es : List Edge) (scans : List (List ℕ)) → equalities_of query ≡ es → scans_of query tables ≡ scans
+pub reduced_from : (query : Query) (tables : Tables) (es : List Edge) (scans : List (List ℕ)) → equalities_of query ≡ es → scans_of query tables ≡ scans
     → reduced_of query tables ≡ after_rounds es (are_equal_at tables) (rows_in_all scans + 1) scans
 unfolding reduced_of
 reduced_from query tables es scans are_es are_scans =
     ap (λ (s : List Edge). after_rounds s (are_equal_at tables) (rows_in_all (scans_of query tables) + 1) (scans_of query tables)) are_es
     ∙ ap (λ (s : List (List ℕ)). after_rounds es (are_equal_at tables) (rows_in_all s + 1) s) are_scans
 
-planned_from : (query : Query) (tables : Tables) (lists : List (List ℕ)) (accuracy budget : ℕ) (sets scans : List ℕ) → reduced_of query tables ≡ lists
+pub planned_from : (query : Query) (tables : Tables) (lists : List (List ℕ)) (accuracy budget : ℕ) (sets scans : List ℕ) → reduced_of query tables ≡ lists
     → set_bounds_over query tables lists accuracy ≡ sets → scan_bounds_over query lists ≡ scans → planned_reduced query tables accuracy budget ≡ plan_answer sets scans budget
 unfolding planned_over
 planned_from query tables lists accuracy budget sets scans are_lists are_sets are_scans =

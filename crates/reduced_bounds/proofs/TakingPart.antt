@@ -4,11 +4,13 @@ use Rattle.std.specs.Prelude.{◌⊎◌}
 use Rattle.std.specs.List.{Contains, list_all, range_with_len}
 use Rattle.std.proofs.lemmas.Bool.{and_from, cases_lt, eqb-true, false≢true, or_cases}
 use Rattle.berge_tree.specs.declared.edges.Edge.{Edge}
+use Rattle.berge_tree.specs.Equalities.{ClosesNoCycle}
 use Rattle.entry_sets.specs.Naming.{are_within}
 use Rattle.query_types.specs.declared.types.Cond.{Cond}
 use Rattle.query_types.specs.declared.types.Query.{Query}
 use Rattle.query_types.specs.Named.{entries_named}
 use Rattle.join_graph.specs.Conjuncts.{equalities_of, equality_of}
+use Rattle.join_graph.specs.Kept.{AreConnected}
 use Rattle.sql_meaning.specs.Answers.{conjunct_of, conjuncts_of}
 use Rattle.sql_meaning.specs.Conditions.{cond_holds}
 use Rattle.sql_meaning.specs.Levels.{AsksOnly, Conjunct, names_just}
@@ -23,9 +25,9 @@ use Rattle.reduced_scans.specs.Families.{list_at}
 use Rattle.reduced_scans.specs.Scans.{AreConsistentScans, scans_of}
 use Rattle.reduced_scans.proofs.Members.{in_cases, not_in_none}
 use Rattle.reduced_scans.proofs.QueryScans.{scan_at, scan_past}
-use Rattle.reduced_bounds.specs.Connected.{AreConnected, CloseNoCycle, JoinsByEqualitiesAlone, TakesPart}
+use Rattle.reduced_bounds.specs.TakingPart.{JoinsByEqualitiesAlone, TakesPart}
 use Rattle.reduced_bounds.proofs.Components.{closed_at, component, connected_same}
-use Rattle.reduced_bounds.proofs.Extending.{Extends, extended}
+use Rattle.reduced_bounds.proofs.Extending.{Extends, come, come_too, extended, still_connected}
 
 implied : (a b : Bool) → (not a || b) ≡ true → a ≡ true → b ≡ true
 implied true b h e = h
@@ -45,15 +47,18 @@ module _ (query : Query) (tables : Tables) (family : List (List ℕ)) (are : Are
         | inr past ↦ absurd (not_in_none row (subst (λ (l : List ℕ). Contains l row) (scan_past query tables entry past) there))
       ]
 
-  module _ (entry row : ℕ) (e : Extends (are_equal_at tables) family (equalities_of query) entry row) where
+  module _ (entry row : ℕ) (e : Extends (are_equal_at tables) family (come [] (equalities_of query)) entry row) where
     abbrev es : List Edge
-    es = equalities_of query
+    es = come [] (equalities_of query)
+
+    connected_to : (other : ℕ) → AreConnected (equalities_of query) entry other → component es other ≡ component es entry
+    connected_to other connected = connected_same es entry other (still_connected (equalities_of query) entry other connected)
 
     -- an equality that names a connected entry
     equality_met : (cond : Cond) (other : ℕ) (edge : Edge) → Contains query.conjuncts cond → equality_of cond ≡ Some edge → Contains (entries_named cond) other
         → component es other ≡ component es entry → cond_holds tables e.row_of cond ≡ true
     equality_met cond other edge there is named same =
-        let in_edges : Contains es edge = in_filter_map equality_of query.conjuncts cond edge there is in
+        let in_edges : Contains es edge = come_too [] (equalities_of query) edge (in_filter_map equality_of query.conjuncts cond edge there is) in
         let sides : Contains (edge.left.entry ∷ edge.right.entry ∷ []) other = subst (λ (l : List ℕ). Contains l other) (equality_names cond edge is) named in
         equality_holds tables e.row_of cond edge is
         ∙ e.holds edge in_edges (elim (in_cases other edge.left.entry (edge.right.entry ∷ []) sides) [
@@ -88,9 +93,9 @@ module _ (query : Query) (tables : Tables) (family : List (List ℕ)) (are : Are
     takes_part alone = record {
       row_of = e.row_of;
       its_own = e.its_own;
-      listed = λ other connected. e.listed other (connected_same es entry other connected);
+      listed = λ other connected. e.listed other (connected_to other connected);
       holds = λ cond other there named connected.
-          let same : component es other ≡ component es entry = connected_same es entry other connected in
+          let same : component es other ≡ component es entry = connected_to other connected in
           elim (alone cond there) [
             | inl joins ↦ equality_met cond other joins.0 there joins.1 named same
             | inr single ↦ own_met cond other there (subst (λ (k : ℕ). are_within (entries_named cond) (k ∷ []) ≡ true) (one_named cond other single.0 single.1 named) single.1) named same
@@ -104,7 +109,7 @@ module _ (query : Query) (tables : Tables) (family : List (List ℕ)) (are : Are
               | inr never ↦ absurd (false≢true never)
             ]
 
-  pub each_takes_part : CloseNoCycle (equalities_of query) → JoinsByEqualitiesAlone query → (entry row : ℕ) → Contains (list_at family entry) row → TakesPart query tables family entry row
+  pub each_takes_part : ClosesNoCycle (equalities_of query) → JoinsByEqualitiesAlone query → (entry row : ℕ) → Contains (list_at family entry) row → TakesPart query tables family entry row
   each_takes_part none alone entry row listed =
       takes_part entry row
       (extended (are_equal_at tables) family (equalities_of query) none (λ edge there. (are.from_left edge there, are.from_right edge there)) entry row listed) alone

@@ -59,6 +59,11 @@ with_another = record { from = pair.from ++ source 2 85 ∷ []; conjuncts = pair
 abbrev pub empty_first : Tables
 empty_first entry = map numbers (if entry == 0 then [] else (1 ∷ []) ∷ (2 ∷ []) ∷ [])
 
+-- R(A, C) and S(A, B) of (1, 1) and (2, 2), and T(B, C) of (1, 2) and (2, 1), which are joined in a triangle
+abbrev pub crossed_tables : Tables
+crossed_tables entry =
+    map numbers (if entry == 2 then (1 ∷ 2 ∷ []) ∷ (2 ∷ 1 ∷ []) ∷ [] else (1 ∷ 1 ∷ []) ∷ (2 ∷ 2 ∷ []) ∷ [])
+
 -- SELECT R.X FROM R, S WHERE R.X = S.X AND 1 = 2
 abbrev pub never_true : Query
 never_true = record {

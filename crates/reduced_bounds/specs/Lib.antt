@@ -1,4 +1,4 @@
 pub mod Bounds
 pub mod Plans
-pub mod Connected
+pub mod TakingPart
 pub mod Examples

@@ -8,6 +8,7 @@ ghost use Rattle.order_search.specs.Orders.{IsBest};
 ghost use Rattle.order_search.specs.declared.refusal.PlanError.TheVariants as error;
 ghost use Rattle.query_types.specs.declared.types.Query.{Query};
 ghost use Rattle.query_types.specs.Named.{NamesItsEntries};
+ghost use Rattle.berge_tree.specs.Equalities.{ClosesNoCycle};
 ghost use Rattle.join_graph.specs.Conjuncts.{equalities_of};
 ghost use Rattle.sql_meaning.specs.Answers.{answer, conjuncts_of, entries_of, selected};
 ghost use Rattle.sql_meaning.specs.Levels.{level, row_in};
@@ -18,8 +19,8 @@ ghost use Rattle.reduced_scans.specs.Families.{list_at};
 ghost use Rattle.reduced_scans.specs.Rounds.{reduced_of};
 ghost use Rattle.reduced_scans.specs.Scans.{AreConsistentScans, scans_of};
 ghost use Rattle.reduced_bounds.specs.Bounds.{rows_listed, set_bounds_over};
-ghost use Rattle.reduced_bounds.specs.Connected.{CloseNoCycle, JoinsByEqualitiesAlone, TakesPart};
 ghost use Rattle.reduced_bounds.specs.Plans.{AreOfScans, IsPlanOver, list_levels, planned_over, planned_reduced};
+ghost use Rattle.reduced_bounds.specs.TakingPart.{JoinsByEqualitiesAlone, TakesPart};
 
 /// No level over lists of scanned rows has more rows than the bound of its set, in whatever order its entries stand. The top bound
 /// stands for all from there on.
@@ -78,8 +79,8 @@ pub fn levels_over_whole_scans()
 /// So it is of any lists in which each row finds its partners.
 pub fn reduced_rows_take_part()
     ensures consistent { (query : Query) (tables : Tables) (lists : List (List ℕ)) (entry row : ℕ) → AreConsistentScans query tables lists
-        → CloseNoCycle (equalities_of query) → JoinsByEqualitiesAlone query → Contains (list_at lists entry) row
+        → ClosesNoCycle (equalities_of query) → JoinsByEqualitiesAlone query → Contains (list_at lists entry) row
         → TakesPart query tables lists entry row }
-    ensures reduced { (query : Query) (tables : Tables) (entry row : ℕ) → CloseNoCycle (equalities_of query) → JoinsByEqualitiesAlone query
+    ensures reduced { (query : Query) (tables : Tables) (entry row : ℕ) → ClosesNoCycle (equalities_of query) → JoinsByEqualitiesAlone query
         → Contains (list_at (reduced_of query tables) entry) row → TakesPart query tables (reduced_of query tables) entry row }
 {}

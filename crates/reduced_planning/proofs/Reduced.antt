@@ -6,6 +6,7 @@ use Rattle.std.proofs.lemmas.Bool.{cases_lt}
 use Rattle.std.proofs.lemmas.List.{get_or_past}
 use Rattle.std.proofs.lemmas.List.Elements.{Contains-get_or}
 use Rattle.std.proofs.lemmas.List.FromFn.{length-map-range_with_len}
+use Rattle.limits.specs.Profile.{most_budget, most_rows}
 use Rattle.plans.specs.declared.left_deep.Plan.{Plan}
 use Rattle.order_search.specs.declared.refusal.PlanError.{PlanError}
 use Rattle.order_search.specs.declared.refusal.PlanError.TheVariants as error
@@ -23,7 +24,7 @@ use Rattle.reduced_scans.specs.Families.{IsAscending, IsFamily, list_at}
 use Rattle.reduced_scans.specs.Lists.{AreListsOf, lists_of}
 use Rattle.reduced_scans.specs.Scans.{scans_of}
 use Rattle.reduced_scans.proofs.Members.{all_has, behind, in_front}
-use Rattle.reduced_scans.proofs.OfQuery.{length-lists_of, list_is}
+use Rattle.reduced_scans.proofs.OfQuery.{length-lists_of}
 use Rattle.reduced_scans.proofs.QueryScans.{count_of, scan_at, scanned_low}
 use Rattle.reduced_bounds.specs.Bounds.{entry_bounds_over, rows_listed, scan_bounds_over, set_bounds_over}
 use Rattle.reduced_bounds.specs.Plans.{planned_over}
@@ -39,7 +40,7 @@ sets_counted query tables lists accuracy bounds is =
     ap (λ (s : List ℕ). length s) is ∙ length-map-range_with_len (bound_told (entry_bounds_over tables lists accuracy) (equalities_of query)) 0 (2 ^ length query.from)
 
 -- a choice over these bounds is the planned one
-pub chosen_is_planned : (query : Query) (tables : Tables) (lists : List (List ℕ)) (accuracy budget : ℕ) (bounds rows : List ℕ) (answer : Result Plan PlanError) → budget ≤ 20000000
+pub chosen_is_planned : (query : Query) (tables : Tables) (lists : List (List ℕ)) (accuracy budget : ℕ) (bounds rows : List ℕ) (answer : Result Plan PlanError) → budget ≤ most_budget
     → bounds ≡ set_bounds_over query tables lists accuracy → rows ≡ scan_bounds_over query lists → IsPromised bounds rows budget answer
     → (answer ≡ Err error.NoMemory) ⊎ (answer ≡ planned_over query tables lists accuracy budget)
 unfolding planned_over
@@ -67,23 +68,23 @@ module _ (query : Query) (db : Database) (lists : List (Rows ℕ)) (of : IsDatab
   row_low entry row low has =
       scanned_low query (tables_of db) entry row (subst (λ (l : List ℕ). Contains l row) (scan_at query (tables_of db) entry low) (family.scanned entry row has))
 
-  pub lists_of_db : ((entry : ℕ) → entry < length query.from → row_counts (tables_of db) entry ≤ 4000000) → AreListsOf db lists
+  pub lists_of_db : ((entry : ℕ) → entry < length query.from → row_counts (tables_of db) entry ≤ most_rows) → AreListsOf db lists
   lists_of_db few = record {
     tables = of.tables;
     count = as_many ∙ sym of.entries;
     few = omega (arith, as_many, of.few);
-    rows = λ entry low. subst (All (λ row. row < (cells_of db entry).rows)) (list_is lists entry)
-        (λ i d within. omega (
+    rows = λ entry low i d within.
+        omega (
           arith,
           rows_are db entry,
           row_low entry (get_or (list_at (lists_of lists) entry) i d) (omega (arith, low, as_many)) (Contains-get_or (list_at (lists_of lists) entry) i d within),
-        ));
-    sizes = λ entry. subst (λ (l : List ℕ). length l ≤ 4000000) (list_is lists entry) (elim (cases_lt entry (length query.from)) [
+        );
+    sizes = λ entry. elim (cases_lt entry (length query.from)) [
       | inl low ↦ omega (
         arith,
         short (list_at (lists_of lists) entry) 0 (row_counts (tables_of db) entry) (omega arith) (family.ascending entry) (λ row has. (omega arith, row_low entry row low has)),
         few entry low,
       )
       | inr past ↦ omega (arith, ap (λ (l : List ℕ). length l) (get_or_past (lists_of lists) entry [] (omega (arith, length-lists_of lists, as_many))))
-    ]);
+    ];
   }

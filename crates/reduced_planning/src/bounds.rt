@@ -1,5 +1,6 @@
 //! The bounds of all sets of entries over lists of rows.
 ghost use Rattle.std.specs.Prelude.{◌≡◌, ◌<◌, ◌≤◌, IfOk};
+ghost use Rattle.limits.specs.Profile.{most_accuracy};
 ghost use Rattle.level_bounds.specs.Keys.{HaveDifferentCharacters};
 ghost use Rattle.sql_meaning.specs.Databases.{IsDatabaseOf};
 ghost use Rattle.sql_meaning.specs.Tables.{tables_of};
@@ -26,7 +27,7 @@ pub(crate) fn bounds_over(
     requires database { IsDatabaseOf query.now db.now }
     requires texts { HaveDifferentCharacters db.now.pool }
     requires lists { AreListsOf db.now lists.now }
-    requires accuracy { (0 < accuracy) × (accuracy ≤ 64) }
+    requires accuracy { (0 < accuracy) × (accuracy ≤ most_accuracy) }
     ensures { IfOk result (λ bounds. bounds ≡ set_bounds_over query.now (tables_of db.now) (lists_of lists.now) accuracy) }
 {
     let parts = split(alloc, query)?;

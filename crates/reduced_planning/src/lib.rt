@@ -21,3 +21,4 @@ mod rows;
 mod scans;
 
 pub use plan::{ReducedPlan, plan_over, plan_reduced};
+pub use scans::scan_entries;

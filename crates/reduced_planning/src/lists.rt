@@ -1,7 +1,7 @@
 //! The lists of joined columns over the rows of their entries.
 ghost use Rattle.std.specs.Prelude.{◌≡◌, ◌<◌, ◌≤◌, ℕ, All, IfOk, IsSome, MatchBool, None, OnOk, length, map};
 ghost use Rattle.std.specs.List.{sum};
-ghost use Rattle.limits.specs.Profile.{most_rows};
+ghost use Rattle.limits.specs.Profile.{most_accuracy, most_rows};
 ghost use Rattle.cond_stats.specs.Lists.{compressed_degrees};
 ghost use Rattle.bound_fold.specs.Lists.{list_of as list_known};
 ghost use Rattle.bound_fold.specs.Sets.{HaveLists};
@@ -39,7 +39,7 @@ fn column_list(
     requires column { IsColumnOf db.now (column_of place) }
     requires rows { All (λ row. row < (cells_of db.now place.entry).rows) rows.now }
     requires few { length rows.now ≤ most_rows }
-    requires accuracy { (0 < accuracy) × (accuracy ≤ 64) }
+    requires accuracy { (0 < accuracy) × (accuracy ≤ most_accuracy) }
     ensures exact { IfOk result (λ list. list
         ≡ compressed_degrees accuracy (numbered (map (value_in_row (tables_of db.now) place.entry place.column) rows.now))) }
     ensures sum { IfOk result (λ list. sum list ≡ length rows.now) }
@@ -67,7 +67,7 @@ fn add_new(
     requires lists { AreListsOf db.now lists.now }
     requires texts { HaveDifferentCharacters db.now.pool }
     requires column { IsColumnOf db.now (column_of place) }
-    requires accuracy { (0 < accuracy) × (accuracy ≤ 64) }
+    requires accuracy { (0 < accuracy) × (accuracy ≤ most_accuracy) }
     requires known { IsKnown db.now (lists_of lists.now) accuracy known.old }
     requires new { list_known known.old place.entry place.column ≡ None }
     ensures known { OnOk result (IsKnown db.now (lists_of lists.now) accuracy known.new) }
@@ -100,7 +100,7 @@ fn add_list(
     requires lists { AreListsOf db.now lists.now }
     requires texts { HaveDifferentCharacters db.now.pool }
     requires column { IsColumnOf db.now (column_of place) }
-    requires accuracy { (0 < accuracy) × (accuracy ≤ 64) }
+    requires accuracy { (0 < accuracy) × (accuracy ≤ most_accuracy) }
     requires known { IsKnown db.now (lists_of lists.now) accuracy known.old }
     ensures known { OnOk result (IsKnown db.now (lists_of lists.now) accuracy known.new) }
     ensures there { OnOk result (IsSome (list_known known.new place.entry place.column)) }
@@ -124,7 +124,7 @@ pub(crate) fn entry_lists(
     requires lists { AreListsOf db.now lists.now }
     requires texts { HaveDifferentCharacters db.now.pool }
     requires columns { All (JoinsColumns db.now) equalities.now }
-    requires accuracy { (0 < accuracy) × (accuracy ≤ 64) }
+    requires accuracy { (0 < accuracy) × (accuracy ≤ most_accuracy) }
     ensures known { IfOk result (IsKnown db.now (lists_of lists.now) accuracy) }
     ensures joined { IfOk result (λ known. All (HaveLists known) equalities.now) }
 {

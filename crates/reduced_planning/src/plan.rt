@@ -1,11 +1,11 @@
 //! The plan of a query over its reduced scans.
 ghost use Rattle.std.specs.Prelude.{◌≡◌, ◌⊎◌, ◌<◌, ◌≤◌, ℕ, Err, IfErr, IfOk, Ok, length};
-ghost use Rattle.limits.specs.Profile.{most_budget, most_conjuncts, most_rows};
+ghost use Rattle.limits.specs.Profile.{most_accuracy, most_budget, most_conjuncts, most_rows};
 ghost use Rattle.order_search.specs.declared.refusal.PlanError.TheVariants as error;
 ghost use Rattle.level_bounds.specs.Keys.{HaveDifferentCharacters};
 ghost use Rattle.sql_meaning.specs.Databases.{IsDatabaseOf};
 ghost use Rattle.sql_meaning.specs.Tables.{row_counts, tables_of};
-ghost use Rattle.reduced_scans.specs.Lists.{AreListsOf, lists_of};
+ghost use Rattle.reduced_scans.specs.Lists.{AreListsOf, HaveNoSpare, lists_of};
 ghost use Rattle.reduced_scans.specs.Rounds.{reduced_of};
 ghost use Rattle.reduced_bounds.specs.Plans.{planned_over, planned_reduced};
 
@@ -45,7 +45,7 @@ pub fn plan_over(
     requires database { IsDatabaseOf query.now db.now }
     requires texts { HaveDifferentCharacters db.now.pool }
     requires lists { AreListsOf db.now lists.now }
-    requires accuracy { (0 < accuracy) × (accuracy ≤ 64) }
+    requires accuracy { (0 < accuracy) × (accuracy ≤ most_accuracy) }
     requires budget { budget ≤ most_budget }
     ensures { (result ≡ Err error.NoMemory)
         ⊎ (result ≡ planned_over query.now (tables_of db.now) (lists_of lists.now) accuracy budget) }
@@ -62,6 +62,7 @@ fn reduced_lists(alloc: Global, query: &Query, db: &Database) -> Result<Vec<RowB
     requires few_rows { (entry : ℕ) → entry < length query.now.from → row_counts (tables_of db.now) entry ≤ most_rows }
     ensures reduced { IfOk result (λ lists. lists_of lists.items ≡ reduced_of query.now (tables_of db.now)) }
     ensures lists { IfOk result (λ lists. AreListsOf db.now lists.items) }
+    ensures no_spare { IfOk result (λ lists. HaveNoSpare lists.items) }
 {
     let scans = scan_entries(alloc, query, db)?;
     reduce_scans(alloc, query, db, &scans)
@@ -72,7 +73,8 @@ fn reduced_lists(alloc: Global, query: &Query, db: &Database) -> Result<Vec<RowB
 ///
 /// Of each scan those rows are left that find, for each equality of one of their columns with a column of another entry, a row with
 /// the same value that is left there (semi-join reduction, Bernstein and Goodman 1981). Time and memory are linear in the rows times
-/// their equalities, but for the sorting of columns and the search among orders; all memory but the answer's is let go.
+/// their equalities, but for the sorting of columns and the search among orders; all memory but the answer's is let go, and its lists
+/// have room for their own rows alone.
 ///
 /// The accuracy of compressed lists is from 1 to 64 (SafeBound, SIGMOD 2023), the budget at most 20,000,000 rows.
 ///
@@ -88,10 +90,11 @@ pub fn plan_reduced(
     requires few { length query.now.conjuncts ≤ most_conjuncts }
     requires few_rows { (entry : ℕ) → entry < length query.now.from → row_counts (tables_of db.now) entry ≤ most_rows }
     requires texts { HaveDifferentCharacters db.now.pool }
-    requires accuracy { (0 < accuracy) × (accuracy ≤ 64) }
+    requires accuracy { (0 < accuracy) × (accuracy ≤ most_accuracy) }
     requires budget { budget ≤ most_budget }
     ensures plan { IfOk result (λ made. planned_reduced query.now (tables_of db.now) accuracy budget ≡ Ok made.plan) }
     ensures lists { IfOk result (λ made. lists_of made.lists.items ≡ reduced_of query.now (tables_of db.now)) }
+    ensures no_spare { IfOk result (λ made. HaveNoSpare made.lists.items) }
     ensures refused { IfErr result (λ e. (e ≡ error.NoMemory)
         ⊎ (planned_reduced query.now (tables_of db.now) accuracy budget ≡ Err e)) }
 {

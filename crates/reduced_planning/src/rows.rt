@@ -1,9 +1,10 @@
 //! How many rows each list has.
 ghost use Rattle.std.specs.Prelude.{◌≡◌, ◌≤◌, ℕ, IfOk, None, length, map};
 ghost use Rattle.std.specs.List.{range_with_len};
-ghost use Rattle.limits.specs.Profile.{most_rows};
+ghost use Rattle.limits.specs.Profile.{most_entries, most_rows};
 ghost use Rattle.bound_fold.specs.Lists.{list_of as list_known};
-ghost use Rattle.reduced_scans.specs.Lists.{list_of, lists_of};
+ghost use Rattle.reduced_scans.specs.Families.{list_at};
+ghost use Rattle.reduced_scans.specs.Lists.{lists_of};
 ghost use Rattle.reduced_bounds.specs.Bounds.{rows_listed};
 ghost use Rattle.reduced_planning.specs.Known.{HasRows};
 
@@ -25,8 +26,8 @@ pub(crate) fn row_numbers(alloc: Global, lists: &[RowBuf<u32>]) -> Result<Seq<u6
 
 /// The same as row bounds of entries, with no list of a column.
 pub(crate) fn row_bounds(alloc: Global, lists: &[RowBuf<u32>]) -> Result<EntryLists, NoMemory>
-    requires few { length lists.now ≤ 12 }
-    requires sizes { (entry : ℕ) → length (list_of lists.now entry) ≤ most_rows }
+    requires few { length lists.now ≤ most_entries }
+    requires sizes { (entry : ℕ) → length (list_at (lists_of lists.now) entry) ≤ most_rows }
     ensures rows { IfOk result (HasRows (lists_of lists.now) (length lists.now)) }
     ensures no_lists { IfOk result (λ known. (entry column : ℕ) → list_known known entry column ≡ None) }
 {

@@ -4,7 +4,8 @@ ghost use Rattle.limits.specs.Profile.{most_conjuncts};
 ghost use Rattle.sql_meaning.specs.Databases.{AreTables, IsDatabaseOf};
 ghost use Rattle.sql_meaning.specs.Tables.{row_counts, tables_of};
 ghost use Rattle.join_steps.specs.Lists.{scan_of};
-ghost use Rattle.reduced_scans.specs.Lists.{list_of};
+ghost use Rattle.reduced_scans.specs.Families.{list_at};
+ghost use Rattle.reduced_scans.specs.Lists.{lists_of};
 
 use base_io::NoMemory;
 use csv_tables::Database;
@@ -44,8 +45,8 @@ fn scan_entry(
     Ok(list)
 }
 
-/// The scan of each FROM entry.
-pub(crate) fn scan_entries(
+/// The scan of each FROM entry, as `reduce_scans` takes them.
+pub fn scan_entries(
     alloc: Global,
     query: &Query,
     db: &Database,
@@ -54,7 +55,7 @@ pub(crate) fn scan_entries(
     requires few { length query.now.conjuncts ≤ most_conjuncts }
     ensures count { IfOk result (λ scans. length scans.items ≡ length query.now.from) }
     ensures scans { IfOk result (λ scans. (entry : ℕ) → entry < length query.now.from
-        → list_of scans.items entry ≡ scan_of query.now db.now entry) }
+        → list_at (lists_of scans.items) entry ≡ scan_of query.now db.now entry) }
 {
     let mut row = RowBuf::new(alloc);
     row.reserve(query.from.len() as u64)?;

@@ -1,5 +1,5 @@
 -- The rows of marked items.
-use Rattle.std.proofs.Common.{◌≡◌, ℕ, zero, suc, ◌+◌, ◌<◌, ◌≤◌, Bool, true, false, List, [], ◌∷◌, ◌++◌, length, get_or, take, refl, ap, sym, ◌∙◌, subst, arith, inl, inr}
+use Rattle.std.proofs.Common.{◌≡◌, ℕ, zero, suc, ◌+◌, ◌<◌, ◌≤◌, Bool, true, false, List, [], ◌∷◌, ◌++◌, length, length-append, get_or, take, refl, ap, sym, ◌∙◌, subst, arith, inl, inr}
 use Rattle.std.specs.Prelude.{◌⊎◌, if◌then◌else◌}
 use Rattle.std.specs.List.{Contains}
 use Rattle.std.proofs.lemmas.Bool.{cases_Bool}
@@ -148,6 +148,39 @@ rows-take kept first (row ∷ rows) (suc k) h =
       | inl yes_here ↦ rw yes_here (ap (λ (l : List ℕ). row ∷ l) later)
       | inr no_here ↦ rw no_here later
     ]
+
+-- ---- how many rows are marked
+
+abbrev count_to : (ℕ → Bool) → ℕ → List ℕ → ℕ → ℕ
+count_to kept first rows k = length (marked_rows kept first (take k rows))
+
+counted : (kept : ℕ → Bool) (first : ℕ) (rows : List ℕ) (k : ℕ) (b : Bool) → k < length rows → kept (first + k) ≡ b
+    → count_to kept first rows (k + 1) ≡ count_to kept first rows k + length (if b then get_or rows k 0 ∷ [] else [])
+counted kept first rows k b h is =
+    ap (λ (l : List ℕ). length l) (rows-take kept first rows k h ∙ ap (λ j. marked_rows kept first (take k rows) ++ (if j then get_or rows k 0 ∷ [] else [])) is)
+    ∙ length-append (marked_rows kept first (take k rows)) (if b then get_or rows k 0 ∷ [] else [])
+
+pub counted_more : (kept : ℕ → Bool) (first : ℕ) (rows : List ℕ) (k : ℕ) → k < length rows → kept (first + k) ≡ true
+    → length (marked_rows kept first (take (k + 1) rows)) ≡ length (marked_rows kept first (take k rows)) + 1
+counted_more kept first rows k h is = counted kept first rows k true h is
+
+pub counted_same : (kept : ℕ → Bool) (first : ℕ) (rows : List ℕ) (k : ℕ) → k < length rows → kept (first + k) ≡ false
+    → length (marked_rows kept first (take (k + 1) rows)) ≡ length (marked_rows kept first (take k rows))
+counted_same kept first rows k h is = omega (arith, counted kept first rows k false h is)
+
+fewer : (kept : ℕ → Bool) (first : ℕ) (rows : List ℕ) (k : ℕ) → count_to kept first rows k ≤ length (marked_rows kept first rows)
+fewer kept first [] zero = omega arith
+fewer kept first [] (suc k) = omega arith
+fewer kept first (row ∷ rows) zero = omega arith
+fewer kept first (row ∷ rows) (suc k) = elim (cases_Bool (kept first)) [
+  | inl yes_here ↦ rw yes_here (omega (arith, fewer kept (first + 1) rows k))
+  | inr no_here ↦ rw no_here (fewer kept (first + 1) rows k)
+]
+
+-- a marked row is one of those that are still to come
+pub one_to_come : (kept : ℕ → Bool) (first : ℕ) (rows : List ℕ) (k : ℕ) → k < length rows → kept (first + k) ≡ true
+    → length (marked_rows kept first (take k rows)) + 1 ≤ length (marked_rows kept first rows)
+one_to_come kept first rows k h is = omega (arith, counted_more kept first rows k h is, fewer kept first rows (k + 1))
 
 pub first_none : (scans : List (List ℕ)) → first_item scans 0 ≡ 0
 first_none [] = refl

@@ -4,7 +4,7 @@ use Rattle.std.specs.Prelude.{◌==◌, All, IsUtf8, slice_get, slice_index}
 use Rattle.std.specs.List.{Contains, cons_option, filter, filter_map, list_all, range_with_len}
 use Rattle.std.specs.Ordering.{is_eq}
 use Rattle.std.proofs.lemmas.Bool.{cases_Bool, cases_lt}
-use Rattle.std.proofs.lemmas.List.{get_or-map, get_or_default, get_or_past, length-map, map-append}
+use Rattle.std.proofs.lemmas.List.{get_or-map, get_or_past, length-map, map-append}
 use Rattle.std.proofs.lemmas.List.Elements.{All-contains, Contains-get_or}
 use Rattle.std.proofs.lemmas.List.FromFn.{length-range_with_len}
 use Rattle.berge_tree.specs.declared.edges.Edge.{Edge}
@@ -35,7 +35,8 @@ use Rattle.level_bounds.specs.Scans.{query_scan}
 use Rattle.level_bounds.proofs.EqualityFacts.{IsJoin, is_join}
 use Rattle.level_bounds.proofs.Lists.{from_filter_map}
 use Rattle.reduced_scans.specs.Families.{list_at}
-use Rattle.reduced_scans.specs.Lists.{AreListsOf, JoinsColumns, column_of, list_of, lists_of, no_rows}
+use Rattle.limits.specs.Profile.{most_rows}
+use Rattle.reduced_scans.specs.Lists.{AreListsOf, JoinsColumns, column_of, lists_of}
 use Rattle.reduced_scans.specs.Scans.{scans_of}
 use Rattle.reduced_scans.specs.Wiring.{TellsByKey, first_item, marked_family, marked_rows}
 use Rattle.reduced_scans.proofs.MarkedRows.{family-take}
@@ -45,17 +46,27 @@ use Rattle.reduced_scans.proofs.QueryScans.{count_of, scan_at, scan_past, scanne
 
 -- ---- lists in buffers
 
-pub list_is : (lists : List (Rows ℕ)) (entry : ℕ) → list_at (lists_of lists) entry ≡ list_of lists entry
-list_is [] entry = refl
-list_is (list ∷ lists) zero = refl
-list_is (list ∷ lists) (suc entry) = list_is lists entry
-
 pub length-lists_of : (lists : List (Rows ℕ)) → length (lists_of lists) ≡ length lists
 length-lists_of lists = length-map lists (λ (list : Rows ℕ). list.items)
 
 -- a list as the code reads it
 pub read_list : (lists : List (Rows ℕ)) (entry : ℕ) (list : Rows ℕ) → entry < length lists → list ≡ get_or lists entry list → list.items ≡ list_at (lists_of lists) entry
-read_list lists entry list low is = ap (λ (l : Rows ℕ). l.items) (is ∙ get_or_default lists entry list no_rows low) ∙ sym (list_is lists entry)
+read_list [] entry list low is = absurd (omega arith)
+read_list (first ∷ lists) zero list low is = ap (λ (l : Rows ℕ). l.items) is
+read_list (first ∷ lists) (suc entry) list low is = read_list lists entry list (omega arith) is
+
+pub read_short : (lists : List (Rows ℕ)) → ((entry : ℕ) → length (list_at (lists_of lists) entry) ≤ most_rows) → (entry : ℕ) (list : Rows ℕ) → entry < length lists
+    → list ≡ get_or lists entry list → length list.items ≤ most_rows
+read_short lists short entry list low is = omega (arith, ap (λ (l : List ℕ). length l) (read_list lists entry list low is), short entry)
+
+-- where each list is the one of its entry, so it is with one list more
+pub lists_more : (lists : List (Rows ℕ)) (list : Rows ℕ) (wanted : ℕ → List ℕ) (entry : ℕ) → ((k : ℕ) → k < length lists → list_at (lists_of lists) k ≡ wanted k)
+    → list.items ≡ wanted (length lists) → entry < length lists + 1 → list_at (lists_of (lists ++ list ∷ [])) entry ≡ wanted entry
+lists_more [] list wanted zero are is low = is
+lists_more [] list wanted (suc entry) are is low = absurd (omega (arith, low))
+lists_more (first ∷ lists) list wanted zero are is low = are 0 (omega arith)
+lists_more (first ∷ lists) list wanted (suc entry) are is low =
+    lists_more lists list (λ k. wanted (suc k)) entry (λ k within. are (suc k) (omega (arith, within))) is (omega (arith, low))
 
 -- the marked rows of one more list
 pub marked_more : (kept : ℕ → Bool) (scans lists new : List (Rows ℕ)) (entry first : ℕ) (rows : Rows ℕ) (list : List ℕ) → entry < length scans → new ≡ lists ++ rows ∷ []
@@ -98,15 +109,15 @@ few_equalities query = length-equalities query.conjuncts
 -- ---- the scans
 
 module _ (query : Query) (db : Database) (scans : List (Rows ℕ)) (of : IsDatabaseOf query db) (count : length scans ≡ length query.from)
-    (are : (entry : ℕ) → entry < length query.from → list_of scans entry ≡ scan_of query db entry) where
+    (are : (entry : ℕ) → entry < length query.from → list_at (lists_of scans) entry ≡ scan_of query db entry) where
   pub lists_are : lists_of scans ≡ scans_of query (tables_of db)
   lists_are = same_lists (lists_of scans) (scans_of query (tables_of db)) (length-lists_of scans ∙ count ∙ sym (count_of query (tables_of db)))
       (λ entry. elim (cases_lt entry (length query.from)) [
-        | inl low ↦ list_is scans entry ∙ are entry low ∙ sym (scan_at query (tables_of db) entry low)
+        | inl low ↦ are entry low ∙ sym (scan_at query (tables_of db) entry low)
         | inr past ↦ get_or_past (lists_of scans) entry [] (omega (arith, length-lists_of scans)) ∙ sym (scan_past query (tables_of db) entry past)
       ])
 
-  pub are_lists : ((entry : ℕ) → entry < length query.from → row_counts (tables_of db) entry ≤ 4000000) → AreListsOf db scans
+  pub are_lists : ((entry : ℕ) → entry < length query.from → row_counts (tables_of db) entry ≤ most_rows) → AreListsOf db scans
   are_lists few = record {
     tables = of.tables;
     count = count ∙ sym of.entries;
@@ -115,7 +126,7 @@ module _ (query : Query) (db : Database) (scans : List (Rows ℕ)) (of : IsDatab
         (λ i d within. omega (arith, scanned_low query (tables_of db) entry (get_or (scan_of query db entry) i d) (Contains-get_or (scan_of query db entry) i d within), rows_are db entry));
     sizes = λ entry. elim (cases_lt entry (length query.from)) [
       | inl low ↦ omega (arith, ap (λ (l : List ℕ). length l) (are entry low), length-scan query db entry, few entry low)
-      | inr past ↦ omega (arith, ap (λ (l : Rows ℕ). length l.items) (get_or_past scans entry no_rows (omega arith)))
+      | inr past ↦ omega (arith, ap (λ (l : List ℕ). length l) (get_or_past (lists_of scans) entry [] (omega (arith, length-lists_of scans))))
     ];
   }
 

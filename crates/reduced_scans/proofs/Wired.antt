@@ -14,7 +14,8 @@ use Rattle.counted_sets.specs.Sets.{IsUseOf}
 use Rattle.row_buf.specs.Rows.{Rows}
 use Rattle.level_bounds.specs.Keys.{Keys}
 use Rattle.reduced_scans.specs.Families.{list_at}
-use Rattle.reduced_scans.specs.Lists.{list_of, lists_of}
+use Rattle.limits.specs.Profile.{most_rows}
+use Rattle.reduced_scans.specs.Lists.{lists_of}
 use Rattle.reduced_scans.specs.Wiring.{AddsUses, AreWired, BeginsWith, Classes, IsNumbered, IsUseFor, StandsFor, first_item, key_on, near, opposite, row_at, slot_of}
 use Rattle.reduced_scans.proofs.MarkedRows.{items_within}
 use Rattle.reduced_scans.proofs.Members.{in_front, not_in_none}
@@ -212,7 +213,7 @@ uses_are_of scans equalities key classes count uses wired i d low =
       needs = omega (arith, is.is_use.needs, slot_low is.is_use.class (length classes) (opposite is.on) class);
     }
 
-pub few_items : (scans : List (Rows ℕ)) → ((k : ℕ) → length (list_of scans k) ≤ 4000000) → (entry : ℕ) → first_item (lists_of scans) entry ≤ 4000000 * entry
+pub few_items : (scans : List (Rows ℕ)) → ((k : ℕ) → length (list_at (lists_of scans) k) ≤ most_rows) → (entry : ℕ) → first_item (lists_of scans) entry ≤ most_rows * entry
 few_items [] few entry = omega arith
 few_items (scan ∷ scans) few zero = omega arith
 few_items (scan ∷ scans) few (suc entry) = omega (arith, few 0, few_items scans (λ k. few (suc k)) entry)

@@ -1,7 +1,6 @@
 -- Lists of rows in buffers, one for each FROM entry of a database.
-use Rattle.std.specs.Prelude.{◌≡◌, ℕ, ◌<◌, ◌≤◌, All, List, [], length, map, slice_index_or}
-use Rattle.std.specs.List.{Contains}
-use Rattle.limits.specs.Profile.{most_rows}
+use Rattle.std.specs.Prelude.{◌≡◌, ℕ, ◌<◌, ◌≤◌, All, List, length, map}
+use Rattle.limits.specs.Profile.{most_entries, most_rows}
 use Rattle.berge_tree.specs.declared.edges.Edge.{Edge}
 use Rattle.berge_tree.specs.declared.edges.Place.{Place}
 use Rattle.csv_tables.specs.declared.types.Database.{Database}
@@ -11,24 +10,21 @@ use Rattle.sql_meaning.specs.Databases.{AreTables, IsColumnOf}
 use Rattle.sql_meaning.specs.Tables.{cells_of}
 use Rattle.reduced_scans.specs.Families.{list_at}
 
-abbrev pub no_rows : Rows ℕ
-no_rows = record { items = []; spare = 0 }
-
 -- the rows of each list
 abbrev pub lists_of : List (Rows ℕ) → List (List ℕ)
 lists_of lists = map (λ list. list.items) lists
 
--- the list of an entry
-abbrev pub list_of : List (Rows ℕ) → ℕ → List ℕ
-list_of lists entry = (slice_index_or lists entry no_rows).items
+-- none of them has room for a further row
+abbrev pub HaveNoSpare : List (Rows ℕ) → Type 0
+HaveNoSpare lists = All (λ list. list.spare ≡ 0) lists
 
--- a list for each entry, of at most 4,000,000 rows of its table
+-- a list for each entry, of rows of its table, and no more than a table may have
 pub record AreListsOf (db : Database) (lists : List (Rows ℕ)) : Type 0 where
   pub tables : AreTables db
   pub count : length lists ≡ length db.slots
-  pub few : length lists ≤ 12
-  pub rows : (entry : ℕ) → entry < length lists → All (λ row. row < (cells_of db entry).rows) (list_of lists entry)
-  pub sizes : (entry : ℕ) → length (list_of lists entry) ≤ most_rows
+  pub few : length lists ≤ most_entries
+  pub rows : (entry : ℕ) → entry < length lists → All (λ row. row < (cells_of db entry).rows) (list_at (lists_of lists) entry)
+  pub sizes : (entry : ℕ) → length (list_at (lists_of lists) entry) ≤ most_rows
 
 -- a column of an equality, as queries name it
 abbrev pub column_of : Place → ColumnRef

@@ -24,7 +24,7 @@ pub fn one_reduction()
 /// stands in a family of which each row has its partners. So all reduced scans are this one family.
 pub fn reduced_scans_are_by_rounds()
     ensures are { (query : Query) (tables : Tables) → AreReducedScans query tables (reduced_of query tables) }
-    ensures all { (query : Query) (tables : Tables) (reduced : List (List ℕ)) → AreReducedScans query tables reduced
+    ensures no_others { (query : Query) (tables : Tables) (reduced : List (List ℕ)) → AreReducedScans query tables reduced
         → reduced ≡ reduced_of query tables }
 {}
 

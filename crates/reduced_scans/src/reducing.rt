@@ -1,14 +1,14 @@
 //! The reduction of a query's scans.
-ghost use Rattle.std.specs.Prelude.{◌≡◌, ◌+◌, ◌<◌, ◌≤◌, ℕ, All, Bool, IfOk, length};
-ghost use Rattle.limits.specs.Profile.{most_conjuncts, most_rows};
+ghost use Rattle.std.specs.Prelude.{◌≡◌, ◌+◌, ◌*◌, ◌<◌, ◌≤◌, ℕ, All, Bool, IfOk, length};
+ghost use Rattle.limits.specs.Profile.{most_conjuncts, most_entries, most_rows};
 ghost use Rattle.berge_tree.specs.declared.edges.Edge.{Edge};
 ghost use Rattle.counted_sets.specs.Sets.{marked};
 ghost use Rattle.sql_meaning.specs.Databases.{IsDatabaseOf};
 ghost use Rattle.sql_meaning.specs.Tables.{row_counts, tables_of};
 ghost use Rattle.join_steps.specs.Lists.{scan_of};
 ghost use Rattle.level_bounds.specs.Keys.{cell_at};
-ghost use Rattle.reduced_scans.specs.Families.{AreAscending, IsReduced};
-ghost use Rattle.reduced_scans.specs.Lists.{list_of, lists_of, AreListsOf, JoinsColumns};
+ghost use Rattle.reduced_scans.specs.Families.{list_at, AreAscending, IsReduced};
+ghost use Rattle.reduced_scans.specs.Lists.{lists_of, AreListsOf, HaveNoSpare, JoinsColumns};
 ghost use Rattle.reduced_scans.specs.Scans.{AreReducedScans};
 ghost use Rattle.reduced_scans.specs.Wiring.{first_item, marked_family, marked_rows, TellsByKey};
 
@@ -50,7 +50,23 @@ fn marks_of(
     Ok(marks)
 }
 
-// The rows of a list that are marked, from the mark of its first row on.
+// How many rows of a list are marked, from the mark of its first row on.
+fn marked_count(list: &[u32], marks: &RowBuf<bool>, first: u32) -> u64
+    requires marks { first + length list.now ≤ length marks.now.items }
+    requires few { length marks.now.items ≤ most_entries * most_rows }
+    ensures { result ≡ length (marked_rows (marked marks.now.items) first list.now) }
+{
+    let mut count = 0;
+    'rows: for at in 0..list.len() {
+        let stays = marks.get(first + at as u32);
+        if stays {
+            count += 1;
+        }
+    }
+    count
+}
+
+// The rows of a list that are marked, in a buffer with room for just these.
 fn marked_rows(
     alloc: Global,
     list: &[u32],
@@ -58,11 +74,12 @@ fn marked_rows(
     first: u32,
 ) -> Result<RowBuf<u32>, NoMemory>
     requires marks { first + length list.now ≤ length marks.now.items }
-    requires few { length marks.now.items ≤ 48000000 }
-    ensures { IfOk result (λ rows. rows.items ≡ marked_rows (marked marks.now.items) first list.now) }
+    requires few { length marks.now.items ≤ most_entries * most_rows }
+    ensures rows { IfOk result (λ rows. rows.items ≡ marked_rows (marked marks.now.items) first list.now) }
+    ensures no_spare { IfOk result (λ rows. rows.spare ≡ 0) }
 {
     let mut rows = RowBuf::new(alloc);
-    rows.reserve(list.len() as u64)?;
+    rows.reserve(marked_count(list, marks, first))?;
     'rows: for at in 0..list.len() {
         let stays = marks.get(first + at as u32);
         if stays {
@@ -78,11 +95,12 @@ fn marked_lists(
     scans: &[RowBuf<u32>],
     marks: &RowBuf<bool>,
 ) -> Result<Vec<RowBuf<u32>>, NoMemory>
-    requires few { length scans.now ≤ 12 }
-    requires sizes { (k : ℕ) → length (list_of scans.now k) ≤ most_rows }
+    requires few { length scans.now ≤ most_entries }
+    requires sizes { (k : ℕ) → length (list_at (lists_of scans.now) k) ≤ most_rows }
     requires marks { length marks.now.items ≡ first_item (lists_of scans.now) (length scans.now) }
-    requires few_marks { length marks.now.items ≤ 48000000 }
-    ensures { IfOk result (λ lists. lists_of lists.items ≡ marked_family (marked marks.now.items) 0 (lists_of scans.now)) }
+    requires few_marks { length marks.now.items ≤ most_entries * most_rows }
+    ensures lists { IfOk result (λ lists. lists_of lists.items ≡ marked_family (marked marks.now.items) 0 (lists_of scans.now)) }
+    ensures no_spare { IfOk result (λ lists. HaveNoSpare lists.items) }
 {
     let mut lists = Vec::new(alloc);
     'lists: for entry in 0..scans.len() {
@@ -96,8 +114,9 @@ fn marked_lists(
 /// The reduced scans of a query: of each entry's scan the most rows such that each finds, for each equality of one of the entry's
 /// columns with a column of another entry, a row with the same value among those of that entry; in file order.
 ///
-/// `scans` has the scan of each FROM entry. Values are numbered by one hash of each cell, so the time is linear in the rows times their
-/// equalities, and so is the memory; all of it but the answer is let go before the call returns.
+/// `scans` has the scan of each FROM entry. Values are numbered by one hash of each cell, so the time is on average linear in the rows
+/// times their equalities, and so is the memory; all of it but the answer is let go before the call returns, and each list of the answer
+/// has room for its own rows alone.
 pub fn reduce_scans(
     alloc: Global,
     query: &Query,
@@ -108,8 +127,9 @@ pub fn reduce_scans(
     requires few { length query.now.conjuncts ≤ most_conjuncts }
     requires sizes { (entry : ℕ) → entry < length query.now.from → row_counts (tables_of db.now) entry ≤ most_rows }
     requires count { length scans.now ≡ length query.now.from }
-    requires scans { (entry : ℕ) → entry < length query.now.from → list_of scans.now entry ≡ scan_of query.now db.now entry }
-    ensures { IfOk result (λ reduced. AreReducedScans query.now (tables_of db.now) (lists_of reduced.items)) }
+    requires scans { (entry : ℕ) → entry < length query.now.from → list_at (lists_of scans.now) entry ≡ scan_of query.now db.now entry }
+    ensures reduced { IfOk result (λ reduced. AreReducedScans query.now (tables_of db.now) (lists_of reduced.items)) }
+    ensures no_spare { IfOk result (λ reduced. HaveNoSpare reduced.items) }
 {
     texts_are_different(&db.pool);
     let parts = split(alloc, query)?;

@@ -1,13 +1,13 @@
 //! The uses of scanned rows: what each of them gives and needs for each equality at its entry.
 ghost use Rattle.std.specs.Prelude.{◌≡◌, ◌+◌, ◌*◌, ◌^◌, ◌<◌, ◌≤◌, ◌∷◌, ◌++◌, [], ℕ, All, List, OnOk, length};
-ghost use Rattle.limits.specs.Profile.{most_conjuncts, most_rows};
+ghost use Rattle.limits.specs.Profile.{most_conjuncts, most_entries, most_rows};
 ghost use Rattle.berge_tree.specs.declared.edges.Edge.{Edge};
 ghost use Rattle.counted_sets.specs.declared.uses.Use.{Use};
 ghost use Rattle.sql_meaning.specs.Databases.{IsColumnOf};
 ghost use Rattle.join_steps.specs.Columns.{column_cells};
 ghost use Rattle.level_bounds.specs.Keys.{cell_at};
 ghost use Rattle.reduced_scans.specs.Families.{list_at};
-ghost use Rattle.reduced_scans.specs.Lists.{column_of, list_of, lists_of, AreListsOf, JoinsColumns};
+ghost use Rattle.reduced_scans.specs.Lists.{column_of, lists_of, AreListsOf, JoinsColumns};
 ghost use Rattle.reduced_scans.specs.Wiring.{first_item, slot_of, AddsUses, AreWired, BeginsWith, IsNumbered, IsUseFor};
 
 use crate::classes::ClassSet;
@@ -80,8 +80,8 @@ fn add_side(
 /// The item of an entry's first row, where items are numbered list by list.
 pub(crate) fn first_item(scans: &[RowBuf<u32>], entry: usize) -> u32
     requires entry { entry ≤ length scans.now }
-    requires few { length scans.now ≤ 12 }
-    requires sizes { (k : ℕ) → length (list_of scans.now k) ≤ most_rows }
+    requires few { length scans.now ≤ most_entries }
+    requires sizes { (k : ℕ) → length (list_at (lists_of scans.now) k) ≤ most_rows }
     ensures first { result ≡ first_item (lists_of scans.now) entry }
     ensures few { result ≤ most_rows * entry }
 {
@@ -131,12 +131,12 @@ fn add_equality(
 ) -> Result<(), NoMemory>
     requires lists { AreListsOf db.now scans.now }
     requires columns { JoinsColumns db.now edge }
-    requires few { length classes.old + 8000000 < 2 ^ 31 }
+    requires few { length classes.old + 2 * most_rows < 2 ^ 31 }
     ensures wired { OnOk result ((equalities : List Edge) → IsNumbered equalities equality edge
         → AreWired (lists_of scans.now) equalities (cell_at db.now) classes.old equality uses.old.items
         → AreWired (lists_of scans.now) equalities (cell_at db.now) classes.new (equality + 1) uses.new.items) }
-    ensures classes { OnOk result (length classes.new ≤ length classes.old + 8000000) }
-    ensures uses { OnOk result (length uses.new.items ≤ length uses.old.items + 8000000) }
+    ensures classes { OnOk result (length classes.new ≤ length classes.old + 2 * most_rows) }
+    ensures uses { OnOk result (length uses.new.items ≤ length uses.old.items + 2 * most_rows) }
 {
     add_column(db, scans, edge.left, equality, true, classes, uses)?;
     add_column(db, scans, edge.right, equality, false, classes, uses)?;
@@ -158,8 +158,8 @@ pub(crate) fn wire(
     requires no_uses { uses.old.items ≡ [] }
     ensures wired { OnOk result (AreWired (lists_of scans.now) equalities.now (cell_at db.now) classes.new
         (length equalities.now) uses.new.items) }
-    ensures classes { OnOk result (length classes.new ≤ 8000000 * length equalities.now) }
-    ensures uses { OnOk result (length uses.new.items ≤ 8000000 * length equalities.now) }
+    ensures classes { OnOk result (length classes.new ≤ 2 * most_rows * length equalities.now) }
+    ensures uses { OnOk result (length uses.new.items ≤ 2 * most_rows * length equalities.now) }
 {
     'equalities: for number in 0..equalities.len() {
         add_equality(db, scans, equalities[number], number as u32, classes, uses)?;
@@ -170,7 +170,7 @@ pub(crate) fn wire(
 /// How many uses there will be.
 pub(crate) fn count_uses(scans: &[RowBuf<u32>], equalities: &[Edge]) -> u64
     requires entries { All (λ e. (e.left.entry < length scans.now) × (e.right.entry < length scans.now)) equalities.now }
-    requires sizes { (k : ℕ) → length (list_of scans.now k) ≤ most_rows }
+    requires sizes { (k : ℕ) → length (list_at (lists_of scans.now) k) ≤ most_rows }
     requires few { length equalities.now ≤ most_conjuncts }
 {
     let mut count = 0;

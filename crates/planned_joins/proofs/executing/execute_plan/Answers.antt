@@ -1,5 +1,6 @@
 use Rattle.std.proofs.Common.{◌≤◌, sym, subst}
 use Rattle.std.specs.Prelude.{All}
+use Rattle.limits.specs.Profile.{most_budget}
 use Rattle.join_steps.specs.Lists.{IsOrderOf}
 use Rattle.hash_join.specs.Levels.{level_sizes}
 use Rattle.planned_joins.specs.PlansOf.{IsReadyFor}
@@ -16,5 +17,5 @@ execute-requires-clause-rooms c =
 
 pub execute-requires-clause-small : goal.execute-requires-clause-small
 execute-requires-clause-small c =
-    subst (λ order. All (λ rows. rows ≤ 20000000) (level_sizes c.args.query.now c.args.db.now order)) (sym c.as_slice.ensures)
+    subst (λ order. All (λ rows. rows ≤ most_budget) (level_sizes c.args.query.now c.args.db.now order)) (sym c.as_slice.ensures)
     (few_in_levels c.args.query.now c.args.db.now c.args.plan.now c.requires.plan)

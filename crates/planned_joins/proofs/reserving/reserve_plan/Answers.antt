@@ -1,6 +1,7 @@
 use Rattle.std.proofs.Common.{ℕ, ◌<◌, ◌≤◌, List, length, ap, sym, subst, arith}
 use Rattle.std.specs.Prelude.{All}
 use Rattle.std.proofs.lemmas.Result.{IfOk-weaker}
+use Rattle.limits.specs.Profile.{most_budget, most_rows}
 use Rattle.reserve_plan.specs.Rooms.{rooms, HasRooms}
 use Rattle.planned_joins.specs.PlansOf.{IsReadyFor}
 use Rattle.planned_joins.proofs.Enough.{entries_have_scans, few_levels, ready, small_levels, small_scans, some_entry}
@@ -17,8 +18,8 @@ reserve-requires c =
       entries = subst (λ (order : List ℕ). All (λ entry. entry < length c.as_slice-2.result.now) order) (sym c.as_slice.ensures)
           (subst (λ (scans : List ℕ). All (λ entry. entry < length scans) plan.order) (sym c.as_slice-2.ensures) (entries_have_scans query db plan is.for_each_entry));
       few_levels = omega (arith, ap (λ (s : List ℕ). length s) c.as_slice-3.ensures, few_levels query db plan is.for_each_entry c.requires.database);
-      small_scans = subst (All (λ rows. rows ≤ 4000000)) (sym c.as_slice-2.ensures) (small_scans query db plan is.for_each_entry is.within_tables c.requires.few_rows);
-      small_levels = subst (All (λ rows. rows ≤ 20000000)) (sym c.as_slice-3.ensures) (small_levels query db plan is.for_each_entry is.within_budget);
+      small_scans = subst (All (λ rows. rows ≤ most_rows)) (sym c.as_slice-2.ensures) (small_scans query db plan is.for_each_entry is.within_tables c.requires.few_rows);
+      small_levels = subst (All (λ rows. rows ≤ most_budget)) (sym c.as_slice-3.ensures) (small_levels query db plan is.for_each_entry is.within_budget);
     }
 
 pub returns : goal.returns

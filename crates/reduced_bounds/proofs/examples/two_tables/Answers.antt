@@ -1,3 +1,4 @@
+use Rattle.reduced_bounds.proofs.SmallAnswers.{pair_answer}
 use Rattle.reduced_bounds.proofs.SmallReductions.{pair_plan, pair_reduced}
 use Rattle.reduced_bounds.proofs.examples.two_tables.Goals as goal
 
@@ -6,3 +7,6 @@ returns-clause-reduced c = pair_reduced
 
 pub returns-clause-plan : goal.returns-clause-plan
 returns-clause-plan c = pair_plan
+
+pub returns-clause-answer : goal.returns-clause-answer
+returns-clause-answer c = pair_answer

@@ -1,13 +1,32 @@
-use Rattle.std.proofs.Common.{◌≡◌, ◌<◌, ℕ, List, length, map, Some, ap, sym, ◌∙◌, arith, sum}
+use Rattle.std.proofs.Common.{◌≡◌, ◌<◌, ◌≤◌, ℕ, List, length, map, Some, ap, sym, subst, ◌∙◌, arith, sum}
+use Rattle.std.specs.Prelude.{All}
 use Rattle.cond_stats.specs.Lists.{compressed_degrees}
 use Rattle.filtered_lists.specs.Standing.{value_in_row}
-use Rattle.sql_meaning.specs.Tables.{tables_of}
+use Rattle.sql_meaning.specs.Tables.{cells_of, tables_of}
 use Rattle.table_stats.specs.Columns.{numbered}
 use Rattle.reduced_scans.specs.Families.{list_at}
 use Rattle.reduced_scans.specs.Lists.{lists_of}
-use Rattle.reduced_scans.proofs.OfQuery.{length-lists_of, read_list}
+use Rattle.reduced_scans.proofs.OfQuery.{length-lists_of, read_list, read_short}
 use Rattle.reduced_planning.proofs.Knowing.{is_some, kept_there, known_more}
 use Rattle.reduced_planning.proofs.lists.add_new.Goals as goal
+
+pub column_list-requires-clause-rows : goal.column_list-requires-clause-rows
+column_list-requires-clause-rows c =
+    let entry : ℕ = c.args.place.entry in
+    let low : entry < length c.args.lists.now = omega (arith, c.requires.column.entry, c.requires.lists.count) in
+    let rows_are : c.as_slice-rows.result.now ≡ list_at (lists_of c.args.lists.now) entry =
+    c.as_slice-rows.ensures ∙ read_list c.args.lists.now entry c.index-lists-place.result low c.index-lists-place.is in
+    subst (All (λ row. row < (cells_of c.args.db.now entry).rows)) (sym rows_are) (c.requires.lists.rows entry low)
+
+pub column_list-requires-clause-few : goal.column_list-requires-clause-few
+column_list-requires-clause-few c =
+    let entry : ℕ = c.args.place.entry in
+    let low : entry < length c.args.lists.now = omega (arith, c.requires.column.entry, c.requires.lists.count) in
+    omega (
+      arith,
+      ap (λ (l : List ℕ). length l) c.as_slice-rows.ensures,
+      read_short c.args.lists.now c.requires.lists.sizes entry c.index-lists-place.result low c.index-lists-place.is,
+    )
 
 pub add-requires-clause-total : goal.add-requires-clause-total
 add-requires-clause-total c =

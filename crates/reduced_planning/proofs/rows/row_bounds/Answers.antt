@@ -1,6 +1,6 @@
 use Rattle.std.proofs.Common.{◌<◌, ℕ, List, length, ap, ◌∙◌, arith}
 use Rattle.reduced_scans.specs.Lists.{lists_of}
-use Rattle.reduced_scans.proofs.OfQuery.{list_is, read_list}
+use Rattle.reduced_scans.proofs.OfQuery.{read_list, read_short}
 use Rattle.reduced_planning.proofs.Knowing.{rows_more, rows_none}
 use Rattle.reduced_planning.proofs.rows.row_bounds.Goals as goal
 
@@ -14,8 +14,7 @@ set_rows-requires c =
       small = omega (
         arith,
         c.len.ensures,
-        ap (λ (l : List ℕ). length l) (read_list c.args.lists.now c.lists.entry c.index-lists-entry.result low c.index-lists-entry.is ∙ list_is c.args.lists.now c.lists.entry),
-        c.requires.sizes c.lists.entry,
+        read_short c.args.lists.now c.requires.sizes c.lists.entry c.index-lists-entry.result low c.index-lists-entry.is,
       );
       no_list = λ column. c.lists.invariant.no_lists c.lists.entry column;
     }

@@ -9,6 +9,6 @@ use Rattle.reduced_scans.proofs.laws.reduced_scans_are_by_rounds.Goals as goal
 pub returns-clause-are : goal.returns-clause-are
 returns-clause-are c = reduced_scans_by_rounds
 
-pub returns-clause-all : goal.returns-clause-all
-returns-clause-all c query tables reduced are =
+pub returns-clause-no_others : goal.returns-clause-no_others
+returns-clause-no_others c query tables reduced are =
     one_reduced (scans_of query tables) (equalities_of query) (are_equal_at tables) reduced (reduced_of query tables) are (reduced_scans_by_rounds query tables)

@@ -1,7 +1,9 @@
-use Rattle.std.proofs.Common.{arith, ap, sym, ◌∙◌, ◌≡◌, ◌<◌, ℕ, List, length}
+use Rattle.std.proofs.Common.{arith, ap, sym, subst, ◌∙◌, ◌≡◌, ◌<◌, ℕ, List, [], ◌∷◌, length}
+use Rattle.std.proofs.lemmas.List.Elements.{All-append, All-from_recursion}
 use Rattle.counted_sets.specs.Sets.{marked}
 use Rattle.reduced_scans.specs.Families.{list_at}
-use Rattle.reduced_scans.specs.Lists.{lists_of}
+use Rattle.row_buf.specs.Rows.{Rows}
+use Rattle.reduced_scans.specs.Lists.{HaveNoSpare, lists_of}
 use Rattle.reduced_scans.specs.Wiring.{first_item}
 use Rattle.reduced_scans.proofs.MarkedRows.{items_within}
 use Rattle.reduced_scans.proofs.OfQuery.{length-lists_of, marked_more, read_list}
@@ -24,5 +26,12 @@ marked_rows-requires-clause-marks c =
 pub lists-preserved : goal.lists-preserved
 lists-preserved c =
     let low : c.lists.entry < length c.args.scans.now = omega arith in
-    marked_more (marked c.args.marks.now.items) c.args.scans.now c.lists.lists.items c.push.new.self.items c.lists.entry c.first_item-first.result c.in_ok-rows.rows c.as_slice.result.now low c.in_ok-push.ensures.items
-    c.first_item-first.ensures.first (c.as_slice.ensures ∙ read_list c.args.scans.now c.lists.entry c.index-scans-entry.result low c.index-scans-entry.is) c.in_ok-rows.ensures c.lists.invariant
+    let has_no_spare : Rows ℕ → Type 0 = λ list. list.spare ≡ 0 in
+    record {
+      lists =
+          marked_more (marked c.args.marks.now.items) c.args.scans.now c.lists.lists.items c.push.new.self.items c.lists.entry c.first_item-first.result c.in_ok-rows.rows c.as_slice.result.now low c.in_ok-push.ensures.items
+          c.first_item-first.ensures.first (c.as_slice.ensures ∙ read_list c.args.scans.now c.lists.entry c.index-scans-entry.result low c.index-scans-entry.is) c.in_ok-rows.ensures.rows c.lists.invariant.lists;
+      no_spare = subst HaveNoSpare (sym c.in_ok-push.ensures.items)
+          (All-append has_no_spare c.lists.lists.items (c.in_ok-rows.rows ∷ []) c.lists.invariant.no_spare
+          (All-from_recursion has_no_spare (c.in_ok-rows.rows ∷ []) (c.in_ok-rows.ensures.no_spare, tt)));
+    }

@@ -1,8 +1,11 @@
 use Rattle.std.proofs.Common.{◌≡◌, take}
 use Rattle.counted_sets.specs.Sets.{marked}
-use Rattle.reduced_scans.specs.Lists.{lists_of}
+use Rattle.reduced_scans.specs.Lists.{HaveNoSpare, lists_of}
 use Rattle.reduced_scans.specs.Wiring.{marked_family}
 use Rattle.reduced_scans.proofs.reducing.marked_lists.Given as goal
 
 abbrev pub invariant-lists : goal.invariant-lists
-invariant-lists l = lists_of l.lists.items ≡ marked_family (marked l.marks.items) 0 (take l.entry (lists_of l.scans))
+invariant-lists l = record {
+  lists : lists_of l.lists.items ≡ marked_family (marked l.marks.items) 0 (take l.entry (lists_of l.scans));
+  no_spare : HaveNoSpare l.lists.items;
+}

@@ -1,10 +1,22 @@
-use Rattle.std.proofs.Common.{arith, ap, refl, sym, ◌∙◌, ◌≡◌, ◌<◌, ◌+◌, ◌++◌, ℕ, true, false, List, [], ◌∷◌, append-nil, length, get_or, take}
+use Rattle.std.proofs.Common.{arith, ap, refl, sym, ◌∙◌, ◌≡◌, ◌<◌, ◌+◌, ◌++◌, ℕ, true, false, List, [], ◌∷◌, append-nil, length, length-append, get_or, take}
 use Rattle.std.specs.Prelude.{if◌then◌else◌}
 use Rattle.counted_sets.specs.Sets.{marked}
 use Rattle.reduced_scans.specs.Wiring.{marked_rows}
-use Rattle.reduced_scans.proofs.MarkedRows.{rows-take}
+use Rattle.reduced_scans.proofs.MarkedRows.{one_to_come, rows-take}
 use Rattle.reduced_scans.proofs.reducing.marked_rows.Goals.{then-stays, else-stays}
 use Rattle.reduced_scans.proofs.reducing.marked_rows.Goals as goal
+
+pub push-requires : goal.push-requires
+push-requires c =
+    let kept = marked c.args.marks.now.items in
+    let list = c.args.list.now in
+    let low : c.rows.at < length list = omega arith in
+    omega (
+      arith,
+      one_to_come kept c.args.first list c.rows.at low (c.get-stays.ensures false ∙ c.if-stays.true),
+      c.rows.invariant.room,
+      ap (λ (l : List ℕ). length l) c.rows.invariant.rows,
+    )
 
 pub rows-preserved : goal.rows-preserved
 rows-preserved c =
@@ -19,10 +31,10 @@ rows-preserved c =
       | then-stays w ↦ record {
         rows = rw (w.rows-is, w.push.ensures.items)
             (ap (λ (l : List ℕ). l ++ row ∷ []) c.rows.invariant.rows ∙ sym (step ∙ ap (λ b. before ++ (if b then row ∷ [] else [])) (c.get-stays.ensures false ∙ w.if-stays.true)));
-        spare = rw w.rows-is (omega (arith, w.push.ensures.spare, c.rows.invariant.spare));
+        room = rw w.rows-is (omega (arith, w.push.ensures.spare, ap (λ (l : List ℕ). length l) w.push.ensures.items, length-append c.rows.rows.items (row ∷ []), c.rows.invariant.room));
       }
       | else-stays w ↦ record {
         rows = rw w.rows-is (c.rows.invariant.rows ∙ sym (step ∙ ap (λ b. before ++ (if b then row ∷ [] else [])) (c.get-stays.ensures false ∙ w.if-stays.false) ∙ append-nil before));
-        spare = rw w.rows-is (omega (arith, c.rows.invariant.spare));
+        room = rw w.rows-is c.rows.invariant.room;
       }
     ]

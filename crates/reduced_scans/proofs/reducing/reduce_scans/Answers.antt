@@ -35,8 +35,8 @@ marked_lists-requires-clause-few_marks c =
     let lists : AreListsOf c.args.db.now c.args.scans.now = are_lists c.args.query.now c.args.db.now c.args.scans.now c.requires.database c.requires.count c.requires.scans c.requires.sizes in
     omega (arith, c.in_ok-marks.ensures.length, few_items c.args.scans.now lists.sizes (length c.args.scans.now), lists.few)
 
-pub returns : goal.returns
-returns c =
+pub returns-clause-reduced : goal.returns-clause-reduced
+returns-clause-reduced c =
     let query = c.args.query.now in
     let tables = tables_of c.args.db.now in
     let same : lists_of c.args.scans.now ≡ scans_of query tables = lists_are query c.args.db.now c.args.scans.now c.requires.database c.requires.count c.requires.scans in
@@ -48,6 +48,6 @@ returns c =
     (subst (λ es. TellsByKey (scans_of query tables) es (cell_at c.args.db.now) (are_equal_at tables)) (sym edges)
     (tells query c.args.db.now c.requires.database c.texts_are_different.ensures.different c.texts_are_different.ensures.utf8)))
     (subst AreAscending (sym same) (ascending query tables)) in
-    subst (IsReduced (scans_of query tables) (equalities_of query) (are_equal_at tables)) (sym c.in_ok-reduced.ensures)
+    subst (IsReduced (scans_of query tables) (equalities_of query) (are_equal_at tables)) (sym c.in_ok-reduced.ensures.lists)
     (subst (λ es. IsReduced (scans_of query tables) es (are_equal_at tables) (marked_family kept 0 (lists_of c.args.scans.now))) edges
     (subst (λ s. IsReduced s c.as_slice.result.now (are_equal_at tables) (marked_family kept 0 (lists_of c.args.scans.now))) same reduced))

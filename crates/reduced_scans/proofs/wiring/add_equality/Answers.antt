@@ -4,13 +4,12 @@ use Rattle.level_bounds.specs.Keys.{cell_at}
 use Rattle.join_steps.specs.Columns.{column_cells}
 use Rattle.reduced_scans.specs.Families.{list_at}
 use Rattle.reduced_scans.specs.Lists.{column_of, lists_of}
-use Rattle.reduced_scans.proofs.OfQuery.{list_is}
 use Rattle.reduced_scans.proofs.Wired.{wired_one}
 use Rattle.reduced_scans.proofs.wiring.add_equality.Goals as goal
 
 pub add_column-requires-2-clause-few : goal.add_column-requires-2-clause-few
 add_column-requires-2-clause-few c =
-    omega (arith, c.in_ok-add_column.ensures.few, ap (λ (l : List ℕ). length l) (list_is c.args.scans.now c.args.edge.left.entry), c.requires.lists.sizes c.args.edge.left.entry, c.requires.few)
+    omega (arith, c.in_ok-add_column.ensures.few, c.requires.lists.sizes c.args.edge.left.entry, c.requires.few)
 
 pub returns-clause-wired : goal.returns-clause-wired
 returns-clause-wired c equalities numbered so_far =
@@ -23,10 +22,8 @@ returns-clause-classes c =
     omega (
       arith,
       c.in_ok-add_column.ensures.few,
-      ap (λ (l : List ℕ). length l) (list_is c.args.scans.now c.args.edge.left.entry),
       c.requires.lists.sizes c.args.edge.left.entry,
       c.in_ok-add_column-2.ensures.few,
-      ap (λ (l : List ℕ). length l) (list_is c.args.scans.now c.args.edge.right.entry),
       c.requires.lists.sizes c.args.edge.right.entry,
     )
 
@@ -35,9 +32,7 @@ returns-clause-uses c =
     omega (
       arith,
       c.in_ok-add_column.ensures.size,
-      ap (λ (l : List ℕ). length l) (list_is c.args.scans.now c.args.edge.left.entry),
       c.requires.lists.sizes c.args.edge.left.entry,
       c.in_ok-add_column-2.ensures.size,
-      ap (λ (l : List ℕ). length l) (list_is c.args.scans.now c.args.edge.right.entry),
       c.requires.lists.sizes c.args.edge.right.entry,
     )

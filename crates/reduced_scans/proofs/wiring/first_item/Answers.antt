@@ -2,11 +2,28 @@ use Rattle.std.proofs.Common.{arith, ap, sym, ◌∙◌, ◌≡◌, ◌<◌, ℕ
 use Rattle.reduced_scans.specs.Families.{list_at}
 use Rattle.reduced_scans.specs.Lists.{lists_of}
 use Rattle.reduced_scans.proofs.MarkedRows.{first-take, first_none}
-use Rattle.reduced_scans.proofs.OfQuery.{length-lists_of, list_is, read_list}
+use Rattle.reduced_scans.proofs.OfQuery.{length-lists_of, read_list, read_short}
 use Rattle.reduced_scans.proofs.wiring.first_item.Goals as goal
 
 pub lists-init : goal.lists-init
 lists-init c = record { first = sym (first_none (lists_of c.args.scans.now)); few = omega arith }
+
+pub overflow_cast-first : goal.overflow_cast-first
+overflow_cast-first c =
+    let low : c.lists.k < length c.args.scans.now = omega (arith, c.lists-test.true, c.requires.entry) in
+    omega (arith, c.len.ensures, read_short c.args.scans.now c.requires.sizes c.lists.k c.index-scans-k.result low c.index-scans-k.is)
+
+pub overflow_add-first : goal.overflow_add-first
+overflow_add-first c =
+    let low : c.lists.k < length c.args.scans.now = omega (arith, c.lists-test.true, c.requires.entry) in
+    omega (
+      arith,
+      c.len.ensures,
+      read_short c.args.scans.now c.requires.sizes c.lists.k c.index-scans-k.result low c.index-scans-k.is,
+      c.lists.invariant.few,
+      low,
+      c.requires.few,
+    )
 
 pub lists-preserved : goal.lists-preserved
 lists-preserved c =
@@ -15,5 +32,5 @@ lists-preserved c =
     let size : c.len.result ≡ length (list_at lists c.lists.k) = c.len.ensures ∙ ap (λ (l : List ℕ). length l) (read_list c.args.scans.now c.lists.k c.index-scans-k.result low c.index-scans-k.is) in
     record {
       first = omega (arith, c.lists.invariant.first, size, first-take lists c.lists.k (omega (arith, length-lists_of c.args.scans.now)));
-      few = omega (arith, c.lists.invariant.few, size, ap (λ (l : List ℕ). length l) (list_is c.args.scans.now c.lists.k), c.requires.sizes c.lists.k);
+      few = omega (arith, c.lists.invariant.few, size, c.requires.sizes c.lists.k);
     }

@@ -1,4 +1,5 @@
 use Rattle.std.proofs.Common.{◌≡◌, ◌≤◌, ◌*◌}
+use Rattle.limits.specs.Profile.{most_rows}
 use Rattle.reduced_scans.specs.Lists.{lists_of}
 use Rattle.reduced_scans.specs.Wiring.{first_item}
 use Rattle.reduced_scans.proofs.wiring.first_item.Given as goal
@@ -6,5 +7,5 @@ use Rattle.reduced_scans.proofs.wiring.first_item.Given as goal
 abbrev pub invariant-lists : goal.invariant-lists
 invariant-lists l = record {
   first : l.first ≡ first_item (lists_of l.scans) l.k;
-  few : l.first ≤ 4000000 * l.k;
+  few : l.first ≤ most_rows * l.k;
 }

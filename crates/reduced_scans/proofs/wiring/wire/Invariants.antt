@@ -1,4 +1,5 @@
 use Rattle.std.proofs.Common.{◌≡◌, ◌≤◌, ◌*◌, length}
+use Rattle.limits.specs.Profile.{most_rows}
 use Rattle.level_bounds.specs.Keys.{cell_at}
 use Rattle.reduced_scans.specs.Lists.{lists_of}
 use Rattle.reduced_scans.specs.Wiring.{AreWired}
@@ -7,6 +8,6 @@ use Rattle.reduced_scans.proofs.wiring.wire.Given as goal
 abbrev pub invariant-equalities : goal.invariant-equalities
 invariant-equalities l = record {
   wired : AreWired (lists_of l.scans) l.equalities (cell_at l.db) l.classes l.number l.uses.items;
-  classes : length l.classes ≤ 8000000 * l.number;
-  uses : length l.uses.items ≤ 8000000 * l.number;
+  classes : length l.classes ≤ 2 * most_rows * l.number;
+  uses : length l.uses.items ≤ 2 * most_rows * l.number;
 }

@@ -1,28 +1,16 @@
--- Entries that equalities connect, and rows that take part in a choice for all entries connected with theirs.
-use Rattle.std.specs.Prelude.{◌≡◌, ◌⊎◌, ℕ, Bool, true, List, [], ◌∷◌, Some, ⊤}
-use Rattle.std.specs.List.{AllByRecursion, Contains}
+-- Rows that take part in a choice for all entries that equalities connect with theirs.
+use Rattle.std.specs.Prelude.{◌≡◌, ◌⊎◌, ℕ, true, List, [], ◌∷◌, Some}
+use Rattle.std.specs.List.{Contains}
 use Rattle.berge_tree.specs.declared.edges.Edge.{Edge}
 use Rattle.entry_sets.specs.Naming.{are_within}
 use Rattle.query_types.specs.declared.types.Cond.{Cond}
 use Rattle.query_types.specs.declared.types.Query.{Query}
 use Rattle.query_types.specs.Named.{entries_named}
 use Rattle.join_graph.specs.Conjuncts.{equalities_of, equality_of}
+use Rattle.join_graph.specs.Kept.{AreConnected}
 use Rattle.sql_meaning.specs.Conditions.{cond_holds}
 use Rattle.sql_meaning.specs.Tables.{Tables}
 use Rattle.reduced_scans.specs.Families.{list_at}
-
--- the set has both entries of the equality, or neither
-abbrev pub IsClosedAlong : (ℕ → Bool) → Edge → Type 0
-IsClosedAlong set e = set e.left.entry ≡ set e.right.entry
-
--- every set of entries that is closed along all equalities has both, or neither
-abbrev pub AreConnected : List Edge → ℕ → ℕ → Type 0
-AreConnected es a b = (set : ℕ → Bool) → AllByRecursion (IsClosedAlong set) es → set a ≡ set b
-
--- no equality joins two entries that those behind it connect: two of one pair of entries would close a cycle too
-abbrev pub CloseNoCycle : List Edge → Type 0
-CloseNoCycle [] = ⊤
-CloseNoCycle (e ∷ es) = (AreConnected es e.left.entry e.right.entry → ⊥) × CloseNoCycle es
 
 -- each conjunct is an equality of columns of two entries, or names no two entries
 abbrev pub JoinsByEqualitiesAlone : Query → Type 0
