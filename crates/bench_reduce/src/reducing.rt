@@ -1,22 +1,22 @@
 //! The reduction that is measured.
 ghost use Rattle.std.specs.Prelude.{◌≡◌, ◌<◌, ◌≤◌, ℕ, IfOk, OnOk, length};
+ghost use Rattle.limits.specs.Profile.{most_conjuncts, most_rows};
 ghost use Rattle.sql_meaning.specs.Databases.{IsDatabaseOf};
 ghost use Rattle.sql_meaning.specs.Tables.{row_counts, tables_of};
 ghost use Rattle.join_steps.specs.Lists.{scan_of};
-ghost use Rattle.reduced_scans.specs.Lists.{list_of};
+ghost use Rattle.reduced_scans.specs.Families.{list_at};
+ghost use Rattle.reduced_scans.specs.Lists.{lists_of};
 
 use crate::failed::Failed;
 use base_io::NoMemory;
 use csv_tables::Database;
-use join_steps::scan;
 use query_types::Query;
+use reduced_planning::scan_entries;
 use reduced_scans::reduce_scans;
 use row_buf::RowBuf;
 use std::alloc::Global;
 use std::rt::Runtime;
 use std::time::Instant;
-
-const MOST_ROWS: u64 = 4_000_000;
 
 /// How long scans and reduction took, in nanoseconds, how many rows stay, and the sum of their numbers.
 #[derive(Clone, Copy, Debug)]
@@ -26,50 +26,10 @@ pub(crate) struct Reduced {
     pub sum: u64,
 }
 
-// The scan of an entry.
-fn scan_entry(
-    alloc: Global,
-    query: &Query,
-    db: &Database,
-    entry: u8,
-    row: &mut RowBuf<u32>,
-) -> Result<RowBuf<u32>, NoMemory>
-    requires database { IsDatabaseOf query.now db.now }
-    requires few { length query.now.conjuncts ≤ 256 }
-    requires entry { entry < length query.now.from }
-    requires sizes { row_counts (tables_of db.now) entry ≤ 4000000 }
-    requires places { length row.old.items ≡ length query.now.from }
-    ensures list { IfOk result (λ list. list.items ≡ scan_of query.now db.now entry) }
-    ensures places { OnOk result (length row.new.items ≡ length query.now.from) }
-{
-    let mut list = RowBuf::new(alloc);
-    list.reserve(MOST_ROWS)?;
-    scan(query, db, entry, row, &mut list);
-    Ok(list)
-}
-
-fn scan_entries(alloc: Global, query: &Query, db: &Database) -> Result<Vec<RowBuf<u32>>, NoMemory>
-    requires database { IsDatabaseOf query.now db.now }
-    requires few { length query.now.conjuncts ≤ 256 }
-    requires sizes { (entry : ℕ) → entry < length query.now.from → row_counts (tables_of db.now) entry ≤ 4000000 }
-    ensures count { IfOk result (λ scans. length scans.items ≡ length query.now.from) }
-    ensures scans { IfOk result (λ scans. (entry : ℕ) → entry < length query.now.from
-        → list_of scans.items entry ≡ scan_of query.now db.now entry) }
-{
-    let mut row = RowBuf::new(alloc);
-    row.reserve(query.from.len() as u64)?;
-    row.fill(query.from.len() as u64, 0);
-    let mut scans = Vec::new(alloc);
-    'entries: for entry in 0..query.from.len() as u8 {
-        scans.push(scan_entry(alloc, query, db, entry, &mut row)?)?;
-    }
-    Ok(scans)
-}
-
 fn reduce_query(alloc: Global, query: &Query, db: &Database) -> Result<Vec<RowBuf<u32>>, NoMemory>
     requires database { IsDatabaseOf query.now db.now }
-    requires few { length query.now.conjuncts ≤ 256 }
-    requires sizes { (entry : ℕ) → entry < length query.now.from → row_counts (tables_of db.now) entry ≤ 4000000 }
+    requires few { length query.now.conjuncts ≤ most_conjuncts }
+    requires sizes { (entry : ℕ) → entry < length query.now.from → row_counts (tables_of db.now) entry ≤ most_rows }
 {
     let scans = scan_entries(alloc, query, db)?;
     reduce_scans(alloc, query, db, &scans)
@@ -95,8 +55,8 @@ pub(crate) fn timed<R: Runtime>(
     db: &Database,
 ) -> Result<Reduced, Failed>
     requires database { IsDatabaseOf query.now db.now }
-    requires few { length query.now.conjuncts ≤ 256 }
-    requires sizes { (entry : ℕ) → entry < length query.now.from → row_counts (tables_of db.now) entry ≤ 4000000 }
+    requires few { length query.now.conjuncts ≤ most_conjuncts }
+    requires sizes { (entry : ℕ) → entry < length query.now.from → row_counts (tables_of db.now) entry ≤ most_rows }
 {
     let start = Instant::now(rt)?;
     let lists = reduce_query(alloc, query, db)?;

@@ -1,5 +1,9 @@
-//! Tests of the reduction of scans, over texts: a schema, a query and table files.
+//! Tests of reduced scans, over texts: a schema, a query and table files. The reduction, the plans over what is left, and their joins.
 #![tactic(auto)]
 
 #[cfg(test)]
-mod tests;
+mod asked;
+#[cfg(test)]
+mod planned;
+#[cfg(test)]
+mod reductions;

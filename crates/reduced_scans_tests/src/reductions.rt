@@ -1,82 +1,12 @@
 //! Reduced scans of small queries. Rows are numbered from 0, in file order.
-ghost use Rattle.std.specs.Prelude.{◌≡◌, ◌<◌, ◌≤◌, ℕ, [], IfOk, length};
-ghost use Rattle.sql_meaning.specs.Databases.{IsDatabaseOf};
-ghost use Rattle.sql_meaning.specs.Tables.{row_counts, tables_of};
-ghost use Rattle.join_steps.specs.Lists.{scan_of};
-ghost use Rattle.reduced_scans.specs.Lists.{list_of};
-
-use base_io::{MemStore, Name, NoMemory, Seq};
+use crate::asked::{A, Asked, B, CHAIN, R, S, SIDES, THREE, TRIANGLE, TWO, are, ask};
+use base_io::NoMemory;
 use counted_sets::{Use, reduce};
-use csv_tables::Database;
-use join_steps::scan;
-use query_types::Query;
+use reduced_planning::scan_entries;
 use reduced_scans::reduce_scans;
 use row_buf::RowBuf;
-use schema_types::read_schema;
-use sql_parse::read_query;
 use std::alloc::Global;
 use std::test::Fail;
-use table_files::read_tables;
-
-const MOST_ROWS: u64 = 4000000;
-
-// The most bytes of a schema text and of a query text.
-const MOST_BYTES: usize = 1_048_576;
-
-// An empty list with room for so many rows.
-fn with_room(alloc: Global, rows: u64) -> Result<RowBuf<u32>, NoMemory>
-    ensures empty { IfOk result (λ list. list.items ≡ []) }
-    ensures room { IfOk result (λ list. rows ≤ list.spare) }
-{
-    let mut list = RowBuf::new(alloc);
-    list.reserve(rows)?;
-    Ok(list)
-}
-
-// The scan of an entry.
-fn scan_entry(
-    alloc: Global,
-    query: &Query,
-    db: &Database,
-    entry: u8,
-) -> Result<RowBuf<u32>, NoMemory>
-    requires database { IsDatabaseOf query.now db.now }
-    requires few { length query.now.conjuncts ≤ 256 }
-    requires entry { entry < length query.now.from }
-    requires sizes { row_counts (tables_of db.now) entry ≤ 4000000 }
-    ensures { IfOk result (λ list. list.items ≡ scan_of query.now db.now entry) }
-{
-    let mut rows = RowBuf::new(alloc);
-    rows.reserve(query.from.len() as u64)?;
-    rows.fill(query.from.len() as u64, 0);
-    let mut list = with_room(alloc, MOST_ROWS)?;
-    scan(query, db, entry, &mut rows, &mut list);
-    Ok(list)
-}
-
-fn scan_entries(alloc: Global, query: &Query, db: &Database) -> Result<Vec<RowBuf<u32>>, NoMemory>
-    requires database { IsDatabaseOf query.now db.now }
-    requires few { length query.now.conjuncts ≤ 256 }
-    requires sizes { (entry : ℕ) → entry < length query.now.from → row_counts (tables_of db.now) entry ≤ 4000000 }
-    ensures count { IfOk result (λ scans. length scans.items ≡ length query.now.from) }
-    ensures scans { IfOk result (λ scans. (entry : ℕ) → entry < length query.now.from
-        → list_of scans.items entry ≡ scan_of query.now db.now entry) }
-{
-    let mut scans = Vec::new(alloc);
-    'entries: for entry in 0..query.from.len() as u8 {
-        scans.push(scan_entry(alloc, query, db, entry)?)?;
-    }
-    Ok(scans)
-}
-
-fn store(alloc: Global, files: &[(&str, &str)]) -> Result<MemStore, NoMemory> {
-    let mut all = Seq::new(alloc);
-    for (name, text) in files {
-        let bytes = Vec::from_slice(alloc, text.as_bytes())?;
-        all.push((Name::from_str(alloc, name)?, Seq::from_vec(bytes)))?;
-    }
-    Ok(MemStore::new(all, Seq::new(alloc)))
-}
 
 // The reduced rows of each entry.
 fn reduced(
@@ -85,37 +15,10 @@ fn reduced(
     query: &str,
     files: &[(&str, &str)],
 ) -> Result<Vec<RowBuf<u32>>, Fail> {
-    if schema.len() > MOST_BYTES || query.len() > MOST_BYTES {
-        return Err(Fail::from("too many bytes"));
-    }
-    let schema = read_schema(alloc, schema.as_bytes())?;
-    let query = read_query(alloc, &schema, query.as_bytes())?;
-    let mut store = store(alloc, files)?;
-    let db = read_tables(alloc, &mut store, &schema, &query)?;
-    if query.conjuncts.len() > 256 {
-        return Err(Fail::from("too many conjuncts"));
-    }
+    let Asked { query, db } = ask(alloc, schema, query, files)?;
     let scans = scan_entries(alloc, &query, &db)?;
     Ok(reduce_scans(alloc, &query, &db, &scans)?)
 }
-
-fn are(lists: &[RowBuf<u32>], wanted: &[&[u32]]) -> bool {
-    if lists.len() != wanted.len() {
-        return false;
-    }
-    for k in 0..lists.len() {
-        if lists[k].as_slice() != wanted[k] {
-            return false;
-        }
-    }
-    true
-}
-
-const TWO: &str = "CREATE TABLE R (X INT NOT NULL); CREATE TABLE S (X INT NOT NULL);";
-
-const R: (&str, &str) = ("r.csv", "X\n1\n1\n1\n2\n2\n3\n");
-
-const S: (&str, &str) = ("s.csv", "X\n1\n1\n4\n5\n6\n");
 
 // Item 1 needs what nobody gives, item 0 what item 1 gives; item 2 gives for itself, and item 3 needs nothing.
 #[test]
@@ -169,15 +72,6 @@ fn filtered_rows_are_no_partners(rt: HostRuntime) -> Result<(), Fail> {
     Ok(())
 }
 
-const THREE: &str =
-    "CREATE TABLE A (X INT NOT NULL); CREATE TABLE B (X INT NOT NULL, Y INT NOT NULL); CREATE TABLE D (Y INT NOT NULL);";
-
-const A: (&str, &str) = ("a.csv", "X\n1\n2\n3\n");
-
-const B: (&str, &str) = ("b.csv", "X,Y\n1,1\n2,2\n3,9\n");
-
-const CHAIN: &str = "SELECT A.X FROM A, B, D WHERE A.X = B.X AND B.Y = D.Y";
-
 // Row 1 of A loses its partner only after row 1 of B has gone.
 #[test]
 fn rows_go_along_a_chain(rt: HostRuntime) -> Result<(), Fail> {
@@ -203,8 +97,8 @@ fn an_empty_table_empties_what_is_connected_with_it(rt: HostRuntime) -> Result<(
 fn a_triangle_keeps_its_rows(rt: HostRuntime) -> Result<(), Fail> {
     let lists = reduced(
         rt.alloc(),
-        "CREATE TABLE R (A INT NOT NULL, C INT NOT NULL); CREATE TABLE S (A INT NOT NULL, B INT NOT NULL); CREATE TABLE T (B INT NOT NULL, C INT NOT NULL);",
-        "SELECT R.A FROM R, S, T WHERE R.A = S.A AND S.B = T.B AND T.C = R.C",
+        TRIANGLE,
+        SIDES,
         &[
             ("r.csv", "A,C\n1,1\n1,2\n2,1\n"),
             ("s.csv", "A,B\n1,1\n1,2\n2,1\n"),
