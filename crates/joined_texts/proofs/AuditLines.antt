@@ -48,11 +48,17 @@ counts_from (level ∷ levels) f a same =
     let rest : level_counts levels ≡ map f (range_with_len (a + 1) (length levels)) = counts_from levels f (a + 1) (λ k low. let next : a + suc k ≡ a + 1 + k = omega arith in same (suc k) (omega (arith, low)) ∙ ap f next) in
     rw (first, rest) refl
 
+-- the numbers of rows that were listed are the sizes of levels, whatever these are
+pub counts_of_levels : (levels : ℕ → List (List ℕ)) (order : List ℕ) (executed : List Level)
+    → ((k : ℕ) → k < length order → rows_at executed k ≡ levels (k + 1)) → length executed ≡ length order
+    → level_counts executed ≡ map (λ k. length (levels (k + 1))) (range_with_len 0 (length order))
+counts_of_levels levels order executed listed count =
+    let size : ℕ → ℕ = λ k. length (levels (k + 1)) in
+    counts_from executed size 0
+    (λ k low. let from_zero : k ≡ 0 + k = omega arith in ap (λ (rows : List (List ℕ)). length rows) (listed k (omega (arith, low, count))) ∙ ap size from_zero)
+    ∙ ap (λ (n : ℕ). map size (range_with_len 0 n)) count
+
 pub counts_are_sizes : (query : Query) (db : Database) (order : List ℕ) (executed : List Level)
     → ((k : ℕ) → k < length order → rows_at executed k ≡ query_level query db order (k + 1)) → length executed ≡ length order
     → level_counts executed ≡ level_sizes query db order
-counts_are_sizes query db order executed levels count =
-    let size : ℕ → ℕ = λ k. length (query_level query db order (k + 1)) in
-    counts_from executed size 0
-    (λ k low. let from_zero : k ≡ 0 + k = omega arith in ap (λ (rows : List (List ℕ)). length rows) (levels k (omega (arith, low, count))) ∙ ap size from_zero)
-    ∙ ap (λ (n : ℕ). map size (range_with_len 0 n)) count
+counts_are_sizes query db order executed levels count = counts_of_levels (query_level query db order) order executed levels count

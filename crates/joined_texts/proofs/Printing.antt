@@ -34,13 +34,13 @@ whole_choices query db order =
     (All-filter (λ choice. all_hold (conjuncts_of query (tables_of db)) all (row_in all choice)) (IsChoiceOf counts all) (choices_of counts all) (each_choice counts all))
 
 module _ (joining : Joining) (is : IsOrdered joining) (executed : List Level)
-    (levels : (k : ℕ) → k < length joining.order.now → rows_at executed k ≡ query_level joining.query.now joining.db.now joining.order.now (k + 1))
+    (last : (k : ℕ) → k + 1 ≡ length joining.order.now → rows_at executed k ≡ query_level joining.query.now joining.db.now joining.order.now (k + 1))
     (count : length executed ≡ length joining.order.now) where
   last_is : last_rows joining executed ≡ query_level joining.query.now joining.db.now joining.order.now (length joining.order.now)
   last_is =
       let some : 0 < length joining.order.now = omega (arith, is.database.some, is.entries.all) in
       let number : length joining.order.now - 1 + 1 ≡ length joining.order.now = omega (arith, some) in
-      levels (length joining.order.now - 1) (omega (arith, some))
+      last (length joining.order.now - 1) number
       ∙ ap (λ (k : ℕ). query_level joining.query.now joining.db.now joining.order.now k) number
 
   pub is_listed : IsListed joining executed

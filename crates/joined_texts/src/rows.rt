@@ -97,7 +97,7 @@ pub fn write_rows<N: Sink>(
 ) -> Result<(), Failed>
     requires database { IsDatabaseOf query.now db.now }
     requires order { IsOrderOf query.now order.now }
-    requires levels { (k : ℕ) → k < length order.now
+    requires last { (k : ℕ) → k + 1 ≡ length order.now
         → rows_at executed.now k ≡ query_level query.now db.now order.now (k + 1) }
     requires count { length executed.now ≡ length order.now }
     ensures { Wrote (growth N.taken N.faults sink.old sink.new)

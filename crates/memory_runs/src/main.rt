@@ -55,8 +55,7 @@ fn attempt(alloc: Global, run: &Run) -> Result<Outcome, NoMemory> {
     let mut store = store_of(alloc, run)?;
     let mut out = sink(alloc)?;
     let mut notes = sink(alloc)?;
-    let words = ["run", "schema.sql", "query.sql"];
-    let status = safebound(alloc, &words, &mut store, &mut out, &mut notes);
+    let status = safebound(alloc, run.words, &mut store, &mut out, &mut notes);
     Ok(judged(run, status.code(), notes.written(), out.written()))
 }
 

@@ -9,10 +9,11 @@ pub enum Text<'a> {
     Column { record: &'a [u8], count: u32 },
 }
 
-/// A run by its name: its files, the plan text and the rows text.
+/// A run by its name: its words, its files, the plan text and the rows text.
 #[derive(Clone, Copy)]
 pub struct Run<'a> {
     pub name: &'a str,
+    pub words: &'a [&'a str],
     pub files: &'a [(&'a str, Text<'a>)],
     pub notes: &'a [u8],
     pub out: Text<'a>,
@@ -24,12 +25,16 @@ const TWO: Text<'static> = Text::Whole(
 
 const JOIN: Text<'static> = Text::Whole(b"SELECT R.X FROM R, S WHERE R.X = S.X");
 
+const PLAIN: &[&str] = &["run", "schema.sql", "query.sql"];
+
 const HUNDREDS: &[u8] = b"scan R 100\nscan S 100\nlevel 1 R 100\nlevel 2 S 10000\n";
 
-/// A join of two tables, a table of texts, the triangle, and two pairs of tables with the same bounds and other answers.
-pub const RUNS: [Run<'static>; 5] = [
+/// A join of two tables, the same over reduced scans, a table of texts, the triangle, and two pairs of tables with the same bounds and
+/// other answers.
+pub const RUNS: [Run<'static>; 6] = [
     Run {
         name: "join",
+        words: PLAIN,
         files: &[
             ("schema.sql", TWO),
             ("query.sql", JOIN),
@@ -43,7 +48,23 @@ pub const RUNS: [Run<'static>; 5] = [
         },
     },
     Run {
+        name: "reduced",
+        words: &["run", "schema.sql", "query.sql", "--reduce"],
+        files: &[
+            ("schema.sql", TWO),
+            ("query.sql", JOIN),
+            ("r.csv", Text::Whole(b"X\r\n1\r\n1\r\n1\r\n2\r\n2\r\n3\r\n")),
+            ("s.csv", Text::Whole(b"X\r\n1\r\n1\r\n4\r\n5\r\n6\r\n")),
+        ],
+        notes: b"scan R 3\nscan S 2\nlevel 1 S 2\nlevel 2 R 6\n",
+        out: Text::Column {
+            record: b"1\r\n",
+            count: 6,
+        },
+    },
+    Run {
         name: "texts",
+        words: PLAIN,
         files: &[
             (
                 "schema.sql",
@@ -60,6 +81,7 @@ pub const RUNS: [Run<'static>; 5] = [
     },
     Run {
         name: "triangle",
+        words: PLAIN,
         files: &[
             (
                 "schema.sql",
@@ -82,6 +104,7 @@ pub const RUNS: [Run<'static>; 5] = [
     },
     Run {
         name: "meeting",
+        words: PLAIN,
         files: &[
             ("schema.sql", TWO),
             ("query.sql", JOIN),
@@ -108,6 +131,7 @@ pub const RUNS: [Run<'static>; 5] = [
     },
     Run {
         name: "apart",
+        words: PLAIN,
         files: &[
             ("schema.sql", TWO),
             ("query.sql", JOIN),

@@ -1,5 +1,5 @@
 -- What the readers of texts answer, as endings of the one answer that a text has.
-use Rattle.std.proofs.Common.{◌≡◌, ◌⊎◌, ℕ, List, Result, Ok, Err, inl, inr, refl, ap, sym, subst}
+use Rattle.std.proofs.Common.{◌≡◌, ◌⊎◌, ℕ, List, Result, Ok, Err, inl, inr, ap, sym, ◌∙◌, subst}
 use Rattle.schema_types.specs.Texts.{IsSchemaOf}
 use Rattle.schema_types.specs.declared.errors.SchemaError.{SchemaError}
 use Rattle.schema_types.specs.declared.errors.SchemaError.TheVariants as schema
@@ -24,7 +24,7 @@ use Rattle.sql_meaning.specs.Tables.{Tables}
 use Rattle.table_files.specs.Found.{tables_in}
 use Rattle.safebound_top.specs.Accepted.{Accepted}
 use Rattle.safebound_top.specs.Asks.{Ask}
-use Rattle.safebound_top.specs.Verdict.{plan_stage}
+use Rattle.safebound_top.specs.Verdict.{plan_asked, plan_stage}
 
 -- a value that is read is the answer's
 same_value : {A E : Type 0} (memory : E) (answer : Result A E) (x : A) → (Ok x ≡ Err memory) ⊎ (Ok x ≡ answer) → answer ≡ Ok x
@@ -72,29 +72,28 @@ pub was_made : (query : Query) (tables : Tables) (accuracy budget : ℕ) (p : Pl
 was_made query tables accuracy budget p h = same_value plan.NoMemory (planned query tables accuracy budget) p h
 
 module _ (next : Plan → Result Accepted Refusal) where
-  plan_tells : (answer : Result Plan PlanError) (e : PlanError) → (◌≡◌ {A = Result Plan PlanError} (Err e) (Err plan.NoMemory)) ⊎ (Err e ≡ answer)
+  plan_tells : (answer : Result Plan PlanError) (e : PlanError) → (e ≡ plan.NoMemory) ⊎ (answer ≡ Err e)
       → Tells (told plan_refusal answer >>= next) (plan_ending e)
   plan_tells answer plan.NoMemory h = tt
   plan_tells answer (plan.Budget least) (inl e) = cc
-  plan_tells answer (plan.Budget least) (inr e) = (ap (λ (r : Result Plan PlanError). told plan_refusal r >>= next) (sym e), (λ file h. cc), (λ h. cc))
+  plan_tells answer (plan.Budget least) (inr e) = (ap (λ (r : Result Plan PlanError). told plan_refusal r >>= next) e, (λ file h. cc), (λ h. cc))
   plan_tells answer plan.PastBits (inl e) = cc
-  plan_tells answer plan.PastBits (inr e) = (ap (λ (r : Result Plan PlanError). told plan_refusal r >>= next) (sym e), (λ file h. cc), (λ h. cc))
+  plan_tells answer plan.PastBits (inr e) = (ap (λ (r : Result Plan PlanError). told plan_refusal r >>= next) e, (λ file h. cc), (λ h. cc))
 
-module _ (ask : Ask) (query : Query) (rows : List (List Row)) where
-  abbrev answer : Result Plan PlanError
-  answer = planned query (tables_in rows) ask.accuracy ask.budget
-
+module _ (ask : Ask) (query : Query) (rows : List (List Row)) (t : Tables) (same : tables_in rows ≡ t) where
   -- over the tables that a database has
-  pub over_rows : (t : Tables) (r : Result Plan PlanError) → tables_in rows ≡ t → (r ≡ Err plan.NoMemory) ⊎ (r ≡ planned query t ask.accuracy ask.budget) → (r ≡ Err plan.NoMemory) ⊎ (r ≡ answer)
-  over_rows t r same h = subst (λ (u : Tables). (r ≡ Err plan.NoMemory) ⊎ (r ≡ planned query u ask.accuracy ask.budget)) (sym same) h
+  over_rows : plan_asked ask query (tables_in rows) ≡ plan_asked ask query t
+  over_rows = ap (plan_asked ask query) same
 
-  pub was_planned : (t : Tables) (p : Plan) → tables_in rows ≡ t → (Ok p ≡ Err plan.NoMemory) ⊎ (Ok p ≡ planned query t ask.accuracy ask.budget) → answer ≡ Ok p
-  was_planned t p same h = same_value plan.NoMemory answer p (over_rows t (Ok p) same h)
-
-  pub plan_stage_ok : (p : Plan) → answer ≡ Ok p → plan_stage ask query rows ≡ Ok (record { query = query; rows = rows; plan = p; out = ask.out })
+  pub plan_stage_ok : (p : Plan) → plan_asked ask query t ≡ Ok p
+      → plan_stage ask query rows ≡ Ok (record { query = query; rows = rows; plan = p; reduce = ask.reduce; out = ask.out })
   unfolding plan_stage
-  plan_stage_ok p is = rw is refl
+  plan_stage_ok p is =
+      ap (λ (r : Result Plan PlanError). told plan_refusal r >>= λ p. Ok (record { query = query; rows = rows; plan = p; reduce = ask.reduce; out = ask.out }))
+      (over_rows ∙ is)
 
-  pub plan_told : (e : PlanError) → (◌≡◌ {A = Result Plan PlanError} (Err e) (Err plan.NoMemory)) ⊎ (Err e ≡ answer) → Tells (plan_stage ask query rows) (plan_ending e)
+  pub plan_told : (e : PlanError) → (e ≡ plan.NoMemory) ⊎ (plan_asked ask query t ≡ Err e) → Tells (plan_stage ask query rows) (plan_ending e)
   unfolding plan_stage
-  plan_told e h = plan_tells (λ p. Ok (record { query = query; rows = rows; plan = p; out = ask.out })) answer e h
+  plan_told e h =
+      plan_tells (λ p. Ok (record { query = query; rows = rows; plan = p; reduce = ask.reduce; out = ask.out })) (plan_asked ask query (tables_in rows)) e
+      (subst (λ (r : Result Plan PlanError). (e ≡ plan.NoMemory) ⊎ (r ≡ Err e)) (sym over_rows) h)

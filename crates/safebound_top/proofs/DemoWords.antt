@@ -1,6 +1,6 @@
 -- The words of `demo` ask what those of an audit ask.
 use Rattle.std.proofs.Common.{◌≡◌, ℕ, List, [], ◌∷◌, Some, refl, ap, sym, ◌∙◌}
-use Rattle.std.specs.Prelude.{codes}
+use Rattle.std.specs.Prelude.{codes, false}
 use Rattle.base_io.specs.Files.{Files}
 use Rattle.safebound_words.specs.Answer.{command_of, kind_of, parts_from, reading_of}
 use Rattle.safebound_words.specs.Requests.{Audit, Demo}
@@ -10,7 +10,7 @@ use Rattle.safebound_top.specs.Verdict.{verdict}
 abbrev audit_words : List (List ℕ)
 audit_words = codes "audit" ∷ codes "schema.sql" ∷ codes "query.sql" ∷ []
 
-audit_is : command_of audit_words ≡ Some (Audit (codes "schema.sql") (codes "query.sql") 1000000 1)
+audit_is : command_of audit_words ≡ Some (Audit (codes "schema.sql") (codes "query.sql") 1000000 1 false)
 unfolding command_of kind_of parts_from reading_of
 audit_is = refl
 

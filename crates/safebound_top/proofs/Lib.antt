@@ -1,7 +1,8 @@
 pub mod Answered
 pub mod Courses
 pub mod DemoWords
-pub mod NamedEntries
+pub mod LastLevels
+mod NamedEntries
 pub mod Plans
 pub mod Ranges
 pub mod RestTexts

@@ -7,10 +7,11 @@ use Rattle.safebound_words.specs.Answer.{command_of, reading_of}
 use Rattle.safebound_words.specs.CommandLines.{Reading, requested}
 use Rattle.safebound_words.specs.Numbers.{is_number, number_of, number_within}
 use Rattle.safebound_words.specs.Requests.{Request, Run, Plan, Audit, Demo}
-use Rattle.safebound_words.specs.Table.{Given, command_row, of_number, over_files, value_of, ◌>>=◌}
+use Rattle.safebound_words.specs.Table.{Given, command_row, is_set, of_number, over_files, value_of, ◌>>=◌}
 use Rattle.safebound_words.specs.Words.{Word}
 use Rattle.safebound_words.specs.declared.table.CommandName.{CommandName}
 use Rattle.safebound_words.specs.declared.table.CommandName.TheVariants as command
+use Rattle.safebound_words.specs.declared.table.FlagName.TheVariants as flag
 use Rattle.safebound_words.specs.declared.table.OptionName.TheVariants as option
 use Rattle.safebound_top.specs.Asks.{Ask, asks, command_stage, request_stage}
 
@@ -21,9 +22,9 @@ pub record InRange (budget accuracy : ℕ) : Type 0 where
   pub accuracy_most : accuracy ≤ 64
 
 abbrev HasRanges : Request → Type 0
-HasRanges (Run schema query budget accuracy) = InRange budget accuracy
-HasRanges (Plan schema query budget accuracy) = InRange budget accuracy
-HasRanges (Audit schema query budget accuracy) = InRange budget accuracy
+HasRanges (Run schema query budget accuracy reduce) = InRange budget accuracy
+HasRanges (Plan schema query budget accuracy reduce) = InRange budget accuracy
+HasRanges (Audit schema query budget accuracy reduce) = InRange budget accuracy
 HasRanges (Demo number) = ⊤
 
 -- ---- one value
@@ -58,21 +59,22 @@ accuracy_in (word ∷ another ∷ words) n is = absurd (cc)
 
 -- ---- one command
 
-module _ (request : Word → Word → ℕ → ℕ → Request) (ranges : (schema query : Word) (budget accuracy : ℕ) → InRange budget accuracy → HasRanges (request schema query budget accuracy)) where
-  values_in : (budget accuracy : Option ℕ) (schema query : Word) (r : Request) → ((n : ℕ) → budget ≡ Some n → n ≤ 20000000) → ((n : ℕ) → accuracy ≡ Some n → (1 ≤ n) × (n ≤ 64))
-      → (budget >>= λ b. accuracy >>= λ a. Some (request schema query b a)) ≡ Some r → HasRanges r
-  values_in None accuracy schema query r few close is = absurd (cc)
-  values_in (Some b) None schema query r few close is = absurd (cc)
-  values_in (Some b) (Some a) schema query r few close is =
-      let same : request schema query b a ≡ r = cc in
-      subst HasRanges same (ranges schema query b a (record { budget_most = few b refl; accuracy_least = omega (arith, (close a refl).0); accuracy_most = (close a refl).1 }))
+module _ (request : Word → Word → ℕ → ℕ → Bool → Request) (ranges : (schema query : Word) (budget accuracy : ℕ) (reduce : Bool) → InRange budget accuracy → HasRanges (request schema query budget accuracy reduce)) where
+  values_in : (budget accuracy : Option ℕ) (reduce : Option Bool) (schema query : Word) (r : Request) → ((n : ℕ) → budget ≡ Some n → n ≤ 20000000) → ((n : ℕ) → accuracy ≡ Some n → (1 ≤ n) × (n ≤ 64))
+      → (budget >>= λ b. accuracy >>= λ a. reduce >>= λ s. Some (request schema query b a s)) ≡ Some r → HasRanges r
+  values_in None accuracy reduce schema query r few close is = absurd (cc)
+  values_in (Some b) None reduce schema query r few close is = absurd (cc)
+  values_in (Some b) (Some a) None schema query r few close is = absurd (cc)
+  values_in (Some b) (Some a) (Some s) schema query r few close is =
+      let same : request schema query b a s ≡ r = cc in
+      subst HasRanges same (ranges schema query b a s (record { budget_most = few b refl; accuracy_least = omega (arith, (close a refl).0); accuracy_most = (close a refl).1 }))
 
   files_in : (places : List Word) (given : Given) (r : Request) → over_files request places given ≡ Some r → HasRanges r
   files_in [] given r is = absurd (cc)
   files_in (schema ∷ []) given r is = absurd (cc)
   files_in (schema ∷ query ∷ []) given r is =
-      values_in (value_of option.Budget (given option.Budget)) (value_of option.Accuracy (given option.Accuracy)) schema query r
-      (budget_in (given option.Budget)) (accuracy_in (given option.Accuracy)) is
+      values_in (value_of option.Budget (given.values option.Budget)) (value_of option.Accuracy (given.values option.Accuracy))
+      (is_set (given.times flag.Reduce)) schema query r (budget_in (given.values option.Budget)) (accuracy_in (given.values option.Accuracy)) is
   files_in (schema ∷ query ∷ more ∷ places) given r is = absurd (cc)
 
 number_has : (number : Option ℕ) (r : Request) → option_map Demo number ≡ Some r → HasRanges r
@@ -85,9 +87,9 @@ demo_in (number ∷ []) given r is = number_has (number_within 0 4294967295 numb
 demo_in (number ∷ more ∷ places) given r is = absurd (cc)
 
 asks_in : (name : CommandName) (places : List Word) (given : Given) (r : Request) → (command_row name).asks places given ≡ Some r → HasRanges r
-asks_in command.Run places given r is = files_in Run (λ schema query budget accuracy h. h) places given r is
-asks_in command.Plan places given r is = files_in Plan (λ schema query budget accuracy h. h) places given r is
-asks_in command.Audit places given r is = files_in Audit (λ schema query budget accuracy h. h) places given r is
+asks_in command.Run places given r is = files_in Run (λ schema query budget accuracy reduce h. h) places given r is
+asks_in command.Plan places given r is = files_in Plan (λ schema query budget accuracy reduce h. h) places given r is
+asks_in command.Audit places given r is = files_in Audit (λ schema query budget accuracy reduce h. h) places given r is
 asks_in command.Demo places given r is = demo_in places given r is
 
 -- ---- the words
@@ -101,9 +103,9 @@ unfolding command_of
 command_in words r is = read_in (reading_of words) r is
 
 asks_within : (r : Request) → HasRanges r → InRange (asks r).budget (asks r).accuracy
-asks_within (Run schema query budget accuracy) h = h
-asks_within (Plan schema query budget accuracy) h = h
-asks_within (Audit schema query budget accuracy) h = h
+asks_within (Run schema query budget accuracy reduce) h = h
+asks_within (Plan schema query budget accuracy reduce) h = h
+asks_within (Audit schema query budget accuracy reduce) h = h
 asks_within (Demo number) h = record { budget_most = omega arith; accuracy_least = omega arith; accuracy_most = omega arith }
 
 stage_in : (request : Option Request) (ask : Ask) → ((r : Request) → request ≡ Some r → HasRanges r) → request_stage request ≡ Ok ask → InRange ask.budget ask.accuracy

@@ -1,19 +1,20 @@
 -- What holds of every run that the verdict gives.
-use Rattle.std.proofs.Common.{◌≡◌, ℕ, ◌≤◌, List, Result, Ok, Err, length, map, refl, sym, subst}
+use Rattle.std.proofs.Common.{◌≡◌, ℕ, ◌<◌, ◌≤◌, Bool, false, true, if◌then◌else◌, List, Result, Ok, Err, length, map, get_or, refl, ap, sym, subst}
 use Rattle.std.specs.Prelude.{IfOk, IsPermutation}
 use Rattle.std.proofs.Math.Seq.{take-length}
+use Rattle.std.proofs.lemmas.Bool.{false≢true}
 use Rattle.base_io.specs.Files.{Files}
 use Rattle.csv_tables.specs.Rows.{Row}
 use Rattle.schema_types.specs.declared.types.Schema.{Schema}
 use Rattle.query_types.specs.Named.{NamesItsEntries}
 use Rattle.query_types.specs.Validity.{IsOf}
 use Rattle.query_types.specs.declared.types.Query.{Query}
-use Rattle.sql_meaning.specs.Answers.{answer, conjuncts_of, entries_of, selected}
+use Rattle.plans.specs.LeftDeep.{IsPlan}
+use Rattle.plans.specs.declared.left_deep.Plan.{Plan}
+use Rattle.sql_meaning.specs.Answers.{answer, conjuncts_of, selected}
 use Rattle.sql_meaning.specs.Levels.{level_of, row_in}
-use Rattle.sql_meaning.specs.Tables.{row_counts}
-use Rattle.level_bounds.specs.Orders.{IsOrderOfSet}
+use Rattle.sql_meaning.specs.Tables.{Tables, row_counts}
 use Rattle.level_bounds.proofs.LastLevel.{last_level_is_answer}
-use Rattle.level_bounds.proofs.SetNumbers.{order_of_all}
 use Rattle.text_answers.specs.QueryTexts.{query_answer}
 use Rattle.text_answers.proofs.QueryAnswers as queries
 use Rattle.outcomes.specs.Errors.{plan_refusal, query_refusal}
@@ -23,13 +24,18 @@ use Rattle.outcomes.specs.declared.refusal.Refusal.{Refusal}
 use Rattle.table_files.specs.Found.{tables_in}
 use Rattle.table_files.specs.Stage.{tables_stage}
 use Rattle.table_files.specs.TableFile.{read}
+use Rattle.reduced_scans.specs.Rounds.{reduced_of}
+use Rattle.reduced_bounds.specs.Bounds.{rows_listed}
+use Rattle.reduced_bounds.specs.Plans.{IsPlanOver, planned_reduced}
 use Rattle.planned_joins.specs.PlansOf.{IsPlanOf}
 use Rattle.planning.specs.Plans.{planned}
 use Rattle.safebound_top.specs.Accepted.{Accepted, BoundsHold, RowsAreTheAnswer, tables}
 use Rattle.safebound_top.specs.Asks.{Ask, command_stage}
-use Rattle.safebound_top.specs.Verdict.{ask_run, plan_stage, query_of_text, query_run, query_stage, schema_run, schema_stage, verdict}
+use Rattle.safebound_top.specs.declared.task.OutText.{OutText}
+use Rattle.safebound_top.specs.Verdict.{ask_run, plan_asked, plan_stage, query_of_text, query_run, query_stage, schema_run, schema_stage, verdict}
 use Rattle.safebound_top.proofs.NamedEntries.{names_own}
-use Rattle.safebound_top.proofs.Plans.{plan_holds}
+use Rattle.safebound_top.proofs.LastLevels.{last_reduced, order_is}
+use Rattle.safebound_top.proofs.Plans.{plan_holds, reduced_exact, reduced_holds}
 use Rattle.safebound_top.proofs.Ranges.{InRange, in_range}
 
 -- what holds of the first step's value, and then of the second's
@@ -56,17 +62,30 @@ query_ok name schema files =
     any_ok (IsOf schema) (read file.Query 1048576 name files) (query_of_text schema)
     (λ text. ok_so (IsOf schema) query_refusal (query_answer schema text) (λ query e. queries.of_schema schema text query e))
 
+-- no scan and no level has more rows than the plan says, and a reduced scan has just as many
+abbrev HoldsBy : Bool → Query → Tables → Plan → Type 0
+HoldsBy false query ts plan = IsPlanOf query ts plan
+HoldsBy true query ts plan =
+    IsPlanOver query ts (reduced_of query ts) plan
+    × ((entry : ℕ) → entry < length query.from → get_or plan.scans entry 0 ≡ rows_listed (reduced_of query ts) entry)
+
+asked_holds : (reduce : Bool) (query : Query) (ts : Tables) (accuracy budget : ℕ) (plan : Plan) → length query.from ≤ 12 → budget ≤ 20000000
+    → (if reduce then planned_reduced query ts accuracy budget else planned query ts accuracy budget) ≡ Ok plan → HoldsBy reduce query ts plan
+asked_holds false query ts accuracy budget plan few small made = plan_holds query ts accuracy budget plan few small made
+asked_holds true query ts accuracy budget plan few small made =
+    (reduced_holds query ts accuracy budget plan few small made, reduced_exact query ts accuracy budget plan made)
+
 -- a query that names its own entries, and its plan
 pub record IsRun (run : Accepted) : Type 0 where
   pub own : NamesItsEntries run.query
-  pub plan : IsPlanOf run.query (tables run) run.plan
+  pub plan : HoldsBy run.reduce run.query (tables run) run.plan
 
 plan_ok : (ask : Ask) (query : Query) (rows : List (List Row)) → InRange ask.budget ask.accuracy → length query.from ≤ 12 → NamesItsEntries query → IfOk (plan_stage ask query rows) IsRun
 unfolding plan_stage
 plan_ok ask query rows range few own =
-    then_ok (IsPlanOf query (tables_in rows)) IsRun (told plan_refusal (planned query (tables_in rows) ask.accuracy ask.budget)) _
-    (ok_so (IsPlanOf query (tables_in rows)) plan_refusal (planned query (tables_in rows) ask.accuracy ask.budget)
-    (λ plan made. plan_holds query (tables_in rows) ask.accuracy ask.budget plan few range.budget_most made))
+    then_ok (HoldsBy ask.reduce query (tables_in rows)) IsRun (told plan_refusal (plan_asked ask query (tables_in rows))) _
+    (ok_so (HoldsBy ask.reduce query (tables_in rows)) plan_refusal (plan_asked ask query (tables_in rows))
+    (λ plan made. asked_holds ask.reduce query (tables_in rows) ask.accuracy ask.budget plan few range.budget_most made))
     (λ plan holds. record { own = own; plan = holds })
 
 query_run_ok : (ask : Ask) (schema : Schema) (query : Query) (files : Files) → InRange ask.budget ask.accuracy → IsOf schema query → IfOk (query_run ask schema query files) IsRun
@@ -91,16 +110,32 @@ verdict_ok words files =
 
 -- ---- two sentences
 
+module _ (query : Query) (rows : List (List Row)) (plan : Plan) where
+  bounds_by : (reduce : Bool) (out : OutText) → HoldsBy reduce query (tables_in rows) plan
+      → BoundsHold (record { query = query; rows = rows; plan = plan; reduce = reduce; out = out })
+  bounds_by false out is = record { plan = is.for_each_entry; scans = is.scans; reduced = λ h. absurd (false≢true h); levels = is.levels }
+  bounds_by true out is = record { plan = is.0.for_each_entry; scans = is.0.scans; reduced = λ h. is.1; levels = is.0.levels }
+
+  -- the outputs of each choice of a level that is the last one
+  rows_of_level : NamesItsEntries query → IsPlan (length query.from) plan → (last : List (List ℕ))
+      → last ≡ level_of (conjuncts_of query (tables_in rows)) (row_counts (tables_in rows)) plan.order
+      → IsPermutation (map (λ choice. selected query (tables_in rows) (row_in plan.order choice)) last) (answer query (tables_in rows))
+  rows_of_level own each last is =
+      subst (λ (level : List (List ℕ)). IsPermutation (map (λ choice. selected query (tables_in rows) (row_in plan.order choice)) level) (answer query (tables_in rows)))
+      (sym is) (last_level_is_answer query (tables_in rows) plan.order own (order_is query (tables_in rows) own plan each))
+
+  rows_by : (reduce : Bool) (out : OutText) → NamesItsEntries query → HoldsBy reduce query (tables_in rows) plan
+      → RowsAreTheAnswer (record { query = query; rows = rows; plan = plan; reduce = reduce; out = out })
+  rows_by false out own is =
+      rows_of_level own is.for_each_entry _
+      (ap (λ (placed : List ℕ). level_of (conjuncts_of query (tables_in rows)) (row_counts (tables_in rows)) placed) (take-length plan.order))
+  rows_by true out own is = rows_of_level own is.0.for_each_entry _ (last_reduced query (tables_in rows) own plan is.0.for_each_entry)
+
 run_bounds : (run : Accepted) → IsRun run → BoundsHold run
-run_bounds run is = record { plan = is.plan.for_each_entry; scans = is.plan.scans; levels = is.plan.levels }
+run_bounds run is = bounds_by run.query run.rows run.plan run.reduce run.out is.plan
 
 run_rows : (run : Accepted) → IsRun run → RowsAreTheAnswer run
-run_rows run is =
-    let order : List ℕ = run.plan.order in
-    let all : IsOrderOfSet (entries_of run.query) order =
-    order_of_all (length run.query.from) order is.plan.for_each_entry.order.entries is.plan.for_each_entry.order.once is.plan.for_each_entry.order.all in
-    subst (λ (placed : List ℕ). IsPermutation (map (λ choice. selected run.query (tables run) (row_in order choice)) (level_of (conjuncts_of run.query (tables run)) (row_counts (tables run)) placed)) (answer run.query (tables run)))
-    (sym (take-length order)) (last_level_is_answer run.query (tables run) order is.own all)
+run_rows run is = rows_by run.query run.rows run.plan run.reduce run.out is.own is.plan
 
 so : (P : Accepted → Type 0) → ((run : Accepted) → IsRun run → P run) → (r : Result Accepted Refusal) → IfOk r IsRun → IfOk r P
 so P holds (Ok run) is = holds run is

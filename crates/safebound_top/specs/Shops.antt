@@ -7,9 +7,9 @@ use Rattle.safebound_words.specs.Requests.{Request, Run, Plan, Audit, Demo}
 
 -- one line for each command: `demo` alone makes files, those of the shop with its number
 abbrev pub shop_asked : Request → Option ℕ
-shop_asked (Run schema query budget accuracy) = None
-shop_asked (Plan schema query budget accuracy) = None
-shop_asked (Audit schema query budget accuracy) = None
+shop_asked (Run schema query budget accuracy reduce) = None
+shop_asked (Plan schema query budget accuracy reduce) = None
+shop_asked (Audit schema query budget accuracy reduce) = None
 shop_asked (Demo number) = Some number
 
 abbrev pub request_shop : Option Request → Option ℕ

@@ -1,5 +1,5 @@
 -- What the words and the files determine, in stages: the words, the schema, the query, the tables, the plan.
-use Rattle.std.specs.Prelude.{ℕ, List, Result, Ok, Err, IsOk}
+use Rattle.std.specs.Prelude.{ℕ, if◌then◌else◌, List, Result, Ok, Err, IsOk}
 use Rattle.limits.specs.Profile.{most_text}
 use Rattle.base_io.specs.Files.{Files}
 use Rattle.text_answers.specs.SchemaTexts.{schema_answer}
@@ -7,6 +7,9 @@ use Rattle.schema_types.specs.declared.types.Schema.{Schema}
 use Rattle.csv_tables.specs.Rows.{Row}
 use Rattle.text_answers.specs.QueryTexts.{query_answer}
 use Rattle.query_types.specs.declared.types.Query.{Query}
+use Rattle.sql_meaning.specs.Tables.{Tables}
+use Rattle.plans.specs.declared.left_deep.Plan.{Plan}
+use Rattle.order_search.specs.declared.refusal.PlanError.{PlanError}
 use Rattle.outcomes.specs.Errors.{plan_refusal, query_refusal, schema_refusal}
 use Rattle.outcomes.specs.Reads.{◌>>=◌, told}
 use Rattle.outcomes.specs.declared.names.FileId.{FileId}
@@ -17,6 +20,7 @@ use Rattle.table_files.specs.Stage.{tables_of_query, tables_stage}
 use Rattle.table_files.specs.Stage.{IsReached as IsTableReached}
 use Rattle.table_files.specs.TableFile.{read}
 use Rattle.planning.specs.Plans.{planned}
+use Rattle.reduced_bounds.specs.Plans.{planned_reduced}
 use Rattle.safebound_top.specs.Accepted.{Accepted}
 use Rattle.safebound_top.specs.Asks.{Ask, command_stage}
 
@@ -38,11 +42,16 @@ query_stage name schema files = do
   text ← read file.Query most_text name files
   query_of_text schema text
 
+-- the plan of a query over its tables, from their statistics or from its reduced scans
+abbrev pub plan_asked : Ask → Query → Tables → Result Plan PlanError
+plan_asked ask query ts =
+    if ask.reduce then planned_reduced query ts ask.accuracy ask.budget else planned query ts ask.accuracy ask.budget
+
 -- the plan of a query over its entries' rows: the best order with its bounds, or PastBits, or Budget with the least cost
 unfoldable pub plan_stage : Ask → Query → List (List Row) → Result Accepted Refusal
 plan_stage ask query rows = do
-  plan ← told plan_refusal (planned query (tables_in rows) ask.accuracy ask.budget)
-  Ok (record { query = query; rows = rows; plan = plan; out = ask.out })
+  plan ← told plan_refusal (plan_asked ask query (tables_in rows))
+  Ok (record { query = query; rows = rows; plan = plan; reduce = ask.reduce; out = ask.out })
 
 -- what a run is over, or the first refusal that applies: from the tables on, from the query on, from the schema on, and from the words on
 unfoldable pub query_run : Ask → Schema → Query → Files → Result Accepted Refusal

@@ -6,6 +6,7 @@ ghost use Rattle.csv_tables.specs.declared.types.TableError.TheVariants as table
 ghost use Rattle.order_search.specs.declared.refusal.PlanError.TheVariants as plan_error;
 ghost use Rattle.planning.specs.Plans.{planned};
 ghost use Rattle.query_types.specs.declared.types.Query.{Query};
+ghost use Rattle.reduced_bounds.specs.Plans.{planned_reduced};
 ghost use Rattle.schema_types.specs.declared.errors.SchemaError.TheVariants as schema_error;
 ghost use Rattle.schema_types.specs.declared.types.Schema.{Schema};
 ghost use Rattle.schema_types.specs.declared.types.Table.{Table};
@@ -31,13 +32,15 @@ pub fn demo_is_an_audit()
         → verdict words files ≡ verdict (codes "audit" ∷ codes "schema.sql" ∷ codes "query.sql" ∷ []) files }
 {}
 
-/// Of the errors of the three readers and of the plan the verdict meets none that is want of memory: no text, no
-/// table's bytes and no plan answers it. So each refusal of the verdict tells something of the words or of a file. It
-/// does nothing.
+/// Of the errors of the three readers and of both plans the verdict meets none that is want of memory: no text, no
+/// table's bytes, and no plan over whole tables or over reduced scans answers it. So each refusal of the verdict tells
+/// something of the words or of a file. It does nothing.
 pub fn no_reader_wants_memory()
     ensures schemas { (text : List ℕ) → schema_answer text ≢ Err schema_error.NoMemory }
     ensures queries { (schema : Schema) (text : List ℕ) → query_answer schema text ≢ Err query_error.NoMemory }
     ensures tables { (table : Table) (bytes : List ℕ) → rows_of_file table bytes ≢ Err table_error.NoMemory }
+    ensures reduced_plans { (query : Query) (tables : Tables) (accuracy budget : ℕ)
+        → planned_reduced query tables accuracy budget ≢ Err plan_error.NoMemory }
     ensures plans { (query : Query) (tables : Tables) (accuracy budget : ℕ)
         → planned query tables accuracy budget ≢ Err plan_error.NoMemory }
 {}

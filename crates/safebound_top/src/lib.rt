@@ -15,6 +15,7 @@ mod files;
 mod laws;
 mod prepare;
 mod report;
+mod scans;
 mod shop;
 mod task;
 mod texts;

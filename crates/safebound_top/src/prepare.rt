@@ -1,10 +1,10 @@
 //! Everything that a run takes memory for, before it writes.
 ghost use Rattle.std.specs.Prelude.{ℕ, ◌≡◌, ◌⊎◌, ◌<◌, ◌≤◌, IfErr, IfOk, Ok, length};
-ghost use Rattle.limits.specs.Profile.{most_budget, most_conjuncts};
+ghost use Rattle.limits.specs.Profile.{most_accuracy, most_budget, most_conjuncts};
 ghost use Rattle.level_bounds.specs.Keys.{HaveDifferentCharacters};
 ghost use Rattle.outcomes.specs.Devices.{reading};
 ghost use Rattle.outcomes.specs.Reads.{Reads, Tells, seen};
-ghost use Rattle.planned_joins.specs.PlansOf.{HaveFewRows, IsPlanOf};
+ghost use Rattle.planned_joins.specs.PlansOf.{HaveFewRows};
 ghost use Rattle.query_types.specs.Validity.{IsOf};
 ghost use Rattle.schema_types.specs.Validity.{IsValid};
 ghost use Rattle.sql_meaning.specs.Databases.{IsDatabaseOf};
@@ -12,16 +12,15 @@ ghost use Rattle.sql_meaning.specs.Tables.{tables_of};
 ghost use Rattle.table_files.specs.Found.{entry_rows, tables_in};
 ghost use Rattle.table_files.specs.Stage.{IsReached, tables_of_query};
 ghost use Rattle.safebound_top.specs.Asks.{asked};
-ghost use Rattle.safebound_top.specs.Prepared.{HasRoom, IsReady, accepted_of, text_left};
+ghost use Rattle.safebound_top.specs.Prepared.{HasRoom, IsPlanBy, IsReady, accepted_of, text_left};
 ghost use Rattle.safebound_top.specs.Verdict.{IsTableOf, plan_stage, query_from, query_run, schema_run};
 
 use crate::files::load_query;
+use crate::scans::{Planned, Scans, plan_task, reserve_joins};
 use crate::task::{OutText, Task};
 use base_io::{NoMemory, Store};
 use csv_tables::Database;
 use outcomes::{Ending, FileId};
-use planned_joins::reserve_plan;
-use planning::plan_query;
 use plans::Plan;
 use query_types::Query;
 use reserve_plan::Reserved;
@@ -40,12 +39,13 @@ pub enum Rest {
     Nothing,
 }
 
-/// A query, the database of its tables, its plan, and what is left to do.
+/// A query, the database of its tables, its plan, the rows from which its levels are chosen, and what is left to do.
 #[derive(Drop)]
 pub struct Prepared {
     pub query: Query,
     pub db: Database,
     pub plan: Plan,
+    pub scans: Scans,
     pub rest: Rest,
 }
 
@@ -56,16 +56,17 @@ fn make_room(
     query: &Query,
     db: &Database,
     plan: &Plan,
+    scans: &Scans,
 ) -> Result<Rest, NoMemory>
     requires database { IsDatabaseOf query.now db.now }
     requires few_rows { HaveFewRows (tables_of db.now) (length query.now.from) }
-    requires plan { IsPlanOf query.now (tables_of db.now) plan.now }
-    ensures room { IfOk result (HasRoom query.now db.now plan.now) }
+    requires plan { IsPlanBy scans.now query.now (tables_of db.now) plan.now }
+    ensures room { IfOk result (HasRoom query.now db.now plan.now scans.now) }
     ensures out { IfOk result (λ rest. text_left rest ≡ out) }
 {
     match out {
-        OutText::Rows => Ok(Rest::Rows(reserve_plan(alloc, query, db, plan)?)),
-        OutText::Audit => Ok(Rest::Audit(reserve_plan(alloc, query, db, plan)?)),
+        OutText::Rows => Ok(Rest::Rows(reserve_joins(alloc, scans, query, db, plan)?)),
+        OutText::Audit => Ok(Rest::Audit(reserve_joins(alloc, scans, query, db, plan)?)),
         OutText::Nothing => Ok(Rest::Nothing),
     }
 }
@@ -77,18 +78,19 @@ fn prepare_plan(alloc: Global, task: &Task, query: Query, db: Database) -> Resul
     requires few_rows { HaveFewRows (tables_of db) (length query.from) }
     requires texts { HaveDifferentCharacters db.pool }
     requires tables { tables_in (entry_rows db) ≡ tables_of db }
-    requires accuracy { (0 < task.now.accuracy) × (task.now.accuracy ≤ 64) }
+    requires accuracy { (0 < task.now.accuracy) × (task.now.accuracy ≤ most_accuracy) }
     requires budget { task.now.budget ≤ most_budget }
     ensures ready { IfOk result IsReady }
     ensures run { IfOk result (λ p. plan_stage (asked task.now) query (entry_rows db) ≡ Ok (accepted_of p)) }
     ensures refused { IfErr result (Tells (plan_stage (asked task.now) query (entry_rows db))) }
 {
-    let plan = plan_query(alloc, &query, &db, task.accuracy, task.budget)?;
-    let rest = make_room(alloc, task.out, &query, &db, &plan)?;
+    let Planned { plan, scans } = plan_task(alloc, task, &query, &db)?;
+    let rest = make_room(alloc, task.out, &query, &db, &plan, &scans)?;
     Ok(Prepared {
         query,
         db,
         plan,
+        scans,
         rest,
     })
 }
@@ -104,7 +106,7 @@ fn prepare_query<S: Store>(
     requires schema { IsValid schema.now }
     requires query { IsOf schema.now query }
     requires few { length query.conjuncts ≤ most_conjuncts }
-    requires accuracy { (0 < task.now.accuracy) × (task.now.accuracy ≤ 64) }
+    requires accuracy { (0 < task.now.accuracy) × (task.now.accuracy ≤ most_accuracy) }
     requires budget { task.now.budget ≤ most_budget }
     ensures ready { IfOk result IsReady }
     ensures reads { Reads (reading S.files S.faults S.misses store.old store.new) (query_run (asked task.now) schema.now query)
@@ -122,7 +124,7 @@ pub fn prepare<S: Store>(
     schema: &Schema,
 ) -> Result<Prepared, Ending>
     requires schema { IsValid schema.now }
-    requires accuracy { (0 < task.now.accuracy) × (task.now.accuracy ≤ 64) }
+    requires accuracy { (0 < task.now.accuracy) × (task.now.accuracy ≤ most_accuracy) }
     requires budget { task.now.budget ≤ most_budget }
     ensures ready { IfOk result IsReady }
     ensures reads { Reads (reading S.files S.faults S.misses store.old store.new) (schema_run (asked task.now) schema.now)

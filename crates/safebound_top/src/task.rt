@@ -1,6 +1,6 @@
 //! What the words of a command line ask of a run.
 ghost use Rattle.std.specs.Prelude.{◌≡◌, ◌<◌, ◌≤◌, Err, IfSome, MatchOption, None, Ok, map};
-ghost use Rattle.limits.specs.Profile.{most_budget};
+ghost use Rattle.limits.specs.Profile.{most_accuracy, most_budget};
 ghost use Rattle.outcomes.specs.declared.refusal.Refusal.TheVariants as refusal;
 ghost use Rattle.safebound_words.specs.Requests.{request_of};
 ghost use Rattle.safebound_top.specs.Asks.{ask_for, asked, asks, command_stage};
@@ -20,21 +20,29 @@ pub enum OutText {
     Nothing,
 }
 
-/// The names of two files, the most rows that a plan may cost, how closely lists of degrees are compressed, which
-/// text goes to `out`, and the number of the shop whose files are made and read, if one is.
+/// The names of two files, the most rows that a plan may cost, how closely lists of degrees are compressed, whether
+/// scans are reduced, which text goes to `out`, and the number of the shop whose files are made and read, if one is.
 #[derive(Clone, Copy, Debug)]
 pub struct Task<'a> {
     pub schema_file: &'a str,
     pub query_file: &'a str,
     pub budget: u64,
     pub accuracy: u8,
+    pub reduce: bool,
     pub out: OutText,
     pub shop: Option<u32>,
 }
 
 // The task of two files of the store, and the text that it writes to `out`.
-fn over<'a>(schema: &'a str, query: &'a str, budget: u64, accuracy: u8, out: OutText) -> Task<'a>
-    ensures asked { asked result ≡ ask_for out schema.now query.now budget accuracy }
+fn over<'a>(
+    schema: &'a str,
+    query: &'a str,
+    budget: u64,
+    accuracy: u8,
+    reduce: bool,
+    out: OutText,
+) -> Task<'a>
+    ensures asked { asked result ≡ ask_for out schema.now query.now budget accuracy reduce }
     ensures shop { result.shop ≡ None }
 {
     Task {
@@ -42,6 +50,7 @@ fn over<'a>(schema: &'a str, query: &'a str, budget: u64, accuracy: u8, out: Out
         query_file: query,
         budget,
         accuracy,
+        reduce,
         out,
         shop: None,
     }
@@ -58,19 +67,22 @@ fn task_of<'a>(command: Command<'a>) -> Task<'a>
             query,
             budget,
             accuracy,
-        } => over(schema, query, budget, accuracy, OutText::Rows),
+            reduce,
+        } => over(schema, query, budget, accuracy, reduce, OutText::Rows),
         Command::Plan {
             schema,
             query,
             budget,
             accuracy,
-        } => over(schema, query, budget, accuracy, OutText::Nothing),
+            reduce,
+        } => over(schema, query, budget, accuracy, reduce, OutText::Nothing),
         Command::Audit {
             schema,
             query,
             budget,
             accuracy,
-        } => over(schema, query, budget, accuracy, OutText::Audit),
+            reduce,
+        } => over(schema, query, budget, accuracy, reduce, OutText::Audit),
         Command::Demo { number } => Task {
             shop: Some(number),
             ..over(
@@ -78,6 +90,7 @@ fn task_of<'a>(command: Command<'a>) -> Task<'a>
                 "query.sql",
                 USUAL_BUDGET,
                 USUAL_ACCURACY,
+                false,
                 OutText::Audit,
             )
         },
@@ -90,7 +103,7 @@ pub fn read_task<'a>(words: &[&'a str]) -> Option<Task<'a>>
         (λ task. command_stage (map (λ w. w.now) words.now) ≡ Ok (asked task)) }
     ensures shop { MatchOption result (shop_of (map (λ w. w.now) words.now) ≡ None)
         (λ task. shop_of (map (λ w. w.now) words.now) ≡ task.shop) }
-    ensures accuracy { IfSome result (λ task. (0 < task.accuracy) × (task.accuracy ≤ 64)) }
+    ensures accuracy { IfSome result (λ task. (0 < task.accuracy) × (task.accuracy ≤ most_accuracy)) }
     ensures budget { IfSome result (λ task. task.budget ≤ most_budget) }
 {
     match read_words(words) {

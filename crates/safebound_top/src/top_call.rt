@@ -1,6 +1,6 @@
 //! The top call, stage by stage.
 ghost use Rattle.std.specs.Prelude.{◌≡◌, ◌⊎◌, ◌<◌, ◌≤◌, IfSome, List, ℕ, Ok, Some, map, option_copied};
-ghost use Rattle.limits.specs.Profile.{most_budget};
+ghost use Rattle.limits.specs.Profile.{most_accuracy, most_budget};
 ghost use Rattle.outcomes.specs.Devices.{growth, reading};
 ghost use Rattle.outcomes.specs.Statuses.{ended};
 ghost use Rattle.schema_types.specs.Validity.{IsValid};
@@ -66,7 +66,7 @@ fn run_over<S: Store, O: Sink, N: Sink>(
     notes: &mut N,
 ) -> Status
     requires schema { IsValid schema.now }
-    requires accuracy { (0 < task.now.accuracy) × (task.now.accuracy ≤ 64) }
+    requires accuracy { (0 < task.now.accuracy) × (task.now.accuracy ≤ most_accuracy) }
     requires budget { task.now.budget ≤ most_budget }
     ensures { Ran result (reading S.files S.faults S.misses store.old store.new) (growth O.taken O.faults out.old out.new)
         (growth N.taken N.faults notes.old notes.new) (schema_run (asked task.now) schema.now)
@@ -87,7 +87,7 @@ fn run<S: Store, O: Sink, N: Sink>(
     out: &mut O,
     notes: &mut N,
 ) -> Status
-    requires accuracy { (0 < task.now.accuracy) × (task.now.accuracy ≤ 64) }
+    requires accuracy { (0 < task.now.accuracy) × (task.now.accuracy ≤ most_accuracy) }
     requires budget { task.now.budget ≤ most_budget }
     ensures { (words : List (List ℕ)) → command_stage words ≡ Ok (asked task.now) → Course (record {
       words = words;
@@ -111,7 +111,7 @@ fn run_shop<O: Sink, N: Sink>(
     out: &mut O,
     notes: &mut N,
 ) -> Status
-    requires accuracy { (0 < task.now.accuracy) × (task.now.accuracy ≤ 64) }
+    requires accuracy { (0 < task.now.accuracy) × (task.now.accuracy ≤ most_accuracy) }
     requires budget { task.now.budget ≤ most_budget }
     ensures { (words : List (List ℕ)) → command_stage words ≡ Ok (asked task.now) → Course (record {
       words = words;
@@ -135,7 +135,7 @@ fn run_task<S: Store, O: Sink, N: Sink>(
     out: &mut O,
     notes: &mut N,
 ) -> Status
-    requires accuracy { (0 < task.now.accuracy) × (task.now.accuracy ≤ 64) }
+    requires accuracy { (0 < task.now.accuracy) × (task.now.accuracy ≤ most_accuracy) }
     requires budget { task.now.budget ≤ most_budget }
     ensures course { (words : List (List ℕ)) → command_stage words ≡ Ok (asked task.now) → Course (record {
       words = words;

@@ -2,14 +2,14 @@
 use Rattle.std.proofs.Common.{◌≡◌, List, [], ◌∷◌, ◌++◌, Option, Some, None, sym, refl, ap, ◌∙◌, inl, inr, append_assoc}
 use Rattle.std.specs.Bool.{IsTrue}
 use Rattle.std.specs.List.{AllByRecursion, flat_map}
-use Rattle.safebound_words.specs.Answer.{Kind, Ends, IsPlace, Wants, Gives, Unknown, Parts, command_named, command_of, in_front, kind_of, parts_from, read_by, reading_of}
-use Rattle.safebound_words.specs.CommandLines.{AskFor, Item, Place, Beside, Joined, IsEnd, IsItemOf, Reading, Reads, has_option, requested, spelling}
+use Rattle.safebound_words.specs.Answer.{Kind, Ends, IsPlace, Sets, Wants, Gives, Unknown, Parts, command_named, command_of, in_front, kind_of, parts_from, read_by, reading_of}
+use Rattle.safebound_words.specs.CommandLines.{Alone, AskFor, Beside, IsEnd, IsItemOf, Item, Joined, Place, Reading, Reads, has_option, requested, spelling}
 use Rattle.safebound_words.specs.Requests.{Request}
 use Rattle.safebound_words.specs.Table.{command_row, option_row, ◌>>=◌}
 use Rattle.safebound_words.specs.Words.{Word}
 use Rattle.safebound_words.specs.declared.table.CommandName.{CommandName}
 use Rattle.safebound_words.specs.declared.table.OptionName.{OptionName}
-use Rattle.safebound_words.proofs.WordKinds.{Told, told, kind-ends, kind-gives, kind-place, kind-wants, named_so, names_itself}
+use Rattle.safebound_words.proofs.WordKinds.{Told, told, kind-ends, kind-gives, kind-place, kind-sets, kind-wants, named_so, names_itself}
 
 -- What is spelled is read.
 
@@ -22,6 +22,8 @@ spelled_read name [] rest behind all end = elim end [
 ]
 spelled_read name (Place word ∷ items) rest behind all end =
     rw (kind-place name word all.0, spelled_read name items rest behind all.1 end) refl
+spelled_read name (Alone f ∷ items) rest behind all end =
+    rw (kind-sets name f all.0, spelled_read name items rest behind all.1 end) refl
 spelled_read name (Beside o value ∷ items) rest behind all end =
     rw (kind-wants name o all.0, spelled_read name items rest behind all.1 end) refl
 spelled_read name (Joined o value ∷ items) rest behind all end =
@@ -76,6 +78,8 @@ kind_spelled name word words Ends parts is read_on value e =
     rw parts_are record { rest = word ∷ words; spelled = refl; end = inr (ap (λ w. w ∷ words) is); items = tt }
 kind_spelled name word words IsPlace parts is read_on value e =
     one_more_item name (Place word) (word ∷ words) words (parts_from name None words) parts refl is read_on e
+kind_spelled name word words (Sets f) parts is read_on value e =
+    one_more_item name (Alone f) (word ∷ words) words (parts_from name None words) parts (ap (λ w. w ∷ words) is.0) is.1 read_on e
 kind_spelled name word words (Wants o) parts is read_on value e =
     rw is.0 (value o parts is.1 e)
 kind_spelled name word words (Gives o given) parts is read_on value e =

@@ -1,21 +1,24 @@
 -- One word more: what is asked for by what was collected and what is left stays the same, or nothing can be.
-use Rattle.std.proofs.Common.{◌≡◌, ℕ, ◌+◌, ◌<◌, ◌≤◌, true, if◌then◌else◌, List, [], ◌∷◌, ◌++◌, length, map, drop, get_or, Option, Some, None, Result, Ok, Err, Bor, sym, refl, ap, ◌∙◌, add-one, append_assoc, append-nil, length-append, suc, arith}
+use Rattle.std.proofs.Common.{◌≡◌, ℕ, ◌+◌, ◌<◌, ◌≤◌, Bool, true, false, if◌then◌else◌, List, [], ◌∷◌, ◌++◌, length, map, drop, get_or, Option, Some, None, Result, Ok, Err, Bor, sym, refl, ap, ◌∙◌, add-one, append_assoc, append-nil, length-append, suc, zero, arith}
 use Rattle.std.proofs.Math.Path.{fun_ext}
 use Rattle.std.proofs.Math.Seq.{drop-cons}
 use Rattle.std.proofs.lemmas.Bool.{false≢true}
 use Rattle.std.proofs.lemmas.List.{drop_all}
+use Rattle.std.proofs.lemmas.List.Sums.{sum_by-cons}
 use Rattle.std.proofs.lemmas.Slice.Eq.{bytes_eq-Decides}
 use Rattle.std.specs.Bool.{IsTrue}
 use Rattle.std.specs.List.{flat_map}
 use Rattle.std.specs.Result.{OnErr}
-use Rattle.safebound_words.specs.Answer.{Kind, Ends, IsPlace, Wants, Gives, Unknown, Parts, in_front, kind_of, parts_from, read_by}
-use Rattle.safebound_words.specs.Collected.{asked_by, asked_from, asked_with, collected, given_to, words_of}
-use Rattle.safebound_words.specs.CommandLines.{Item, Place, Beside, Joined, given_by, has_option, place_words, same_option}
+use Rattle.safebound_words.specs.Answer.{Kind, Ends, IsPlace, Sets, Wants, Gives, Unknown, Parts, in_front, kind_of, parts_from, read_by}
+use Rattle.safebound_words.specs.Collected.{asked_by, asked_from, asked_with, collected, given_of, given_to, given_with, times_of, words_of}
+use Rattle.safebound_words.specs.CommandLines.{Alone, Beside, Item, Joined, Place, given_by, given_in, has_flag, has_option, place_words, same_flag, same_option, set_by}
 use Rattle.safebound_words.specs.Requests.{Request}
-use Rattle.safebound_words.specs.Table.{Given, command_row, option_row, over_files, of_number, value_of, ◌>>=◌}
+use Rattle.safebound_words.specs.Table.{Given, command_row, flag_word, is_set, option_row, over_files, of_number, value_of, ◌>>=◌}
 use Rattle.safebound_words.specs.Words.{Word}
 use Rattle.safebound_words.specs.declared.table.CommandName.{CommandName}
 use Rattle.safebound_words.specs.declared.table.CommandName.TheVariants as command
+use Rattle.safebound_words.specs.declared.table.FlagName.{FlagName}
+use Rattle.safebound_words.specs.declared.table.FlagName.TheVariants as flag
 use Rattle.safebound_words.specs.declared.table.OptionName.{OptionName}
 use Rattle.safebound_words.specs.declared.table.OptionName.TheVariants as option
 use Rattle.safebound_words.specs.declared.line.Line.{Line}
@@ -23,62 +26,96 @@ use Rattle.safebound_words.specs.declared.line.Next.TheVariants as next
 use Rattle.safebound_words.specs.declared.line.Places.TheVariants as places
 use Rattle.safebound_words.proofs.WordKinds.{told}
 
--- What a command asks for depends on its place words and on what is given to each option.
+-- What a command asks for depends on its place words, on what is given to each option and on how often each flag is there.
 
 same_asks : (name : CommandName) (places places' : List Word) (given given' : Given)
-    → places ≡ places' → ((o : OptionName) → given o ≡ given' o)
+    → places ≡ places' → ((o : OptionName) → given.values o ≡ given'.values o) → ((f : FlagName) → given.times f ≡ given'.times f)
     → (command_row name).asks places given ≡ (command_row name).asks places' given'
-same_asks name places places' given given' same all =
-    ap (λ ws. (command_row name).asks ws given) same ∙ ap (λ (g : Given). (command_row name).asks places' g) (fun_ext all)
+same_asks name places places' given given' same values times =
+    ap (λ ws. (command_row name).asks ws given) same
+    ∙ ap (λ (v : OptionName → List Word). (command_row name).asks places' (record { values = v; times = given.times })) (fun_ext values)
+    ∙ ap (λ (t : FlagName → ℕ). (command_row name).asks places' (record { values = given'.values; times = t })) (fun_ext times)
+
+-- a line after one word more behind which nothing else changed
+pub record IsSameBeside (new old : Line) : Type 0 where
+  pub values : (o : OptionName) → given_to new o ≡ given_to old o
+  pub times : (f : FlagName) → times_of new f ≡ times_of old f
+
+-- an item that is no flag is there, and the flags behind it
+no_more_times : (new old : Line) (item : Item) (items : List Item) → ((f : FlagName) → times_of new f ≡ times_of old f)
+    → ((f : FlagName) → set_by f item ≡ 0) → (f : FlagName) → (given_with new items).times f ≡ (given_with old (item ∷ items)).times f
+no_more_times new old item items same none f = rw (same f) (omega (arith, sum_by-cons (set_by f) item items, none f))
 
 pub one_more_place : (name : CommandName) (new old : Line) (word : Word) (parts : Parts)
-    → words_of new.places ≡ words_of old.places ++ word ∷ [] → ((o : OptionName) → given_to new o ≡ given_to old o)
+    → words_of new.places ≡ words_of old.places ++ word ∷ [] → IsSameBeside new old
     → asked_with name new parts ≡ asked_with name old (Place word ∷ parts.0, parts.1)
 unfolding asked_with
-one_more_place name new old word parts places given =
+one_more_place name new old word parts places same =
     same_asks name
     (words_of new.places ++ (flat_map place_words parts.0 ++ parts.1))
     (words_of old.places ++ (word ∷ (flat_map place_words parts.0 ++ parts.1)))
-    (λ o. given_to new o ++ flat_map (given_by o) parts.0)
-    (λ o. given_to old o ++ flat_map (given_by o) parts.0)
+    (given_with new parts.0)
+    (given_with old (Place word ∷ parts.0))
     (ap (λ ws. ws ++ (flat_map place_words parts.0 ++ parts.1)) places ∙ append_assoc (words_of old.places) (word ∷ []) (flat_map place_words parts.0 ++ parts.1))
-    (λ o. ap (λ ws. ws ++ flat_map (given_by o) parts.0) (given o))
+    (λ o. ap (λ ws. ws ++ flat_map (given_by o) parts.0) (same.values o))
+    (no_more_times new old (Place word) parts.0 same.times (λ f. refl))
 
 pub one_more_behind : (name : CommandName) (new old : Line) (word : Word) (words : List Word)
-    → words_of new.places ≡ words_of old.places ++ word ∷ [] → ((o : OptionName) → given_to new o ≡ given_to old o)
+    → words_of new.places ≡ words_of old.places ++ word ∷ [] → IsSameBeside new old
     → asked_with name new ([], words) ≡ asked_with name old ([], word ∷ words)
 unfolding asked_with
-one_more_behind name new old word words places given =
+one_more_behind name new old word words places same =
     same_asks name
     (words_of new.places ++ words)
     (words_of old.places ++ (word ∷ words))
-    (λ o. given_to new o ++ [])
-    (λ o. given_to old o ++ [])
+    (given_with new [])
+    (given_with old [])
     (ap (λ ws. ws ++ words) places ∙ append_assoc (words_of old.places) (word ∷ []) words)
-    (λ o. ap (λ ws. ws ++ []) (given o))
+    (λ o. ap (λ ws. ws ++ []) (same.values o))
+    (λ f. ap (λ n. n + 0) (same.times f))
+
+-- what a line has after one flag more
+SetsMore : Line → Line → FlagName → Type 0
+SetsMore new old f = (other : FlagName) → times_of new other ≡ times_of old other + (if same_flag other f then 1 else 0)
+
+one_more_flag : (name : CommandName) (new old : Line) (f : FlagName) (parts : Parts)
+    → new.places ≡ old.places → ((o : OptionName) → given_to new o ≡ given_to old o) → SetsMore new old f
+    → asked_with name new parts ≡ asked_with name old (Alone f ∷ parts.0, parts.1)
+unfolding asked_with SetsMore
+one_more_flag name new old f parts places values more =
+    same_asks name
+    (words_of new.places ++ (flat_map place_words parts.0 ++ parts.1))
+    (words_of old.places ++ (flat_map place_words parts.0 ++ parts.1))
+    (given_with new parts.0)
+    (given_with old (Alone f ∷ parts.0))
+    (rw places refl)
+    (λ o. ap (λ ws. ws ++ flat_map (given_by o) parts.0) (values o))
+    (λ other. omega (arith, more other, sum_by-cons (set_by other) (Alone f) parts.0))
 
 -- what a line gives after one value more
 GivesMore : Line → Line → OptionName → Word → Type 0
 GivesMore new old o value = (other : OptionName) → given_to new other ≡ given_to old other ++ (if same_option other o then value ∷ [] else [])
 
 one_more_value : (name : CommandName) (new old : Line) (item : Item) (o : OptionName) (value : Word) (parts : Parts)
-    → place_words item ≡ [] → ((other : OptionName) → given_by other item ≡ (if same_option other o then value ∷ [] else []))
-    → new.places ≡ old.places → GivesMore new old o value
+    → place_words item ≡ [] → ((f : FlagName) → set_by f item ≡ 0)
+    → ((other : OptionName) → given_by other item ≡ (if same_option other o then value ∷ [] else []))
+    → new.places ≡ old.places → ((f : FlagName) → times_of new f ≡ times_of old f) → GivesMore new old o value
     → asked_with name new parts ≡ asked_with name old (item ∷ parts.0, parts.1)
 unfolding asked_with GivesMore
-one_more_value name new old item o value parts none by places given =
+one_more_value name new old item o value parts none unset by places times given =
     same_asks name
     (words_of new.places ++ (flat_map place_words parts.0 ++ parts.1))
     (words_of old.places ++ ((place_words item ++ flat_map place_words parts.0) ++ parts.1))
-    (λ other. given_to new other ++ flat_map (given_by other) parts.0)
-    (λ other. given_to old other ++ (given_by other item ++ flat_map (given_by other) parts.0))
+    (given_with new parts.0)
+    (given_with old (item ∷ parts.0))
     (rw (none, places) refl)
     (λ other. ap (λ ws. ws ++ flat_map (given_by other) parts.0) (given other ∙ ap (λ ws. given_to old other ++ ws) (sym (by other)))
     ∙ append_assoc (given_to old other) (given_by other item) (flat_map (given_by other) parts.0))
+    (no_more_times new old item parts.0 times unset)
 
 -- Where too much is collected, nothing is asked for.
 
-two_at_most : (request : Word → Word → ℕ → ℕ → Request) (places : List Word) (given : Given) → 2 < length places → over_files request places given ≡ None
+two_at_most : (request : Word → Word → ℕ → ℕ → Bool → Request) (places : List Word) (given : Given) → 2 < length places → over_files request places given ≡ None
 two_at_most request [] given many = absurd (omega arith)
 two_at_most request (a ∷ []) given many = absurd (omega arith)
 two_at_most request (a ∷ b ∷ []) given many = absurd (omega arith)
@@ -109,15 +146,40 @@ too_often o [] many = absurd (omega arith)
 too_often o (a ∷ []) many = absurd (omega arith)
 too_often o (a ∷ b ∷ rest) many = refl
 
-no_value : (request : Word → Word → ℕ → ℕ → Request) (places : List Word) (given : Given) (o : OptionName)
-    → 1 < length (given o) → over_files request places given ≡ None
+no_value : (request : Word → Word → ℕ → ℕ → Bool → Request) (places : List Word) (given : Given) (o : OptionName)
+    → 1 < length (given.values o) → over_files request places given ≡ None
 no_value request [] given o many = refl
 no_value request (a ∷ []) given o many = refl
 no_value request (a ∷ b ∷ []) given option.Budget many = none_first _ _ (too_often option.Budget _ many)
 no_value request (a ∷ b ∷ []) given option.Accuracy many = none_behind _ _ (λ budget. none_first _ _ (too_often option.Accuracy _ many))
 no_value request (a ∷ b ∷ d ∷ rest) given o many = refl
 
-refused : (name : CommandName) (o : OptionName) (places : List Word) (given : Given) → IsTrue (has_option name o) → 1 < length (given o)
+-- nothing comes of a flag that stands twice
+set_once : (n : ℕ) → 1 < n → is_set n ≡ None
+set_once zero many = absurd (omega arith)
+set_once (suc zero) many = absurd (omega arith)
+set_once (suc (suc more)) many = refl
+
+no_flag : (request : Word → Word → ℕ → ℕ → Bool → Request) (places : List Word) (given : Given) (f : FlagName)
+    → 1 < given.times f → over_files request places given ≡ None
+no_flag request [] given f many = refl
+no_flag request (a ∷ []) given f many = refl
+no_flag request (a ∷ b ∷ []) given flag.Reduce many =
+    none_behind (value_of option.Budget (given.values option.Budget))
+    (λ budget. value_of option.Accuracy (given.values option.Accuracy) >>= λ accuracy. is_set (given.times flag.Reduce) >>= λ reduce. Some (request a b budget accuracy reduce))
+    (λ budget. none_behind (value_of option.Accuracy (given.values option.Accuracy))
+    (λ accuracy. is_set (given.times flag.Reduce) >>= λ reduce. Some (request a b budget accuracy reduce))
+    (λ accuracy. none_first (is_set (given.times flag.Reduce)) (λ reduce. Some (request a b budget accuracy reduce)) (set_once (given.times flag.Reduce) many)))
+no_flag request (a ∷ b ∷ d ∷ rest) given f many = refl
+
+flag_refused : (name : CommandName) (f : FlagName) (places : List Word) (given : Given) → IsTrue (has_flag name f) → 1 < given.times f
+    → (command_row name).asks places given ≡ None
+flag_refused command.Run f places given has many = no_flag _ places given f many
+flag_refused command.Plan f places given has many = no_flag _ places given f many
+flag_refused command.Audit f places given has many = no_flag _ places given f many
+flag_refused command.Demo f places given has many = absurd (false≢true has)
+
+refused : (name : CommandName) (o : OptionName) (places : List Word) (given : Given) → IsTrue (has_option name o) → 1 < length (given.values o)
     → (command_row name).asks places given ≡ None
 refused command.Run o places given has many = no_value _ places given o many
 refused command.Plan o places given has many = no_value _ places given o many
@@ -146,8 +208,18 @@ unfolding asked_with
 twice name line item o value parts has by again =
     let gives : given_by o item ≡ value ∷ [] = by ∙ rw (same_itself o) refl in
     let words : given_by o item ++ flat_map (given_by o) parts.0 ≡ value ∷ flat_map (given_by o) parts.0 = ap (λ ws. ws ++ flat_map (given_by o) parts.0) gives in
-    refused name o _ (λ other. given_to line other ++ (given_by other item ++ flat_map (given_by other) parts.0)) has
+    refused name o _ (given_with line (item ∷ parts.0)) has
     (rw words (omega (arith, length-append (given_to line o) (value ∷ flat_map (given_by o) parts.0))))
+
+flag_itself : (f : FlagName) → same_flag f f ≡ true
+flag_itself f = (bytes_eq-Decides (flag_word f) (flag_word f)).1 refl
+
+twice_set : (name : CommandName) (line : Line) (f : FlagName) (parts : Parts) → IsTrue (has_flag name f)
+    → times_of line f ≡ 1 → asked_with name line (Alone f ∷ parts.0, parts.1) ≡ None
+unfolding asked_with
+twice_set name line f parts has again =
+    let one : set_by f (Alone f) ≡ 1 = rw (flag_itself f) refl in
+    flag_refused name f _ (given_with line (Alone f ∷ parts.0)) has (omega (arith, again, one, sum_by-cons (set_by f) (Alone f) parts.0))
 
 -- Steps of the walk.
 
@@ -175,6 +247,9 @@ wanted name word o is = let so = told name word in (rw (← is) at so).1
 pub gives_own : (name : CommandName) (word : Word) (o : OptionName) (value : Word) → Gives o value ≡ kind_of name word → IsTrue (has_option name o)
 gives_own name word o value is = let so = told name word in (rw (← is) at so).1
 
+sets_own : (name : CommandName) (word : Word) (f : FlagName) → Sets f ≡ kind_of name word → IsTrue (has_flag name f)
+sets_own name word f is = let so = told name word in (rw (← is) at so).1
+
 pub end_step : (name : CommandName) (line : Line) (word : Word) → Ends ≡ kind_of name word → (words : List Word)
     → asked_from name line next.Place words ≡ asked_from name line next.Item (word ∷ words)
 unfolding asked_from
@@ -191,12 +266,12 @@ unfolding asked_from
 unknown_refused name line word is words = rw (read_so name word words Unknown is) refl
 
 pub place_step : (name : CommandName) (new old : Line) (word : Word) → IsPlace ≡ kind_of name word
-    → words_of new.places ≡ words_of old.places ++ word ∷ [] → ((o : OptionName) → given_to new o ≡ given_to old o) → (words : List Word)
+    → words_of new.places ≡ words_of old.places ++ word ∷ [] → IsSameBeside new old → (words : List Word)
     → asked_from name new next.Item words ≡ asked_from name old next.Item (word ∷ words)
 unfolding asked_from
-place_step name new old word is places given words =
+place_step name new old word is places same words =
     rw (read_so name word words IsPlace is)
-    (front_asked name new old (Place word) (parts_from name None words) (λ p. one_more_place name new old word p places given))
+    (front_asked name new old (Place word) (parts_from name None words) (λ p. one_more_place name new old word p places same))
 
 pub place_refused : (name : CommandName) (line : Line) (word : Word) → IsPlace ≡ kind_of name word → length (words_of line.places) ≡ 2
     → (words : List Word) → asked_from name line next.Item (word ∷ words) ≡ None
@@ -205,14 +280,31 @@ place_refused name line word is full words =
     rw (read_so name word words IsPlace is)
     (front_refused name line (Place word) (parts_from name None words) (λ p. full_place name line word p full))
 
+pub flag_step : (name : CommandName) (new old : Line) (word : Word) (f : FlagName) → Sets f ≡ kind_of name word
+    → new.places ≡ old.places → ((o : OptionName) → given_to new o ≡ given_to old o)
+    → ((other : FlagName) → times_of new other ≡ times_of old other + (if same_flag other f then 1 else 0))
+    → (words : List Word) → asked_from name new next.Item words ≡ asked_from name old next.Item (word ∷ words)
+unfolding asked_from SetsMore
+flag_step name new old word f is places values more words =
+    rw (read_so name word words (Sets f) is)
+    (front_asked name new old (Alone f) (parts_from name None words) (λ p. one_more_flag name new old f p places values more))
+
+pub flag_again : (name : CommandName) (line : Line) (word : Word) (f : FlagName) → Sets f ≡ kind_of name word → times_of line f ≡ 1
+    → (words : List Word) → asked_from name line next.Item (word ∷ words) ≡ None
+unfolding asked_from
+flag_again name line word f is again words =
+    rw (read_so name word words (Sets f) is)
+    (front_refused name line (Alone f) (parts_from name None words) (λ p. twice_set name line f p (sets_own name word f is) again))
+
 pub joined_step : (name : CommandName) (new old : Line) (word : Word) (o : OptionName) (value : Word) → Gives o value ≡ kind_of name word
-    → new.places ≡ old.places → ((other : OptionName) → given_to new other ≡ given_to old other ++ (if same_option other o then value ∷ [] else []))
+    → new.places ≡ old.places → ((f : FlagName) → times_of new f ≡ times_of old f)
+    → ((other : OptionName) → given_to new other ≡ given_to old other ++ (if same_option other o then value ∷ [] else []))
     → (words : List Word) → asked_from name new next.Item words ≡ asked_from name old next.Item (word ∷ words)
 unfolding asked_from GivesMore
-joined_step name new old word o value is places given words =
+joined_step name new old word o value is places times given words =
     rw (read_so name word words (Gives o value) is)
     (front_asked name new old (Joined o value) (parts_from name None words)
-    (λ p. one_more_value name new old (Joined o value) o value p refl (λ other. refl) places given))
+    (λ p. one_more_value name new old (Joined o value) o value p refl (λ f. refl) (λ other. refl) places times given))
 
 pub joined_refused : (name : CommandName) (line : Line) (word : Word) (o : OptionName) (value : Word) → Gives o value ≡ kind_of name word
     → length (given_to line o) ≡ 1 → (words : List Word) → asked_from name line next.Item (word ∷ words) ≡ None
@@ -223,12 +315,13 @@ joined_refused name line word o value is again words =
     (λ p. twice name line (Joined o value) o value p (gives_own name word o value is) refl again))
 
 pub value_step : (name : CommandName) (new old : Line) (o : OptionName) (value : Word)
-    → new.places ≡ old.places → ((other : OptionName) → given_to new other ≡ given_to old other ++ (if same_option other o then value ∷ [] else []))
+    → new.places ≡ old.places → ((f : FlagName) → times_of new f ≡ times_of old f)
+    → ((other : OptionName) → given_to new other ≡ given_to old other ++ (if same_option other o then value ∷ [] else []))
     → (words : List Word) → asked_from name new next.Item words ≡ asked_from name old (next.Value o) (value ∷ words)
 unfolding asked_from parts_from GivesMore
-value_step name new old o value places given words =
+value_step name new old o value places times given words =
     front_asked name new old (Beside o value) (parts_from name None words)
-    (λ p. one_more_value name new old (Beside o value) o value p refl (λ other. refl) places given)
+    (λ p. one_more_value name new old (Beside o value) o value p refl (λ f. refl) (λ other. refl) places times given)
 
 pub value_refused : (name : CommandName) (line : Line) (o : OptionName) (value : Word) → IsTrue (has_option name o)
     → length (given_to line o) ≡ 1 → (words : List Word) → asked_from name line (next.Value o) (value ∷ words) ≡ None
@@ -238,10 +331,10 @@ value_refused name line o value has again words =
     (λ p. twice name line (Beside o value) o value p has refl again)
 
 pub behind_step : (name : CommandName) (new old : Line) (word : Word)
-    → words_of new.places ≡ words_of old.places ++ word ∷ [] → ((o : OptionName) → given_to new o ≡ given_to old o) → (words : List Word)
+    → words_of new.places ≡ words_of old.places ++ word ∷ [] → IsSameBeside new old → (words : List Word)
     → asked_from name new next.Place words ≡ asked_from name old next.Place (word ∷ words)
 unfolding asked_from
-behind_step name new old word places given words = one_more_behind name new old word words places given
+behind_step name new old word places same words = one_more_behind name new old word words places same
 
 pub behind_refused : (name : CommandName) (line : Line) (word : Word) → length (words_of line.places) ≡ 2
     → (words : List Word) → asked_from name line next.Place (word ∷ words) ≡ None
@@ -265,21 +358,28 @@ nothing_given line budget accuracy option.Accuracy = rw accuracy refl
 
 -- nothing collected yet
 pub start_asked : (name : CommandName) (line : Line) (words : List Word) → words_of line.places ≡ [] → ((o : OptionName) → given_to line o ≡ [])
-    → asked_from name line next.Item words ≡ asked_by name words
+    → ((f : FlagName) → times_of line f ≡ 0) → asked_from name line next.Item words ≡ asked_by name words
 unfolding asked_from asked_by asked_with
-start_asked name line words places given =
+start_asked name line words places given times =
     ap (λ (f : Parts → Option Request). parts_from name None words >>= f) (fun_ext (λ (parts : Parts).
     same_asks name
     (words_of line.places ++ (flat_map place_words parts.0 ++ parts.1))
     (flat_map place_words parts.0 ++ parts.1)
-    (λ o. given_to line o ++ flat_map (given_by o) parts.0)
-    (λ o. flat_map (given_by o) parts.0)
+    (given_with line parts.0)
+    (given_in parts.0)
     (ap (λ ws. ws ++ (flat_map place_words parts.0 ++ parts.1)) places)
-    (λ o. ap (λ ws. ws ++ flat_map (given_by o) parts.0) (given o))))
+    (λ o. ap (λ ws. ws ++ flat_map (given_by o) parts.0) (given o))
+    (λ f. omega (arith, times f))))
 
-pub first_asked : (name : CommandName) (words : List Word)
-    → asked_from name (record { places = places.Nothing; budget = None; accuracy = None }) next.Item words ≡ asked_by name words
-first_asked name words = start_asked name (record { places = places.Nothing; budget = None; accuracy = None }) words refl (nothing_given (record { places = places.Nothing; budget = None; accuracy = None }) refl refl)
+-- the line before any word
+abbrev no_words : Line
+no_words = record { places = places.Nothing; budget = None; accuracy = None; reduce = false }
+
+never_set : (f : FlagName) → times_of no_words f ≡ 0
+never_set flag.Reduce = refl
+
+pub first_asked : (name : CommandName) (words : List Word) → asked_from name no_words next.Item words ≡ asked_by name words
+first_asked name words = start_asked name no_words words refl (nothing_given no_words refl refl) never_set
 
 -- no word is left
 none_left : (words : List (Bor (List ℕ))) (i : ℕ) → length words ≤ i → map (λ w. w.now) (drop i words) ≡ []
@@ -288,8 +388,8 @@ none_left words i past = rw (drop_all i words past) refl
 nothing_more : (name : CommandName) (line : Line) → collected name line ≡ asked_with name line ([], [])
 unfolding asked_with
 nothing_more name line =
-    same_asks name (words_of line.places) (words_of line.places ++ []) (given_to line) (λ o. given_to line o ++ [])
-    (sym (append-nil (words_of line.places))) (λ o. sym (append-nil (given_to line o)))
+    same_asks name (words_of line.places) (words_of line.places ++ []) (given_of line) (given_with line [])
+    (sym (append-nil (words_of line.places))) (λ o. sym (append-nil (given_to line o))) (λ f. omega arith)
 
 pub line_ended : (name : CommandName) (line : Line) (words : List (Bor (List ℕ))) (i : ℕ) (all : Option Request) → length words ≤ i
     → asked_from name line next.Item (map (λ w. w.now) (drop i words)) ≡ all → collected name line ≡ all

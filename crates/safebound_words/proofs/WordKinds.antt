@@ -5,16 +5,18 @@ use Rattle.std.proofs.lemmas.Slice.Eq.{bytes_eq-Decides}
 use Rattle.std.specs.Bool.{IsTrue}
 use Rattle.std.specs.List.{find, list_any}
 use Rattle.std.specs.Str.{bytes_eq}
-use Rattle.safebound_words.specs.Answer.{Kind, Ends, IsPlace, Wants, Gives, Unknown, command_named, kind_of, option_kind, option_named, split_value}
-use Rattle.safebound_words.specs.CommandLines.{has_option, same_option}
-use Rattle.safebound_words.specs.Table.{command_row, option_row}
+use Rattle.safebound_words.specs.Answer.{Kind, Ends, IsPlace, Sets, Wants, Gives, Unknown, command_named, dashed_kind, flag_named, kind_of, option_kind, option_named, split_value}
+use Rattle.safebound_words.specs.CommandLines.{has_flag, has_option, same_flag, same_option}
+use Rattle.safebound_words.specs.Table.{command_row, flag_word, option_row}
 use Rattle.safebound_words.specs.Words.{Word, is_dashed}
 use Rattle.safebound_words.specs.declared.table.CommandName.{CommandName}
 use Rattle.safebound_words.specs.declared.table.CommandName.TheVariants as command
+use Rattle.safebound_words.specs.declared.table.FlagName.{FlagName}
+use Rattle.safebound_words.specs.declared.table.FlagName.TheVariants as flag
 use Rattle.safebound_words.specs.declared.table.OptionName.{OptionName}
 use Rattle.safebound_words.specs.declared.table.OptionName.TheVariants as option
 
--- From the line to the word. A new command or option is a line in each of these.
+-- From the line to the word. A new command, option or flag is a line in each of these.
 
 -- a command's word names it
 pub names_itself : (name : CommandName) → command_named (command_row name).word ≡ Some name
@@ -22,6 +24,14 @@ names_itself command.Run = refl
 names_itself command.Plan = refl
 names_itself command.Audit = refl
 names_itself command.Demo = refl
+
+-- a flag's word sets it
+pub kind-sets : (name : CommandName) (f : FlagName) → IsTrue (has_flag name f) → kind_of name (flag_word f) ≡ Sets f
+unfolding kind_of
+kind-sets command.Run flag.Reduce has = refl
+kind-sets command.Plan flag.Reduce has = refl
+kind-sets command.Audit flag.Reduce has = refl
+kind-sets command.Demo flag.Reduce has = absurd (false≢true has)
 
 -- an option's word wants a value
 pub kind-wants : (name : CommandName) (o : OptionName) → IsTrue (has_option name o) → kind_of name (option_row o).word ≡ Wants o
@@ -53,7 +63,8 @@ unfolding kind_of
 kind-ends name = refl
 
 place_of_two : (name : CommandName) (word : Word) (same : Bool) → (same ≡ true → word ≡ codes "--") → is_dashed word ≡ false
-    → cond same Ends (cond (is_dashed word) (option_kind (option_named name (split_value word).0) (split_value word).1) IsPlace) ≡ IsPlace
+    → cond same Ends (cond (is_dashed word) (dashed_kind (flag_named name word) (option_kind (option_named name (split_value word).0) (split_value word).1)) IsPlace)
+    ≡ IsPlace
 place_of_two name word true two place = absurd (false≢true (sym place ∙ ap is_dashed (two refl)))
 place_of_two name word false two place = rw place refl
 
@@ -88,6 +99,12 @@ option_so name word o found =
     let so = found_so (λ other. bytes_eq word (option_row other).word) (same_option o) (command_row name).options o found in
     ((bytes_eq-Decides word (option_row o).word).0 so.0, so.1 ((bytes_eq-Decides (option_row o).word (option_row o).word).1 refl))
 
+-- the flag that a word is found to be
+flag_so : (name : CommandName) (word : Word) (f : FlagName) → flag_named name word ≡ Some f → (word ≡ flag_word f) × IsTrue (has_flag name f)
+flag_so name word f found =
+    let so = found_so (λ other. bytes_eq word (flag_word other)) (same_flag f) (command_row name).flags f found in
+    ((bytes_eq-Decides word (flag_word f)).0 so.0, so.1 ((bytes_eq-Decides (flag_word f) (flag_word f)).1 refl))
+
 -- a word is its parts
 IsOfParts : Word → Word → Option Word → Type 0
 IsOfParts word front value = MatchOption value (word ≡ front) (λ v. word ≡ front ++ 61 ∷ v)
@@ -113,6 +130,7 @@ are_parts (first ∷ rest) = parts_step (first == 61) first rest (eqb-true first
 abbrev pub Told : CommandName → Word → Kind → Type 0
 Told name word Ends = word ≡ codes "--"
 Told name word IsPlace = is_dashed word ≡ false
+Told name word (Sets f) = (word ≡ flag_word f) × IsTrue (has_flag name f)
 Told name word (Wants o) = (word ≡ (option_row o).word) × IsTrue (has_option name o)
 Told name word (Gives o value) = (word ≡ (option_row o).word ++ codes "=" ++ value) × IsTrue (has_option name o)
 Told name word Unknown = Unit {0}
@@ -126,10 +144,15 @@ told_option name word front (Some o) (Some v) found is =
     let so = option_so name front o (sym found) in
     (is ∙ ap (λ w. w ++ 61 ∷ v) so.0 ∙ sym (append_assoc (option_row o).word (codes "=") v), so.1)
 
+told_dashed : (name : CommandName) (word : Word) (found : Option FlagName) → found ≡ flag_named name word
+    → Told name word (dashed_kind found (option_kind (option_named name (split_value word).0) (split_value word).1))
+told_dashed name word None found = told_option name word (split_value word).0 (option_named name (split_value word).0) (split_value word).1 refl (are_parts word)
+told_dashed name word (Some f) found = flag_so name word f (sym found)
+
 told_branch : (name : CommandName) (word : Word) (same dashed : Bool) → (same ≡ true → word ≡ codes "--") → dashed ≡ is_dashed word
-    → Told name word (cond same Ends (cond dashed (option_kind (option_named name (split_value word).0) (split_value word).1) IsPlace))
+    → Told name word (cond same Ends (cond dashed (dashed_kind (flag_named name word) (option_kind (option_named name (split_value word).0) (split_value word).1)) IsPlace))
 told_branch name word true dashed two is = two refl
-told_branch name word false true two is = told_option name word (split_value word).0 (option_named name (split_value word).0) (split_value word).1 refl (are_parts word)
+told_branch name word false true two is = told_dashed name word (flag_named name word) refl
 told_branch name word false false two is = sym is
 
 pub told : (name : CommandName) (word : Word) → Told name word (kind_of name word)

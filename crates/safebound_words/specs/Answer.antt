@@ -2,12 +2,13 @@
 use Rattle.std.specs.Prelude.{◌==◌, if◌then◌else◌, find, List, [], ◌∷◌, Option, Some, None, codes}
 use Rattle.std.specs.Option.{option_map}
 use Rattle.std.specs.Str.{bytes_eq}
-use Rattle.safebound_words.specs.CommandLines.{Item, Place, Beside, Joined, Reading, requested}
+use Rattle.safebound_words.specs.CommandLines.{Alone, Beside, Item, Joined, Place, Reading, requested}
 use Rattle.safebound_words.specs.Requests.{Request}
-use Rattle.safebound_words.specs.Table.{command_row, option_row, ◌>>=◌}
+use Rattle.safebound_words.specs.Table.{command_row, flag_word, option_row, ◌>>=◌}
 use Rattle.safebound_words.specs.Words.{Word, is_dashed}
 use Rattle.safebound_words.specs.declared.table.CommandName.{CommandName}
 use Rattle.safebound_words.specs.declared.table.CommandName.TheVariants as command
+use Rattle.safebound_words.specs.declared.table.FlagName.{FlagName}
 use Rattle.safebound_words.specs.declared.table.OptionName.{OptionName}
 
 abbrev pub command_named : Word → Option CommandName
@@ -16,6 +17,9 @@ command_named word = find (λ name. bytes_eq word (command_row name).word)
 
 abbrev pub option_named : CommandName → Word → Option OptionName
 option_named name word = find (λ option. bytes_eq word (option_row option).word) (command_row name).options
+
+abbrev pub flag_named : CommandName → Word → Option FlagName
+flag_named name word = find (λ flag. bytes_eq word (flag_word flag)) (command_row name).flags
 
 -- a word up to its first `=`, and what stands behind that, where it has one
 abbrev pub split_value : Word → Word × Option Word
@@ -26,6 +30,7 @@ split_value (first ∷ rest) = if first == 61 then ([], Some rest) else (first �
 pub data Kind : Type 0 where
   Ends : Kind
   IsPlace : Kind
+  Sets : FlagName → Kind
   Wants : OptionName → Kind
   Gives : OptionName → Word → Kind
   Unknown : Kind
@@ -35,10 +40,15 @@ option_kind None value = Unknown
 option_kind (Some option) None = Wants option
 option_kind (Some option) (Some value) = Gives option value
 
+abbrev pub dashed_kind : Option FlagName → Kind → Kind
+dashed_kind None otherwise = otherwise
+dashed_kind (Some flag) otherwise = Sets flag
+
 unfoldable pub kind_of : CommandName → Word → Kind
 kind_of name word =
     if bytes_eq word (codes "--") then Ends
-    else if is_dashed word then option_kind (option_named name (split_value word).0) (split_value word).1
+    else if is_dashed word
+    then dashed_kind (flag_named name word) (option_kind (option_named name (split_value word).0) (split_value word).1)
     else IsPlace
 
 -- items, and the words behind `--`
@@ -52,6 +62,7 @@ in_front item parts = option_map (λ p. (item ∷ p.0, p.1)) parts
 abbrev pub read_by : Kind → Word → List Word → (Option OptionName → Option Parts) → Option Parts
 read_by Ends word words read_on = Some ([], words)
 read_by IsPlace word words read_on = in_front (Place word) (read_on None)
+read_by (Sets flag) word words read_on = in_front (Alone flag) (read_on None)
 read_by (Wants option) word words read_on = read_on (Some option)
 read_by (Gives option value) word words read_on = in_front (Joined option value) (read_on None)
 read_by Unknown word words read_on = None

@@ -1,15 +1,17 @@
 -- What the code has collected of a line, and what is asked for by that and by what is still to be read.
-use Rattle.std.specs.Prelude.{ℕ, List, [], ◌∷◌, ◌++◌, Option, Some, None}
+use Rattle.std.specs.Prelude.{ℕ, ◌+◌, if◌then◌else◌, List, [], ◌∷◌, ◌++◌, Option, Some, None}
 use Rattle.std.specs.Borrow.{Bor}
 use Rattle.std.specs.Bool.{IsTrue}
-use Rattle.std.specs.List.{flat_map}
+use Rattle.std.specs.List.{flat_map, sum_by}
 use Rattle.std.specs.Option.{option_map, option_to_list}
 use Rattle.safebound_words.specs.Answer.{Parts, parts_from}
-use Rattle.safebound_words.specs.CommandLines.{given_by, has_option, place_words, requested}
+use Rattle.safebound_words.specs.CommandLines.{Item, given_by, has_option, place_words, requested, set_by}
 use Rattle.safebound_words.specs.Requests.{Request}
-use Rattle.safebound_words.specs.Table.{command_row, ◌>>=◌}
+use Rattle.safebound_words.specs.Table.{Given, command_row, ◌>>=◌}
 use Rattle.safebound_words.specs.Words.{Word}
 use Rattle.safebound_words.specs.declared.table.CommandName.{CommandName}
+use Rattle.safebound_words.specs.declared.table.FlagName.{FlagName}
+use Rattle.safebound_words.specs.declared.table.FlagName.TheVariants as flag
 use Rattle.safebound_words.specs.declared.table.OptionName.{OptionName}
 use Rattle.safebound_words.specs.declared.table.OptionName.TheVariants as option
 use Rattle.safebound_words.specs.declared.line.Places.{Places}
@@ -31,6 +33,20 @@ abbrev pub given_to : Line → OptionName → List Word
 given_to line option.Budget = option_words line.budget
 given_to line option.Accuracy = option_words line.accuracy
 
+-- how often a flag was there
+abbrev pub times_of : Line → FlagName → ℕ
+times_of line flag.Reduce = if line.reduce then 1 else 0
+
+abbrev pub given_of : Line → Given
+given_of line = record { values = given_to line; times = times_of line }
+
+-- what a line and further items give to each option, and how often they have each flag
+abbrev pub given_with : Line → List Item → Given
+given_with line items = record {
+  values = λ option. given_to line option ++ flat_map (given_by option) items;
+  times = λ flag. times_of line flag + sum_by (set_by flag) items;
+}
+
 -- what is read from here on, by what comes next
 abbrev pub parts_next : CommandName → Next → List Word → Option Parts
 parts_next name next.Item words = parts_from name None words
@@ -39,13 +55,13 @@ parts_next name next.Place words = Some ([], words)
 
 -- what is asked for by a line alone
 abbrev pub collected : CommandName → Line → Option Request
-collected name line = (command_row name).asks (words_of line.places) (given_to line)
+collected name line = (command_row name).asks (words_of line.places) (given_of line)
 
 -- what is asked for by a line and further parts
 unfoldable pub asked_with : CommandName → Line → Parts → Option Request
 asked_with name line parts = (command_row name).asks
     (words_of line.places ++ (flat_map place_words parts.0 ++ parts.1))
-    (λ option. given_to line option ++ flat_map (given_by option) parts.0)
+    (given_with line parts.0)
 
 -- what is asked for by a line and the words that are left
 unfoldable pub asked_from : CommandName → Line → Next → List Word → Option Request

@@ -1,23 +1,26 @@
 -- Command lines: a command's word, items of its row, and maybe `--` with further place words behind it.
-use Rattle.std.specs.Prelude.{ℕ, ◌≡◌, ◌⊎◌, Bool, false, if◌then◌else◌, List, [], ◌∷◌, ◌++◌, Option, Some, None, codes}
-use Rattle.std.specs.List.{AllByRecursion, flat_map, list_any}
+use Rattle.std.specs.Prelude.{ℕ, ◌≡◌, ◌⊎◌, Bool, false, if◌then◌else◌, List, [], ◌∷◌, ◌++◌, Option, Some, codes}
+use Rattle.std.specs.List.{AllByRecursion, flat_map, list_any, sum_by}
 use Rattle.std.specs.Str.{bytes_eq}
 use Rattle.std.specs.Bool.{IsTrue}
 use Rattle.safebound_words.specs.Requests.{Request}
-use Rattle.safebound_words.specs.Table.{option_row, command_row}
+use Rattle.safebound_words.specs.Table.{Given, command_row, flag_word, option_row}
 use Rattle.safebound_words.specs.Words.{Word, is_dashed}
 use Rattle.safebound_words.specs.declared.table.CommandName.{CommandName}
+use Rattle.safebound_words.specs.declared.table.FlagName.{FlagName}
 use Rattle.safebound_words.specs.declared.table.OptionName.{OptionName}
 
--- what stands before `--`: a place word, an option and its value in two words, or both in one
+-- what stands before `--`: a place word, a flag, an option and its value in two words, or both in one
 pub data Item : Type 0 where
   Place : Word → Item
+  Alone : FlagName → Item
   Beside : OptionName → Word → Item
   Joined : OptionName → Word → Item
 
 -- the words of an item; the value is any word
 abbrev pub spelling : Item → List Word
 spelling (Place word) = word ∷ []
+spelling (Alone flag) = flag_word flag ∷ []
 spelling (Beside option value) = (option_row option).word ∷ value ∷ []
 spelling (Joined option value) = ((option_row option).word ++ codes "=" ++ value) ∷ []
 
@@ -29,9 +32,18 @@ same_option one other = bytes_eq (option_row one).word (option_row other).word
 abbrev pub has_option : CommandName → OptionName → Bool
 has_option command option = list_any (same_option option) (command_row command).options
 
+-- flags are one where they have one word
+abbrev pub same_flag : FlagName → FlagName → Bool
+same_flag one other = bytes_eq (flag_word one) (flag_word other)
+
+-- the command has this flag
+abbrev pub has_flag : CommandName → FlagName → Bool
+has_flag command flag = list_any (same_flag flag) (command_row command).flags
+
 -- an item of the command's row: no place word is a dash and more
 abbrev pub IsItemOf : CommandName → Item → Type 0
 IsItemOf command (Place word) = is_dashed word ≡ false
+IsItemOf command (Alone flag) = IsTrue (has_flag command flag)
 IsItemOf command (Beside option value) = IsTrue (has_option command option)
 IsItemOf command (Joined option value) = IsTrue (has_option command option)
 
@@ -52,22 +64,35 @@ pub record Reads (words : List Word) (reading : Reading) : Type 0 where
   pub end : IsEnd rest reading.behind
   pub items : AllByRecursion (IsItemOf reading.command) reading.items
 
--- the place words of items, and what they give to an option
+-- the place words of items, what they give to an option, and how often they have a flag
 abbrev pub place_words : Item → List Word
 place_words (Place word) = word ∷ []
+place_words (Alone flag) = []
 place_words (Beside option value) = []
 place_words (Joined option value) = []
 
 abbrev pub given_by : OptionName → Item → List Word
 given_by option (Place word) = []
+given_by option (Alone flag) = []
 given_by option (Beside other value) = if same_option option other then value ∷ [] else []
 given_by option (Joined other value) = if same_option option other then value ∷ [] else []
 
+abbrev pub set_by : FlagName → Item → ℕ
+set_by flag (Place word) = 0
+set_by flag (Alone other) = if same_flag flag other then 1 else 0
+set_by flag (Beside option value) = 0
+set_by flag (Joined option value) = 0
+
+-- what items give to each option, and how often they have each flag
+abbrev pub given_in : List Item → Given
+given_in items = record {
+  values = λ option. flat_map (given_by option) items;
+  times = λ flag. sum_by (set_by flag) items;
+}
+
 -- what a reading asks for, if anything
 abbrev pub requested : Reading → Option Request
-requested reading = (command_row reading.command).asks
-    (flat_map place_words reading.items ++ reading.behind)
-    (λ option. flat_map (given_by option) reading.items)
+requested reading = (command_row reading.command).asks (flat_map place_words reading.items ++ reading.behind) (given_in reading.items)
 
 -- The words ask for this: they are read in a way that does.
 abbrev pub AskFor : List Word → Request → Type 0

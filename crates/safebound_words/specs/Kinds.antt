@@ -1,11 +1,12 @@
 -- What the code says of a word, as the definitions have it.
-use Rattle.safebound_words.specs.Answer.{Kind, Ends, IsPlace, Wants, Gives, Unknown}
+use Rattle.safebound_words.specs.Answer.{Kind, Ends, IsPlace, Sets, Wants, Gives, Unknown}
 use Rattle.safebound_words.specs.declared.kind.Kind.{Kind as CodeKind}
 use Rattle.safebound_words.specs.declared.kind.Kind.TheVariants as code
 
 abbrev pub kind_seen : CodeKind → Kind
 kind_seen code.End = Ends
 kind_seen code.Place = IsPlace
+kind_seen (code.Flag flag) = Sets flag
 kind_seen (code.Option option) = Wants option
 kind_seen (code.Value option value) = Gives option value.now
 kind_seen code.Unknown = Unknown

@@ -1,5 +1,5 @@
--- The table of commands and options: a new one is one line here.
-use Rattle.std.specs.Prelude.{ℕ, ◌^◌, ◌-◌, List, [], ◌∷◌, Option, Some, None, codes}
+-- The table of commands, options and flags: a new one is one line here.
+use Rattle.std.specs.Prelude.{ℕ, ◌^◌, ◌-◌, suc, zero, Bool, true, false, List, [], ◌∷◌, Option, Some, None, codes}
 use Rattle.std.specs.Option.{option_map}
 use Rattle.limits.specs.Profile.{least_accuracy, least_budget, most_accuracy, most_budget, usual_accuracy, usual_budget}
 use Rattle.safebound_words.specs.Numbers.{number_within}
@@ -7,6 +7,8 @@ use Rattle.safebound_words.specs.Requests.{Request, Run, Plan, Audit, Demo}
 use Rattle.safebound_words.specs.Words.{Word}
 use Rattle.safebound_words.specs.declared.table.CommandName.{CommandName}
 use Rattle.safebound_words.specs.declared.table.CommandName.TheVariants as command
+use Rattle.safebound_words.specs.declared.table.FlagName.{FlagName}
+use Rattle.safebound_words.specs.declared.table.FlagName.TheVariants as flag
 use Rattle.safebound_words.specs.declared.table.OptionName.{OptionName}
 use Rattle.safebound_words.specs.declared.table.OptionName.TheVariants as option
 
@@ -25,9 +27,14 @@ abbrev pub option_row : OptionName → OptionRow
 option_row option.Budget = number_option (codes "--budget") least_budget most_budget usual_budget
 option_row option.Accuracy = number_option (codes "--accuracy") least_accuracy most_accuracy usual_accuracy
 
--- the words that a line gives to each option, in order
-abbrev pub Given : Type 0
-Given = OptionName → List Word
+-- one line for each flag: its word
+abbrev pub flag_word : FlagName → Word
+flag_word flag.Reduce = codes "--reduce"
+
+-- the words that a line gives to each option, in order, and how often each flag stands in it
+pub record Given : Type 0 where
+  pub values : OptionName → List Word
+  pub times : FlagName → ℕ
 
 -- an option has one value at most: the number of its word, which is in its range, or its number where it doesn't stand
 abbrev pub value_of : OptionName → List Word → Option ℕ
@@ -35,14 +42,21 @@ value_of option [] = Some (option_row option).otherwise
 value_of option (word ∷ []) = number_within (option_row option).least (option_row option).most word
 value_of option (word ∷ another ∷ words) = None
 
--- a command: its word, its options, and what its place words and what is given to its options ask for, if anything
+-- a flag stands once at most: whether it stands
+abbrev pub is_set : ℕ → Option Bool
+is_set zero = Some false
+is_set (suc zero) = Some true
+is_set (suc (suc more)) = None
+
+-- a command: its word, its options, its flags, and what its place words and what is given beside them ask for, if anything
 pub record CommandRow : Type 0 where
   pub word : Word
   pub options : List OptionName
+  pub flags : List FlagName
   pub asks : List Word → Given → Option Request
 
-abbrev pub named : Word → List OptionName → (List Word → Given → Option Request) → CommandRow
-named word options asks = record { word = word; options = options; asks = asks }
+abbrev pub named : Word → List OptionName → List FlagName → (List Word → Given → Option Request) → CommandRow
+named word options flags asks = record { word = word; options = options; flags = flags; asks = asks }
 
 -- what is there goes on to the rest
 infixl 10 ◌>>=◌
@@ -51,11 +65,12 @@ None >>= rest = None
 (Some value) >>= rest = rest value
 
 -- exactly two place words, SCHEMA and QUERY
-abbrev pub over_files : (Word → Word → ℕ → ℕ → Request) → List Word → Given → Option Request
+abbrev pub over_files : (Word → Word → ℕ → ℕ → Bool → Request) → List Word → Given → Option Request
 over_files request (schema ∷ query ∷ []) given = do
-  budget ← value_of option.Budget (given option.Budget)
-  accuracy ← value_of option.Accuracy (given option.Accuracy)
-  Some (request schema query budget accuracy)
+  budget ← value_of option.Budget (given.values option.Budget)
+  accuracy ← value_of option.Accuracy (given.values option.Accuracy)
+  reduce ← is_set (given.times flag.Reduce)
+  Some (request schema query budget accuracy reduce)
 over_files request places given = None
 
 -- exactly one place word, NUMBER
@@ -65,7 +80,7 @@ of_number request places given = None
 
 -- one line for each command
 abbrev pub command_row : CommandName → CommandRow
-command_row command.Run = named (codes "run") (option.Budget ∷ option.Accuracy ∷ []) (over_files Run)
-command_row command.Plan = named (codes "plan") (option.Budget ∷ option.Accuracy ∷ []) (over_files Plan)
-command_row command.Audit = named (codes "audit") (option.Budget ∷ option.Accuracy ∷ []) (over_files Audit)
-command_row command.Demo = named (codes "demo") [] (of_number Demo)
+command_row command.Run = named (codes "run") (option.Budget ∷ option.Accuracy ∷ []) (flag.Reduce ∷ []) (over_files Run)
+command_row command.Plan = named (codes "plan") (option.Budget ∷ option.Accuracy ∷ []) (flag.Reduce ∷ []) (over_files Plan)
+command_row command.Audit = named (codes "audit") (option.Budget ∷ option.Accuracy ∷ []) (flag.Reduce ∷ []) (over_files Audit)
+command_row command.Demo = named (codes "demo") [] [] (of_number Demo)

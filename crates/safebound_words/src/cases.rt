@@ -1,35 +1,35 @@
 //! What small command lines ask for.
-ghost use Rattle.std.specs.Prelude.{◌≡◌, Some, None, [], ◌∷◌, codes};
+ghost use Rattle.std.specs.Prelude.{◌≡◌, Some, None, [], ◌∷◌, codes, false, true};
 ghost use Rattle.safebound_words.specs.Answer.{command_of};
 ghost use Rattle.safebound_words.specs.Requests.{Run, Plan, Audit, Demo};
 
 /// Commands and their place words. It does nothing.
 pub fn small_commands()
-    ensures run { command_of (codes "run" ∷ codes "s" ∷ codes "q" ∷ []) ≡ Some (Run (codes "s") (codes "q") 1000000 1) }
-    ensures audit { command_of (codes "audit" ∷ codes "s" ∷ codes "q" ∷ []) ≡ Some (Audit (codes "s") (codes "q") 1000000 1) }
-    ensures dash { command_of (codes "plan" ∷ codes "-" ∷ codes "q" ∷ []) ≡ Some (Plan (codes "-") (codes "q") 1000000 1) }
-    ensures empty { command_of (codes "plan" ∷ [] ∷ codes "q" ∷ []) ≡ Some (Plan [] (codes "q") 1000000 1) }
+    ensures run { command_of (codes "run" ∷ codes "s" ∷ codes "q" ∷ []) ≡ Some (Run (codes "s") (codes "q") 1000000 1 false) }
+    ensures audit { command_of (codes "audit" ∷ codes "s" ∷ codes "q" ∷ []) ≡ Some (Audit (codes "s") (codes "q") 1000000 1 false) }
+    ensures dash { command_of (codes "plan" ∷ codes "-" ∷ codes "q" ∷ []) ≡ Some (Plan (codes "-") (codes "q") 1000000 1 false) }
+    ensures empty { command_of (codes "plan" ∷ [] ∷ codes "q" ∷ []) ≡ Some (Plan [] (codes "q") 1000000 1 false) }
     ensures number { command_of (codes "demo" ∷ codes "7" ∷ []) ≡ Some (Demo 7) }
     ensures zeros { command_of (codes "demo" ∷ codes "007" ∷ []) ≡ Some (Demo 7) }
     ensures last_number { command_of (codes "demo" ∷ codes "4294967295" ∷ []) ≡ Some (Demo 4294967295) }
 
     // Behind `--` every word is a place word, a second `--` too.
     ensures behind { command_of (codes "run" ∷ codes "--" ∷ codes "--budget" ∷ codes "--" ∷ [])
-        ≡ Some (Run (codes "--budget") (codes "--") 1000000 1) }
+        ≡ Some (Run (codes "--budget") (codes "--") 1000000 1 false) }
     ensures value_behind { command_of (codes "run" ∷ codes "--budget" ∷ codes "5" ∷ codes "--" ∷ codes "--budget" ∷ codes "6" ∷ [])
-        ≡ Some (Run (codes "--budget") (codes "6") 5 1) }
+        ≡ Some (Run (codes "--budget") (codes "6") 5 1 false) }
     ensures number_behind { command_of (codes "demo" ∷ codes "--" ∷ codes "7" ∷ []) ≡ Some (Demo 7) }
 {}
 
 /// Options and their values. It does nothing.
 pub fn small_options()
     ensures joined { command_of (codes "run" ∷ codes "--budget=12" ∷ codes "--" ∷ codes "s" ∷ codes "q" ∷ [])
-        ≡ Some (Run (codes "s") (codes "q") 12 1) }
+        ≡ Some (Run (codes "s") (codes "q") 12 1 false) }
     ensures beside { command_of (codes "plan" ∷ codes "s" ∷ codes "--accuracy" ∷ codes "64" ∷ codes "q" ∷ codes "--budget" ∷ codes "007"
         ∷ [])
-        ≡ Some (Plan (codes "s") (codes "q") 7 64) }
+        ≡ Some (Plan (codes "s") (codes "q") 7 64 false) }
     ensures most { command_of (codes "audit" ∷ codes "s" ∷ codes "q" ∷ codes "--budget" ∷ codes "20000000" ∷ [])
-        ≡ Some (Audit (codes "s") (codes "q") 20000000 1) }
+        ≡ Some (Audit (codes "s") (codes "q") 20000000 1 false) }
     ensures past_most { command_of (codes "audit" ∷ codes "s" ∷ codes "q" ∷ codes "--budget" ∷ codes "20000001" ∷ []) ≡ None }
     ensures no_rows { command_of (codes "run" ∷ codes "s" ∷ codes "q" ∷ codes "--budget" ∷ codes "0" ∷ []) ≡ None }
     ensures least { command_of (codes "run" ∷ codes "s" ∷ codes "q" ∷ codes "--accuracy=0" ∷ []) ≡ None }
@@ -59,4 +59,22 @@ pub fn small_refusals()
     ensures empty_number { command_of (codes "demo" ∷ [] ∷ []) ≡ None }
     ensures no_number { command_of (codes "demo" ∷ codes "7x" ∷ []) ≡ None }
     ensures no_option { command_of (codes "demo" ∷ codes "7" ∷ codes "--budget" ∷ codes "12" ∷ []) ≡ None }
+{}
+
+/// Words with `--reduce`. It does nothing.
+pub fn small_flags()
+    ensures behind { command_of (codes "run" ∷ codes "s" ∷ codes "q" ∷ codes "--reduce" ∷ [])
+        ≡ Some (Run (codes "s") (codes "q") 1000000 1 true) }
+    ensures in_front { command_of (codes "plan" ∷ codes "--reduce" ∷ codes "s" ∷ codes "q" ∷ codes "--budget" ∷ codes "5" ∷ [])
+        ≡ Some (Plan (codes "s") (codes "q") 5 1 true) }
+    ensures between { command_of (codes "audit" ∷ codes "s" ∷ codes "--accuracy=8" ∷ codes "--reduce" ∷ codes "q" ∷ [])
+        ≡ Some (Audit (codes "s") (codes "q") 1000000 8 true) }
+    ensures a_place_word { command_of (codes "run" ∷ codes "--" ∷ codes "--reduce" ∷ codes "q" ∷ [])
+        ≡ Some (Run (codes "--reduce") (codes "q") 1000000 1 false) }
+    ensures twice { command_of (codes "run" ∷ codes "--reduce" ∷ codes "s" ∷ codes "q" ∷ codes "--reduce" ∷ []) ≡ None }
+    ensures value { command_of (codes "run" ∷ codes "s" ∷ codes "q" ∷ codes "--reduce=1" ∷ []) ≡ None }
+    ensures value_behind { command_of (codes "run" ∷ codes "s" ∷ codes "q" ∷ codes "--reduce" ∷ codes "1" ∷ []) ≡ None }
+    ensures as_a_value { command_of (codes "run" ∷ codes "s" ∷ codes "q" ∷ codes "--budget" ∷ codes "--reduce" ∷ []) ≡ None }
+    ensures of_demo { command_of (codes "demo" ∷ codes "7" ∷ codes "--reduce" ∷ []) ≡ None }
+    ensures letter_case { command_of (codes "run" ∷ codes "s" ∷ codes "q" ∷ codes "--Reduce" ∷ []) ≡ None }
 {}

@@ -13,6 +13,7 @@ pub enum Command<'a> {
         query: &'a str,
         budget: u64,
         accuracy: u8,
+        reduce: bool,
     },
     /// Prints the plan of a query alone.
     Plan {
@@ -20,6 +21,7 @@ pub enum Command<'a> {
         query: &'a str,
         budget: u64,
         accuracy: u8,
+        reduce: bool,
     },
     /// Lists the rows, and prints beside each level's bound how many it has, in the place of the rows.
     Audit {
@@ -27,6 +29,7 @@ pub enum Command<'a> {
         query: &'a str,
         budget: u64,
         accuracy: u8,
+        reduce: bool,
     },
     /// Audits the query of a shop that is made from a number.
     Demo {

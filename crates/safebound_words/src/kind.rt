@@ -1,11 +1,11 @@
 //! What a word before `--` is.
 ghost use Rattle.std.specs.Prelude.{◌≡◌};
 ghost use Rattle.std.specs.Option.{option_map};
-ghost use Rattle.safebound_words.specs.Answer.{kind_of as told_kind, split_value as told_parts};
+ghost use Rattle.safebound_words.specs.Answer.{kind_of as told_kind, option_kind as told_option, option_named as option_of, split_value as told_parts};
 ghost use Rattle.safebound_words.specs.Kinds.{kind_seen};
 ghost use Rattle.safebound_words.specs.Words.{is_dashed as dashed};
 
-use crate::table::{CommandName, OptionName, option_named};
+use crate::table::{CommandName, FlagName, OptionName, flag_named, option_named};
 
 /// What a word before `--` is.
 #[derive(Clone, Copy)]
@@ -13,11 +13,12 @@ pub(crate) enum Kind<'a> {
     /// `--` itself.
     End,
     Place,
+    Flag(FlagName),
     /// An option, whose value is the next word.
     Option(OptionName),
     /// An option and its value.
     Value(OptionName, &'a str),
-    /// A dash and more that is no option of the command.
+    /// A dash and more that is no option and no flag of the command.
     Unknown,
 }
 
@@ -39,6 +40,20 @@ fn split_value(word: &str) -> (&str, Option<&str>)
     }
 }
 
+// What a dashed word is that is no flag of the command.
+fn option_kind(name: CommandName, word: &str) -> Kind<'_>
+    ensures { kind_seen result ≡ told_option (option_of name (told_parts word.now).0) (told_parts word.now).1 }
+{
+    let (front, value) = split_value(word);
+    match option_named(name, front) {
+        None => Kind::Unknown,
+        Some(option) => match value {
+            None => Kind::Option(option),
+            Some(value) => Kind::Value(option, value),
+        },
+    }
+}
+
 /// What a word is to a command.
 #[tactic(auto, unfolding(crate::specs::Answer::kind_of))]
 pub(crate) fn kind_of(name: CommandName, word: &str) -> Kind<'_>
@@ -50,12 +65,8 @@ pub(crate) fn kind_of(name: CommandName, word: &str) -> Kind<'_>
     if !is_dashed(word) {
         return Kind::Place;
     }
-    let (front, value) = split_value(word);
-    match option_named(name, front) {
-        None => Kind::Unknown,
-        Some(option) => match value {
-            None => Kind::Option(option),
-            Some(value) => Kind::Value(option, value),
-        },
+    match flag_named(name, word) {
+        None => option_kind(name, word),
+        Some(flag) => Kind::Flag(flag),
     }
 }

@@ -1,12 +1,12 @@
 //! The words behind a command's word, on their way from left to right.
-ghost use Rattle.std.specs.Prelude.{◌≡◌, ◌∷◌, ◌++◌, ℕ, [], length, List, map, if◌then◌else◌, IfOk, IfErr, IsTrue, None, OnErr, OnOk};
-ghost use Rattle.safebound_words.specs.Collected.{asked_by, asked_from, collected, FitsNext, given_to, option_words, words_of};
-ghost use Rattle.safebound_words.specs.CommandLines.{has_option, same_option};
+ghost use Rattle.std.specs.Prelude.{◌≡◌, ◌+◌, ◌∷◌, ◌++◌, ℕ, [], length, List, map, if◌then◌else◌, IfOk, IfErr, IsTrue, None, false, true, OnErr, OnOk};
+ghost use Rattle.safebound_words.specs.Collected.{asked_by, asked_from, collected, FitsNext, given_to, option_words, times_of, words_of};
+ghost use Rattle.safebound_words.specs.CommandLines.{has_option, same_flag, same_option};
 ghost use Rattle.safebound_words.specs.Words.{Word};
 
 use crate::command::WordsError;
 use crate::kind::{Kind, kind_of};
-use crate::table::{CommandName, OptionName};
+use crate::table::{CommandName, FlagName, OptionName};
 
 /// The place words so far. No command has more than two.
 #[derive(Clone, Copy)]
@@ -24,12 +24,13 @@ pub(crate) enum Next {
     Place,
 }
 
-/// The place words so far, and the word that was given to each option.
+/// The place words so far, the word that was given to each option, and whether each flag was there.
 #[derive(Clone, Copy)]
 pub(crate) struct Line<'a> {
     pub places: Places<'a>,
     pub budget: Option<&'a str>,
     pub accuracy: Option<&'a str>,
+    pub reduce: bool,
 }
 
 // Puts a word where there is none.
@@ -44,11 +45,24 @@ fn put<'a>(given: &mut Option<&'a str>, word: &'a str) -> Result<(), WordsError>
     Ok(())
 }
 
+// Marks what isn't marked.
+fn mark(marked: &mut bool) -> Result<(), WordsError>
+    ensures ok { OnOk result ((marked.old ≡ false) × (marked.new ≡ true)) }
+    ensures again { OnErr result (marked.old ≡ true) }
+{
+    if *marked {
+        return Err(WordsError::Usage);
+    }
+    *marked = true;
+    Ok(())
+}
+
 impl<'a> Line<'a> {
     // One place word more, where there are fewer than two.
     fn add_place(&mut self, word: &'a str) -> Result<(), WordsError>
         ensures ok { OnOk result (words_of self.new.places ≡ words_of self.old.places ++ word.now ∷ []) }
         ensures given { (option : OptionName) → given_to self.new option ≡ given_to self.old option }
+        ensures times { (flag : FlagName) → times_of self.new flag ≡ times_of self.old flag }
         ensures full { OnErr result (length (words_of self.old.places) ≡ 2) }
     {
         self.places = match self.places {
@@ -64,11 +78,25 @@ impl<'a> Line<'a> {
         ensures ok { OnOk result ((other : OptionName) → given_to self.new other
             ≡ given_to self.old other ++ (if same_option other option then word.now ∷ [] else [])) }
         ensures places { self.new.places ≡ self.old.places }
+        ensures times { (flag : FlagName) → times_of self.new flag ≡ times_of self.old flag }
         ensures again { OnErr result (length (given_to self.old option) ≡ 1) }
     {
         match option {
             OptionName::Budget => put(&mut self.budget, word),
             OptionName::Accuracy => put(&mut self.accuracy, word),
+        }
+    }
+
+    // A flag that wasn't there.
+    fn add_flag(&mut self, flag: FlagName) -> Result<(), WordsError>
+        ensures ok { OnOk result ((other : FlagName) → times_of self.new other
+            ≡ times_of self.old other + (if same_flag other flag then 1 else 0)) }
+        ensures places { self.new.places ≡ self.old.places }
+        ensures given { (option : OptionName) → given_to self.new option ≡ given_to self.old option }
+        ensures again { OnErr result (times_of self.old flag ≡ 1) }
+    {
+        match flag {
+            FlagName::Reduce => mark(&mut self.reduce),
         }
     }
 
@@ -106,6 +134,10 @@ impl<'a> Line<'a> {
                 self.add_place(word)?;
                 Ok(Next::Item)
             }
+            Kind::Flag(flag) => {
+                self.add_flag(flag)?;
+                Ok(Next::Item)
+            }
             Kind::Option(option) => Ok(Next::Value(option)),
             Kind::Value(option, value) => {
                 self.add_value(option, value)?;
@@ -125,6 +157,7 @@ pub(crate) fn read_line<'a>(name: CommandName, words: &[&'a str]) -> Result<Line
         places: Places::Nothing,
         budget: None,
         accuracy: None,
+        reduce: false,
     };
     let mut next = Next::Item;
     'words: for word in words {

@@ -1,7 +1,7 @@
 //! What a whole line asks for.
-ghost use Rattle.std.specs.Prelude.{◌≡◌, ◌≤◌, ℕ, IfSome};
+ghost use Rattle.std.specs.Prelude.{◌≡◌, ◌≤◌, ℕ, Bool, IfSome};
 ghost use Rattle.std.specs.Option.{option_map};
-ghost use Rattle.safebound_words.specs.Collected.{collected, given_to, option_words, words_of};
+ghost use Rattle.safebound_words.specs.Collected.{collected, given_of, option_words, words_of};
 ghost use Rattle.safebound_words.specs.Requests.{Request, request_of};
 ghost use Rattle.safebound_words.specs.Table.{of_number as asked_of_number, option_row, over_files as asked_over_files, value_of as option_value};
 ghost use Rattle.safebound_words.specs.Words.{Word};
@@ -11,13 +11,14 @@ use crate::line::{Line, Places};
 use crate::number::number_within;
 use crate::table::{CommandName, OptionName};
 
-// Two files, and the values of the options.
+// Two files, the values of the options, and whether scans are reduced.
 #[derive(Clone, Copy)]
 struct OverFiles<'a> {
     schema: &'a str,
     query: &'a str,
     budget: u64,
     accuracy: u8,
+    reduce: bool,
 }
 
 // The value of an option that was given this word, or none.
@@ -34,9 +35,9 @@ fn value_of(option: OptionName, given: Option<&str>) -> Option<u64>
 
 // SCHEMA and QUERY, where these are the place words, and where each option has a value.
 fn over_files<'a>(line: &Line<'a>) -> Option<OverFiles<'a>>
-    ensures { (request : Word → Word → ℕ → ℕ → Request) →
-        option_map (λ files. request files.schema.now files.query.now files.budget files.accuracy) result
-        ≡ asked_over_files request (words_of line.now.places) (given_to line.now) }
+    ensures { (request : Word → Word → ℕ → ℕ → Bool → Request) →
+        option_map (λ files. request files.schema.now files.query.now files.budget files.accuracy files.reduce) result
+        ≡ asked_over_files request (words_of line.now.places) (given_of line.now) }
 {
     let Places::Two(schema, query) = line.places else {
         return None;
@@ -48,13 +49,14 @@ fn over_files<'a>(line: &Line<'a>) -> Option<OverFiles<'a>>
         query,
         budget,
         accuracy: accuracy as u8,
+        reduce: line.reduce,
     })
 }
 
 // NUMBER, where it is the one place word.
 fn of_number(line: &Line) -> Option<u32>
     ensures { (request : ℕ → Request) → option_map request result
-        ≡ asked_of_number request (words_of line.now.places) (given_to line.now) }
+        ≡ asked_of_number request (words_of line.now.places) (given_of line.now) }
 {
     let Places::One(word) = line.places else {
         return None;
@@ -74,12 +76,14 @@ pub(crate) fn command_of<'a>(name: CommandName, line: &Line<'a>) -> Option<Comma
                 query,
                 budget,
                 accuracy,
+                reduce,
             } = over_files(line)?;
             Some(Command::Run {
                 schema,
                 query,
                 budget,
                 accuracy,
+                reduce,
             })
         }
         CommandName::Plan => {
@@ -88,12 +92,14 @@ pub(crate) fn command_of<'a>(name: CommandName, line: &Line<'a>) -> Option<Comma
                 query,
                 budget,
                 accuracy,
+                reduce,
             } = over_files(line)?;
             Some(Command::Plan {
                 schema,
                 query,
                 budget,
                 accuracy,
+                reduce,
             })
         }
         CommandName::Audit => {
@@ -102,12 +108,14 @@ pub(crate) fn command_of<'a>(name: CommandName, line: &Line<'a>) -> Option<Comma
                 query,
                 budget,
                 accuracy,
+                reduce,
             } = over_files(line)?;
             Some(Command::Audit {
                 schema,
                 query,
                 budget,
                 accuracy,
+                reduce,
             })
         }
         CommandName::Demo => {

@@ -1,6 +1,6 @@
-//! The names of commands and options, and the words that name them.
+//! The names of commands, options and flags, and the words that name them.
 ghost use Rattle.std.specs.Prelude.{◌≡◌};
-ghost use Rattle.safebound_words.specs.Answer.{command_named as named_command, option_named as named_option};
+ghost use Rattle.safebound_words.specs.Answer.{command_named as named_command, flag_named as named_flag, option_named as named_option};
 ghost use Rattle.safebound_words.specs.Table.{option_row};
 
 use limits::{
@@ -21,6 +21,12 @@ pub enum CommandName {
 pub enum OptionName {
     Budget,
     Accuracy,
+}
+
+/// The name of a flag: an option without a value.
+#[derive(Clone, Copy, Debug, PartialEq, Eq)]
+pub enum FlagName {
+    Reduce,
 }
 
 /// The least and the greatest value of an option, and its value where it doesn't stand.
@@ -83,6 +89,17 @@ fn any_option_named(word: &str) -> Option<OptionName>
     }
 }
 
+// The flag that a word names.
+fn any_flag_named(word: &str) -> Option<FlagName>
+    ensures { result ≡ named_flag CommandName.Run word.now }
+{
+    if word == "--reduce" {
+        Some(FlagName::Reduce)
+    } else {
+        None
+    }
+}
+
 // The option of a command that a word names.
 pub(crate) fn option_named(name: CommandName, word: &str) -> Option<OptionName>
     ensures option { result ≡ named_option name word.now }
@@ -91,4 +108,14 @@ pub(crate) fn option_named(name: CommandName, word: &str) -> Option<OptionName>
         CommandName::Run | CommandName::Plan | CommandName::Audit => any_option_named(word),
         CommandName::Demo => None,
     }
+}
+
+// The flag of a command that a word names.
+pub(crate) fn flag_named(name: CommandName, word: &str) -> Option<FlagName>
+    ensures flag { result ≡ named_flag name word.now }
+{
+    if matches!(name, CommandName::Demo) {
+        return None;
+    }
+    any_flag_named(word)
 }

@@ -2,8 +2,9 @@ use crate::{Command, CommandName, WordsError, read_words};
 use std::alloc::{AllocError, Global};
 use std::test::Fail;
 
-// The budget or the number, the accuracy, and the name of what words ask for; zeros where they ask for nothing.
-fn read_run(words: &[&str]) -> (u64, u8, CommandName) {
+// The budget or the number, the accuracy, whether scans are reduced, and the name of what words ask for; zeros where they ask for
+// nothing.
+fn read_run(words: &[&str]) -> (u64, u8, bool, CommandName) {
     match read_words(words) {
         Ok(command) => {
             let name = command.name();
@@ -11,33 +12,42 @@ fn read_run(words: &[&str]) -> (u64, u8, CommandName) {
                 Command::Run {
                     budget,
                     accuracy,
+                    reduce,
                     ..
-                } => (budget, accuracy, name),
+                } => (budget, accuracy, reduce, name),
                 Command::Plan {
                     budget,
                     accuracy,
+                    reduce,
                     ..
-                } => (budget, accuracy, name),
+                } => (budget, accuracy, reduce, name),
                 Command::Audit {
                     budget,
                     accuracy,
+                    reduce,
                     ..
-                } => (budget, accuracy, name),
-                Command::Demo { number } => (number as u64, 0, name),
+                } => (budget, accuracy, reduce, name),
+                Command::Demo { number } => (number as u64, 0, false, name),
             }
         }
-        Err(WordsError::Usage) => (0, 0, CommandName::Demo),
+        Err(WordsError::Usage) => (0, 0, false, CommandName::Demo),
     }
 }
 
 #[test]
 fn commands_and_options(rt: HostRuntime) -> Result<(), Fail> {
-    assert!(rt; read_run(&["run", "--budget=12", "--", "s", "q"]) == (12, 1, CommandName::Run));
     assert!(rt;
-        read_run(&["plan", "-", "", "--accuracy", "064"]) == (1_000_000, 64, CommandName::Plan)
+        read_run(&["run", "--budget=12", "--", "s", "q"]) == (12, 1, false, CommandName::Run)
     );
-    assert!(rt; read_run(&["demo", "4294967295"]) == (4_294_967_295, 0, CommandName::Demo));
-    assert!(rt; read_run(&["run", "s", "q", "--budget", "--"]) == (0, 0, CommandName::Demo));
+    assert!(rt;
+        read_run(&["plan", "-", "", "--accuracy", "064"])
+            == (1_000_000, 64, false, CommandName::Plan)
+    );
+    assert!(rt; read_run(&["demo", "4294967295"]) == (4_294_967_295, 0, false, CommandName::Demo));
+    assert!(rt;
+        read_run(&["audit", "--reduce", "s", "q"]) == (1_000_000, 1, true, CommandName::Audit)
+    );
+    assert!(rt; read_run(&["run", "s", "q", "--budget", "--"]) == (0, 0, false, CommandName::Demo));
     Ok(())
 }
 

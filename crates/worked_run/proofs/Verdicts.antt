@@ -1,6 +1,6 @@
 -- What the words and the small files give, stage by stage.
 use Rattle.std.proofs.Common.{◌≡◌, ℕ, List, Result, Ok, Err, refl, ap, ◌∙◌}
-use Rattle.std.specs.Prelude.{codes}
+use Rattle.std.specs.Prelude.{codes, false}
 use Rattle.csv_tables.specs.Rows.{Row}
 use Rattle.order_search.specs.declared.refusal.PlanError.{PlanError}
 use Rattle.plans.specs.declared.left_deep.Plan.{Plan}
@@ -29,7 +29,7 @@ use Rattle.worked_run.proofs.Rows.{r_read, s_read}
 use Rattle.worked_run.proofs.Schemas.{schema_read}
 
 abbrev ask : OutText → ℕ → Ask
-ask out budget = ask_for out (codes "schema.sql") (codes "query.sql") budget 1
+ask out budget = ask_for out (codes "schema.sql") (codes "query.sql") budget 1 false
 
 -- ---- the words
 
@@ -72,12 +72,12 @@ tables_found = rw (r_found, s_found) refl
 plan_made : (out : OutText) → plan_stage (ask out 1000000) pair small_rows ≡ Ok (two_tables_run out)
 unfolding plan_stage
 plan_made out = ap (λ (plan : Result Plan PlanError). told plan_refusal plan
-    >>= λ plan. Ok (record { query = pair; rows = small_rows; plan = plan; out = out })) plan_found
+    >>= λ plan. Ok (record { query = pair; rows = small_rows; plan = plan; reduce = false; out = out })) plan_found
 
 plan_too_dear : plan_stage (ask out_text.Rows 11) pair small_rows ≡ Err (refusal.Budget 12)
 unfolding plan_stage
 plan_too_dear = ap (λ (plan : Result Plan PlanError). told plan_refusal plan
-    >>= λ plan. Ok (record { query = pair; rows = small_rows; plan = plan; out = out_text.Rows })) plan_refused
+    >>= λ plan. Ok (record { query = pair; rows = small_rows; plan = plan; reduce = false; out = out_text.Rows })) plan_refused
 
 -- ---- one stage after the other
 

@@ -1,5 +1,5 @@
 -- What the two tables and their query mean.
-use Rattle.std.specs.Prelude.{ℕ, List, [], ◌∷◌, map, pos}
+use Rattle.std.specs.Prelude.{ℕ, false, List, [], ◌∷◌, map, pos}
 use Rattle.csv_tables.specs.Rows.{Row}
 use Rattle.csv_tables.specs.Values.{Int}
 use Rattle.plans.specs.Examples.{plan_of}
@@ -22,5 +22,6 @@ two_tables_run out = record {
   query = pair;
   rows = small_rows;
   plan = plan_of (1 ∷ 0 ∷ []) (6 ∷ 5 ∷ []) (5 ∷ 12 ∷ []);
+  reduce = false;
   out = out;
 }

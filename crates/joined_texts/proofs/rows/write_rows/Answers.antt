@@ -12,7 +12,7 @@ pub put_rows-requires : goal.put_rows-requires
 put_rows-requires g c =
     let joining : Joining = record { query = c.args.query; db = c.args.db; order = c.args.order } in
     let ordered : IsOrdered joining = record { database = c.requires.database; entries = c.requires.order } in
-    is_listed joining ordered c.args.executed.now c.requires.levels c.requires.count
+    is_listed joining ordered c.args.executed.now c.requires.last c.requires.count
 
 pub returns-in_err-put_line : goal.returns-in_err-put_line
 returns-in_err-put_line g c =
@@ -21,7 +21,7 @@ returns-in_err-put_line g c =
     let ordered : IsOrdered joining = record { database = c.requires.database; entries = c.requires.order } in
     wrote_err c.new-buffer.ensures p.1
     (put_as (rows_lines c.args.query.now.select (printed_rows c.args.query.now c.args.db.now c.args.order.now))
-    (whole_text joining ordered c.args.executed.now c.requires.levels c.requires.count c.as_slice.result.now c.as_slice.ensures)
+    (whole_text joining ordered c.args.executed.now c.requires.last c.requires.count c.as_slice.result.now c.as_slice.ensures)
     (put_cut (flat_map (choice_record joining) (last_rows joining c.args.executed.now)) c.in_err-put_line.ensures))
 
 pub returns-in_err-put_rows : goal.returns-in_err-put_rows
@@ -31,7 +31,7 @@ returns-in_err-put_rows g c =
     let ordered : IsOrdered joining = record { database = c.requires.database; entries = c.requires.order } in
     wrote_err c.new-buffer.ensures p.1
     (put_as (rows_lines c.args.query.now.select (printed_rows c.args.query.now c.args.db.now c.args.order.now))
-    (whole_text joining ordered c.args.executed.now c.requires.levels c.requires.count c.as_slice.result.now c.as_slice.ensures)
+    (whole_text joining ordered c.args.executed.now c.requires.last c.requires.count c.as_slice.result.now c.as_slice.ensures)
     (put_then c.in_ok-put_line.ensures c.in_err-put_rows.ensures))
 
 pub returns : goal.returns
@@ -41,6 +41,6 @@ returns g c =
     let ordered : IsOrdered joining = record { database = c.requires.database; entries = c.requires.order } in
     flushed c.flush.result c.new-buffer.ensures
     (put_as (rows_lines c.args.query.now.select (printed_rows c.args.query.now c.args.db.now c.args.order.now))
-    (whole_text joining ordered c.args.executed.now c.requires.levels c.requires.count c.as_slice.result.now c.as_slice.ensures)
+    (whole_text joining ordered c.args.executed.now c.requires.last c.requires.count c.as_slice.result.now c.as_slice.ensures)
     (put_then c.in_ok-put_line.ensures c.in_ok-put_rows.ensures))
     f.ok f.prefix f.later f.failed

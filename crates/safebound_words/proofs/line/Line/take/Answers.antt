@@ -5,7 +5,8 @@ pub returns-in_ok-add_place-in-Place-clause-ok : goal.returns-in_ok-add_place-in
 returns-in_ok-add_place-in-Place-clause-ok c =
     let next = c.in-Place.is in
     rw next (behind_step c.args.name c.add_place.new.self c.args.self.now c.args.word.now
-    c.in_ok-add_place-in-Place.ensures.ok c.in_ok-add_place-in-Place.ensures.given)
+    c.in_ok-add_place-in-Place.ensures.ok
+    (record { values = c.in_ok-add_place-in-Place.ensures.given; times = c.in_ok-add_place-in-Place.ensures.times }))
 
 pub returns-in_err-add_place-in-Place-clause-err : goal.returns-in_err-add_place-in-Place-clause-err
 returns-in_err-add_place-in-Place-clause-err c =
@@ -16,7 +17,7 @@ pub returns-in_ok-add_value-in-Value-clause-ok : goal.returns-in_ok-add_value-in
 returns-in_ok-add_value-in-Value-clause-ok c =
     let next = c.in-Value.is in
     rw next (value_step c.args.name c.add_value.new.self c.args.self.now c.in-Value.option c.args.word.now
-    c.in_ok-add_value-in-Value.ensures.places c.in_ok-add_value-in-Value.ensures.ok)
+    c.in_ok-add_value-in-Value.ensures.places c.in_ok-add_value-in-Value.ensures.times c.in_ok-add_value-in-Value.ensures.ok)
 
 pub returns-in_err-add_value-in-Value-clause-err : goal.returns-in_err-add_value-in-Value-clause-err
 returns-in_err-add_value-in-Value-clause-err c =

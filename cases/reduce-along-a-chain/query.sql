@@ -1,0 +1,1 @@
+SELECT A.X FROM A, B, D WHERE A.X = B.X AND B.Y = D.Y

@@ -1,0 +1,1 @@
+SELECT A.X FROM A, B, E WHERE A.X = B.X

@@ -1,0 +1,1 @@
+SELECT A.X, B.Y FROM A, B WHERE A.X = B.X AND A.Y = B.Y

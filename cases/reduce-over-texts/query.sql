@@ -1,0 +1,1 @@
+SELECT A.X FROM A, B WHERE A.X = B.X

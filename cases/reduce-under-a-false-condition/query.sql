@@ -1,0 +1,1 @@
+SELECT A.X FROM A, B WHERE 1 = 2

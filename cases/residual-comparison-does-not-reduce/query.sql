@@ -1,0 +1,1 @@
+SELECT A.X, B.X FROM A, B WHERE NOT A.X <> B.X AND A.X <= B.X
