@@ -1,18 +1,20 @@
-//! The rows of small trees.
+//! The rows of small trees, and that their plans are plans of their queries.
 ghost use Rattle.std.specs.Prelude.{◌≡◌, ◌∷◌, []};
 ghost use Rattle.sql_meaning.specs.Examples.{triangle, triangle_tables};
-ghost use Rattle.hash_join.specs.Examples.{asking, equal, one_is_two, six_and_five, twice_three};
-ghost use Rattle.bushy_join.specs.Trees.{node_rows};
-ghost use Rattle.bushy_join_tests.specs.Examples.{alone, pair_plan, triangle_plan, twice};
+ghost use Rattle.hash_join.specs.Examples.{pair, six_and_five, twice_three};
+ghost use Rattle.bushy_join.specs.Trees.{node_rows, IsTreePlanOf};
+ghost use Rattle.bushy_join_tests.specs.Examples.{alone, never, pair_plan, three, triangle_plan, twice};
 
 /// Two tables with one inner node: of 30 choices six.
 pub fn two_tables()
-    ensures { node_rows (asking (equal 0 0 1 0 ∷ [])) six_and_five pair_plan 2
+    ensures plan { IsTreePlanOf pair six_and_five pair_plan }
+    ensures inner { node_rows pair six_and_five pair_plan 2
         ≡ (0 ∷ 0 ∷ []) ∷ (0 ∷ 1 ∷ []) ∷ (1 ∷ 0 ∷ []) ∷ (1 ∷ 1 ∷ []) ∷ (2 ∷ 0 ∷ []) ∷ (2 ∷ 1 ∷ []) ∷ [] }
 {}
 
 /// The triangle: five rows at the inner node and four at the root, with its leaves from left to right.
 pub fn triangles()
+    ensures plan { IsTreePlanOf triangle triangle_tables triangle_plan }
     ensures inner { node_rows triangle triangle_tables triangle_plan 3
         ≡ (0 ∷ 0 ∷ []) ∷ (0 ∷ 2 ∷ []) ∷ (1 ∷ 1 ∷ []) ∷ (2 ∷ 0 ∷ []) ∷ (2 ∷ 2 ∷ []) ∷ [] }
     ensures root { node_rows triangle triangle_tables triangle_plan 4
@@ -21,7 +23,9 @@ pub fn triangles()
 
 /// A condition that names no entry and fails: a root that is a leaf is empty, and so is an inner node, but not a leaf that is joined.
 pub fn constants()
-    ensures alone { node_rows (asking (one_is_two ∷ [])) twice_three alone 0 ≡ [] }
-    ensures inner { node_rows (asking (one_is_two ∷ [])) twice_three twice 2 ≡ [] }
-    ensures leaf { node_rows (asking (one_is_two ∷ [])) twice_three twice 0 ≡ (0 ∷ []) ∷ (1 ∷ []) ∷ (2 ∷ []) ∷ [] }
+    ensures plan_alone { IsTreePlanOf (never (0 ∷ [])) three alone }
+    ensures alone { node_rows (never (0 ∷ [])) three alone 0 ≡ [] }
+    ensures plan_twice { IsTreePlanOf (never (0 ∷ 0 ∷ [])) twice_three twice }
+    ensures inner { node_rows (never (0 ∷ 0 ∷ [])) twice_three twice 2 ≡ [] }
+    ensures leaf { node_rows (never (0 ∷ 0 ∷ [])) twice_three twice 0 ≡ (0 ∷ []) ∷ (1 ∷ []) ∷ (2 ∷ []) ∷ [] }
 {}

@@ -4,6 +4,7 @@ ghost use Rattle.limits.specs.Profile.{most_entries};
 use base_io::Seq;
 use bushy_plan::{BushyError, choose_bushy};
 use limits::{MOST_ENTRIES, MOST_ROWS};
+use order_search::{PlanError, choose};
 use std::alloc::{AllocError, AllocFailed, Global};
 use tree_plans::{BushyPlan, Join};
 
@@ -114,21 +115,51 @@ fn no_tree_within_128_bits(rt: HostRuntime) -> Result<(), Fail> {
     Ok(())
 }
 
-// The pair of 0 and 1, the pair of 2 and 3, and 2, 3 and 4 are small together. Each left-deep order passes a
-// set of four entries, and those all have the bound 100; the tree ((0, 1), ((2, 3), 4)) passes none.
+// The sizes of all sets of the entries of SELECT C.N FROM C, P, Q, R, S WHERE C.A = P.X AND C.B = Q.X AND C.D = R.X AND C.E = S.X. Each of
+// P, Q, R and S has X = 7 three times and X = 8 once. C has a row of 8s, and four rows that have 7 in all but one column, another one each,
+// and there a value that P, Q, R and S don't have. So all five have one row, but C with three others has 28.
+fn sizes_of_a_star(alloc: Global) -> Result<Vec<u128>, Fail> {
+    Ok(vec![in alloc;
+        1, 5, 4, 10, 4, 10, 16, 19, 4, 10, 16, 19, 16, 19, 64, 28, 4, 10, 16, 19, 16, 19, 64, 28,
+        16, 19, 64, 28, 64, 28, 256, 1,
+    ]?)
+}
+
+// Each left-deep order passes a set of four entries. The tree (((C, P), Q), (R, S)) passes none.
 #[test]
-fn five_entries_whose_best_tree_is_bushy(rt: HostRuntime) -> Result<(), Fail> {
+fn the_best_tree_of_a_star_is_bushy(rt: HostRuntime) -> Result<(), Fail> {
     let alloc = rt.alloc();
-    let bounds = vec![in alloc;
-        100, 5, 5, 5, 5, 100, 100, 100, 5, 100, 100, 100, 5, 100, 100, 100, 5, 100, 100, 100, 100,
-        100, 100, 100, 100, 100, 100, 100, 5, 100, 100, 10,
-    ]?;
-    let plan = chosen(alloc, 5, bounds, 10)?;
+    let plan = chosen(alloc, 5, sizes_of_a_star(alloc)?, 19)?;
     assert_eq!(rt;
         plan.joins.as_slice(),
-        [join(0, 1, 5), join(2, 3, 5), join(6, 4, 5), join(5, 7, 10)].as_slice()
+        [
+            join(0, 1, 10),
+            join(5, 2, 19),
+            join(3, 4, 16),
+            join(6, 7, 1)
+        ]
+        .as_slice()
     );
-    assert_eq!(rt; plan.cost, 10);
+    assert_eq!(rt; plan.cost, 19);
+    Ok(())
+}
+
+// Why no order is chosen, where each of five scans has two rows.
+fn order_refusal(alloc: Global, bounds: Vec<u128>, budget: u64) -> Result<Option<PlanError>, Fail> {
+    if bounds.len() != number_of_sets(5) || budget > MOST_ROWS as u64 {
+        return Err(Fail::Unfit);
+    }
+    let scans = Seq::from_vec(vec![in alloc; 2; 5]?);
+    Ok(choose(alloc, &Seq::from_vec(bounds), &scans, budget).err())
+}
+
+#[test]
+fn each_left_deep_order_of_a_star_costs_more(rt: HostRuntime) -> Result<(), Fail> {
+    let alloc = rt.alloc();
+    assert_eq!(rt;
+        order_refusal(alloc, sizes_of_a_star(alloc)?, 27)?,
+        Some(PlanError::Budget { least: 28 })
+    );
     Ok(())
 }
 

@@ -82,7 +82,7 @@ fn outs(alloc: Global) -> Result<Seq<Out>, NoMemory>
     list(alloc, a, b, c)
 }
 
-fn query(alloc: Global) -> Result<Query, NoMemory>
+pub fn query(alloc: Global) -> Result<Query, NoMemory>
     ensures { IfOk result (λ q. q ≡ triangle) }
 {
     let a = equal(column(0, 0), column(1, 0));
@@ -114,7 +114,7 @@ fn cells(alloc: Global, first: &[u64], second: &[u64]) -> Result<Cells, NoMemory
     })
 }
 
-fn database(alloc: Global) -> Result<Database, NoMemory>
+pub fn database(alloc: Global) -> Result<Database, NoMemory>
     ensures { IfOk result (λ db. db ≡ triangle_tables) }
 {
     let r = cells(alloc, &[1, 1, 2], &[1, 2, 1])?;

@@ -1,0 +1,188 @@
+-- The plans of the examples are plans of their queries.
+use Rattle.std.proofs.Common.{◌≡◌, ℕ, zero, suc, ◌<◌, ◌≤◌, eqb, List, [], ◌∷◌, length, map, get_or, ap, refl, arith}
+use Rattle.std.specs.List.{count_by}
+use Rattle.std.proofs.lemmas.List.{length-map}
+use Rattle.sql_meaning.specs.Examples.{triangle, triangle_tables}
+use Rattle.join_steps.specs.Lists.{scan_of}
+use Rattle.tree_plans.specs.declared.bushy.BushyPlan.{BushyPlan}
+use Rattle.tree_plans.specs.TreePlans.{joined_nodes, IsTreePlan}
+use Rattle.tree_rows.specs.Rooms.{bound_at}
+use Rattle.hash_join.specs.Examples.{equal, one_is_two, pair, six_and_five, twice_three, Comparison}
+use Rattle.hash_join.proofs.Worked.{level_is, scan_is}
+use Rattle.bushy_join.specs.Trees.{node_rows, IsTreePlanOf}
+use Rattle.bushy_join_tests.specs.Examples.{alone, never, pair_plan, three, triangle_plan, twice}
+
+-- ---- rows that are known
+
+abbrev pub sides : List Comparison
+sides = equal 0 0 1 0 ∷ equal 1 1 2 0 ∷ equal 2 1 0 1 ∷ []
+
+scan_fits : (rows said : List ℕ) (bound : ℕ) → rows ≡ said → length said ≤ bound → length rows ≤ bound
+scan_fits rows said bound same small = omega (arith, ap (λ (s : List ℕ). length s) same, small)
+
+leaf_fits : (rows said : List ℕ) (bound : ℕ) → rows ≡ said → length said ≤ bound → length (map (λ row. row ∷ []) rows) ≤ bound
+leaf_fits rows said bound same small = omega (arith, length-map rows (λ row. row ∷ []), scan_fits rows said bound same small)
+
+level_fits : (rows said : List (List ℕ)) (bound : ℕ) → rows ≡ said → length said ≤ bound → length rows ≤ bound
+level_fits rows said bound same small = omega (arith, ap (λ (s : List (List ℕ)). length s) same, small)
+
+-- each node is named once but the root
+abbrev NamedOnce : ℕ → BushyPlan → Type 0
+NamedOnce named plan = (node : ℕ) → node < named → count_by (λ other. eqb other node) (joined_nodes plan.joins) ≡ 1
+
+two_named : (node : ℕ) → node < 2 → count_by (λ other. eqb other node) (0 ∷ 1 ∷ []) ≡ 1
+two_named zero low = refl
+two_named (suc zero) low = refl
+two_named (suc (suc node)) low = absurd (omega arith)
+
+-- ---- two tables
+
+pair_tree : IsTreePlan 2 pair_plan
+pair_tree = record {
+  few = omega arith;
+  scans = refl;
+  joins = refl;
+  behind = (omega arith, omega arith, tt);
+  once = two_named;
+  small_scans = (omega arith, (omega arith, tt));
+  small_joins = (omega arith, tt);
+}
+
+pair_scan : (entry : ℕ) → entry < 2 → length (scan_of pair six_and_five entry) ≤ get_or pair_plan.scans entry 0
+pair_scan zero low =
+    scan_fits (scan_of pair six_and_five 0) (0 ∷ 1 ∷ 2 ∷ 3 ∷ 4 ∷ 5 ∷ []) 6
+    (scan_is (equal 0 0 1 0 ∷ []) six_and_five 0) (omega arith)
+pair_scan (suc zero) low =
+    scan_fits (scan_of pair six_and_five 1) (0 ∷ 1 ∷ 2 ∷ 3 ∷ 4 ∷ []) 5
+    (scan_is (equal 0 0 1 0 ∷ []) six_and_five 1) (omega arith)
+pair_scan (suc (suc entry)) low = absurd (omega arith)
+
+pair_node : (node : ℕ) → node < 3 → length (node_rows pair six_and_five pair_plan node) ≤ bound_at pair_plan node
+pair_node zero low =
+    leaf_fits (scan_of pair six_and_five 0) (0 ∷ 1 ∷ 2 ∷ 3 ∷ 4 ∷ 5 ∷ []) 6
+    (scan_is (equal 0 0 1 0 ∷ []) six_and_five 0) (omega arith)
+pair_node (suc zero) low =
+    leaf_fits (scan_of pair six_and_five 1) (0 ∷ 1 ∷ 2 ∷ 3 ∷ 4 ∷ []) 5
+    (scan_is (equal 0 0 1 0 ∷ []) six_and_five 1) (omega arith)
+pair_node (suc (suc zero)) low =
+    level_fits (node_rows pair six_and_five pair_plan 2)
+    ((0 ∷ 0 ∷ []) ∷ (0 ∷ 1 ∷ []) ∷ (1 ∷ 0 ∷ []) ∷ (1 ∷ 1 ∷ []) ∷ (2 ∷ 0 ∷ []) ∷ (2 ∷ 1 ∷ []) ∷ []) 12
+    (level_is (equal 0 0 1 0 ∷ []) six_and_five (0 ∷ 1 ∷ []) 2) (omega arith)
+pair_node (suc (suc (suc node))) low = absurd (omega arith)
+
+pub pair_planned : IsTreePlanOf pair six_and_five pair_plan
+pair_planned = record { for_each_entry = pair_tree; scans = pair_scan; nodes = pair_node }
+
+-- ---- the triangle
+
+triangle_tree : IsTreePlan 3 triangle_plan
+triangle_tree = record {
+  few = omega arith;
+  scans = refl;
+  joins = refl;
+  behind = (omega arith, omega arith, (omega arith, omega arith, tt));
+  once = four_named;
+  small_scans = (omega arith, (omega arith, (omega arith, tt)));
+  small_joins = (omega arith, (omega arith, tt));
+}
+  where
+    four_named : NamedOnce 4 triangle_plan
+    four_named zero low = refl
+    four_named (suc zero) low = refl
+    four_named (suc (suc zero)) low = refl
+    four_named (suc (suc (suc zero))) low = refl
+    four_named (suc (suc (suc (suc node)))) low = absurd (omega arith)
+
+abbrev whole_scan : ℕ → Type 0
+whole_scan entry = scan_of triangle triangle_tables entry ≡ 0 ∷ 1 ∷ 2 ∷ []
+
+triangle_scans : (entry : ℕ) → entry < 3 → whole_scan entry
+triangle_scans zero low = scan_is sides triangle_tables 0
+triangle_scans (suc zero) low = scan_is sides triangle_tables 1
+triangle_scans (suc (suc zero)) low = scan_is sides triangle_tables 2
+triangle_scans (suc (suc (suc entry))) low = absurd (omega arith)
+
+triangle_scan : (entry : ℕ) → entry < 3 → length (scan_of triangle triangle_tables entry) ≤ get_or triangle_plan.scans entry 0
+triangle_scan zero low = scan_fits (scan_of triangle triangle_tables 0) (0 ∷ 1 ∷ 2 ∷ []) 3 (triangle_scans 0 low) (omega arith)
+triangle_scan (suc zero) low = scan_fits (scan_of triangle triangle_tables 1) (0 ∷ 1 ∷ 2 ∷ []) 3 (triangle_scans 1 low) (omega arith)
+triangle_scan (suc (suc zero)) low = scan_fits (scan_of triangle triangle_tables 2) (0 ∷ 1 ∷ 2 ∷ []) 3 (triangle_scans 2 low) (omega arith)
+triangle_scan (suc (suc (suc entry))) low = absurd (omega arith)
+
+triangle_node : (node : ℕ) → node < 5 → length (node_rows triangle triangle_tables triangle_plan node) ≤ bound_at triangle_plan node
+triangle_node zero low = leaf_fits (scan_of triangle triangle_tables 0) (0 ∷ 1 ∷ 2 ∷ []) 3 (triangle_scans 0 (omega arith)) (omega arith)
+triangle_node (suc zero) low =
+    leaf_fits (scan_of triangle triangle_tables 1) (0 ∷ 1 ∷ 2 ∷ []) 3
+    (triangle_scans 1 (omega arith)) (omega arith)
+triangle_node (suc (suc zero)) low =
+    leaf_fits (scan_of triangle triangle_tables 2) (0 ∷ 1 ∷ 2 ∷ []) 3
+    (triangle_scans 2 (omega arith)) (omega arith)
+triangle_node (suc (suc (suc zero))) low =
+    level_fits (node_rows triangle triangle_tables triangle_plan 3)
+    ((0 ∷ 0 ∷ []) ∷ (0 ∷ 2 ∷ []) ∷ (1 ∷ 1 ∷ []) ∷ (2 ∷ 0 ∷ []) ∷ (2 ∷ 2 ∷ []) ∷ []) 5
+    (level_is sides triangle_tables (1 ∷ 2 ∷ []) 2) (omega arith)
+triangle_node (suc (suc (suc (suc zero)))) low =
+    level_fits (node_rows triangle triangle_tables triangle_plan 4)
+    ((0 ∷ 0 ∷ 0 ∷ []) ∷ (0 ∷ 1 ∷ 1 ∷ []) ∷ (1 ∷ 0 ∷ 2 ∷ []) ∷ (2 ∷ 2 ∷ 0 ∷ []) ∷ []) 9
+    (level_is sides triangle_tables (0 ∷ 1 ∷ 2 ∷ []) 3) (omega arith)
+triangle_node (suc (suc (suc (suc (suc node))))) low = absurd (omega arith)
+
+pub triangle_planned : IsTreePlanOf triangle triangle_tables triangle_plan
+triangle_planned = record { for_each_entry = triangle_tree; scans = triangle_scan; nodes = triangle_node }
+
+-- ---- a condition that fails
+
+alone_tree : IsTreePlan 1 alone
+alone_tree = record {
+  few = omega arith;
+  scans = refl;
+  joins = refl;
+  behind = tt;
+  once = λ node low. absurd (omega arith);
+  small_scans = (omega arith, tt);
+  small_joins = tt;
+}
+
+alone_scan : (entry : ℕ) → entry < 1 → length (scan_of (never (0 ∷ [])) three entry) ≤ get_or alone.scans entry 0
+alone_scan zero low = scan_fits (scan_of (never (0 ∷ [])) three 0) (0 ∷ 1 ∷ 2 ∷ []) 3 (scan_is (one_is_two ∷ []) three 0) (omega arith)
+alone_scan (suc entry) low = absurd (omega arith)
+
+alone_node : (node : ℕ) → node < 1 → length (node_rows (never (0 ∷ [])) three alone node) ≤ bound_at alone node
+alone_node zero low = level_fits (node_rows (never (0 ∷ [])) three alone 0) [] 3 (level_is (one_is_two ∷ []) three (0 ∷ []) 1) (omega arith)
+alone_node (suc node) low = absurd (omega arith)
+
+pub alone_planned : IsTreePlanOf (never (0 ∷ [])) three alone
+alone_planned = record { for_each_entry = alone_tree; scans = alone_scan; nodes = alone_node }
+
+twice_tree : IsTreePlan 2 twice
+twice_tree = record {
+  few = omega arith;
+  scans = refl;
+  joins = refl;
+  behind = (omega arith, omega arith, tt);
+  once = two_named;
+  small_scans = (omega arith, (omega arith, tt));
+  small_joins = (omega arith, tt);
+}
+
+twice_scans : (entry : ℕ) → entry < 2 → scan_of (never (0 ∷ 0 ∷ [])) twice_three entry ≡ 0 ∷ 1 ∷ 2 ∷ []
+twice_scans zero low = scan_is (one_is_two ∷ []) twice_three 0
+twice_scans (suc zero) low = scan_is (one_is_two ∷ []) twice_three 1
+twice_scans (suc (suc entry)) low = absurd (omega arith)
+
+twice_scan : (entry : ℕ) → entry < 2 → length (scan_of (never (0 ∷ 0 ∷ [])) twice_three entry) ≤ get_or twice.scans entry 0
+twice_scan zero low = scan_fits (scan_of (never (0 ∷ 0 ∷ [])) twice_three 0) (0 ∷ 1 ∷ 2 ∷ []) 3 (twice_scans 0 low) (omega arith)
+twice_scan (suc zero) low = scan_fits (scan_of (never (0 ∷ 0 ∷ [])) twice_three 1) (0 ∷ 1 ∷ 2 ∷ []) 3 (twice_scans 1 low) (omega arith)
+twice_scan (suc (suc entry)) low = absurd (omega arith)
+
+twice_node : (node : ℕ) → node < 3 → length (node_rows (never (0 ∷ 0 ∷ [])) twice_three twice node) ≤ bound_at twice node
+twice_node zero low = leaf_fits (scan_of (never (0 ∷ 0 ∷ [])) twice_three 0) (0 ∷ 1 ∷ 2 ∷ []) 3 (twice_scans 0 (omega arith)) (omega arith)
+twice_node (suc zero) low =
+    leaf_fits (scan_of (never (0 ∷ 0 ∷ [])) twice_three 1) (0 ∷ 1 ∷ 2 ∷ []) 3
+    (twice_scans 1 (omega arith)) (omega arith)
+twice_node (suc (suc zero)) low =
+    level_fits (node_rows (never (0 ∷ 0 ∷ [])) twice_three twice 2) [] 9
+    (level_is (one_is_two ∷ []) twice_three (0 ∷ 1 ∷ []) 2) (omega arith)
+twice_node (suc (suc (suc node))) low = absurd (omega arith)
+
+pub twice_planned : IsTreePlanOf (never (0 ∷ 0 ∷ [])) twice_three twice
+twice_planned = record { for_each_entry = twice_tree; scans = twice_scan; nodes = twice_node }

@@ -1,0 +1,3 @@
+pub mod Subtrees
+pub mod NeverUnder
+pub mod Stages

@@ -1,0 +1,30 @@
+-- What is joined by a plan has the nodes of its tree.
+use Rattle.std.proofs.Common.{◌≡◌, ℕ, zero, suc, ◌<◌, List, length, sym, subst, arith}
+use Rattle.std.specs.List.{AllByRecursion}
+use Rattle.sql_meaning.specs.Examples.{triangle_tables}
+use Rattle.sql_meaning.specs.Tables.{tables_of}
+use Rattle.planned_joins.specs.PlansOf.{HaveFewRows}
+use Rattle.tree_plans.specs.declared.bushy.BushyPlan.{BushyPlan}
+use Rattle.tree_plans.specs.TreePlans.{IsTreePlan}
+use Rattle.tree_rows.specs.Nodes.{node_at, Node}
+use Rattle.tree_rows.specs.Trees.{entries_at, node_count}
+use Rattle.tree_rows.proofs.Once.{plan_once}
+use Rattle.join_tests.specs.Examples.{HasNodes}
+
+pub own_size : (n : ℕ) (plan : BushyPlan) → IsTreePlan n plan → IsTreePlan (length plan.scans) plan
+own_size n plan is = subst (λ (m : ℕ). IsTreePlan m plan) (sym is.scans) is
+
+pub has_nodes : (n : ℕ) (plan : BushyPlan) (nodes : List Node) → IsTreePlan n plan → length nodes ≡ node_count plan
+    → ((node : ℕ) → node < node_count plan → (node_at nodes node).entries ≡ entries_at plan node) → HasNodes n nodes
+has_nodes n plan nodes is count entries = record {
+  all = omega (arith, count, is.scans, is.joins);
+  within = λ node low.
+      let there : node < node_count plan = omega (arith, low, count) in
+      subst (AllByRecursion (λ entry. entry < n)) (sym (entries node there)) (plan_once n plan node is there).1;
+}
+
+pub triangle_rows : HaveFewRows (tables_of triangle_tables) 3
+triangle_rows zero low = omega arith
+triangle_rows (suc zero) low = omega arith
+triangle_rows (suc (suc zero)) low = omega arith
+triangle_rows (suc (suc (suc entry))) low = absurd (omega arith)

@@ -1,0 +1,138 @@
+//! Join trees: the best one of a query, and the rows of its nodes.
+ghost use Rattle.std.specs.Prelude.{◌≡◌, ℕ, ◌<◌, ◌≤◌, IfOk, length};
+ghost use Rattle.std.specs.List.{AllByRecursion};
+ghost use Rattle.limits.specs.Profile.{most_conjuncts};
+ghost use Rattle.sql_meaning.specs.Databases.{IsDatabaseOf};
+ghost use Rattle.sql_meaning.specs.Tables.{tables_of};
+ghost use Rattle.level_bounds.specs.Keys.{HaveDifferentCharacters};
+ghost use Rattle.planned_joins.specs.PlansOf.{HaveFewRows};
+ghost use Rattle.tree_rows.specs.Nodes.{node_at};
+ghost use Rattle.join_tests.specs.Examples.{HasNodes};
+
+use crate::{meaning, two_tables};
+use base_io::NoMemory;
+use bushy_join::execute_bushy;
+use bushy_plan::BushyError;
+use bushy_planning::plan_bushy;
+use csv_tables::Database;
+use limits::MOST_ROWS;
+use query_types::Query;
+use std::alloc::{AllocError, Global};
+use tree_plans::{BushyPlan, Join};
+use tree_rows::{BushyDone, reserve_bushy};
+
+#[derive(Debug, Drop)]
+struct Failed;
+
+impl From<NoMemory> for Failed {
+    fn from(_: NoMemory) -> Self {
+        Failed
+    }
+}
+
+impl From<AllocError> for Failed {
+    fn from(_: AllocError) -> Self {
+        Failed
+    }
+}
+
+impl From<BushyError> for Failed {
+    fn from(_: BushyError) -> Self {
+        Failed
+    }
+}
+
+#[derive(Drop)]
+struct JoinedTree {
+    plan: BushyPlan,
+    done: BushyDone,
+}
+
+// Joins the entries of a query by its best tree.
+fn joined(alloc: Global, query: &Query, db: &Database) -> Result<JoinedTree, Failed>
+    requires database { IsDatabaseOf query.now db.now }
+    requires few { length query.now.conjuncts ≤ most_conjuncts }
+    requires texts { HaveDifferentCharacters db.now.pool }
+    requires few_rows { HaveFewRows (tables_of db.now) (length query.now.from) }
+    ensures { IfOk result (λ joined. HasNodes (length query.now.from) joined.done) }
+{
+    let plan = plan_bushy(alloc, query, db, 1, MOST_ROWS as u64)?;
+    let reserved = reserve_bushy(alloc, &plan)?;
+    let done = execute_bushy(reserved, &plan, query, db);
+    Ok(JoinedTree { plan, done })
+}
+
+// The rows of a node, one after another: the row number of each entry, and 9 for one that the node hasn't.
+fn rows_of(alloc: Global, done: &BushyDone, node: u8, entries: usize) -> Result<Vec<u32>, Failed>
+    requires node { node < length done.now }
+    requires within { AllByRecursion (λ entry. entry < entries) (node_at done.now node).entries }
+{
+    let mut rows = Vec::new(alloc);
+    for i in 0..done.len(node) {
+        let mut row = vec![in alloc; 9; entries]?;
+        done.rows_of(node, i, row.as_mut_slice());
+        rows.extend_from_slice(row.as_slice())?;
+    }
+    Ok(rows)
+}
+
+fn join(left: u8, right: u8, bound: u64) -> Join {
+    Join { left, right, bound }
+}
+
+fn triangle(alloc: Global) -> Result<JoinedTree, Failed>
+    ensures { IfOk result (λ joined. HasNodes 3 joined.done) }
+{
+    let query = meaning::query(alloc)?;
+    let db = meaning::database(alloc)?;
+    joined(alloc, &query, &db)
+}
+
+#[test]
+fn a_triangle_is_joined_by_its_best_tree(rt: HostRuntime) -> Result<(), Failed> {
+    let alloc = rt.alloc();
+    let JoinedTree { plan, done } = triangle(alloc)?;
+    assert_eq!(rt; plan.scans.as_slice(), [3, 3, 3].as_slice());
+    assert_eq!(rt;
+        plan.joins.as_slice(),
+        [join(1, 2, 5), join(0, 3, 9)].as_slice()
+    );
+    assert_eq!(rt;
+        rows_of(alloc, &done, 0, 3)?.as_slice(),
+        [0, 9, 9, 1, 9, 9, 2, 9, 9].as_slice()
+    );
+    assert_eq!(rt;
+        rows_of(alloc, &done, 3, 3)?.as_slice(),
+        [9, 0, 0, 9, 0, 2, 9, 1, 1, 9, 2, 0, 9, 2, 2].as_slice()
+    );
+    assert_eq!(rt;
+        rows_of(alloc, &done, 4, 3)?.as_slice(),
+        [0, 0, 0, 0, 1, 1, 1, 0, 2, 2, 2, 0].as_slice()
+    );
+    Ok(())
+}
+
+fn pair(alloc: Global) -> Result<JoinedTree, Failed>
+    ensures { IfOk result (λ joined. HasNodes 2 joined.done) }
+{
+    let query = two_tables::query(alloc)?;
+    let db = two_tables::database(alloc)?;
+    joined(alloc, &query, &db)
+}
+
+#[test]
+fn a_pair_is_joined_by_its_only_tree(rt: HostRuntime) -> Result<(), Failed> {
+    let alloc = rt.alloc();
+    let JoinedTree { plan, done } = pair(alloc)?;
+    assert_eq!(rt; plan.scans.as_slice(), [6, 5].as_slice());
+    assert_eq!(rt; plan.joins.as_slice(), [join(0, 1, 12)].as_slice());
+    assert_eq!(rt;
+        rows_of(alloc, &done, 1, 2)?.as_slice(),
+        [9, 0, 9, 1, 9, 2, 9, 3, 9, 4].as_slice()
+    );
+    assert_eq!(rt;
+        rows_of(alloc, &done, 2, 2)?.as_slice(),
+        [0, 0, 0, 1, 1, 0, 1, 1, 2, 0, 2, 1].as_slice()
+    );
+    Ok(())
+}

@@ -1,0 +1,8 @@
+use Rattle.tree_rows.proofs.Once.{plan_once}
+use Rattle.tree_rows.proofs.laws.leaves_are_different_entries.Goals as goal
+
+pub returns-clause-once : goal.returns-clause-once
+returns-clause-once c = λ n plan node is low. (plan_once n plan node is low).0
+
+pub returns-clause-within : goal.returns-clause-within
+returns-clause-within c = λ n plan node is low. (plan_once n plan node is low).1
