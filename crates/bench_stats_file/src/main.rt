@@ -1,0 +1,111 @@
+//! The proved side of the measure of stats_reading; bench/stats_file.rs is the plain side.
+//!
+//! Without a word it reads a small file and writes nothing. With one, as `time`, it writes how many bytes and pairs the
+//! file has, and the milliseconds that `read_stats` took, the least of several.
+#![tactic(auto)]
+
+ghost use Rattle.std.specs.Prelude.{◌≤◌, length};
+ghost use Rattle.limits.specs.Profile.{most_file};
+ghost use Rattle.schema_types.specs.Validity.{IsValid};
+
+mod texts;
+
+use limits::{MOST_FILE, MOST_TEXT};
+use schema_types::{Schema, SchemaError, read_schema};
+use stats_file::{StatsError, StatsFile};
+use stats_reading::read_stats;
+use std::alloc::Global;
+use std::rt::Runtime;
+use std::time::Instant;
+use std::{env, io};
+use texts::{file_text, schema_text};
+
+// What was read, and how long it took.
+#[derive(Clone, Copy, Debug)]
+struct Measure {
+    pairs: usize,
+    nanos: u128,
+}
+
+fn invalid_data() -> io::Error {
+    io::Error::from(io::ErrorKind::InvalidData)
+}
+
+fn refused(_: StatsError) -> io::Error {
+    invalid_data()
+}
+
+fn no_schema(_: SchemaError) -> io::Error {
+    invalid_data()
+}
+
+fn pairs_of(file: &StatsFile) -> usize {
+    let mut pairs: usize = 0;
+    for table in file.tables.as_slice() {
+        pairs = pairs.wrapping_add(table.pairs.len());
+    }
+    pairs
+}
+
+fn read_once<R: Runtime>(
+    rt: &R,
+    alloc: Global,
+    schema: &Schema,
+    bytes: &[u8],
+) -> io::Result<Measure>
+    requires valid { IsValid schema.now }
+    requires few { length bytes.now ≤ most_file }
+{
+    let start = Instant::now(rt)?;
+    let file = read_stats(alloc, schema, bytes).map_err(refused)?;
+    let nanos = start.elapsed(rt)?.as_nanos();
+    let pairs = pairs_of(&file);
+    Ok(Measure { pairs, nanos })
+}
+
+// Several readings. A longer file than one may be is refused.
+fn read_often<R: Runtime>(
+    rt: &R,
+    alloc: Global,
+    schema: &Schema,
+    bytes: &[u8],
+    rounds: u32,
+) -> io::Result<Measure>
+    requires valid { IsValid schema.now }
+{
+    if bytes.len() > MOST_FILE as usize {
+        return Err(invalid_data());
+    }
+    let mut least = read_once(rt, alloc, schema, bytes)?;
+    for _ in 1..rounds {
+        let measure = read_once(rt, alloc, schema, bytes)?;
+        least.nanos = least.nanos.min(measure.nanos);
+    }
+    Ok(least)
+}
+
+fn read_and_print(rt: &HostRuntime, is_timed: bool) -> io::Result<()> {
+    let alloc = rt.alloc();
+    let text = schema_text(alloc)?;
+    if text.len() > MOST_TEXT as usize {
+        return Err(invalid_data());
+    }
+    let schema = read_schema(alloc, text.as_bytes()).map_err(no_schema)?;
+    let (bytes, rounds) = if is_timed {
+        (MOST_FILE as usize, 5)
+    } else {
+        (20_000, 1)
+    };
+    let file = file_text(alloc, bytes)?;
+    let found = read_often(rt, alloc, &schema, file.as_bytes(), rounds)?;
+    if is_timed {
+        let millis = found.nanos / 1_000_000;
+        println!(rt; "{} {} {millis}", file.len(), found.pairs)?;
+    }
+    Ok(())
+}
+
+fn main(rt: HostRuntime) -> io::Result<()> {
+    let is_timed = env::args(&rt)?.count() > 1;
+    read_and_print(&rt, is_timed)
+}

@@ -1,0 +1,112 @@
+//! A schema of many columns, and a file of statistics over it.
+use std::alloc::{AllocError, Global};
+
+const DIGITS: [&str; 10] = ["0", "1", "2", "3", "4", "5", "6", "7", "8", "9"];
+
+// Tables of the schema, and columns of each.
+const TABLES: usize = 64;
+
+// The lines of a pair have fewer bytes.
+const MOST_PAIR: usize = 4096;
+
+fn push_number(text: &mut String, number: usize) -> Result<(), AllocError> {
+    text.push_str(DIGITS[number / 10 % 10])?;
+    text.push_str(DIGITS[number % 10])
+}
+
+fn push_columns(text: &mut String) -> Result<(), AllocError> {
+    for i in 0..TABLES {
+        if i > 0 {
+            text.push_str(", ")?;
+        }
+        text.push_str("C")?;
+        push_number(text, i)?;
+        text.push_str(" INT NOT NULL")?;
+    }
+    Ok(())
+}
+
+/// Tables T00 and so on, each with the columns C00 and so on.
+pub fn schema_text(alloc: Global) -> Result<String, AllocError> {
+    let mut text = String::new(alloc);
+    for i in 0..TABLES {
+        text.push_str("CREATE TABLE T")?;
+        push_number(&mut text, i)?;
+        text.push_str(" (")?;
+        push_columns(&mut text)?;
+        text.push_str(");\n")?;
+    }
+    Ok(text)
+}
+
+// A letter, given by its two digits, and a number, as a name.
+fn push_name(text: &mut String, letter: &str, number: usize) -> Result<(), AllocError> {
+    text.push_str("x")?;
+    text.push_str(letter)?;
+    text.push_str("3")?;
+    text.push_str(DIGITS[number / 10 % 10])?;
+    text.push_str("3")?;
+    text.push_str(DIGITS[number % 10])
+}
+
+// So many lines of numbers from 100 on.
+fn push_lines(
+    text: &mut String,
+    count: usize,
+    front: &str,
+    behind: &str,
+) -> Result<(), AllocError> {
+    for i in 0..count {
+        text.push_str(front)?;
+        push_number(text, i)?;
+        text.push_str(behind)?;
+    }
+    Ok(())
+}
+
+fn push_pair(text: &mut String, filter: usize, joined: usize) -> Result<(), AllocError> {
+    text.push_str("pair ")?;
+    push_name(text, "43", filter)?;
+    text.push_str(" ")?;
+    push_name(text, "43", joined)?;
+    text.push_str("\nwhole 9*3 7*5 5*8 3*20 1*200\n")?;
+    push_lines(text, 32, "frequent 1", " 5*2 3*4 1*9\n")?;
+    text.push_str("rest 4*3 1*20\n")?;
+    push_lines(text, 32, "cut 1", "\n")?;
+    for _ in 0..63 {
+        text.push_str("node 7*2 5*4 1*30\n")?;
+    }
+    Ok(())
+}
+
+// All pairs of columns, while so many bytes last.
+fn push_pairs(text: &mut String, filter: usize, bytes: usize) -> Result<(), AllocError> {
+    for joined in 0..TABLES {
+        if bytes.saturating_sub(text.len()) > MOST_PAIR {
+            push_pair(text, filter, joined)?;
+        }
+    }
+    Ok(())
+}
+
+fn push_table(text: &mut String, table: usize, bytes: usize) -> Result<(), AllocError> {
+    text.push_str("table ")?;
+    push_name(text, "54", table)?;
+    text.push_str(" 362\n")?;
+    for filter in 0..TABLES {
+        push_pairs(text, filter, bytes)?;
+    }
+    Ok(())
+}
+
+/// A file of at most so many bytes, where they are enough for one pair.
+pub fn file_text(alloc: Global, bytes: usize) -> Result<String, AllocError> {
+    let mut text = String::from_str(alloc, "safebound-stats 1 1\n")?;
+    for table in 0..TABLES {
+        if bytes.saturating_sub(text.len()) > MOST_PAIR {
+            push_table(&mut text, table, bytes)?;
+        }
+    }
+    text.push_str("end\n")?;
+    Ok(text)
+}

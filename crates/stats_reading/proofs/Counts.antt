@@ -1,0 +1,84 @@
+-- Pairs that agree with the earlier ones of their table.
+use Rattle.std.proofs.Common.{◌≡◌, ℕ, zero, suc, ◌<◌, List, length, get_or, refl, sym, subst, ◌∙◌, arith, Option, Some, None}
+use Rattle.std.specs.Prelude.{All, AllPairs, slice_get}
+use Rattle.std.proofs.lemmas.Option.{get_or_from_slice_get, slice_get_within}
+use Rattle.schema_types.specs.declared.types.Table.{Table}
+use Rattle.stats_file.specs.declared.types.Pair.{Pair}
+use Rattle.stats_file.specs.Rules.{Agree, CountTheSame}
+use Rattle.stats_reading.specs.declared.draft.Draft.{Draft}
+use Rattle.stats_reading.specs.Drafts.{IsLike, IsTwin}
+use Rattle.stats_reading.specs.Valid.{IsKnown}
+use Rattle.stats_reading.proofs.NextFacts.{twin_whole}
+use Rattle.stats_reading.proofs.RuleFacts.{PairRules}
+
+pub counts_itself : (a : Pair) → CountTheSame a a
+counts_itself a = record { values = refl; totals = refl; rest = refl; cuts = refl; nodes = refl }
+
+pub counts_back : (a b : Pair) → CountTheSame a b → CountTheSame b a
+counts_back a b h = record { values = sym h.values; totals = sym h.totals; rest = sym h.rest; cuts = sym h.cuts; nodes = sym h.nodes }
+
+pub counts_too : (a b c : Pair) → CountTheSame a b → CountTheSame b c → CountTheSame a c
+counts_too a b c h k = record { values = h.values ∙ k.values; totals = h.totals ∙ k.totals; rest = h.rest ∙ k.rest; cuts = h.cuts ∙ k.cuts; nodes = h.nodes ∙ k.nodes }
+
+pub agree_back : (a b : Pair) → Agree a b → Agree b a
+agree_back a b h = record { joined = λ e. sym (h.joined (sym e)); filter = λ e. counts_back a b (h.filter (sym e)) }
+
+pub agree_itself : (a : Pair) → Agree a a
+agree_itself a = record { joined = λ e. refl; filter = λ e. counts_itself a }
+
+pub data Tri (a b : ℕ) : Type 0 where
+  before : a < b → Tri a b
+  same : a ≡ b → Tri a b
+  behind : b < a → Tri a b
+
+pub tri : (a b : ℕ) → Tri a b
+tri zero zero = same refl
+tri zero (suc b) = before (omega arith)
+tri (suc a) zero = behind (omega arith)
+tri (suc a) (suc b) = up (tri a b)
+  where
+    up : Tri a b → Tri (suc a) (suc b)
+    up (before h) = before (omega arith)
+    up (same h) = same (omega arith)
+    up (behind h) = behind (omega arith)
+
+-- pairs of one table agree, wherever they stand
+pub members_agree : (pairs : List Pair) (i j : ℕ) (d e : Pair) → AllPairs Agree pairs → i < length pairs → slice_get pairs j ≡ Some e → Agree (get_or pairs i d) e
+members_agree pairs i j d e agree lt is = subst (λ (x : Pair). Agree (get_or pairs i d) x) (get_or_from_slice_get pairs j e d is) (at (tri i j))
+  where
+    within : j < length pairs
+    within = slice_get_within pairs j e is
+
+    at : Tri i j → Agree (get_or pairs i d) (get_or pairs j d)
+    at (before h) = agree i j d h within
+    at (same h) = subst (λ (n : ℕ). Agree (get_or pairs i d) (get_or pairs n d)) h (agree_itself (get_or pairs i d))
+    at (behind h) = agree_back (get_or pairs j d) (get_or pairs i d) (agree j i d h lt)
+
+-- another pair of the same columns and list of all rows agrees, where it counts the same as the one with this filter column does
+pub agrees_after : (table : Table) (s : Draft) (p other : Pair) (rows : ℕ) → IsKnown table s → PairRules table rows s.section.pairs p → p.filter ≡ s.pair.filter
+    → other.filter ≡ p.filter → other.joined ≡ p.joined → other.whole ≡ p.whole → ((q : Pair) → IsLike s q → CountTheSame p other) → All (λ q. Agree q other) s.section.pairs
+agrees_after table s p other rows known rules at_filter same_filter same_joined same_whole counts k d lt =
+    let q = get_or s.section.pairs k d in
+    let old = rules.agree k d lt in
+    record {
+      joined = λ e. old.joined (e ∙ same_joined) ∙ sym same_whole;
+      filter = λ e. by_like (e ∙ same_filter) (slice_get s.section.pairs s.like) refl;
+    }
+  where
+    by_like : (get_or s.section.pairs k d).filter ≡ p.filter → (o : Option Pair) → slice_get s.section.pairs s.like ≡ o → CountTheSame (get_or s.section.pairs k d) other
+    by_like e None is = absurd (known.like.none is k d lt (e ∙ at_filter))
+    by_like e (Some like) is = counts_too (get_or s.section.pairs k d) p other ((rules.agree k d lt).filter e) (counts like is)
+
+-- another list of all rows, where it is that of the pair with this joined column
+pub agrees_whole : (table : Table) (s : Draft) (p : Pair) (list : List ℕ) (rows : ℕ) → IsKnown table s → PairRules table rows s.section.pairs p → p.joined ≡ s.pair.joined
+    → ((q : Pair) → IsTwin s q → q.whole ≡ list) → All (λ q. Agree q (record p { whole = list })) s.section.pairs
+agrees_whole table s p list rows known rules at_joined alike k d lt =
+    let old = rules.agree k d lt in
+    record { joined = λ e. by_twin e (slice_get s.section.pairs s.twin) refl; filter = λ e. again (old.filter e) }
+  where
+    again : CountTheSame (get_or s.section.pairs k d) p → CountTheSame (get_or s.section.pairs k d) (record p { whole = list })
+    again h = record { values = h.values; totals = h.totals; rest = h.rest; cuts = h.cuts; nodes = h.nodes }
+
+    by_twin : (get_or s.section.pairs k d).joined ≡ p.joined → (o : Option Pair) → slice_get s.section.pairs s.twin ≡ o → (get_or s.section.pairs k d).whole ≡ list
+    by_twin e None is = absurd (known.twin.none is k d lt (e ∙ at_joined))
+    by_twin e (Some twin) is = (rules.agree k d lt).joined e ∙ sym (twin_whole table s p rows known rules at_joined twin is) ∙ alike twin is

@@ -1,0 +1,74 @@
+-- The order of values, and lists in order.
+use Rattle.std.proofs.Common.{◌≡◌, ◌≢◌, ℕ, zero, suc, ◌-◌, ◌<◌, List, [], ◌∷◌, ◌++◌, length, get_or, replicate, refl, ap, sym, subst, ◌∙◌, arith, append-nil, append_assoc, Some}
+use Rattle.std.specs.Prelude.{All, AllPairs, slice_get}
+use Rattle.std.specs.declared.cmp.Ordering.{Ordering}
+use Rattle.std.specs.declared.cmp.Ordering.TheVariants.{Less, Equal, Greater}
+use Rattle.std.specs.Cmp.{IsTotalOrder}
+use Rattle.std.specs.Cmp.Lexicographic.{slice_cmp}
+use Rattle.std.specs.Ordering.{int_cmp, nat_cmp, ordering_reverse}
+use Rattle.std.proofs.lemmas.Cmp.{int_cmp_total, nat_list_cmp_total}
+use Rattle.std.proofs.lemmas.List.Quantifiers.{all_pairs_push}
+use Rattle.stats_file.specs.declared.types.Datum.{Datum}
+use Rattle.stats_file.specs.declared.types.Datum.TheVariants as datum
+use Rattle.stats_file.specs.Rules.{datum_cmp}
+use Rattle.std.proofs.lemmas.Option.{slice_get-get_or}
+use Rattle.stats_reading.proofs.Seams.{all_more}
+
+not_above : {K : Type 0} (R : K → K → Ordering) → IsTotalOrder R → (a b c : K) → R a b ≢ Greater → R b c ≢ Greater → R a c ≢ Greater
+not_above R total a b c below after = at (R a b) (R b c) refl refl
+  where
+    at : (x y : Ordering) → R a b ≡ x → R b c ≡ y → R a c ≢ Greater
+    at Less Less e f = λ g. let t = total.trans a b c e f in absurd (cc)
+    at Less Equal e f = λ g.
+        let same = total.congr b c a f in
+        let z : R a c ≡ Less = total.antisymm a c ∙ ap ordering_reverse (sym same ∙ total.antisymm b a ∙ ap ordering_reverse e) in
+        absurd (cc)
+    at Equal y e f = λ g. let same = total.congr a b c e in after (sym same ∙ g)
+    at Greater y e f = absurd (below e)
+    at x Greater e f = absurd (after f)
+
+pub values_not_above : (a b c : Datum) → datum_cmp a b ≢ Greater → datum_cmp b c ≢ Greater → datum_cmp a c ≢ Greater
+values_not_above (datum.Int a) (datum.Int b) (datum.Int c) e f = not_above int_cmp int_cmp_total a b c e f
+values_not_above (datum.Int a) (datum.Int b) (datum.Text c) e f = λ g. absurd (cc)
+values_not_above (datum.Int a) (datum.Text b) (datum.Int c) e f = absurd (f refl)
+values_not_above (datum.Int a) (datum.Text b) (datum.Text c) e f = λ g. absurd (cc)
+values_not_above (datum.Text a) (datum.Int b) (datum.Int c) e f = absurd (e refl)
+values_not_above (datum.Text a) (datum.Int b) (datum.Text c) e f = absurd (e refl)
+values_not_above (datum.Text a) (datum.Text b) (datum.Int c) e f = absurd (f refl)
+values_not_above (datum.Text a) (datum.Text b) (datum.Text c) e f = not_above (slice_cmp nat_cmp) nat_list_cmp_total a b c e f
+
+itself : {K : Type 0} (R : K → K → Ordering) → IsTotalOrder R → (a : K) → R a a ≢ Greater
+itself R total a e = let z : Greater ≡ Less = sym e ∙ total.antisymm a a ∙ ap ordering_reverse e in absurd (cc)
+
+pub value_itself : (a : Datum) → datum_cmp a a ≢ Greater
+value_itself (datum.Int a) = itself int_cmp int_cmp_total a
+value_itself (datum.Text a) = itself (slice_cmp nat_cmp) nat_list_cmp_total a
+
+-- where the last one isn't above, none is
+pub none_above : (cuts : List Datum) (cut : Datum) → AllPairs (λ a b. datum_cmp a b ≢ Greater) cuts
+    → ((last : Datum) → slice_get cuts (length cuts - 1) ≡ Some last → datum_cmp last cut ≢ Greater) → All (λ a. datum_cmp a cut ≢ Greater) cuts
+none_above cuts cut sorted last k d lt = at (length cuts - 1 - k) refl
+  where
+    at : (n : ℕ) → length cuts - 1 - k ≡ n → datum_cmp (get_or cuts k d) cut ≢ Greater
+    at zero e =
+        let same : k ≡ length cuts - 1 = omega arith in
+        last (get_or cuts k d) (ap (λ i. slice_get cuts i) (sym same) ∙ slice_get-get_or cuts k d lt)
+    at (suc n) e =
+        let less : length cuts - 1 < length cuts = omega arith in
+        let z = get_or cuts (length cuts - 1) d in
+        values_not_above (get_or cuts k d) z cut (sorted k (length cuts - 1) d (omega arith) less) (last z (slice_get-get_or cuts (length cuts - 1) d less))
+
+pub all_same : {X : Type 0} (P : X → Type 0) (m : ℕ) (x : X) → P x → All P (replicate m x)
+all_same P zero x h = λ k d lt. absurd (omega arith)
+all_same P (suc m) x h = at (all_same P m x h)
+  where
+    at : All P (replicate m x) → All P (x ∷ replicate m x)
+    at rest zero d lt = h
+    at rest (suc k) d lt = rest k d (omega arith)
+
+-- a list in order, and then the same again and again
+pub pairs_padded : {X : Type 0} (R : X → X → Type 0) (m : ℕ) (xs : List X) (x : X) → AllPairs R xs → All (λ y. R y x) xs → R x x → AllPairs R (xs ++ replicate m x)
+pairs_padded R zero xs x pairs above own = subst (AllPairs R) (sym (append-nil xs)) pairs
+pairs_padded R (suc m) xs x pairs above own =
+    subst (AllPairs R) (append_assoc xs (x ∷ []) (replicate m x))
+    (pairs_padded R m (xs ++ x ∷ []) x (all_pairs_push R xs x pairs above) (all_more (λ y. R y x) xs x above own) own)

@@ -1,0 +1,214 @@
+-- What may be read next into a draft, and what the draft then is.
+use Rattle.std.specs.Prelude.{ℕ, ◌≡◌, ◌≢◌, ◌<◌, ◌≤◌, ◌-◌, ◌^◌, ⊤, List, [], ◌∷◌, ◌++◌, length, sum, All, Option, Some, None, slice_get, decimal, Result, Ok, Err}
+use Rattle.std.specs.declared.cmp.Ordering.TheVariants.{Greater}
+use Rattle.limits.specs.Profile.{least_accuracy, most_accuracy, most_rows}
+use Rattle.schema_types.specs.declared.types.Column.{Column}
+use Rattle.schema_types.specs.declared.types.Kind.TheVariants as kind
+use Rattle.schema_types.specs.declared.types.Schema.{Schema}
+use Rattle.schema_types.specs.declared.types.Table.{Table}
+use Rattle.stats_file.specs.declared.types.Datum.{Datum}
+use Rattle.stats_file.specs.declared.types.Pair.{Pair}
+use Rattle.stats_file.specs.declared.types.TableStats.{TableStats}
+use Rattle.stats_file.specs.FileText.{name_at}
+use Rattle.stats_file.specs.Lines.{datum_text, hex_text}
+use Rattle.stats_file.specs.Rules.{datum_cmp, IsList, IsOfKind, StandsBefore}
+use Rattle.stats_words.specs.Runs.{list_text}
+use Rattle.stats_reading.specs.declared.draft.Draft.{Draft}
+use Rattle.stats_reading.specs.declared.fault.Fault.{Fault}
+use Rattle.stats_reading.specs.declared.fault.Fault.TheVariants as fault
+use Rattle.stats_reading.specs.declared.stages.Stage.TheVariants as stage
+
+-- ---- drafts
+
+abbrev pub empty_pair : ℕ → ℕ → Pair
+empty_pair filter joined = record { filter = filter; joined = joined; whole = []; frequent = []; rest = []; cuts = []; nodes = [] }
+
+abbrev pub empty_section : ℕ → ℕ → TableStats
+empty_section table rows = record { table = table; rows = rows; pairs = [] }
+
+abbrev pub empty_draft : Draft
+empty_draft = record {
+  stage = stage.Start;
+  accuracy = 0;
+  tables = [];
+  section = empty_section 0 0;
+  pair = empty_pair 0 0;
+  kind = kind.Int;
+  like = 0;
+  twin = 0;
+}
+
+-- the pair at hand, with more of it
+abbrev pub with_whole : Draft → List ℕ → Draft
+with_whole s list = record s { pair = record s.pair { whole = list } }
+
+abbrev pub with_frequent : Draft → Datum × List ℕ → Draft
+with_frequent s f = record s { pair = record s.pair { frequent = s.pair.frequent ++ f ∷ [] } }
+
+abbrev pub with_rest : Draft → List ℕ → Draft
+with_rest s list = record s { pair = record s.pair { rest = list } }
+
+abbrev pub with_cut : Draft → Datum → Draft
+with_cut s cut = record s { pair = record s.pair { cuts = s.pair.cuts ++ cut ∷ [] } }
+
+abbrev pub with_node : Draft → List ℕ → Draft
+with_node s node = record s { pair = record s.pair { nodes = s.pair.nodes ++ node ∷ [] } }
+
+-- the pair at hand is complete
+abbrev pub pair_ended : Draft → Draft
+pair_ended s = record s { section = record s.section { pairs = s.section.pairs ++ s.pair ∷ [] }; pair = empty_pair 0 0 }
+
+-- the table at hand is complete
+abbrev pub table_ended : Draft → Draft
+table_ended s = record s { tables = s.tables ++ s.section ∷ []; section = empty_section 0 0 }
+
+-- where there are rows, all cuts and nodes are there
+abbrev pub IsWhole : Draft → Type 0
+IsWhole s = 0 < s.section.rows → (length s.pair.cuts ≡ 32) × (length s.pair.nodes ≡ 63)
+
+-- a place of an earlier pair with such a column, or one behind all where none has it
+pub record IsPlaceOf (column : Pair → ℕ) (wanted : ℕ) (pairs : List Pair) (place : ℕ) : Type 0 where
+  pub found : (q : Pair) → slice_get pairs place ≡ Some q → column q ≡ wanted
+  pub none : slice_get pairs place ≡ None → All (λ q. column q ≢ wanted) pairs
+
+-- the pair at hand is one of these columns
+pub record BeginsPair (table : Table) (old new : Draft) (filter joined : ℕ) : Type 0 where
+  pub column : Column
+  pub column_is : slice_get table.columns filter ≡ Some column
+  pub like : IsPlaceOf (λ q. q.filter) filter old.section.pairs new.like
+  pub twin : IsPlaceOf (λ q. q.joined) joined old.section.pairs new.twin
+  pub whole : new ≡ record old { pair = empty_pair filter joined; kind = column.kind; like = new.like; twin = new.twin }
+
+-- ---- what may be next
+
+-- the earlier pair with this filter column, where there is one
+abbrev pub IsLike : Draft → Pair → Type 0
+IsLike s q = slice_get s.section.pairs s.like ≡ Some q
+
+abbrev pub IsTwin : Draft → Pair → Type 0
+IsTwin s q = slice_get s.section.pairs s.twin ≡ Some q
+
+abbrev pub MayBeAccuracy : ℕ → Type 0
+MayBeAccuracy k = (least_accuracy ≤ k) × (k ≤ most_accuracy)
+
+-- a table of the schema with its place and its number of rows
+pub record Place : Type 0 where
+  pub table : Table
+  pub place : ℕ
+  pub rows : ℕ
+
+pub record MayBeTable (schema : Schema) (s : Draft) (v : Place) : Type 0 where
+  pub exists : slice_get schema.tables v.place ≡ Some v.table
+  pub later : All (λ t. t.table < v.place) s.tables
+  pub few : v.rows ≤ most_rows
+
+pub record MayBePair (table : Table) (s : Draft) (filter joined : ℕ) : Type 0 where
+  pub filter_is : filter < length table.columns
+  pub joined_is : joined < length table.columns
+  pub later : All (λ q. StandsBefore q (empty_pair filter joined)) s.section.pairs
+
+-- a list of all rows, and that of the earlier pair with this joined column
+pub record WholeFollows (s : Draft) (list : List ℕ) : Type 0 where
+  pub all : sum list ≡ s.section.rows
+  pub alike : (q : Pair) → IsTwin s q → q.whole ≡ list
+
+-- this frequent value of the earlier pair is the same, and its list has the same total
+pub record IsSameValue (place : ℕ) (f : Datum × List ℕ) (q : Pair) : Type 0 where
+  pub other : Datum × List ℕ
+  pub there : slice_get q.frequent place ≡ Some other
+  pub value : other.0 ≡ f.0
+  pub total : sum other.1 ≡ sum f.1
+
+-- one more frequent value, unlike those before it
+pub record FrequentFollows (s : Draft) (f : Datum × List ℕ) : Type 0 where
+  pub few : length s.pair.frequent < 32
+  pub differs : All (λ (e : Datum × List ℕ). e.0 ≢ f.0) s.pair.frequent
+  pub alike : (q : Pair) → IsLike s q → IsSameValue (length s.pair.frequent) f q
+
+-- as many frequent values as the earlier pair has, and the same total
+pub record IsSameRest (count : ℕ) (list : List ℕ) (q : Pair) : Type 0 where
+  pub count_is : length q.frequent ≡ count
+  pub total : sum q.rest ≡ sum list
+
+pub record RestFollows (s : Draft) (list : List ℕ) : Type 0 where
+  pub alike : (q : Pair) → IsLike s q → IsSameRest (length s.pair.frequent) list q
+
+-- one more cut, not below the last one
+pub record CutFollows (s : Draft) (cut : Datum) : Type 0 where
+  pub some : 0 < s.section.rows
+  pub few : length s.pair.cuts < 32
+  pub order : (last : Datum) → slice_get s.pair.cuts (length s.pair.cuts - 1) ≡ Some last → datum_cmp last cut ≢ Greater
+  pub alike : (q : Pair) → IsLike s q → slice_get q.cuts (length s.pair.cuts) ≡ Some cut
+
+-- this node of the earlier pair has the same total
+pub record IsSameTotal (place : ℕ) (node : List ℕ) (q : Pair) : Type 0 where
+  pub other : List ℕ
+  pub there : slice_get q.nodes place ≡ Some other
+  pub total : sum other ≡ sum node
+
+-- one more node, behind all cuts
+pub record NodeFollows (s : Draft) (node : List ℕ) : Type 0 where
+  pub some : 0 < s.section.rows
+  pub all_cuts : length s.pair.cuts ≡ 32
+  pub few : length s.pair.nodes < 63
+  pub alike : (q : Pair) → IsLike s q → IsSameTotal (length s.pair.nodes) node q
+
+abbrev pub MayBeWhole : Draft → List ℕ → Type 0
+MayBeWhole s list = IsList s.section.rows list × WholeFollows s list
+
+abbrev pub MayBeFrequent : Draft → Datum × List ℕ → Type 0
+MayBeFrequent s f = IsOfKind s.kind f.0 × IsList s.section.rows f.1 × FrequentFollows s f
+
+abbrev pub MayBeRest : Draft → List ℕ → Type 0
+MayBeRest s list = IsList s.section.rows list × RestFollows s list
+
+abbrev pub MayBeCut : Draft → Datum → Type 0
+MayBeCut s cut = IsOfKind s.kind cut × CutFollows s cut
+
+abbrev pub MayBeNode : Draft → List ℕ → Type 0
+MayBeNode s node = IsList s.section.rows node × NodeFollows s node
+
+-- ---- a step
+
+-- one of the values that may be next has these words, and was taken; or none of them has
+pub record Took {X : Type 0} (text : X → List ℕ × List ℕ) (MayBe After : X → Type 0) (words : List ℕ × List ℕ) : Type 0 where
+  pub value : X
+  pub may : MayBe value
+  pub spelled : text value ≡ words
+  pub after : After value
+
+abbrev pub Takes : {X : Type 0} → (X → List ℕ × List ℕ) → (X → Type 0) → (X → Type 0) → List ℕ × List ℕ → Result (Unit {0}) Fault → Type 0
+Takes {X} text MayBe After words (Ok done) = Took text MayBe After words
+Takes {X} text MayBe After words (Err fault.Syntax) = ⊥
+Takes {X} text MayBe After words (Err fault.Rule) = (x : X) → MayBe x → text x ≢ words
+Takes {X} text MayBe After words (Err fault.NoMemory) = ⊤
+
+-- the words of values
+abbrev pub number_word : ℕ → List ℕ × List ℕ
+number_word n = (decimal n, [])
+
+abbrev pub list_word : List ℕ → List ℕ × List ℕ
+list_word list = (list_text list, [])
+
+abbrev pub value_word : Datum → List ℕ × List ℕ
+value_word value = (datum_text value, [])
+
+abbrev pub frequent_words : Datum × List ℕ → List ℕ × List ℕ
+frequent_words f = (datum_text f.0, list_text f.1)
+
+abbrev pub pair_words : Table → ℕ × ℕ → List ℕ × List ℕ
+pair_words table columns = (hex_text (name_at table columns.0), hex_text (name_at table columns.1))
+
+abbrev pub table_words : Place → List ℕ × List ℕ
+table_words v = (hex_text v.table.name, decimal v.rows)
+
+-- the place of something of this name, where there is one
+abbrev pub IsNamed : {X : Type 0} → (X → List ℕ) → List X → List ℕ → Option ℕ → Type 0
+IsNamed {X} name xs word None = All (λ x. word ≢ hex_text (name x)) xs
+IsNamed {X} name xs word (Some place) = (x : X) × (slice_get xs place ≡ Some x) × (word ≡ hex_text (name x))
+
+-- totals that a machine can add
+pub record AreSmall (q : Pair) : Type 0 where
+  pub rest : sum q.rest < 2 ^ 64
+  pub frequent : All (λ (f : Datum × List ℕ). sum f.1 < 2 ^ 64) q.frequent
+  pub nodes : All (λ node. sum node < 2 ^ 64) q.nodes

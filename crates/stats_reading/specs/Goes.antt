@@ -1,0 +1,67 @@
+-- What a line does to a draft: all that may follow it, or why nothing does.
+use Rattle.std.specs.Prelude.{ℕ, ◌≡◌, ◌<◌, ◌↔◌, ⊤, All, length, List, [], ◌∷◌, Some, slice_get, Result, Ok, Err}
+use Rattle.schema_types.specs.declared.types.Schema.{Schema}
+use Rattle.schema_types.specs.declared.types.Table.{Table}
+use Rattle.stats_file.specs.declared.types.StatsFile.{StatsFile}
+use Rattle.stats_reading.specs.declared.draft.Draft.{Draft}
+use Rattle.stats_reading.specs.declared.fault.Fault.{Fault}
+use Rattle.stats_reading.specs.declared.fault.Fault.TheVariants as fault
+use Rattle.stats_reading.specs.declared.line.LineKind.{LineKind}
+use Rattle.stats_reading.specs.declared.line.LineKind.TheVariants as kind
+use Rattle.stats_reading.specs.declared.stages.Stage.{Stage}
+use Rattle.stats_reading.specs.Drafts.{empty_section, frequent_words, list_word, number_word, pair_words, table_words, value_word, with_cut, with_frequent, with_node, with_rest, with_whole, AreSmall, BeginsPair, MayBeAccuracy, MayBeCut, MayBeFrequent, MayBeNode, MayBePair, MayBeRest, MayBeTable, MayBeWhole, Takes}
+use Rattle.stats_reading.specs.Left.{FileLeft}
+use Rattle.stats_reading.specs.Stages.{TextLeft}
+use Rattle.stats_reading.specs.Steps.{Ends, EndsAnd, PairEnds, TableEnds}
+use Rattle.stats_reading.specs.Valid.{IsValidDraft}
+
+-- a table of the schema begins, where none is open
+abbrev pub BeginsTable : Schema → Draft → List ℕ × List ℕ → Draft → Result (Unit {0}) Fault → Type 0
+BeginsTable schema t words m result =
+    Takes table_words (MayBeTable schema m) (λ v. t ≡ record m { section = empty_section v.place v.rows }) words result
+
+-- a pair of the table begins, where none is open
+abbrev pub BeginsPairOf : Schema → Draft → List ℕ × List ℕ → Draft → Result (Unit {0}) Fault → Type 0
+BeginsPairOf schema t words m result = (table : Table) → slice_get schema.tables m.section.table ≡ Some table
+    → Takes (pair_words table) (λ c. MayBePair table m c.0 c.1) (λ c. BeginsPair table m t c.0 c.1) words result
+
+-- what the words of a line of this kind are read with: a table that is open, or totals that can be compared
+abbrev pub IsReady : LineKind → Schema → Draft → Type 0
+IsReady kind.Pair schema s = s.section.table < length schema.tables
+IsReady kind.Frequent schema s = All AreSmall s.section.pairs
+IsReady kind.Rest schema s = All AreSmall s.section.pairs
+IsReady kind.Node schema s = All AreSmall s.section.pairs
+IsReady _ schema s = ⊤
+
+-- the words of a line of this kind are read into a draft
+abbrev pub ReadsAt : Stage → Schema → LineKind → Draft → Draft → List ℕ × List ℕ → Result (Unit {0}) Fault → Type 0
+ReadsAt at schema kind.First s t words result = Takes number_word MayBeAccuracy (λ k. t ≡ record s { accuracy = k }) (words.0, []) result
+ReadsAt at schema kind.Table s t words result = EndsAnd (TableEnds at s) (BeginsTable schema t words) result
+ReadsAt at schema kind.Pair s t words result = EndsAnd (PairEnds at s) (BeginsPairOf schema t words) result
+ReadsAt at schema kind.Whole s t words result = Takes list_word (MayBeWhole s) (λ l. t ≡ with_whole s l) (words.0, []) result
+ReadsAt at schema kind.Frequent s t words result = Takes frequent_words (MayBeFrequent s) (λ f. t ≡ with_frequent s f) words result
+ReadsAt at schema kind.Rest s t words result = Takes list_word (MayBeRest s) (λ l. t ≡ with_rest s l) (words.0, []) result
+ReadsAt at schema kind.Cut s t words result = Takes value_word (MayBeCut s) (λ v. t ≡ with_cut s v) (words.0, []) result
+ReadsAt at schema kind.Node s t words result = Takes list_word (MayBeNode s) (λ l. t ≡ with_node s l) (words.0, []) result
+ReadsAt at schema kind.End s t words result = Ends (TableEnds at s) t result
+
+abbrev pub Reads : Schema → LineKind → Draft → Draft → List ℕ × List ℕ → Result (Unit {0}) Fault → Type 0
+Reads schema k s t words result = ReadsAt s.stage schema k s t words result
+
+-- the line is taken: what may follow it is what may follow the new draft
+pub record Goes (schema : Schema) (s t : Draft) (line : List ℕ) : Type 0 where
+  pub files : (file : StatsFile) (more : List (List ℕ)) → FileLeft s.stage schema s file (line ∷ more) ↔ FileLeft t.stage schema t file more
+  pub texts : (more : List (List ℕ)) → TextLeft s.stage (line ∷ more) ↔ TextLeft t.stage more
+  pub valid : IsValidDraft t.stage schema t
+
+-- the line is one of the grammar here, but none of a file
+pub record Breaks (schema : Schema) (s : Draft) (line : List ℕ) : Type 0 where
+  pub files : (file : StatsFile) (more : List (List ℕ)) → FileLeft s.stage schema s file (line ∷ more) → ⊥
+  pub some : List (List ℕ)
+  pub text : TextLeft s.stage (line ∷ some)
+
+abbrev pub Answers : Schema → Draft → Draft → List ℕ → Result (Unit {0}) Fault → Type 0
+Answers schema s t line (Ok done) = Goes schema s t line
+Answers schema s t line (Err fault.Syntax) = (more : List (List ℕ)) → TextLeft s.stage (line ∷ more) → ⊥
+Answers schema s t line (Err fault.Rule) = Breaks schema s line
+Answers schema s t line (Err fault.NoMemory) = ⊤

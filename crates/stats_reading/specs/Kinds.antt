@@ -1,0 +1,78 @@
+-- What a line is, without its end: its front, and one word behind it or two.
+use Rattle.std.specs.Prelude.{ℕ, ◌≡◌, Bool, true, false, if◌then◌else◌, List, [], ◌++◌, Option, None, Some, codes}
+use Rattle.stats_file.specs.Grammar.{IsCutLine, IsFirstLine, IsFrequentLine, IsHexWord, IsListWord, IsNodeLine, IsNumeral, IsPairLine, IsRestLine, IsTableLine, IsValueWord, IsWholeLine}
+use Rattle.stats_reading.specs.declared.line.Line.{Line}
+use Rattle.stats_reading.specs.declared.line.LineKind.{LineKind}
+use Rattle.stats_reading.specs.declared.line.LineKind.TheVariants as kind
+
+abbrev pub front : LineKind → List ℕ
+front kind.First = codes "safebound-stats 1 "
+front kind.Table = codes "table "
+front kind.Pair = codes "pair "
+front kind.Whole = codes "whole "
+front kind.Frequent = codes "frequent "
+front kind.Rest = codes "rest "
+front kind.Cut = codes "cut "
+front kind.Node = codes "node "
+front kind.End = codes "end"
+
+-- the kinds with two words; the second word of the others is empty
+abbrev pub has_two : LineKind → Bool
+has_two kind.First = false
+has_two kind.Table = true
+has_two kind.Pair = true
+has_two kind.Whole = false
+has_two kind.Frequent = true
+has_two kind.Rest = false
+has_two kind.Cut = false
+has_two kind.Node = false
+has_two kind.End = false
+
+-- words of the grammar, as a line of this kind has them
+abbrev pub AreParts : LineKind → List ℕ → List ℕ → Type 0
+AreParts kind.First first second = IsNumeral first × (second ≡ [])
+AreParts kind.Table first second = IsHexWord first × IsNumeral second
+AreParts kind.Pair first second = IsHexWord first × IsHexWord second
+AreParts kind.Whole first second = IsListWord first × (second ≡ [])
+AreParts kind.Frequent first second = IsValueWord first × IsListWord second
+AreParts kind.Rest first second = IsListWord first × (second ≡ [])
+AreParts kind.Cut first second = IsValueWord first × (second ≡ [])
+AreParts kind.Node first second = IsListWord first × (second ≡ [])
+AreParts kind.End first second = (first ≡ []) × (second ≡ [])
+
+-- the words, with a blank between two of them
+abbrev pub words_text : LineKind → List ℕ → List ℕ → List ℕ
+words_text kind first second = if has_two kind then first ++ (codes " " ++ second) else first
+
+-- the line of this kind with these words
+pub record IsLineOf (kind : LineKind) (first second line : List ℕ) : Type 0 where
+  pub parts : AreParts kind first second
+  pub whole : line ≡ front kind ++ words_text kind first second
+
+-- what a line is, if it is one of the grammar
+abbrev pub Says : List ℕ → Option Line → Type 0
+Says line None = (kind : LineKind) (first second : List ℕ) → IsLineOf kind first second line → ⊥
+Says line (Some said) = IsLineOf said.kind said.first.now said.second.now line
+
+-- the same behind the front of a line of this kind
+abbrev pub SaysBehind : LineKind → List ℕ → Option Line → Type 0
+SaysBehind kind words None = (first second : List ℕ) → AreParts kind first second → words ≡ words_text kind first second → ⊥
+SaysBehind kind words (Some said) =
+    (said.kind ≡ kind) × AreParts kind said.first.now said.second.now × (words ≡ words_text kind said.first.now said.second.now)
+
+-- a line has no front but that of this kind
+abbrev pub CanBe : List ℕ → Option LineKind → Type 0
+CanBe line None = (kind : LineKind) (rest : List ℕ) → line ≡ front kind ++ rest → ⊥
+CanBe line (Some only) = (kind : LineKind) (rest : List ℕ) → line ≡ front kind ++ rest → kind ≡ only
+
+-- a line of this kind, its end included, as the grammar has it
+abbrev pub IsOfKind : LineKind → List ℕ → Type 0
+IsOfKind kind.First line = IsFirstLine line
+IsOfKind kind.Table line = IsTableLine line
+IsOfKind kind.Pair line = IsPairLine line
+IsOfKind kind.Whole line = IsWholeLine line
+IsOfKind kind.Frequent line = IsFrequentLine line
+IsOfKind kind.Rest line = IsRestLine line
+IsOfKind kind.Cut line = IsCutLine line
+IsOfKind kind.Node line = IsNodeLine line
+IsOfKind kind.End line = line ≡ codes "end\n"

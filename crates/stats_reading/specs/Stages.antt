@@ -1,0 +1,86 @@
+-- Which kinds of lines may follow, and what a text of the grammar has left.
+use Rattle.std.specs.Prelude.{ℕ, ◌≡◌, List, [], ◌∷◌, ◌++◌, Option, None, Some, codes}
+use Rattle.std.specs.List.{AllByRecursion, flat_map}
+use Rattle.stats_file.specs.Grammar.{ArePairLines, AreTableLines, IsCutLine, IsFrequentLine, IsNodeLine, IsRestLine, IsText, IsWholeLine}
+use Rattle.stats_reading.specs.declared.line.LineKind.{LineKind}
+use Rattle.stats_reading.specs.declared.line.LineKind.TheVariants as kind
+use Rattle.stats_reading.specs.declared.stages.Stage.{Stage}
+use Rattle.stats_reading.specs.declared.stages.Stage.TheVariants as stage
+
+abbrev pub next_stage : Stage → LineKind → Option Stage
+next_stage stage.Start kind.First = Some stage.Tables
+next_stage stage.Tables kind.Table = Some stage.Pairs
+next_stage stage.Tables kind.End = Some stage.Done
+next_stage stage.Pairs kind.Pair = Some stage.Whole
+next_stage stage.Pairs kind.Table = Some stage.Pairs
+next_stage stage.Pairs kind.End = Some stage.Done
+next_stage stage.Whole kind.Whole = Some stage.Frequent
+next_stage stage.Frequent kind.Frequent = Some stage.Frequent
+next_stage stage.Frequent kind.Rest = Some stage.Cuts
+next_stage stage.Cuts kind.Cut = Some stage.Cuts
+next_stage stage.Cuts kind.Node = Some stage.Nodes
+next_stage stage.Cuts kind.Pair = Some stage.Whole
+next_stage stage.Cuts kind.Table = Some stage.Pairs
+next_stage stage.Cuts kind.End = Some stage.Done
+next_stage stage.Nodes kind.Node = Some stage.Nodes
+next_stage stage.Nodes kind.Pair = Some stage.Whole
+next_stage stage.Nodes kind.Table = Some stage.Pairs
+next_stage stage.Nodes kind.End = Some stage.Done
+next_stage _ _ = None
+
+-- one line of a kind, and then what may follow it
+pub record One (IsKind : List ℕ → Type 0) (Next : List (List ℕ) → Type 0) (lines : List (List ℕ)) : Type 0 where
+  pub line : List ℕ
+  pub others : List (List ℕ)
+  pub line_is : IsKind line
+  pub next : Next others
+  pub all : lines ≡ line ∷ others
+
+-- any number of lines of a kind, and then what may follow them
+pub record Many (IsKind : List ℕ → Type 0) (Next : List (List ℕ) → Type 0) (lines : List (List ℕ)) : Type 0 where
+  pub front : List (List ℕ)
+  pub others : List (List ℕ)
+  pub front_are : AllByRecursion IsKind front
+  pub next : Next others
+  pub all : lines ≡ front ++ others
+
+-- any number of parts of lines, and then what may follow them
+pub record Parts (ArePart : List (List ℕ) → Type 0) (Next : List (List ℕ) → Type 0) (lines : List (List ℕ)) : Type 0 where
+  pub parts : List (List (List ℕ))
+  pub others : List (List ℕ)
+  pub parts_are : AllByRecursion ArePart parts
+  pub next : Next others
+  pub all : lines ≡ flat_map (λ part. part) parts ++ others
+
+abbrev pub MayEnd : List (List ℕ) → Type 0
+MayEnd lines = lines ≡ codes "end\n" ∷ []
+
+abbrev pub TablesLeft : List (List ℕ) → Type 0
+TablesLeft = Parts AreTableLines MayEnd
+
+abbrev pub PairsLeft : List (List ℕ) → Type 0
+PairsLeft = Parts ArePairLines TablesLeft
+
+abbrev pub NodesLeft : List (List ℕ) → Type 0
+NodesLeft = Many IsNodeLine PairsLeft
+
+abbrev pub CutsLeft : List (List ℕ) → Type 0
+CutsLeft = Many IsCutLine NodesLeft
+
+abbrev pub FrequentLeft : List (List ℕ) → Type 0
+FrequentLeft = Many IsFrequentLine (One IsRestLine CutsLeft)
+
+-- with these lines a text of the grammar may go on
+abbrev pub TextLeft : Stage → List (List ℕ) → Type 0
+TextLeft stage.Start lines = IsText lines
+TextLeft stage.Tables lines = TablesLeft lines
+TextLeft stage.Pairs lines = PairsLeft lines
+TextLeft stage.Whole lines = One IsWholeLine FrequentLeft lines
+TextLeft stage.Frequent lines = FrequentLeft lines
+TextLeft stage.Cuts lines = CutsLeft lines
+TextLeft stage.Nodes lines = NodesLeft lines
+TextLeft stage.Done lines = lines ≡ []
+
+abbrev pub TextLeftAt : Option Stage → List (List ℕ) → Type 0
+TextLeftAt None lines = ⊥
+TextLeftAt (Some at) lines = TextLeft at lines

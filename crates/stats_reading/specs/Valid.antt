@@ -1,0 +1,46 @@
+-- What holds of a draft while it grows: some file that keeps the rules begins as it.
+use Rattle.std.specs.Prelude.{ℕ, ◌≡◌, List, [], ◌∷◌, Some, slice_get}
+use Rattle.schema_types.specs.declared.types.Column.{Column}
+use Rattle.schema_types.specs.declared.types.Schema.{Schema}
+use Rattle.schema_types.specs.declared.types.Table.{Table}
+use Rattle.stats_file.specs.declared.types.Pair.{Pair}
+use Rattle.stats_file.specs.Rules.{KeepsRules}
+use Rattle.stats_reading.specs.declared.draft.Draft.{Draft}
+use Rattle.stats_reading.specs.declared.stages.Stage.{Stage}
+use Rattle.stats_reading.specs.declared.stages.Stage.TheVariants as stage
+use Rattle.stats_reading.specs.Drafts.{empty_draft, IsPlaceOf}
+use Rattle.stats_reading.specs.Left.{file_of, section_of, CutsLeft, FrequentLeft, NodesLeft, WholeLeft}
+
+-- what is known of the pair at hand
+pub record IsKnown (table : Table) (s : Draft) : Type 0 where
+  pub column : Column
+  pub column_is : slice_get table.columns s.pair.filter ≡ Some column
+  pub kind_is : s.kind ≡ column.kind
+  pub like : IsPlaceOf (λ q. q.filter) s.pair.filter s.section.pairs s.like
+  pub twin : IsPlaceOf (λ q. q.joined) s.pair.joined s.section.pairs s.twin
+
+-- the table at hand keeps the rules
+pub record IsValidTable (schema : Schema) (s : Draft) : Type 0 where
+  pub table : Table
+  pub exists : slice_get schema.tables s.section.table ≡ Some table
+  pub keeps : KeepsRules schema (file_of s (section_of s [] ∷ []))
+
+-- some pair that begins as the one at hand keeps them too
+pub record IsValidPair (Left : Pair → List (List ℕ) → Type 0) (schema : Schema) (s : Draft) : Type 0 where
+  pub table : Table
+  pub exists : slice_get schema.tables s.section.table ≡ Some table
+  pub known : IsKnown table s
+  pub pair : Pair
+  pub own : List (List ℕ)
+  pub left : Left pair own
+  pub keeps : KeepsRules schema (file_of s (section_of s (pair ∷ []) ∷ []))
+
+abbrev pub IsValidDraft : Stage → Schema → Draft → Type 0
+IsValidDraft stage.Start schema s = s ≡ empty_draft
+IsValidDraft stage.Tables schema s = KeepsRules schema (file_of s [])
+IsValidDraft stage.Pairs schema s = IsValidTable schema s
+IsValidDraft stage.Whole schema s = IsValidPair (WholeLeft s.pair) schema s
+IsValidDraft stage.Frequent schema s = IsValidPair (FrequentLeft s.pair) schema s
+IsValidDraft stage.Cuts schema s = IsValidPair (CutsLeft s.pair) schema s
+IsValidDraft stage.Nodes schema s = IsValidPair (NodesLeft s.pair) schema s
+IsValidDraft stage.Done schema s = KeepsRules schema (file_of s [])

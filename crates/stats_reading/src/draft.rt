@@ -1,0 +1,69 @@
+//! A file that grows line by line.
+ghost use Rattle.std.specs.Prelude.{◌≡◌, [], zero};
+ghost use Rattle.stats_reading.specs.Drafts.{empty_draft, empty_pair, empty_section};
+
+use crate::stages::Stage;
+use base_io::Seq;
+use piece_math::Pieces;
+use schema_types::Kind;
+use stats_file::{Pair, TableStats};
+use std::alloc::Global;
+
+/// A file of which some lines are read: the tables that are complete, the table at hand without the pair at hand, and
+/// this pair. Of the pair it is known of which kind its values are, and where pairs stand in the table that have its
+/// filter column and its joined column; where there is none, the place is behind all.
+#[derive(Debug, Drop)]
+pub struct Draft {
+    pub stage: Stage,
+    pub accuracy: u8,
+    pub tables: Seq<TableStats>,
+    pub section: TableStats,
+    pub pair: Pair,
+    pub kind: Kind,
+    pub like: usize,
+    pub twin: usize,
+}
+
+/// A pair of these columns without lists.
+pub fn new_pair(alloc: Global, filter: u32, joined: u32) -> Pair
+    ensures { result ≡ empty_pair filter joined }
+{
+    Pair {
+        filter,
+        joined,
+        whole: Pieces::empty(alloc),
+        frequent: Seq::new(alloc),
+        rest: Pieces::empty(alloc),
+        cuts: Seq::new(alloc),
+        nodes: Seq::new(alloc),
+    }
+}
+
+/// A table without pairs.
+pub fn new_section(alloc: Global, table: u32, rows: u32) -> TableStats
+    ensures { result ≡ empty_section table rows }
+{
+    TableStats {
+        table,
+        rows,
+        pairs: Seq::new(alloc),
+    }
+}
+
+impl Draft {
+    /// Nothing is read.
+    pub fn new(alloc: Global) -> Draft
+        ensures { result ≡ empty_draft }
+    {
+        Draft {
+            stage: Stage::Start,
+            accuracy: 0,
+            tables: Seq::new(alloc),
+            section: new_section(alloc, 0, 0),
+            pair: new_pair(alloc, 0, 0),
+            kind: Kind::Int,
+            like: 0,
+            twin: 0,
+        }
+    }
+}

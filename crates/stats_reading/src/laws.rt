@@ -1,0 +1,24 @@
+//! What holds of every file and its text.
+ghost use Rattle.std.specs.Prelude.{◌≡◌, ◌⊎◌, Result, Ok, Err};
+ghost use Rattle.schema_types.specs.declared.types.Schema.{Schema};
+ghost use Rattle.schema_types.specs.Validity.{IsValid};
+ghost use Rattle.stats_file.specs.declared.types.StatsError.{StatsError};
+ghost use Rattle.stats_file.specs.declared.types.StatsError.TheVariants as error;
+ghost use Rattle.stats_file.specs.declared.types.StatsFile.{StatsFile};
+ghost use Rattle.stats_file.specs.Answers.{Answers};
+ghost use Rattle.stats_file.specs.Bytes.{ConsistOfBytes};
+ghost use Rattle.stats_file.specs.FileText.{file_text};
+ghost use Rattle.stats_file.specs.Rules.{KeepsRules};
+
+/// A text is that of at most one file.
+pub fn a_text_spells_one_file()
+    ensures { (schema : Schema) (a b : StatsFile) → IsValid schema → KeepsRules schema a → KeepsRules schema b
+        → file_text schema a ≡ file_text schema b → a ≡ b }
+{}
+
+/// The text of a file is answered by that file, or by want of memory, and by no refusal.
+pub fn a_written_file_is_read()
+    ensures { (schema : Schema) (file : StatsFile) (answer : Result StatsFile StatsError)
+        → IsValid schema → ConsistOfBytes schema file → KeepsRules schema file
+        → Answers schema (file_text schema file) answer → (answer ≡ Ok file) ⊎ (answer ≡ Err error.NoMemory) }
+{}

@@ -1,0 +1,94 @@
+//! The file that bytes spell.
+ghost use Rattle.std.specs.Prelude.{◌≡◌, ◌≤◌, ◌↔◌, ◌++◌, [], codes, length, IsTrue};
+ghost use Rattle.limits.specs.Profile.{most_file};
+ghost use Rattle.schema_types.specs.Validity.{IsValid};
+ghost use Rattle.stats_file.specs.Answers.{Answers as FileAnswers};
+ghost use Rattle.stats_reading.specs.declared.stages.Stage.TheVariants as stages;
+ghost use Rattle.stats_reading.specs.Goes.{Answers};
+ghost use Rattle.stats_reading.specs.Left.{file_of};
+ghost use Rattle.stats_reading.specs.Refusals.{refusal_of};
+ghost use Rattle.stats_reading.specs.Valid.{IsValidDraft};
+
+use crate::draft::Draft;
+use crate::fault::Fault;
+use crate::line::line_of;
+use crate::stages::Stage;
+use crate::take::take;
+use schema_types::Schema;
+use stats_file::{StatsError, StatsFile};
+use stats_words::split_at_byte;
+use std::alloc::Global;
+
+fn refusal(fault: Fault, line: u32) -> StatsError
+    ensures { result ≡ refusal_of line fault }
+{
+    match fault {
+        Fault::Syntax => StatsError::Syntax { line },
+        Fault::Rule => StatsError::Rule { line },
+        Fault::NoMemory => StatsError::NoMemory,
+    }
+}
+
+// Takes a line without its end.
+fn take_line(alloc: Global, schema: &Schema, draft: &mut Draft, text: &[u8]) -> Result<(), Fault>
+    requires schema { IsValid schema.now }
+    requires valid { IsValidDraft draft.old.stage schema.now draft.old }
+    ensures { Answers schema.now draft.old draft.new (text.now ++ codes "\n") result }
+{
+    match line_of(text) {
+        None => Err(Fault::Syntax),
+        Some(line) => take(alloc, schema, draft, line),
+    }
+}
+
+fn is_done(draft: &Draft) -> bool
+    ensures { IsTrue result ↔ (draft.now.stage ≡ stages.Done) }
+{
+    matches!(draft.stage, Stage::Done)
+}
+
+fn is_whole(draft: &Draft, rest: &[u8]) -> bool
+    ensures { IsTrue result ↔ ((draft.now.stage ≡ stages.Done) × (rest.now ≡ [])) }
+{
+    rest.is_empty() && is_done(draft)
+}
+
+fn finish(draft: Draft) -> StatsFile
+    ensures { result ≡ file_of draft [] }
+{
+    let Draft {
+        stage: _,
+        accuracy,
+        tables,
+        section: _,
+        pair: _,
+        kind: _,
+        like: _,
+        twin: _,
+    } = draft;
+    StatsFile { accuracy, tables }
+}
+
+/// Reads the text of a file over a schema: the file, or the first line at which no text of the grammar (Syntax) or no
+/// file's text (Rule) goes on, counted from 1. A text that ends too early is Syntax at the line after its last one.
+pub fn read_stats(alloc: Global, schema: &Schema, bytes: &[u8]) -> Result<StatsFile, StatsError>
+    requires schema { IsValid schema.now }
+    requires length { length bytes.now ≤ most_file }
+    ensures { FileAnswers schema.now bytes.now result }
+{
+    let mut draft = Draft::new(alloc);
+    let mut line: u32 = 1;
+    let mut rest = bytes;
+    'lines: while let Some((text, others)) = split_at_byte(rest, b'\n') {
+        if let Err(fault) = take_line(alloc, schema, &mut draft, text) {
+            return Err(refusal(fault, line));
+        }
+        rest = others;
+        line += 1;
+    }
+    if is_whole(&draft, rest) {
+        Ok(finish(draft))
+    } else {
+        Err(StatsError::Syntax { line })
+    }
+}

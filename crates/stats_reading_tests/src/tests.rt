@@ -1,0 +1,357 @@
+use base_io::{MemSink, Seq};
+use limits::{MOST_FILE, MOST_TEXT};
+use schema_types::read_schema;
+use stats_file::{StatsError, write_stats};
+use stats_reading::read_stats;
+use std::alloc::{AllocError, Global};
+use std::test::Fail;
+
+const E: &str = "CREATE TABLE E (X INTEGER NOT NULL);";
+
+const TWO: &str =
+    "CREATE TABLE R (X INTEGER NOT NULL, Y VARCHAR(3) NOT NULL); CREATE TABLE S (X INTEGER NOT NULL);";
+
+const EMPTY: &str = "safebound-stats 1 1\ntable x45 0\npair x58 x58\nwhole -\nrest -\nend\n";
+
+// What a text over a schema is answered.
+#[derive(Clone, Copy, Debug, PartialEq, Eq)]
+enum Verdict {
+    Read,
+    Changed,
+    Syntax(u32),
+    Rule(u32),
+    Other,
+}
+
+fn answer(alloc: Global, schema: &str, text: &str) -> Verdict {
+    answer_bytes(alloc, schema, text.as_bytes())
+}
+
+fn answer_bytes(alloc: Global, schema: &str, bytes: &[u8]) -> Verdict {
+    if bytes.len() > MOST_FILE as usize {
+        return Verdict::Other;
+    }
+    if schema.len() > MOST_TEXT as usize {
+        return Verdict::Other;
+    }
+    let Ok(schema) = read_schema(alloc, schema.as_bytes()) else {
+        return Verdict::Other;
+    };
+    match read_stats(alloc, &schema, bytes) {
+        Ok(file) => {
+            let Ok(mut sink) = MemSink::new(alloc, 100_000, Seq::new(alloc)) else {
+                return Verdict::Other;
+            };
+            if write_stats(&file, &schema, &mut sink).is_err() {
+                return Verdict::Other;
+            }
+            if sink.written() == bytes {
+                Verdict::Read
+            } else {
+                Verdict::Changed
+            }
+        }
+        Err(StatsError::Syntax { line }) => Verdict::Syntax(line),
+        Err(StatsError::Rule { line }) => Verdict::Rule(line),
+        Err(StatsError::NoMemory) => Verdict::Other,
+    }
+}
+
+#[test]
+fn empty_table(rt: HostRuntime) -> Result<(), Fail> {
+    let a = rt.alloc();
+    assert_eq!(rt; answer(a, E, EMPTY), Verdict::Read);
+    assert_eq!(rt; answer(a, E, "safebound-stats 1 64\nend\n"), Verdict::Read);
+    assert_eq!(rt; answer(a, E, ""), Verdict::Syntax(1));
+    assert_eq!(rt;
+        answer(
+            a,
+            E,
+            "safebound-stats 1 1\ntable x45 0\npair x58 x58\nwhole -\nrest -\n"
+        ),
+        Verdict::Syntax(6)
+    );
+    assert_eq!(rt;
+        answer(
+            a,
+            E,
+            "safebound-stats 1 1\ntable x45 0\npair x58 x58\nwhole -\nrest -\nend"
+        ),
+        Verdict::Syntax(6)
+    );
+    assert_eq!(rt;
+        answer(a, E, "safebound-stats 1 1\nend\n\n"),
+        Verdict::Syntax(3)
+    );
+    assert_eq!(rt;
+        answer(a, E, "safebound-stats 1 1\nend\nx"),
+        Verdict::Syntax(3)
+    );
+    assert_eq!(rt;
+        answer(a, E, "\u{feff}safebound-stats 1 1\nend\n"),
+        Verdict::Syntax(1)
+    );
+    Ok(())
+}
+
+#[test]
+fn numbers(rt: HostRuntime) -> Result<(), Fail> {
+    let a = rt.alloc();
+    assert_eq!(rt; answer(a, E, "safebound-stats 1 -1\n"), Verdict::Syntax(1));
+    assert_eq!(rt; answer(a, E, "safebound-stats 1 01\n"), Verdict::Syntax(1));
+    assert_eq!(rt; answer(a, E, "safebound-stats 1 0\n"), Verdict::Rule(1));
+    assert_eq!(rt; answer(a, E, "safebound-stats 1 65\n"), Verdict::Rule(1));
+    assert_eq!(rt;
+        answer(a, E, "safebound-stats 1 1\ntable x45 -1\n"),
+        Verdict::Syntax(2)
+    );
+    assert_eq!(rt;
+        answer(a, E, "safebound-stats 1 1\ntable x45 4000001\n"),
+        Verdict::Rule(2)
+    );
+    assert_eq!(rt;
+        answer(a, E, "safebound-stats 1 1\ntable x45 4000000\n"),
+        Verdict::Syntax(3)
+    );
+    assert_eq!(rt;
+        answer(
+            a,
+            E,
+            "safebound-stats 1 1\ntable x45 99999999999999999999999999999999999999999999999999999999999999999999999\n"
+        ),
+        Verdict::Rule(2)
+    );
+    assert_eq!(rt;
+        answer(
+            a,
+            E,
+            "safebound-stats 1 1\ntable x45 1\npair x58 x58\nwhole -1*1\n"
+        ),
+        Verdict::Syntax(4)
+    );
+    assert_eq!(rt;
+        answer(
+            a,
+            E,
+            "safebound-stats 1 1\ntable x45 1\npair x58 x58\nwhole 0*1\n"
+        ),
+        Verdict::Rule(4)
+    );
+    assert_eq!(rt;
+        answer(
+            a,
+            E,
+            "safebound-stats 1 1\ntable x45 2\npair x58 x58\nwhole 1*1 1*1\n"
+        ),
+        Verdict::Rule(4)
+    );
+    assert_eq!(rt;
+        answer(
+            a,
+            E,
+            "safebound-stats 1 1\ntable x45 2\npair x58 x58\nwhole 1*2\nrest 3*1\n"
+        ),
+        Verdict::Rule(5)
+    );
+    Ok(())
+}
+
+#[test]
+fn values(rt: HostRuntime) -> Result<(), Fail> {
+    let a = rt.alloc();
+    let head = "safebound-stats 1 1\ntable x52 0\npair x58 x58\nwhole -\n";
+    for (line, want) in [
+        ("frequent -9223372036854775808 -\n", Verdict::Syntax(6)),
+        ("frequent 9223372036854775807 -\n", Verdict::Syntax(6)),
+        ("frequent 9223372036854775808 -\n", Verdict::Rule(5)),
+        ("frequent -9223372036854775809 -\n", Verdict::Rule(5)),
+        ("frequent x31 -\n", Verdict::Rule(5)),
+        ("frequent -0 -\n", Verdict::Syntax(5)),
+        ("frequent 00 -\n", Verdict::Syntax(5)),
+        ("frequent xA0 -\n", Verdict::Syntax(5)),
+        ("frequent x0 -\n", Verdict::Syntax(5)),
+        ("cut 1\n", Verdict::Syntax(5)),
+        ("rest -\ncut 1\n", Verdict::Rule(6)),
+        ("rest -\nnode -\n", Verdict::Rule(6)),
+        ("rest -\nwhole -\n", Verdict::Syntax(6)),
+        ("frequent 1 -\nfrequent 1 -\n", Verdict::Rule(6)),
+    ] {
+        let mut text = String::from_str(a, head)?;
+        text.push_str(line)?;
+        assert_eq!(rt; answer(a, TWO, text.as_str()), want, "at {line}");
+    }
+    let head = "safebound-stats 1 1\ntable x52 0\npair x59 x58\nwhole -\n";
+    for (line, want) in [
+        ("frequent xff -\n", Verdict::Rule(5)),
+        ("frequent 1 -\n", Verdict::Rule(5)),
+        ("frequent x -\n", Verdict::Syntax(6)),
+        ("frequent xc3a4 -\n", Verdict::Syntax(6)),
+    ] {
+        let mut text = String::from_str(a, head)?;
+        text.push_str(line)?;
+        assert_eq!(rt; answer(a, TWO, text.as_str()), want, "at {line}");
+    }
+    Ok(())
+}
+
+#[test]
+fn names(rt: HostRuntime) -> Result<(), Fail> {
+    let a = rt.alloc();
+    assert_eq!(rt;
+        answer(a, TWO, "safebound-stats 1 1\ntable x51 0\n"),
+        Verdict::Rule(2)
+    );
+    assert_eq!(rt;
+        answer(a, TWO, "safebound-stats 1 1\ntable xff 0\n"),
+        Verdict::Rule(2)
+    );
+    assert_eq!(rt;
+        answer(a, TWO, "safebound-stats 1 1\ntable xFF 0\n"),
+        Verdict::Syntax(2)
+    );
+    assert_eq!(rt;
+        answer(a, TWO, "safebound-stats 1 1\ntable x53 0\ntable x52 0\n"),
+        Verdict::Rule(3)
+    );
+    assert_eq!(rt;
+        answer(a, TWO, "safebound-stats 1 1\ntable x52 0\ntable x52 0\n"),
+        Verdict::Rule(3)
+    );
+    assert_eq!(rt;
+        answer(
+            a,
+            TWO,
+            "safebound-stats 1 1\ntable x52 0\ntable x53 7\nend\n"
+        ),
+        Verdict::Read
+    );
+    assert_eq!(rt;
+        answer(a, TWO, "safebound-stats 1 1\ntable x52 0\npair x5a x58\n"),
+        Verdict::Rule(3)
+    );
+    let pair = "safebound-stats 1 1\ntable x52 0\npair x59 x58\nwhole -\nrest -\n";
+    let mut text = String::from_str(a, pair)?;
+    text.push_str("pair x58 x59\n")?;
+    assert_eq!(rt; answer(a, TWO, text.as_str()), Verdict::Rule(6));
+    let mut text = String::from_str(a, pair)?;
+    text.push_str("pair x59 x59\nwhole -\nrest -\nend\n")?;
+    assert_eq!(rt; answer(a, TWO, text.as_str()), Verdict::Read);
+    Ok(())
+}
+
+// Six rows, and so many cuts and nodes.
+fn six_rows(alloc: Global, cuts: usize, nodes: usize, last: &str) -> Result<String, AllocError> {
+    let mut text = String::from_str(
+        alloc,
+        "safebound-stats 1 1\ntable x52 6\npair x58 x58\nwhole 3*1 2*1 1*1\nfrequent 1 3*1\nfrequent 2 2*1\nfrequent 3 1*1\nrest -\n",
+    )?;
+    for i in 0..cuts {
+        if i < 16 {
+            text.push_str("cut 1\n")?;
+        } else {
+            text.push_str("cut 2\n")?;
+        }
+    }
+    for _ in 0..nodes {
+        text.push_str("node 3*1\n")?;
+    }
+    text.push_str(last)?;
+    Ok(text)
+}
+
+#[test]
+fn trees(rt: HostRuntime) -> Result<(), Fail> {
+    let a = rt.alloc();
+    assert_eq!(rt;
+        answer(a, TWO, six_rows(a, 32, 63, "end\n")?.as_str()),
+        Verdict::Read
+    );
+    assert_eq!(rt;
+        answer(a, TWO, six_rows(a, 0, 0, "end\n")?.as_str()),
+        Verdict::Rule(9)
+    );
+    assert_eq!(rt;
+        answer(a, TWO, six_rows(a, 0, 0, "foo\n")?.as_str()),
+        Verdict::Syntax(9)
+    );
+    assert_eq!(rt;
+        answer(a, TWO, six_rows(a, 0, 0, "")?.as_str()),
+        Verdict::Syntax(9)
+    );
+    assert_eq!(rt;
+        answer(a, TWO, six_rows(a, 31, 1, "")?.as_str()),
+        Verdict::Rule(40)
+    );
+    assert_eq!(rt;
+        answer(a, TWO, six_rows(a, 33, 0, "")?.as_str()),
+        Verdict::Rule(41)
+    );
+    assert_eq!(rt;
+        answer(a, TWO, six_rows(a, 20, 0, "cut 1\n")?.as_str()),
+        Verdict::Rule(29)
+    );
+    assert_eq!(rt;
+        answer(a, TWO, six_rows(a, 32, 62, "end\n")?.as_str()),
+        Verdict::Rule(103)
+    );
+    assert_eq!(rt;
+        answer(a, TWO, six_rows(a, 32, 62, "table x53 1\n")?.as_str()),
+        Verdict::Rule(103)
+    );
+    assert_eq!(rt;
+        answer(a, TWO, six_rows(a, 32, 64, "")?.as_str()),
+        Verdict::Rule(104)
+    );
+    assert_eq!(rt;
+        answer(a, TWO, six_rows(a, 32, 1, "cut 2\n")?.as_str()),
+        Verdict::Syntax(42)
+    );
+    Ok(())
+}
+
+// Two pairs with one filter column, of no rows.
+#[test]
+fn alike(rt: HostRuntime) -> Result<(), Fail> {
+    let a = rt.alloc();
+    let head =
+        "safebound-stats 1 1\ntable x52 0\npair x58 x58\nwhole -\nfrequent 1 -\nrest -\npair x58 x59\nwhole -\n";
+    for (line, want) in [
+        ("rest -\n", Verdict::Rule(9)),
+        ("frequent 2 -\n", Verdict::Rule(9)),
+        ("frequent 1 -\nfrequent 2 -\n", Verdict::Rule(10)),
+        ("frequent 1 -\nrest -\nend\n", Verdict::Read),
+    ] {
+        let mut text = String::from_str(a, head)?;
+        text.push_str(line)?;
+        assert_eq!(rt; answer(a, TWO, text.as_str()), want, "at {line}");
+    }
+    Ok(())
+}
+
+// So many frequent values without rows.
+fn many_values(alloc: Global, count: usize) -> Result<String, AllocError> {
+    let digits = ["0", "1", "2", "3", "4", "5", "6", "7", "8", "9"];
+    let mut text = String::from_str(
+        alloc,
+        "safebound-stats 1 1\ntable x52 0\npair x58 x58\nwhole -\n",
+    )?;
+    for i in 0..count {
+        text.push_str("frequent 1")?;
+        text.push_str(digits[i / 10 % 10])?;
+        text.push_str(digits[i % 10])?;
+        text.push_str(" -\n")?;
+    }
+    text.push_str("rest -\nend\n")?;
+    Ok(text)
+}
+
+#[test]
+fn many(rt: HostRuntime) -> Result<(), Fail> {
+    let a = rt.alloc();
+    assert_eq!(rt; answer(a, TWO, many_values(a, 32)?.as_str()), Verdict::Read);
+    assert_eq!(rt;
+        answer(a, TWO, many_values(a, 33)?.as_str()),
+        Verdict::Rule(37)
+    );
+    Ok(())
+}

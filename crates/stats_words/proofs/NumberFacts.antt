@@ -1,0 +1,114 @@
+-- Numerals and their values.
+use Rattle.std.proofs.Common.{[], ◌≡◌, ◌≢◌, ℕ, suc, ◌+◌, ◌*◌, ◌-◌, ◌^◌, ◌<◌, ◌≤◌, true, false, ◌||◌, ◌&&◌, ◌==◌, List, ◌∷◌, length, get_or, drop, refl, ap, sym, subst, ◌∙◌, arith, rules, Option, None, Some}
+use Rattle.std.specs.Prelude.{ℤ, pos, negsuc, decimal, FitsSigned, nat_lt, option_map}
+use Rattle.std.specs.Char.{digit_value, is_ascii_digit}
+use Rattle.std.specs.Fmt.{signed_decimal}
+use Rattle.std.specs.Int.{w64}
+use Rattle.std.specs.List.{list_all}
+use Rattle.std.specs.Option.{SomeIff}
+use Rattle.std.specs.Str.Parse.{digits_value, digits_value_after}
+use Rattle.std.proofs.lemmas.Bool.{and_from, and_parts}
+use Rattle.std.proofs.lemmas.Bool.Decides.{nat_tests}
+use Rattle.std.proofs.lemmas.Fmt.{decimal-digits_value, digits_value-decimal, digits_decimal, decimal_injective, decimal_nonempty}
+use Rattle.std.proofs.lemmas.List.{at_drop_more}
+use Rattle.std.proofs.lemmas.Str.{digit_value_digit}
+use Rattle.std.proofs.lemmas.Str.Parse.{IsNumeralModel, numerals_by_value, digit_at}
+use Rattle.stats_file.specs.Grammar.{is_numeral}
+use Rattle.stats_file.proofs.WordFacts.{numeral}
+use Rattle.stats_words.specs.Words.{Spells}
+
+pub own : IsNumeralModel (λ ds. list_all is_ascii_digit ds ≡ true) (digits_value 10)
+own = numerals_by_value _ (search rules)
+
+pub at_least : (n : ℕ) (ds : List ℕ) → n ≤ digits_value_after 10 n ds
+at_least n [] = omega arith
+at_least n (c ∷ cs) = let h = at_least (n * 10 + digit_value c) cs in omega arith
+
+-- one more digit is read
+pub next_value : (ds : List ℕ) (i v : ℕ) → list_all is_ascii_digit ds ≡ true → i < length ds
+    → digits_value_after 10 v (drop i ds) ≡ digits_value_after 10 (10 * v + (get_or ds i 0 - 48)) (drop (i + 1) ds)
+next_value ds i v are lt =
+    let range = digit_at ds i (own.to ds are) lt in
+    let e : v * 10 + digit_value (get_or ds i 0) ≡ 10 * v + (get_or ds i 0 - 48) = omega (arith, digit_value_digit (get_or ds i 0) range) in
+    at_drop_more (digits_value_after 10 v) ds i 0 lt ∙ ap (λ n. digits_value_after 10 n (drop (i + 1) ds)) e
+
+-- a numeral has digits alone, at least one, and a zero in front only where nothing follows it
+parts_of : (d : ℕ) (ds : List ℕ) → is_numeral (d ∷ ds) ≡ true
+    → (is_ascii_digit d ≡ true) × (list_all is_ascii_digit ds ≡ true) × ((nat_lt 48 d || (length ds == 0)) ≡ true)
+parts_of d ds is =
+    let all = and_parts (is_ascii_digit d && list_all is_ascii_digit ds) (nat_lt 48 d || (length ds == 0)) is in
+    let digits = and_parts (is_ascii_digit d) (list_all is_ascii_digit ds) all.0 in
+    (digits.0, digits.1, all.1)
+
+pub are_digits : (word : List ℕ) → is_numeral word ≡ true → list_all is_ascii_digit word ≡ true
+are_digits [] is = refl
+are_digits (d ∷ ds) is = and_from (is_ascii_digit d) (list_all is_ascii_digit ds) (parts_of d ds is).0 (parts_of d ds is).1
+
+some_digit : (word : List ℕ) → is_numeral word ≡ true → 0 < length word
+some_digit [] is = absurd (cc)
+some_digit (d ∷ ds) is = omega arith
+
+no_front : (d n : ℕ) → (nat_lt 48 d || (n == 0)) ≡ true → d ≡ 48 → suc n ≡ 1
+no_front d n is zero' = grind (arith, nat_tests)
+
+lone_zero : (word : List ℕ) → is_numeral word ≡ true → get_or word 0 0 ≡ 48 → length word ≡ 1
+lone_zero [] is first = absurd (cc)
+lone_zero (d ∷ ds) is first = no_front d (length ds) (parts_of d ds is).2 first
+
+-- what is read of a numeral's digits is the number that the numeral spells
+pub spelled : (word : List ℕ) (most : ℕ) (r : Option ℕ) → most < 2 ^ 64 → is_numeral word ≡ true → SomeIff r (digits_value 10 word ≤ most) (digits_value 10 word)
+    → Spells decimal (λ n. n ≤ most) word r
+spelled word most None small is not_so = λ n le e.
+    let same : digits_value 10 (decimal n) ≡ n = digits_value-decimal own n (omega arith) in
+    let other : digits_value 10 (decimal n) ≡ digits_value 10 word = ap (digits_value 10) e in
+    not_so (omega arith)
+spelled word most (Some n) small is (le, at') =
+    let lt : digits_value 10 word < 2 ^ 64 = omega arith in
+    (omega arith, ap decimal at' ∙ decimal-digits_value own word (are_digits word is) (some_digit word is) (lone_zero word is) lt)
+
+-- a word that is no numeral spells no number
+pub not_spelled : (word : List ℕ) (most : ℕ) → most < 2 ^ 64 → is_numeral word ≡ false → (n : ℕ) → n ≤ most → decimal n ≢ word
+not_spelled word most small not_so n le e =
+    let is : is_numeral word ≡ true = subst (λ (w : List ℕ). is_numeral w ≡ true) e (numeral n (omega arith)) in
+    absurd (cc)
+
+no_dash : (n : ℕ) (rest : List ℕ) → n < 2 ^ 64 → decimal n ≢ 45 ∷ rest
+no_dash n rest small e =
+    let range = digit_at (decimal n) 0 (own.to (decimal n) (digits_decimal own n small)) (decimal_nonempty n small) in
+    let first : get_or (decimal n) 0 0 ≡ 45 = ap (λ (w : List ℕ). get_or w 0 0) e in
+    omega (arith, range.0)
+
+behind : (a b : List ℕ) → 45 ∷ a ≡ 45 ∷ b → a ≡ b
+behind a b e = cc
+
+-- behind a dash: no number, zero, or another one
+pub negative_none : (digits : List ℕ) → Spells decimal (λ n. n ≤ 2 ^ 63) digits None → Spells signed_decimal (FitsSigned w64) (45 ∷ digits) None
+negative_none digits h = none
+  where
+    none : (z : ℤ) → FitsSigned w64 z → signed_decimal z ≢ 45 ∷ digits
+    none (pos n) fits e = let lt : n < 2 ^ 63 = omega (arith, fits.sfits) in no_dash n digits (omega arith) e
+    none (negsuc n) fits e = let lt : n < 2 ^ 63 = omega (arith, fits.sfits) in h (suc n) (omega arith) (behind _ _ e)
+
+pub negative_zero : (digits : List ℕ) (n : ℕ) → n ≡ 0 → Spells decimal (λ n. n ≤ 2 ^ 63) digits (Some n) → Spells signed_decimal (FitsSigned w64) (45 ∷ digits) None
+negative_zero digits n zero' h = none
+  where
+    none : (z : ℤ) → FitsSigned w64 z → signed_decimal z ≢ 45 ∷ digits
+    none (pos m) fits e = let lt : m < 2 ^ 63 = omega (arith, fits.sfits) in no_dash m digits (omega arith) e
+    none (negsuc m) fits e =
+        let lt : m < 2 ^ 63 = omega (arith, fits.sfits) in
+        let same : suc m ≡ n = decimal_injective (suc m) n (omega arith) (omega arith) (behind _ _ e ∙ sym h.1) in
+        absurd (omega arith)
+
+pub negative_some : (digits : List ℕ) (n m : ℕ) → n ≡ suc m → Spells decimal (λ n. n ≤ 2 ^ 63) digits (Some n) → Spells signed_decimal (FitsSigned w64) (45 ∷ digits) (Some (negsuc m))
+negative_some digits n m is h =
+    let le : n ≤ 2 ^ 63 = h.0 in
+    (record { sfits = omega arith }, ap (λ (w : List ℕ). 45 ∷ w) (ap decimal (sym is) ∙ h.1))
+
+-- a word without a dash
+pub natural_is : (word : List ℕ) (r : Option ℕ) → get_or word 0 0 ≢ 45 → Spells decimal (λ n. n ≤ 2 ^ 63 - 1) word r → Spells signed_decimal (FitsSigned w64) word (option_map pos r)
+natural_is word None other h = none
+  where
+    none : (z : ℤ) → FitsSigned w64 z → signed_decimal z ≢ word
+    none (pos n) fits e = let lt : n < 2 ^ 63 = omega (arith, fits.sfits) in h n (omega arith) e
+    none (negsuc n) fits e = other (ap (λ (w : List ℕ). get_or w 0 0) (sym e))
+natural_is word (Some n) other h = let le : n ≤ 2 ^ 63 - 1 = h.0 in (record { sfits = omega arith }, h.1)

@@ -1,0 +1,21 @@
+//! The words of a statistics file, one by one: which of them the grammar knows, and which values they spell.
+//!
+//! What comes in is a word without the blanks around it; what goes out is a test of the grammar, or the one value that
+//! the word spells. Callers cite `Spells` (in `specs/Words.antt`) and the words of stats_file's `specs/Grammar.antt`.
+//!
+//! ```text
+//! let rows = number(word, u64::from(MOST_ROWS));
+//! ```
+#![tactic(auto)]
+
+mod hex;
+mod lists;
+mod numbers;
+mod splits;
+mod values;
+
+pub use hex::{hex_bytes, is_hex_of, is_hex_word};
+pub use lists::{is_list_word, list};
+pub use numbers::{is_numeral, is_signed_numeral, number, signed_number};
+pub use splits::split_at_byte;
+pub use values::{datum, is_value_word};

@@ -1,0 +1,110 @@
+//! Numbers, with a sign and without.
+ghost use Rattle.std.specs.Prelude.{◌≡◌, ◌≢◌, ◌<◌, ◌≤◌, ◌&&◌, ◌||◌, ◌==◌, ◌↔◌, ◌∷◌, nat_lt, true, length, codes, decimal, slice_index, FitsSigned, IsTrue};
+ghost use Rattle.std.specs.Char.{is_ascii_digit as digit_test};
+ghost use Rattle.std.specs.Fmt.{signed_decimal};
+ghost use Rattle.std.specs.Int.{w64};
+ghost use Rattle.std.specs.List.{list_all};
+ghost use Rattle.std.specs.Option.{SomeIff};
+ghost use Rattle.std.specs.Str.Parse.{digits_value};
+ghost use Rattle.stats_file.specs.Grammar.{is_numeral as numeral_test, IsNumeral, IsSignedNumeral};
+ghost use Rattle.stats_words.specs.Words.{Spells};
+
+fn are_digits(bytes: &[u8]) -> bool
+    ensures { result ≡ list_all digit_test bytes.now }
+{
+    bytes.iter().all(|byte| byte.is_ascii_digit())
+}
+
+// Whether a word of this first byte and these others is a numeral.
+fn begins_numeral(first: u8, others: &[u8]) -> bool
+    ensures { result ≡ (digit_test first && list_all digit_test others.now && (nat_lt 48 first || length others.now == 0)) }
+{
+    first.is_ascii_digit() && are_digits(others) && (first > b'0' || others.is_empty())
+}
+
+/// Whether a word is a numeral: decimal digits, with no zero in front of others.
+pub fn is_numeral(word: &[u8]) -> bool
+    ensures { result ≡ numeral_test word.now }
+{
+    match word {
+        [] => false,
+        [first, others @ ..] => begins_numeral(*first, others),
+    }
+}
+
+// The number that digits spell, where it is at most so much.
+fn value_within(digits: &[u8], most: u64) -> Option<u64>
+    requires { list_all digit_test digits.now ≡ true }
+    ensures { SomeIff result (digits_value 10 digits.now ≤ most) (digits_value 10 digits.now) }
+{
+    let mut value: u128 = 0;
+    for digit in digits {
+        value = 10 * value + u128::from(*digit - b'0');
+        if value > u128::from(most) {
+            return None;
+        }
+    }
+    Some(value as u64)
+}
+
+/// The number that a numeral spells, where it is at most so much.
+pub fn number(word: &[u8], most: u64) -> Option<u64>
+    ensures { Spells decimal (λ n. n ≤ most) word.now result }
+{
+    if !is_numeral(word) {
+        return None;
+    }
+    value_within(word, most)
+}
+
+// The number below zero that these digits spell behind a dash.
+fn negative(digits: &[u8]) -> Option<i64>
+    ensures { Spells signed_decimal (FitsSigned w64) (45 ∷ digits.now) result }
+{
+    let size = number(digits, 1 << 63)?;
+    if size == 0 {
+        return None;
+    }
+    Some(-1 - (size - 1) as i64)
+}
+
+// The number that a word without a dash spells.
+fn natural(word: &[u8]) -> Option<i64>
+    requires { slice_index word.now 0 ≢ 45 }
+    ensures { Spells signed_decimal (FitsSigned w64) word.now result }
+{
+    match number(word, i64::MAX as u64) {
+        Some(value) => Some(value as i64),
+        None => None,
+    }
+}
+
+/// The signed number of 64 bits that a word spells: a numeral, or a dash and one that isn't zero.
+pub fn signed_number(word: &[u8]) -> Option<i64>
+    ensures { Spells signed_decimal (FitsSigned w64) word.now result }
+{
+    match word {
+        [b'-', digits @ ..] => negative(digits),
+        _ => natural(word),
+    }
+}
+
+/// Whether a word is a numeral, or a dash and one that isn't zero.
+pub fn is_signed_numeral(word: &[u8]) -> bool
+    ensures { IsTrue result ↔ IsSignedNumeral word.now }
+{
+    match word {
+        [b'-', digits @ ..] => is_size(digits),
+        _ => is_numeral(word),
+    }
+}
+
+// Whether digits are a numeral, but not that of zero.
+fn is_size(digits: &[u8]) -> bool
+    ensures { IsTrue result ↔ (IsNumeral digits.now × (digits.now ≢ codes "0")) }
+{
+    match digits {
+        [b'0'] => false,
+        _ => is_numeral(digits),
+    }
+}
