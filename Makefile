@@ -35,6 +35,7 @@ bench: build
 	@cd crates/bench_fold && rt run -- time > build.log 2>&1 || { cat build.log; exit 1; }
 	@cd crates/bench_joins && rt run -- time > build.log 2>&1 || { cat build.log; exit 1; }
 	@cd crates/bench_stats && rt run -- time > build.log 2>&1 || { cat build.log; exit 1; }
+	@cd crates/bench_stats_file && rt run -- time > build.log 2>&1 || { cat build.log; exit 1; }
 	@cd crates/bench_gather && rt run -- time > build.log 2>&1 || { cat build.log; exit 1; }
 	@cd crates/bench_reduce && rt run -- time > build.log 2>&1 || { cat build.log; exit 1; }
 	bench/one-table
@@ -47,6 +48,7 @@ bench: build
 	bench/fold
 	bench/joins
 	bench/stats
+	bench/stats-file
 	bench/reduce
 	bench/demo
 	bench/shop
