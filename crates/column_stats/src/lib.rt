@@ -6,7 +6,8 @@
 //! lists of frequent values, the rest list, 32 cuts and the lists of 63 nodes.
 //!
 //! Callers cite `stats_of`, `list_for_value`, `list_for_range`, `leaf_by_cuts` and `IsValid` (in `specs/Stats.antt`). That these
-//! are the lists of `cond_stats`, and what they dominate, is in the contract of `gather`.
+//! are the lists of `cond_stats`, and what they dominate, is in the contract of `gather`; what the list of a node dominates that is
+//! made on demand, in `laws`.
 //!
 //! ```text
 //! let stats = gather(alloc, &cells, &pool, 0, 1, 1)?;   // stats ≡ stats_of pool kind 1 (rows_of_pair cells 0 1)
@@ -14,9 +15,9 @@
 //! ```
 #![tactic(auto)]
 
-mod cut_leaves;
 pub mod examples;
 mod gathering;
+pub mod laws;
 mod parts;
 mod stats;
 

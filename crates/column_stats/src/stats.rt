@@ -5,8 +5,8 @@ ghost use Rattle.cond_stats.specs.Leaves.{node_size};
 ghost use Rattle.column_stats.specs.Nodes.{node_place};
 ghost use Rattle.column_stats.specs.Stats.{IsValid, leaf_by_cuts, list_for_range, list_for_value};
 
-use crate::cut_leaves::{leaf_of_int, leaf_of_text};
 use base_io::Seq;
+use cond_stats::{leaf_of_int, leaf_of_text};
 use csv_tables::{Pool, cell_of};
 use piece_math::Pieces;
 use schema_types::Kind;

@@ -51,8 +51,9 @@ fn is_at_most_text(kind: Kind, pool: &Pool, cell: u64, text: &str) -> bool
     }
 }
 
-/// The last place whose cut is at most the number of a cell.
-pub(crate) fn leaf_of_int(kind: Kind, cuts: &[u64], number: u64) -> u8
+/// The last of at most 32 places whose cut is at most the number of a cell, and 0 where there is none. A cut that is a text is at most
+/// no number.
+pub fn leaf_of_int(kind: Kind, cuts: &[u64], number: u64) -> u8
     requires { length cuts.now ≤ 32 }
     ensures { (texts : List (List ℕ)) → result ≡ last_place
         (λ cut. value_le (value_of_cell texts kind cut) (Int (number_in number))) cuts.now }
@@ -66,8 +67,8 @@ pub(crate) fn leaf_of_int(kind: Kind, cuts: &[u64], number: u64) -> u8
     leaf
 }
 
-/// The last place whose cut is at most a text.
-pub(crate) fn leaf_of_text(kind: Kind, pool: &Pool, cuts: &[u64], text: &str) -> u8
+/// The last of at most 32 places whose cut is at most a text, and 0 where there is none. A cut that is a number is at most each text.
+pub fn leaf_of_text(kind: Kind, pool: &Pool, cuts: &[u64], text: &str) -> u8
     requires { length cuts.now ≤ 32 }
     ensures { result ≡ last_place (λ cut. value_le (value_of_cell pool.now kind cut) (Text text.now)) cuts.now }
 {

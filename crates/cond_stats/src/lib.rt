@@ -29,4 +29,5 @@ mod texts;
 mod whole;
 
 pub use column::FilterColumn;
+pub use cut_leaves::{leaf_of_int, leaf_of_text};
 pub use whole::whole_list;
