@@ -23,7 +23,7 @@ use Rattle.query_types.specs.declared.types.Cond.{Cond, every_here-Cond}
 use Rattle.query_types.specs.declared.types.Cond.TheViews.{out-Cond}
 use Rattle.query_types.specs.declared.types.Query.{Query}
 use Rattle.sql_meaning.specs.Databases.{CanAskLayer, CanCompare, IsAskable, IsColumnOf, IsDatabaseOf}
-use Rattle.gathered_stats.specs.Asked.{asked_columns, joined_columns, or_the_first, with_place}
+use Rattle.gathered_stats.specs.Asked.{asked_columns, joined_columns, no_column, or_no_column, with_place}
 
 -- ---- one place more
 
@@ -82,7 +82,7 @@ from_different (y ∷ L) x k = elim (one_in y (filter (λ z. not (eqb z y)) (dif
   | inr is ↦ in_front y L x is
 ]
 
-or_more : (L : List ℕ) (x : ℕ) → Contains L x → Contains (or_the_first L) x
+or_more : (L : List ℕ) (x : ℕ) → Contains L x → Contains (or_no_column L) x
 or_more [] x k = absurd (in_none x k)
 or_more (y ∷ L) x k = k
 
@@ -92,14 +92,14 @@ place_asked es p k =
     or_more (joined_columns p.entry es) p.column (in_different (columns_at p.entry (places_of es)) p.column
     (in_map (λ (q : Place). q.column) (filter (is_of p.entry) (places_of es)) p (in_filter (is_of p.entry) (places_of es) p k (eq-eqb p.entry p.entry refl))))
 
--- a column that is asked for is one that an equality names, or the first one
+-- a column that is asked for is one that an equality names, or one that no table has
 pub asked_place : (entry : ℕ) (es : List Edge) (column : ℕ) → Contains (asked_columns entry es) column
-    → ((p : Place) × Contains (places_of es) p × (p.entry ≡ entry) × (column ≡ p.column)) ⊎ (column ≡ 0)
+    → ((p : Place) × Contains (places_of es) p × (p.entry ≡ entry) × (column ≡ p.column)) ⊎ (column ≡ no_column)
 asked_place entry es column k = by (joined_columns entry es) refl k
   where
-    by : (L : List ℕ) → L ≡ joined_columns entry es → Contains (or_the_first L) column
-        → ((p : Place) × Contains (places_of es) p × (p.entry ≡ entry) × (column ≡ p.column)) ⊎ (column ≡ 0)
-    by [] is k = elim (one_in 0 [] column k) [ inl later ↦ absurd (in_none column later) | inr first ↦ inr first ]
+    by : (L : List ℕ) → L ≡ joined_columns entry es → Contains (or_no_column L) column
+        → ((p : Place) × Contains (places_of es) p × (p.entry ≡ entry) × (column ≡ p.column)) ⊎ (column ≡ no_column)
+    by [] is k = elim (one_in no_column [] column k) [ inl later ↦ absurd (in_none column later) | inr first ↦ inr first ]
     by (c ∷ L) is k =
         let named : Contains (columns_at entry (places_of es)) column = from_different (columns_at entry (places_of es)) column (subst (λ (s : List ℕ). Contains s column) is k) in
         let at : (p : Place) × Contains (filter (is_of entry) (places_of es)) p × (column ≡ p.column) = from_map (λ (q : Place). q.column) (filter (is_of entry) (places_of es)) column named in
@@ -109,7 +109,7 @@ asked_place entry es column k = by (joined_columns entry es) refl k
 pub some_asked : (entry : ℕ) (es : List Edge) → 0 < length (asked_columns entry es)
 some_asked entry es = by (joined_columns entry es)
   where
-    by : (L : List ℕ) → 0 < length (or_the_first L)
+    by : (L : List ℕ) → 0 < length (or_no_column L)
     by [] = omega arith
     by (c ∷ L) = omega arith
 

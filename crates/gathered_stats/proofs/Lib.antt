@@ -6,4 +6,5 @@ pub mod Asking
 pub mod Kept
 pub mod Joined
 pub mod Entries
+pub mod MissingColumns
 pub mod Telling

@@ -1,20 +1,15 @@
 -- What is gathered for each entry tells the statistics of the tables.
-use Rattle.std.proofs.Common.{◌≡◌, ℕ, zero, suc, ◌+◌, ◌<◌, eqb, pos, List, [], ◌∷◌, map, length, get_or, replicate, Some, option_map, slice_get, find, refl, ap, sym, ◌∙◌, subst, inl, inr, arith}
-use Rattle.std.specs.List.{All, AllByRecursion, Contains, range_with_len}
-use Rattle.std.proofs.lemmas.List.{get_or_past, length-map}
+use Rattle.std.proofs.Common.{◌≡◌, ℕ, zero, suc, ◌<◌, eqb, List, [], ◌∷◌, map, length, get_or, replicate, Some, option_map, slice_get, find, refl, ap, sym, ◌∙◌, subst, inl, inr, arith}
+use Rattle.std.specs.List.{All, AllByRecursion, Contains}
+use Rattle.std.proofs.lemmas.List.{length-map}
 use Rattle.std.proofs.lemmas.Bool.{cases_Bool, cases_lt, eq-eqb, eqb-true, false≢true}
-use Rattle.std.proofs.lemmas.List.Elements.{All-nil, All-push, recursion_from_All}
+use Rattle.std.proofs.lemmas.List.Elements.{recursion_from_All}
 use Rattle.berge_tree.specs.declared.edges.Place.{Place}
 use Rattle.berge_tree.specs.Equalities.{places_of}
-use Rattle.schema_types.specs.declared.types.Kind.{Kind}
 use Rattle.csv_tables.specs.declared.types.Cells.{Cells}
 use Rattle.csv_tables.specs.declared.types.Database.{Database}
-use Rattle.csv_tables.specs.Cells.{rows_of_columns}
-use Rattle.csv_tables.specs.Rows.{Row}
-use Rattle.csv_tables.specs.Values.{Int}
-use Rattle.cond_stats.specs.Lists.{compressed_degrees}
 use Rattle.entry_sets.proofs.Listing.{in_front, in_none, one_in}
-use Rattle.filtered_lists.specs.Standing.{SumTo, value_in_row}
+use Rattle.filtered_lists.specs.Standing.{SumTo}
 use Rattle.join_graph.specs.Conjuncts.{equalities_of}
 use Rattle.level_bounds.specs.Keys.{HaveDifferentCharacters}
 use Rattle.level_bounds.proofs.Lists.{all_from}
@@ -26,16 +21,16 @@ use Rattle.query_bounds.specs.Statistics.{Tells, TellsColumn, TellsEntry}
 use Rattle.query_types.specs.declared.types.ColumnRef.{ColumnRef}
 use Rattle.query_types.specs.declared.types.Query.{Query}
 use Rattle.sql_meaning.specs.Databases.{AreCells, AreTables, IsColumnOf, IsDatabaseOf}
-use Rattle.sql_meaning.specs.Tables.{cells_of, no_cells, row_counts, tables_of}
-use Rattle.sql_meaning.proofs.ColumnFacts.{column_count, row_count}
+use Rattle.sql_meaning.specs.Tables.{cells_of, no_cells, tables_of}
+use Rattle.sql_meaning.proofs.ColumnFacts.{column_count}
 use Rattle.sql_meaning.proofs.LoopFacts.{rows_are}
-use Rattle.table_stats.specs.Columns.{column_values, first_row, numbered}
 use Rattle.table_stats.proofs.DatabaseColumns.{cells_equal, cells_range, cells_whole}
 use Rattle.table_stats.specs.Statistics.{column_lists, entry_counts}
 use Rattle.gathered_stats.specs.Asked.{AreStepsOf, IsGathered, asked_columns}
 use Rattle.gathered_stats.specs.Columns.{HaveLists, cells_in, keys_in}
 use Rattle.gathered_stats.specs.Statistics.{statistics_of}
 use Rattle.gathered_stats.proofs.Joined.{asked_place, place_asked, place_exists, some_asked}
+use Rattle.gathered_stats.proofs.MissingColumns.{missing_lists}
 
 -- ---- the first of some, and the one of a column
 
@@ -59,58 +54,6 @@ first_one : (P : ColumnSteps → Type 0) (columns : List ColumnSteps) → 0 < le
 first_one P [] some all = absurd (omega (arith, some))
 first_one P (g ∷ columns) some all = (g, refl, in_front g.column (map (λ g. g.column) columns) g.column refl, all 0 g (omega arith))
 
--- ---- a table without columns has one value in all its rows
-
-alike_rows : {Y : Type 0} (f : ℕ → Y) (v : Y) (a n : ℕ) → ((row : ℕ) → f row ≡ v) → map f (range_with_len a n) ≡ replicate n v
-alike_rows f v a zero h = refl
-alike_rows f v a (suc n) h = rw (h a, alike_rows f v (a + 1) n h) refl
-
-all_same : {X Y : Type 0} (f : X → Y) (v : X) (n : ℕ) → map f (replicate n v) ≡ replicate n (f v)
-all_same f v zero = refl
-all_same f v (suc n) = ap (λ s. f v ∷ s) (all_same f v n)
-
-one_number : (n : ℕ) → numbered (replicate n (Int (pos 0))) ≡ replicate n 0
-one_number zero = refl
-one_number (suc n) = all_same (first_row (replicate (suc n) (Int (pos 0)))) (Int (pos 0)) (suc n)
-
-module _ (db : Database) (entry : ℕ) where
-  abbrev cells : Cells
-  cells = cells_of db entry
-
-  bare_rows : cells.kinds ≡ [] → All (λ (r : Row). r ≡ []) (rows_of_columns db.pool cells.kinds cells.columns cells.rows)
-  bare_rows none = subst (λ kinds. All (λ (r : Row). r ≡ []) (rows_of_columns db.pool kinds cells.columns cells.rows)) (sym none) (by cells.rows)
-    where
-      by : (n : ℕ) → All (λ (r : Row). r ≡ []) (rows_of_columns db.pool [] cells.columns n)
-      by zero = All-nil (λ (r : Row). r ≡ [])
-      by (suc n) = All-push (λ (r : Row). r ≡ []) (rows_of_columns db.pool [] cells.columns n) [] (by n) refl
-
-  bare_value : cells.kinds ≡ [] → (column row : ℕ) → value_in_row (tables_of db) entry column row ≡ Int (pos 0)
-  bare_value none column row = elim (cases_lt row cells.rows) [
-    | inl low ↦ ap (λ (r : Row). get_or r column (Int (pos 0)))
-        (bare_rows none row [] (omega (arith, low, row_count db.pool cells.kinds cells.columns cells.rows)))
-    | inr high ↦ ap (λ (r : Row). get_or r column (Int (pos 0)))
-        (get_or_past (rows_of_columns db.pool cells.kinds cells.columns cells.rows) row [] (omega (arith, high, row_count db.pool cells.kinds cells.columns cells.rows)))
-  ]
-
-  bare_keys : cells.kinds ≡ [] → (column : ℕ) → numbered (column_values (tables_of db) entry column) ≡ replicate cells.rows 0
-  bare_keys none column =
-      ap numbered (alike_rows (value_in_row (tables_of db) entry column) (Int (pos 0)) 0 (row_counts (tables_of db) entry) (bare_value none column))
-      ∙ one_number (row_counts (tables_of db) entry) ∙ ap (λ (n : ℕ). replicate n 0) (rows_are db entry)
-
-  no_columns_there : AreCells db.pool cells → cells.kinds ≡ [] → (column : ℕ) → keys_in cells column ≡ replicate cells.rows 0
-  no_columns_there are none column =
-      get_or_past cells.columns column (replicate cells.rows 0) (omega (arith, column_count db.pool cells.rows cells.kinds cells.columns are, ap (λ (s : List Kind). length s) none))
-
-  nothing : cells.kinds ≡ [] → (column : ℕ) → column < length cells.kinds → ⊥
-  nothing none column low = omega (arith, low, ap (λ (s : List Kind). length s) none)
-
-  bare_lists : (accuracy : ℕ) → AreCells db.pool cells → cells.kinds ≡ [] → (column : ℕ) → HaveLists db.pool cells accuracy (keys_in cells column) (column_lists (tables_of db) accuracy entry column)
-  bare_lists accuracy are none column = record {
-    whole = ap (compressed_degrees accuracy) (no_columns_there are none column ∙ sym (bare_keys none column));
-    equal = λ filter value cell low stands. absurd (nothing none filter low);
-    range = λ range low. absurd (nothing none range.column low);
-  }
-
 -- ---- the lists of each column that is asked for
 
 abbrev pub HaveTheirLists : Database → ℕ → Type 0
@@ -129,7 +72,8 @@ same_default [] i a b low = absurd (omega (arith, low))
 same_default (x ∷ xs) zero a b low = refl
 same_default (x ∷ xs) (suc i) a b low = same_default xs i a b (omega (arith, low))
 
-module _ (query : Query) (db : Database) (accuracy : ℕ) (of : IsDatabaseOf query db) (laws : HaveTheirLists db accuracy) where
+module _ (query : Query) (db : Database) (accuracy : ℕ) (of : IsDatabaseOf query db) (differ : HaveDifferentCharacters db.pool)
+    (laws : HaveTheirLists db accuracy) where
   cells_there : (entry : ℕ) → entry < length query.from → AreCells db.pool (cells_of db entry)
   cells_there entry low =
       let here : entry < length db.slots = omega (arith, low, of.entries) in
@@ -150,19 +94,17 @@ module _ (query : Query) (db : Database) (accuracy : ℕ) (of : IsDatabaseOf que
         let is : IsColumnOf db (record { from = entry; column = column }) =
         subst (λ (ref : ColumnRef). IsColumnOf db ref) (same_ref p.entry p.column entry column named.2 (sym named.3)) (place_exists query db of p named.1) in
         of_column (record { from = entry; column = column }) is (cells_there entry low))
-    | inr first ↦ by_kinds (cells_of db entry).kinds refl first
+    | inr none ↦ elim (cases_lt column (length (cells_of db entry).kinds)) [
+      | inl exists ↦ of_column (record { from = entry; column = column }) (record { entry = there; exists = exists }) (cells_there entry low)
+      | inr past ↦ missing_lists db of.tables differ entry there column past accuracy
+    ]
   ]
     where
+      there : entry < length db.slots
+      there = omega (arith, low, of.entries)
+
       same_ref : (a b c d : ℕ) → a ≡ c → b ≡ d → (let r : ColumnRef = record { from = a; column = b } in r) ≡ record { from = c; column = d }
       same_ref a b c d h k = rw (h, k) refl
-
-      by_kinds : (kinds : List Kind) → kinds ≡ (cells_of db entry).kinds → column ≡ 0
-          → HaveLists db.pool (cells_of db entry) accuracy (keys_in (cells_of db entry) column) (column_lists (tables_of db) accuracy entry column)
-      by_kinds [] none first = bare_lists db entry accuracy (cells_there entry low) (sym none) column
-      by_kinds (kind ∷ kinds) some first =
-          of_column (record { from = entry; column = column })
-          (record { entry = omega (arith, low, of.entries); exists = omega (arith, first, ap (λ (s : List Kind). length s) some) })
-          (cells_there entry low)
 
   -- ---- what is told
 

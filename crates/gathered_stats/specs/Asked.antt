@@ -2,6 +2,7 @@
 use Rattle.std.specs.Prelude.{◌≡◌, ℕ, ◌==◌, ◌<◌, ◌^◌, ◌&&◌, not, if◌then◌else◌}
 use Rattle.std.specs.Prelude.{All, List, [], ◌∷◌, ◌++◌, map, length, Option, None, Some, IfSome}
 use Rattle.std.specs.List.{filter, list_any}
+use Rattle.limits.specs.Profile.{most_columns}
 use Rattle.berge_tree.specs.declared.edges.Edge.{Edge}
 use Rattle.berge_tree.specs.declared.edges.Place.{Place}
 use Rattle.berge_tree.specs.Equalities.{places_of}
@@ -26,14 +27,17 @@ use Rattle.gathered_stats.specs.Columns.{HaveLists, keys_in}
 abbrev pub joined_columns : ℕ → List Edge → List ℕ
 joined_columns entry es = different (map (λ p. p.column) (filter (λ p. p.entry == entry) (places_of es)))
 
--- the first column where there is no other
-abbrev pub or_the_first : List ℕ → List ℕ
-or_the_first [] = 0 ∷ []
-or_the_first (column ∷ columns) = column ∷ columns
+-- a column that no table has, so that all rows have one key in it
+abbrev pub no_column : ℕ
+no_column = most_columns
 
--- an entry that joins no column has its first column for its row bound
+abbrev pub or_no_column : List ℕ → List ℕ
+or_no_column [] = no_column ∷ []
+or_no_column (column ∷ columns) = column ∷ columns
+
+-- an entry that joins no column is asked for one that it hasn't: its row bound is the same over every column
 abbrev pub asked_columns : ℕ → List Edge → List ℕ
-asked_columns entry es = or_the_first (joined_columns entry es)
+asked_columns entry es = or_no_column (joined_columns entry es)
 
 -- a place's column at the end of a list, where the place is of the entry and the column isn't there yet
 abbrev pub with_place : ℕ → List ℕ → Place → List ℕ

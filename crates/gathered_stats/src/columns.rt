@@ -5,6 +5,7 @@ ghost use Rattle.gathered_stats.specs.Asked.{asked_columns, joined_columns, with
 
 use base_io::{NoMemory, Seq};
 use berge_tree::{Edge, Place};
+use limits::MOST_COLUMNS;
 use std::alloc::Global;
 
 // Whether a column is there.
@@ -36,7 +37,8 @@ fn joined_columns(alloc: Global, equalities: &[Edge], entry: u8) -> Result<Seq<u
     Ok(columns)
 }
 
-/// The columns of an entry that equalities name, each once, or its first column where they name none.
+/// The columns of an entry that equalities name, each once. Where they name none it is a column that no table has: there all rows have one
+/// key, so that its list is made without a sort, and the row bound is the same over every column.
 pub(crate) fn asked_columns(
     alloc: Global,
     equalities: &[Edge],
@@ -46,7 +48,7 @@ pub(crate) fn asked_columns(
 {
     let columns = joined_columns(alloc, equalities, entry)?;
     if columns.len() == 0 {
-        return Seq::one(alloc, 0);
+        return Seq::one(alloc, MOST_COLUMNS as u32);
     }
     Ok(columns)
 }

@@ -29,7 +29,7 @@ fn one_key(alloc: Global, cells: &Cells) -> Result<Vec<u64>, NoMemory>
     Ok(keys)
 }
 
-// The steps of a joined column. Where the table has no such column, all its rows have one key.
+// The steps of a column that is asked for. Where the table has no such column, all its rows have one key.
 fn gather_column(
     alloc: Global,
     table: &EntryTable<'_>,

@@ -28,7 +28,7 @@ module _ (db : Database) (are : AreTables db) (differ : HaveDifferentCharacters 
   abbrev cells : Cells
   cells = cells_of db entry
 
-  cells_are : AreCells db.pool cells
+  pub cells_are : AreCells db.pool cells
   cells_are = are.cells (slice_index db.slots entry) no_cells (are.slots entry 0 there)
 
   abbrev kind_at : ℕ → Kind
@@ -40,11 +40,11 @@ module _ (db : Database) (are : AreTables db) (differ : HaveDifferentCharacters 
   abbrev Exists : ℕ → Type 0
   Exists column = column < length cells.kinds
 
-  column_is : (column : ℕ) → Exists column → IsColumn db.pool cells.rows (kind_at column) (column_at_all column)
+  pub column_is : (column : ℕ) → Exists column → IsColumn db.pool cells.rows (kind_at column) (column_at_all column)
   column_is column exists = column_at db.pool cells.rows cells.kinds cells.columns cells_are column kind.Int [] exists
 
   -- the values of a column are those of its cells
-  values_are : (column : ℕ) → Exists column → map (value_of_cell db.pool (kind_at column)) (column_at_all column) ≡ column_values (tables_of db) entry column
+  pub values_are : (column : ℕ) → Exists column → map (value_of_cell db.pool (kind_at column)) (column_at_all column) ≡ column_values (tables_of db) entry column
   values_are column exists =
       let of_cell : ℕ → Value = value_of_cell db.pool (kind_at column) in
       let all : List ℕ = column_at_all column in
