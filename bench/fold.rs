@@ -6,13 +6,14 @@ use std::collections::HashMap;
 use std::time::Instant;
 
 type Place = (u8, u32);
+type Edge = (Place, Place);
 type Pieces = Vec<(u128, u64)>;
 
 const ROUNDS: u32 = 20;
 const PLANS: u32 = 3;
 
 struct Query {
-    equalities: Vec<(Place, Place)>,
+    equalities: Vec<Edge>,
     rows: HashMap<u8, u64>,
     lists: HashMap<Place, Pieces>,
 }
@@ -125,7 +126,7 @@ fn compose(parent: &[(u128, u64)], children: &[(Pieces, Pieces)]) -> Pieces {
 // ---- trees ----
 
 // The equalities that a turn keeps.
-fn kept(equalities: &[(Place, Place)], turn: usize) -> Vec<(Place, Place)> {
+fn kept(equalities: &[Edge], turn: usize) -> Vec<Edge> {
     let (before, from) = equalities.split_at(turn);
     let mut names: Vec<u8> = (0..16).collect();
     let mut kept = Vec::new();
@@ -140,7 +141,7 @@ fn kept(equalities: &[(Place, Place)], turn: usize) -> Vec<(Place, Place)> {
 }
 
 // The columns of the equalities in order, each with the name of its class.
-fn classes(edges: &[(Place, Place)]) -> Vec<(Place, Place)> {
+fn classes(edges: &[Edge]) -> Vec<(Place, Place)> {
     let mut columns: Vec<Place> = edges.iter().flat_map(|&(left, right)| [left, right]).collect();
     columns.sort();
     columns.dedup();
@@ -223,12 +224,12 @@ fn has(set: u16, entry: u8) -> bool {
     set >> entry & 1 == 1
 }
 
-fn equalities_of(query: &Query, set: u16) -> Vec<(Place, Place)> {
-    let within = |&(left, right): &(Place, Place)| has(set, left.0) && has(set, right.0);
+fn equalities_of(query: &Query, set: u16) -> Vec<Edge> {
+    let within = |&(left, right): &Edge| has(set, left.0) && has(set, right.0);
     query.equalities.iter().copied().filter(within).collect()
 }
 
-fn turn_bound(query: &Query, set: u16, equalities: &[(Place, Place)], turn: usize) -> u128 {
+fn turn_bound(query: &Query, set: u16, equalities: &[Edge], turn: usize) -> u128 {
     let columns = classes(&kept(equalities, turn));
     let (mut done, mut product) = (0u16, 1u128);
     for entry in (0..16).filter(|&entry| has(set, entry)) {
@@ -248,7 +249,7 @@ fn turn_bound(query: &Query, set: u16, equalities: &[(Place, Place)], turn: usiz
 }
 
 // The least entry with all that equalities connect with it.
-fn first_part(equalities: &[(Place, Place)], set: u16) -> u16 {
+fn first_part(equalities: &[Edge], set: u16) -> u16 {
     let mut part = set & set.wrapping_neg();
     loop {
         let mut more = part;
@@ -264,10 +265,51 @@ fn first_part(equalities: &[(Place, Place)], set: u16) -> u16 {
     }
 }
 
-fn next_bound(query: &Query, set: u16, smaller: &[u128]) -> u128 {
+// The column that stands for the class of a column.
+fn class_in(classed: &[(Edge, Place)], place: Place) -> Place {
+    let found = classed.iter().find(|((left, right), _)| *left == place || *right == place);
+    found.map_or(place, |&(_, class)| class)
+}
+
+// Each equality with a column of its class.
+fn with_classes(edges: &[Edge]) -> Vec<(Edge, Place)> {
+    let mut classed: Vec<(Edge, Place)> = Vec::new();
+    for &(left, right) in edges {
+        let (new, old) = (class_in(&classed, left), class_in(&classed, right));
+        classed.iter_mut().filter(|member| member.1 == old).for_each(|member| member.1 = new);
+        classed.push(((left, right), new));
+    }
+    classed
+}
+
+fn are_in_classes(others: &[(Edge, Place)], classed: &[(Edge, Place)]) -> bool {
+    classed.iter().all(|&((left, right), _)| class_in(others, left) == class_in(others, right))
+}
+
+// The least over the turns. One that keeps equalities with the columns and classes of an earlier one is not folded.
+fn cyclic_bound(query: &Query, set: u16, equalities: &[Edge]) -> u128 {
+    let mut folded: Vec<Vec<(Edge, Place)>> = Vec::new();
+    let mut least = u128::MAX;
+    for turn in 0..equalities.len().min(16) {
+        let classed = with_classes(&kept(equalities, turn));
+        let is_like = |earlier: &Vec<_>| are_in_classes(earlier, &classed) && are_in_classes(&classed, earlier);
+        if !folded.iter().any(is_like) {
+            least = least.min(turn_bound(query, set, equalities, turn));
+            folded.push(classed);
+        }
+    }
+    least
+}
+
+fn is_forest(equalities: &[Edge]) -> bool {
+    kept(equalities, 0).len() == equalities.len()
+}
+
+// Where the whole query's equalities close no cycle, neither do those of a set.
+fn next_bound(query: &Query, set: u16, whole: bool, smaller: &[u128]) -> u128 {
     let equalities = equalities_of(query, set);
-    if kept(&equalities, 0).len() < equalities.len() {
-        return (0..equalities.len().min(16)).map(|turn| turn_bound(query, set, &equalities, turn)).min().unwrap();
+    if !whole && !is_forest(&equalities) {
+        return cyclic_bound(query, set, &equalities);
     }
     let part = first_part(&equalities, set);
     let rest = set & !part;
@@ -278,9 +320,10 @@ fn next_bound(query: &Query, set: u16, smaller: &[u128]) -> u128 {
 }
 
 fn bounds_of_sets(query: &Query, entries: u8) -> Vec<u128> {
+    let whole = is_forest(&query.equalities);
     let mut bounds = Vec::new();
     for set in 0..1u16 << entries {
-        bounds.push(next_bound(query, set, &bounds));
+        bounds.push(next_bound(query, set, whole, &bounds));
     }
     bounds
 }
@@ -300,7 +343,7 @@ fn list_of_column(rows: u64, pieces: u32, column: u32) -> Pieces {
     list
 }
 
-fn equality(shape: &str, left: u8, right: u8, entries: u8) -> Option<(Place, Place)> {
+fn equality(shape: &str, left: u8, right: u8, entries: u8) -> Option<Edge> {
     let is_next = left + 1 == right;
     match shape {
         "chain" => is_next.then_some(((left, 1), (right, 0))),

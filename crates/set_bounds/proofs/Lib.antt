@@ -4,3 +4,5 @@ pub mod Forests
 pub mod SameTrees
 pub mod Parted
 pub mod Tested
+pub mod Classed
+pub mod Skipping

@@ -11,6 +11,7 @@ ghost use Rattle.bound_fold.specs.Sets.{SetIsListed};
 ghost use Rattle.set_bounds.specs.AllSets.{bounds_of_sets as bounds_told, first_entries};
 
 use crate::one_set::next_bound;
+use crate::parts::is_forest;
 use base_io::{NoMemory, Seq};
 use bound_fold::EntryLists;
 use entry_sets::EntrySet;
@@ -38,10 +39,12 @@ pub fn bounds_of_sets(
         → AreDifferent (entries_of_set subset) choices
         → (length choices ≤ slice_index bounds subset) ⊎ (slice_index bounds subset ≡ top_bound)) }
 {
+    let all = EntrySet::from_bits((1u16 << count) - 1);
+    let whole = is_forest(alloc, parts, all)?;
     let mut bounds = Vec::new(alloc);
     for bits in 0..1u16 << count {
         let subset = EntrySet::from_bits(bits);
-        let bound = next_bound(alloc, parts, lists, subset, bounds.as_slice())?;
+        let bound = next_bound(alloc, parts, lists, subset, whole, bounds.as_slice())?;
         bounds.push(bound)?;
     }
     Ok(Seq::from_vec(bounds))

@@ -1,5 +1,6 @@
 //! Why the bounds of all sets are quick to find, as laws. Each call does nothing.
 ghost use Rattle.std.specs.Prelude.{◌≡◌, ◌*◌, ℕ, List};
+ghost use Rattle.entry_sets.specs.Sets.{IsWithin};
 ghost use Rattle.berge_tree.specs.declared.edges.Edge.{Edge};
 ghost use Rattle.berge_tree.specs.Equalities.{ClosesNoCycle};
 ghost use Rattle.join_graph.specs.Kept.{equalities_within, kept_of};
@@ -12,6 +13,12 @@ ghost use Rattle.set_bounds.specs.Parts.{FallsInto};
 pub fn one_turn_serves()
     ensures { (b : EntryBounds) (es : List Edge) (subset turn : ℕ) → ClosesNoCycle (equalities_within subset es)
         → bound_of_turn b es subset turn ≡ bound_of_set b es subset }
+{}
+
+/// Where the equalities of a set close no cycle, neither do those of a set within it. So one test of the whole query serves all its sets.
+pub fn fewer_entries_close_no_cycle()
+    ensures { (es : List Edge) (subset whole : ℕ) → IsWithin subset whole → ClosesNoCycle (equalities_within whole es)
+        → ClosesNoCycle (equalities_within subset es) }
 {}
 
 /// Where the equalities of a set close no cycle and fall apart, the set has the product of the bounds of its parts.

@@ -6,10 +6,14 @@
 //! Callers cite `bounds_of_sets` for the list, and `SetIsListed` of bound_fold, at the set of all entries, for what it needs.
 #![tactic(auto)]
 
+mod alike;
+mod cycles;
 mod every_set;
 mod laws;
 mod one_set;
 mod parts;
 
 pub use every_set::bounds_of_sets;
-pub use laws::{alike_turns_have_the_same_trees, one_turn_serves, parts_multiply};
+pub use laws::{
+    alike_turns_have_the_same_trees, fewer_entries_close_no_cycle, one_turn_serves, parts_multiply,
+};

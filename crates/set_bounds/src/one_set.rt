@@ -1,14 +1,15 @@
 //! The bound of a set, from those of the sets of smaller numbers.
-ghost use Rattle.std.specs.Prelude.{◌≡◌, IfOk};
+ghost use Rattle.std.specs.Prelude.{◌≡◌, IfOk, true};
 ghost use Rattle.berge_tree.specs.Equalities.{ClosesNoCycle};
 ghost use Rattle.join_graph.specs.Kept.{equalities_within};
 ghost use Rattle.bound_fold.specs.Lists.{bounds_of};
 ghost use Rattle.bound_fold.specs.Sets.{SetIsListed};
 ghost use Rattle.set_bounds.specs.AllSets.{bound_told, bounds_below};
 
+use crate::cycles::cyclic_bound;
 use crate::parts::{falls_into, first_part, is_forest, rest_of};
 use base_io::NoMemory;
-use bound_fold::{EntryLists, set_bound, turn_bound};
+use bound_fold::{EntryLists, turn_bound};
 use entry_sets::EntrySet;
 use join_graph::Parts;
 use std::alloc::Global;
@@ -38,22 +39,41 @@ fn forest_bound(
     Ok(bound)
 }
 
-/// The bound of a set, where those of all sets of smaller numbers are known.
+// Whether the equalities of a set close no cycle, as none do where those of a larger set don't.
+fn is_forest_within(
+    alloc: Global,
+    parts: &Parts,
+    subset: EntrySet,
+    whole: bool,
+) -> Result<bool, NoMemory>
+    requires whole { whole ≡ true → ClosesNoCycle (equalities_within subset parts.now.equalities) }
+    ensures { IfOk result (λ forest. forest ≡ true → ClosesNoCycle (equalities_within subset parts.now.equalities)) }
+{
+    if whole {
+        return Ok(true);
+    }
+    is_forest(alloc, parts, subset)
+}
+
+/// The bound of a set, where those of all sets of smaller numbers are known. `whole` says that the equalities of a larger set close no
+/// cycle.
 pub(crate) fn next_bound(
     alloc: Global,
     parts: &Parts,
     lists: &EntryLists,
     subset: EntrySet,
+    whole: bool,
     smaller: &[u128],
 ) -> Result<u128, NoMemory>
+    requires whole { whole ≡ true → ClosesNoCycle (equalities_within subset parts.now.equalities) }
     requires listed { SetIsListed lists.now parts.now.equalities subset }
     requires smaller { smaller.now ≡ bounds_below (bounds_of lists.now) parts.now.equalities subset }
     ensures { IfOk result (λ n. n ≡ bound_told (bounds_of lists.now) parts.now.equalities subset) }
 {
-    if is_forest(alloc, parts, subset)? {
+    if is_forest_within(alloc, parts, subset, whole)? {
         let bound = forest_bound(alloc, parts, lists, subset, smaller)?;
         return Ok(bound);
     }
-    let bound = set_bound(alloc, parts, subset, lists)?;
+    let bound = cyclic_bound(alloc, parts, lists, subset)?;
     Ok(bound)
 }

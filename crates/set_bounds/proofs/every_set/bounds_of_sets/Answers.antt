@@ -1,7 +1,10 @@
-use Rattle.std.proofs.Common.{◌≡◌, ◌^◌, ap, ◌∙◌, arith}
+use Rattle.std.proofs.Common.{◌≡◌, ℕ, ◌-◌, ◌^◌, ap, subst, ◌∙◌, arith}
+use Rattle.berge_tree.specs.Equalities.{ClosesNoCycle}
+use Rattle.join_graph.specs.Kept.{equalities_within}
 use Rattle.bound_fold.specs.Lists.{bounds_of}
 use Rattle.set_bounds.specs.AllSets.{bound_told, bounds_below}
-use Rattle.set_bounds.proofs.Listing.{first_listed}
+use Rattle.set_bounds.proofs.Forests.{forest_within}
+use Rattle.set_bounds.proofs.Listing.{first_listed, first_within}
 use Rattle.set_bounds.proofs.Telling.{never_under, sets_fit, told_more}
 use Rattle.set_bounds.proofs.every_set.bounds_of_sets.Goals as goal
 
@@ -9,6 +12,14 @@ pub next_bound-requires-clause-listed : goal.next_bound-requires-clause-listed
 next_bound-requires-clause-listed c =
     let is : c.from_bits-subset.result ≡ c.loop-bits.bits = c.from_bits-subset.ensures in
     rw is (first_listed c.args.lists.now c.args.parts.now.equalities c.args.count c.loop-bits.bits c.requires.listed (omega (arith, c.loop-bits-test.true, sets_fit c.args.count c.requires.few)))
+
+pub next_bound-requires-clause-whole : goal.next_bound-requires-clause-whole
+next_bound-requires-clause-whole c forest =
+    let is : c.from_bits-subset.result ≡ c.loop-bits.bits = c.from_bits-subset.ensures in
+    let all : c.from_bits-all.result ≡ 2 ^ c.args.count - 1 = c.from_bits-all.ensures ∙ ap (λ (k : ℕ). k - 1) (sets_fit c.args.count c.requires.few) in
+    rw is (forest_within c.args.parts.now.equalities c.loop-bits.bits (2 ^ c.args.count - 1)
+    (first_within c.args.count c.loop-bits.bits (omega (arith, c.loop-bits-test.true, sets_fit c.args.count c.requires.few)))
+    (subst (λ (k : ℕ). ClosesNoCycle (equalities_within k c.args.parts.now.equalities)) all (c.in_ok-whole.ensures forest)))
 
 pub loop-bits-preserved : goal.loop-bits-preserved
 loop-bits-preserved c =

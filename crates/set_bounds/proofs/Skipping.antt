@@ -1,0 +1,54 @@
+-- A turn that is like an earlier one leaves the least as it is.
+use Rattle.std.proofs.Common.{◌≡◌, ℕ, zero, suc, ◌+◌, ◌-◌, ◌<◌, ◌≤◌, List, [], ◌∷◌, ◌++◌, get_or, length, ap, sym, ◌∙◌, subst, arith}
+use Rattle.degree_sequences.specs.Saturation.{saturated}
+use Rattle.berge_tree.specs.declared.edges.Edge.{Edge}
+use Rattle.berge_tree.specs.Equalities.{ClosesNoCycle}
+use Rattle.join_graph.specs.Kept.{kept_of}
+use Rattle.tree_bounds.specs.SetBounds.{bound_of_turn, least_to}
+use Rattle.tree_bounds.specs.TreeBounds.{EntryBounds, bound_of_trees}
+use Rattle.tree_bounds.proofs.Turns.{closes, least_to-le}
+use Rattle.set_bounds.specs.Alike.{AreAlike, AreClassed, AreOfTurnsBefore, IsLikeEarlier, IsOfTurnBefore, least_told}
+use Rattle.set_bounds.specs.declared.alike.ClassedEdge.{ClassedEdge}
+use Rattle.set_bounds.proofs.SameTrees.{alike_trees}
+
+-- ---- the least
+
+least_same : (f : ℕ → ℕ) (n k : ℕ) → k ≤ n → f k ≡ f (suc n) → least_to f (suc n) ≡ least_to f n
+least_same f n k low same = omega (arith, least_to-le f n k low, same)
+
+module _ (b : EntryBounds) (es : List Edge) (subset : ℕ) where
+  pub skipped : (turn least : ℕ) → 0 < turn → least ≡ least_told b es subset (turn - 1) → IsLikeEarlier es subset turn → least ≡ least_told b es subset turn
+  skipped zero least some before like = absurd (omega arith)
+  skipped (suc k) least some before like =
+      let earlier : suc k - 1 ≡ k = omega arith in
+      let same : bound_of_turn b es subset like.earlier ≡ bound_of_turn b es subset (suc k) = ap (bound_of_trees b) (alike_trees es subset like.earlier (suc k) like.alike) in
+      before ∙ ap (least_told b es subset) earlier
+      ∙ sym (ap saturated (least_same (bound_of_turn b es subset) k like.earlier (omega (arith, like.before)) same))
+
+-- ---- turns that were folded
+
+module _ (es : List Edge) (subset turn : ℕ) where
+  pub later : (folded : List (List ClassedEdge)) → AreOfTurnsBefore es subset turn folded → AreOfTurnsBefore es subset (turn + 1) folded
+  later [] h = tt
+  later (c ∷ cs) h = (record { earlier = h.0.earlier; before = omega (arith, h.0.before); are_classed = h.0.are_classed }, later cs h.1)
+
+  pub one_more_folded : (folded : List (List ClassedEdge)) (classed : List ClassedEdge) → AreOfTurnsBefore es subset turn folded → AreClassed (kept_of subset turn es) classed
+      → AreOfTurnsBefore es subset (turn + 1) (folded ++ classed ∷ [])
+  one_more_folded [] classed h own = (record { earlier = turn; before = omega arith; are_classed = own }, tt)
+  one_more_folded (c ∷ cs) classed h own = (record { earlier = h.0.earlier; before = omega (arith, h.0.before); are_classed = h.0.are_classed }, one_more_folded cs classed h.1 own)
+
+  item : (folded : List (List ClassedEdge)) (i : ℕ) (d : List ClassedEdge) → AreOfTurnsBefore es subset turn folded → i < length folded → IsOfTurnBefore es subset turn (get_or folded i d)
+  item [] i d h low = absurd (omega arith)
+  item (c ∷ cs) zero d h low = h.0
+  item (c ∷ cs) (suc i) d h low = item cs i d h.1 (omega arith)
+
+  pub like_one : (folded : List (List ClassedEdge)) (i : ℕ) (one : List ClassedEdge) (classed : List ClassedEdge) → i < length folded → one ≡ get_or folded i one
+      → ((gs fs : List Edge) → AreClassed gs one → AreClassed fs classed → ClosesNoCycle gs → ClosesNoCycle fs → AreAlike gs fs)
+      → AreClassed (kept_of subset turn es) classed → AreOfTurnsBefore es subset turn folded → IsLikeEarlier es subset turn
+  like_one folded i one classed low is alike own h =
+      let there : IsOfTurnBefore es subset turn one = subst (IsOfTurnBefore es subset turn) (sym is) (item folded i one h low) in
+      record {
+        earlier = there.earlier;
+        before = there.before;
+        alike = alike (kept_of subset there.earlier es) (kept_of subset turn es) there.are_classed own (closes es subset there.earlier) (closes es subset turn);
+      }

@@ -1,0 +1,10 @@
+use Rattle.std.proofs.Common.{◌≡◌, ◌-◌}
+use Rattle.bound_fold.specs.Lists.{bounds_of}
+use Rattle.set_bounds.specs.Alike.{AreOfTurnsBefore, least_told}
+use Rattle.set_bounds.proofs.cycles.cyclic_bound.Given as goal
+
+abbrev pub invariant-loop-turn : goal.invariant-loop-turn
+invariant-loop-turn l = record {
+  least : l.least ≡ least_told (bounds_of l.lists) l.parts.equalities l.subset (l.turn - 1);
+  folded : AreOfTurnsBefore l.parts.equalities l.subset l.turn l.folded.items;
+}

@@ -1,0 +1,73 @@
+//! The bound of a set whose equalities close a cycle: the least over its turns, of which those that are alike are folded once.
+ghost use Rattle.std.specs.Prelude.{◌≡◌, ◌+◌, ◌-◌, ◌<◌, IfOk};
+ghost use Rattle.join_graph.specs.Kept.{kept_of};
+ghost use Rattle.bound_fold.specs.Lists.{bounds_of};
+ghost use Rattle.bound_fold.specs.Sets.{SetIsListed};
+ghost use Rattle.set_bounds.specs.Alike.{AreClassed, AreOfTurnsBefore, least_told};
+ghost use Rattle.set_bounds.specs.AllSets.{bound_told};
+
+use crate::alike::{ClassedEdge, is_like_earlier, with_classes};
+use base_io::{NoMemory, Seq};
+use bound_fold::{EntryLists, turn_bound};
+use entry_sets::EntrySet;
+use join_graph::{Parts, kept, turns};
+use std::alloc::Global;
+
+// The equalities that a set keeps in a turn, with their classes.
+fn classed_turn(
+    alloc: Global,
+    parts: &Parts,
+    subset: EntrySet,
+    turn: u32,
+) -> Result<Seq<ClassedEdge>, NoMemory>
+    ensures { IfOk result (λ classed. AreClassed (kept_of subset turn parts.now.equalities) classed) }
+{
+    let edges = kept(alloc, parts, subset, turn)?;
+    with_classes(alloc, edges.as_slice())
+}
+
+// The least over the turns up to this one, from that over those before it. A turn that is like an earlier one is not folded.
+fn least_with(
+    alloc: Global,
+    parts: &Parts,
+    lists: &EntryLists,
+    subset: EntrySet,
+    turn: u32,
+    least: u128,
+    folded: &mut Vec<Seq<ClassedEdge>>,
+) -> Result<u128, NoMemory>
+    requires listed { SetIsListed lists.now parts.now.equalities subset }
+    requires turn { 0 < turn }
+    requires least { least ≡ least_told (bounds_of lists.now) parts.now.equalities subset (turn - 1) }
+    requires folded { AreOfTurnsBefore parts.now.equalities subset turn folded.old.items }
+    ensures least { IfOk result (λ n. n ≡ least_told (bounds_of lists.now) parts.now.equalities subset turn) }
+    ensures folded { IfOk result (λ _. AreOfTurnsBefore parts.now.equalities subset (turn + 1) folded.new.items) }
+{
+    let classed = classed_turn(alloc, parts, subset, turn)?;
+    if is_like_earlier(classed.as_slice(), folded.as_slice()) {
+        return Ok(least);
+    }
+    let bound = turn_bound(alloc, parts, subset, turn, lists)?;
+    folded.push(classed)?;
+    Ok(least.min(bound))
+}
+
+/// The bound of a set, the least over its turns. Of turns that are alike the first alone is folded.
+pub(crate) fn cyclic_bound(
+    alloc: Global,
+    parts: &Parts,
+    lists: &EntryLists,
+    subset: EntrySet,
+) -> Result<u128, NoMemory>
+    requires listed { SetIsListed lists.now parts.now.equalities subset }
+    ensures { IfOk result (λ n. n ≡ bound_told (bounds_of lists.now) parts.now.equalities subset) }
+{
+    let mut least = turn_bound(alloc, parts, subset, 0, lists)?;
+    let first = classed_turn(alloc, parts, subset, 0)?;
+    let mut folded = Vec::new(alloc);
+    folded.push(first)?;
+    for turn in 1..turns(parts, subset) {
+        least = least_with(alloc, parts, lists, subset, turn, least, &mut folded)?;
+    }
+    Ok(least)
+}
