@@ -68,6 +68,79 @@ impl Values {
     }
 }
 
+// Values that lie in a short range: for each place of it, from the least on, whether its value is there.
+struct Marks {
+    least: u64,
+    there: Vec<bool>,
+}
+
+impl Marks {
+    fn of(cells: &[u64], list: &[u32], rows: usize) -> Option<Marks> {
+        if list.is_empty() {
+            return Some(Marks {
+                least: 0,
+                there: Vec::new(),
+            });
+        }
+        let mut least = u64::MAX;
+        let mut greatest = 0;
+        for row in list {
+            let cell = cells[*row as usize];
+            least = least.min(cell);
+            greatest = greatest.max(cell);
+        }
+        let beyond = greatest - least;
+        if beyond >= 64 + 8 * rows as u64 {
+            return None;
+        }
+        let mut there = vec![false; beyond as usize + 1];
+        for row in list {
+            there[(cells[*row as usize] - least) as usize] = true;
+        }
+        Some(Marks { least, there })
+    }
+
+    fn has(&self, value: u64) -> bool {
+        if value < self.least {
+            return false;
+        }
+        let place = (value - self.least) as usize;
+        place < self.there.len() && self.there[place]
+    }
+}
+
+fn sift_side(query: &Query, lists: &mut [Vec<u32>], side: &Side, other: &Side) {
+    let (list, partners) = (&lists[side.entry], &lists[other.entry]);
+    let rows = list.len() + partners.len();
+    let Some(marks) = Marks::of(&query.tables[other.entry][other.column], partners, rows) else {
+        return;
+    };
+    let cells = &query.tables[side.entry][side.column];
+    let mut kept = Vec::with_capacity(list.len());
+    for row in list {
+        if marks.has(cells[*row as usize]) {
+            kept.push(*row);
+        }
+    }
+    lists[side.entry] = kept;
+}
+
+fn sift_both(query: &Query, lists: &mut [Vec<u32>], left: &Side, right: &Side) {
+    sift_side(query, lists, left, right);
+    sift_side(query, lists, right, left);
+}
+
+fn sifted(query: &Query, scans: &[Vec<u32>]) -> Vec<Vec<u32>> {
+    let mut lists = scans.to_vec();
+    for (left, right) in &query.equalities {
+        sift_both(query, &mut lists, left, right);
+    }
+    for (left, right) in query.equalities.iter().rev() {
+        sift_both(query, &mut lists, left, right);
+    }
+    lists
+}
+
 #[derive(Clone, Copy)]
 struct Use {
     item: u32,
@@ -145,6 +218,7 @@ fn marks(items: usize, slots: usize, uses: &[Use]) -> Vec<bool> {
 
 fn reduced(query: &Query) -> Vec<Vec<u32>> {
     let scans: Vec<Vec<u32>> = query.tables.iter().map(|columns| (0..columns[0].len() as u32).collect()).collect();
+    let scans = sifted(query, &scans);
     let mut firsts = vec![0u32];
     for scan in &scans {
         firsts.push(firsts[firsts.len() - 1] + scan.len() as u32);
@@ -213,6 +287,7 @@ fn show(name: &str, query: &Query) {
 
 fn main() {
     show("chain", &chain(1_000_000));
+    show("quarter", &cycle(125_000));
     show("half", &cycle(250_000));
     show("whole", &cycle(500_000));
 }

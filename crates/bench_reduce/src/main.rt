@@ -2,8 +2,8 @@
 //!
 //! It reduces the scans of a chain of three tables, of which one row in a hundred stays, and of a cycle of two tables, in which rows go
 //! one after another, and writes for each how many rows stay and the sum of their numbers. Without a word the tables are small. With
-//! one, as `time`, the chain has three tables of 1,000,000 rows, and the cycle 500,000 rows in all and then 1,000,000; it writes to
-//! standard error the nanoseconds of scans and reduction together, the least of three.
+//! one, as `time`, the chain has three tables of 1,000,000 rows, and the cycle 250,000 rows in all, then 500,000 and then 1,000,000; it
+//! writes to standard error the nanoseconds of scans and reduction together, the least of three.
 #![tactic(auto)]
 
 ghost use Rattle.std.specs.Prelude.{◌≤◌};
@@ -88,6 +88,7 @@ fn main(rt: HostRuntime) -> io::Result<()> {
         return show_cycle(&rt, "whole", 20, 1);
     }
     show_chain(&rt, "chain", 1_000_000, ROUNDS)?;
+    show_cycle(&rt, "quarter", 125_000, ROUNDS)?;
     show_cycle(&rt, "half", 250_000, ROUNDS)?;
     show_cycle(&rt, "whole", 500_000, ROUNDS)
 }

@@ -117,7 +117,7 @@ equal_from equal e true = equal e
 equal_from equal e false = λ right left. equal e left right
 
 module _ (scans : List (List ℕ)) (equalities : List Edge) (key : Keys) (equal : Edge → ℕ → ℕ → Bool) (tells : TellsByKey scans equalities key equal) where
-  same_key : (e : Edge) (on : Bool) (row partner : ℕ) → Contains equalities e → Contains (list_at scans (near e on).entry) row → Contains (list_at scans (near e (opposite on)).entry) partner
+  pub same_key : (e : Edge) (on : Bool) (row partner : ℕ) → Contains equalities e → Contains (list_at scans (near e on).entry) row → Contains (list_at scans (near e (opposite on)).entry) partner
       → equal_from equal e on row partner ≡ true → key_on key (near e on) row ≡ key_on key (near e (opposite on)) partner
   same_key e true row partner has r p is = eqb-true (key_on key e.left row) (key_on key e.right partner) (sym (tells e has row partner r p) ∙ is)
   same_key e false row partner has r p is = sym (eqb-true (key_on key e.left partner) (key_on key e.right row) (sym (tells e has partner row p r) ∙ is))
@@ -127,7 +127,7 @@ module _ (scans : List (List ℕ)) (equalities : List Edge) (key : Keys) (equal 
   key_same e true row partner has r p is = tells e has row partner r p ∙ eq-eqb (key_on key e.left row) (key_on key e.right partner) is
   key_same e false row partner has r p is = tells e has partner row p r ∙ eq-eqb (key_on key e.left partner) (key_on key e.right row) (sym is)
 
-  partners : (family : List (List ℕ)) (e : Edge) (on : Bool) → IsConsistent scans equalities equal family → Contains equalities e
+  pub partners : (family : List (List ℕ)) (e : Edge) (on : Bool) → IsConsistent scans equalities equal family → Contains equalities e
       → HavePartners (equal_from equal e on) (list_at family (near e on).entry) (list_at family (near e (opposite on)).entry)
   partners family e true consistent has = consistent.from_left e has
   partners family e false consistent has = consistent.from_right e has

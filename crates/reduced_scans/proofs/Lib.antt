@@ -12,3 +12,6 @@ pub mod SameLevel
 pub mod ByRounds
 pub mod OfQuery
 pub mod Pairs
+pub mod Marking
+pub mod Sifting
+pub mod SiftedLists

@@ -3,3 +3,4 @@ pub mod Scans
 pub mod Lists
 pub mod Wiring
 pub mod Rounds
+pub mod SemiJoins

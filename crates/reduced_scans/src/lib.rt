@@ -3,6 +3,9 @@
 //! In: a query, its database, and the list of each entry's scan. Out: for each entry the list of its reduced rows, in file order, by
 //! `reduce_scans`.
 //!
+//! Semi-joins first put aside what has no partner at all, where values lie in a short range; of what is left each row is wired to the
+//! values that it gives and needs, and a worklist takes out the rows that lack a partner.
+//!
 //! Callers cite `AreReducedScans`, and `reduced_of` for the same lists as a function. That there is exactly one such family, that
 //! rounds end in it, and that no row of the answer is lost by it, are laws.
 #![tactic(auto)]
@@ -10,6 +13,8 @@
 mod classes;
 mod laws;
 mod reducing;
+mod semi_joins;
+mod value_sets;
 mod wiring;
 
 pub use laws::{no_row_of_the_answer_is_lost, one_reduction, reduced_scans_are_by_rounds};

@@ -13,6 +13,7 @@ ghost use Rattle.reduced_scans.specs.Scans.{AreReducedScans};
 ghost use Rattle.reduced_scans.specs.Wiring.{first_item, marked_family, marked_rows, TellsByKey};
 
 use crate::classes::ClassSet;
+use crate::semi_joins::sifted;
 use crate::wiring::{count_uses, first_item, wire};
 use base_io::NoMemory;
 use berge_tree::Edge;
@@ -114,9 +115,11 @@ fn marked_lists(
 /// The reduced scans of a query: of each entry's scan the most rows such that each finds, for each equality of one of the entry's
 /// columns with a column of another entry, a row with the same value among those of that entry; in file order.
 ///
-/// `scans` has the scan of each FROM entry. Values are numbered by one hash of each cell, so the time is on average linear in the rows
-/// times their equalities, and so is the memory; all of it but the answer is let go before the call returns, and each list of the answer
-/// has room for its own rows alone.
+/// `scans` has the scan of each FROM entry. Semi-joins along the equalities, from the first to the last and back, first put rows aside
+/// whose value the other side doesn't have: where values lie in a short range each is looked up by its place. Of the rows that are left
+/// values are numbered by one hash of each cell, and a worklist takes out what lacks a partner. So the time is on average linear in the
+/// rows times their equalities, and so is the memory; all of it but the answer is let go before the call returns, and each list of the
+/// answer has room for its own rows alone.
 pub fn reduce_scans(
     alloc: Global,
     query: &Query,
@@ -133,7 +136,10 @@ pub fn reduce_scans(
 {
     texts_are_different(&db.pool);
     let parts = split(alloc, query)?;
-    let marks = marks_of(alloc, db, scans, parts.equalities.as_slice())?;
-    let reduced = marked_lists(alloc, scans, &marks)?;
+    let equalities = parts.equalities.as_slice();
+    let lists = sifted(alloc, db, scans, equalities)?;
+    let left = lists.as_slice();
+    let marks = marks_of(alloc, db, left, equalities)?;
+    let reduced = marked_lists(alloc, left, &marks)?;
     Ok(reduced)
 }

@@ -167,6 +167,44 @@ fn texts_join_by_their_characters(rt: HostRuntime) -> Result<(), Fail> {
     Ok(())
 }
 
+// The values of either side lie too far apart to be looked up by their places.
+#[test]
+fn the_least_and_the_greatest_number_join(rt: HostRuntime) -> Result<(), Fail> {
+    let lists = reduced(
+        rt.alloc(),
+        TWO,
+        "SELECT R.X FROM R, S WHERE R.X = S.X",
+        &[
+            (
+                "r.csv",
+                "X\n-9223372036854775808\n0\n9223372036854775807\n1\n",
+            ),
+            (
+                "s.csv",
+                "X\n9223372036854775807\n1\n2\n-9223372036854775808\n",
+            ),
+        ],
+    )?;
+    assert!(rt; are(&lists, &[&[0, 2, 3], &[0, 1, 3]]));
+    Ok(())
+}
+
+// The values of one side lie close together, on both sides of zero: by them the other side is left with few values, and then puts aside too.
+#[test]
+fn numbers_below_zero_are_looked_up_too(rt: HostRuntime) -> Result<(), Fail> {
+    let lists = reduced(
+        rt.alloc(),
+        TWO,
+        "SELECT R.X FROM R, S WHERE R.X = S.X",
+        &[
+            ("r.csv", "X\n-3\n-2\n-1\n0\n1\n2\n"),
+            ("s.csv", "X\n1\n-1000000\n-3\n3\n1000000\n-4\n1\n"),
+        ],
+    )?;
+    assert!(rt; are(&lists, &[&[0, 4], &[0, 2, 6]]));
+    Ok(())
+}
+
 // Each alias has its own scan: 1 and 2 on the left, 2 and 3 on the right.
 #[test]
 fn one_table_under_two_aliases(rt: HostRuntime) -> Result<(), Fail> {

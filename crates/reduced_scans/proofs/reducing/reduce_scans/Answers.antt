@@ -1,53 +1,71 @@
-use Rattle.std.proofs.Common.{arith, ap, refl, sym, subst, ◌∙◌, ◌≡◌, ◌<◌, ◌≤◌, ℕ, List, length, get_or}
+use Rattle.std.proofs.Common.{arith, ap, sym, subst, ◌∙◌, ◌≡◌, ℕ, List, length}
 use Rattle.std.specs.Prelude.{All}
 use Rattle.berge_tree.specs.declared.edges.Edge.{Edge}
 use Rattle.counted_sets.specs.Sets.{marked}
 use Rattle.join_graph.specs.Conjuncts.{equalities_of}
+use Rattle.row_buf.specs.Rows.{Rows}
 use Rattle.sql_meaning.specs.Tables.{tables_of}
 use Rattle.level_bounds.specs.Keys.{are_equal_at, cell_at}
 use Rattle.reduced_scans.specs.Families.{AreAscending, IsReduced}
 use Rattle.reduced_scans.specs.Lists.{AreListsOf, JoinsColumns, lists_of}
 use Rattle.reduced_scans.specs.Scans.{scans_of}
-use Rattle.reduced_scans.specs.Wiring.{TellsByKey, first_item, marked_family}
+use Rattle.reduced_scans.specs.SemiJoins.{IsSifted}
+use Rattle.reduced_scans.specs.Wiring.{TellsByKey, marked_family}
 use Rattle.reduced_scans.proofs.OfQuery.{are_lists, few_equalities, joins_columns, lists_are, tells}
 use Rattle.reduced_scans.proofs.QueryScans.{ascending}
+use Rattle.reduced_scans.proofs.Sifting.{reduced_of_sifted, sifted_tell}
 use Rattle.reduced_scans.proofs.Wired.{few_items}
 use Rattle.reduced_scans.proofs.reducing.reduce_scans.Goals as goal
 
+pub sifted-requires-clause-lists : goal.sifted-requires-clause-lists
+sifted-requires-clause-lists c = are_lists c.args.query.now c.args.db.now c.args.scans.now c.requires.database c.requires.count c.requires.scans c.requires.sizes
+
+pub sifted-requires-clause-columns : goal.sifted-requires-clause-columns
+sifted-requires-clause-columns c =
+    subst (All (JoinsColumns c.args.db.now)) (sym (c.as_slice-equalities.ensures ∙ c.in_ok-parts.ensures.equalities)) (joins_columns c.args.query.now c.args.db.now c.requires.database)
+
 pub marks_of-requires-clause-lists : goal.marks_of-requires-clause-lists
-marks_of-requires-clause-lists c = are_lists c.args.query.now c.args.db.now c.args.scans.now c.requires.database c.requires.count c.requires.scans c.requires.sizes
+marks_of-requires-clause-lists c = subst (AreListsOf c.args.db.now) (sym c.as_slice-left.ensures) c.in_ok-lists.ensures.lists
 
 pub marks_of-requires-clause-columns : goal.marks_of-requires-clause-columns
 marks_of-requires-clause-columns c =
-    subst (All (JoinsColumns c.args.db.now)) (sym (c.as_slice.ensures ∙ c.in_ok-parts.ensures.equalities)) (joins_columns c.args.query.now c.args.db.now c.requires.database)
+    subst (All (JoinsColumns c.args.db.now)) (sym (c.as_slice-equalities.ensures ∙ c.in_ok-parts.ensures.equalities)) (joins_columns c.args.query.now c.args.db.now c.requires.database)
 
 pub marks_of-requires-clause-few : goal.marks_of-requires-clause-few
 marks_of-requires-clause-few c =
-    omega (arith, ap (λ (l : List Edge). length l) (c.as_slice.ensures ∙ c.in_ok-parts.ensures.equalities), few_equalities c.args.query.now, c.requires.few)
+    omega (arith, ap (λ (l : List Edge). length l) (c.as_slice-equalities.ensures ∙ c.in_ok-parts.ensures.equalities), few_equalities c.args.query.now, c.requires.few)
 
 pub marked_lists-requires-clause-sizes : goal.marked_lists-requires-clause-sizes
 marked_lists-requires-clause-sizes c =
-    let lists : AreListsOf c.args.db.now c.args.scans.now = are_lists c.args.query.now c.args.db.now c.args.scans.now c.requires.database c.requires.count c.requires.scans c.requires.sizes in
+    let lists : AreListsOf c.args.db.now c.as_slice-left.result.now = subst (AreListsOf c.args.db.now) (sym c.as_slice-left.ensures) c.in_ok-lists.ensures.lists in
     lists.sizes
 
 pub marked_lists-requires-clause-few_marks : goal.marked_lists-requires-clause-few_marks
 marked_lists-requires-clause-few_marks c =
-    let lists : AreListsOf c.args.db.now c.args.scans.now = are_lists c.args.query.now c.args.db.now c.args.scans.now c.requires.database c.requires.count c.requires.scans c.requires.sizes in
-    omega (arith, c.in_ok-marks.ensures.length, few_items c.args.scans.now lists.sizes (length c.args.scans.now), lists.few)
+    let lists : AreListsOf c.args.db.now c.as_slice-left.result.now = subst (AreListsOf c.args.db.now) (sym c.as_slice-left.ensures) c.in_ok-lists.ensures.lists in
+    omega (arith, c.in_ok-marks.ensures.length, few_items c.as_slice-left.result.now lists.sizes (length c.as_slice-left.result.now), lists.few)
 
 pub returns-clause-reduced : goal.returns-clause-reduced
 returns-clause-reduced c =
     let query = c.args.query.now in
     let tables = tables_of c.args.db.now in
-    let same : lists_of c.args.scans.now ≡ scans_of query tables = lists_are query c.args.db.now c.args.scans.now c.requires.database c.requires.count c.requires.scans in
-    let edges : c.as_slice.result.now ≡ equalities_of query = c.as_slice.ensures ∙ c.in_ok-parts.ensures.equalities in
+    let equal = are_equal_at tables in
+    let scans = lists_of c.args.scans.now in
+    let es = c.as_slice-equalities.result.now in
+    let left = lists_of c.as_slice-left.result.now in
+    let same : scans ≡ scans_of query tables = lists_are query c.args.db.now c.args.scans.now c.requires.database c.requires.count c.requires.scans in
+    let edges : es ≡ equalities_of query = c.as_slice-equalities.ensures ∙ c.in_ok-parts.ensures.equalities in
+    let tell : TellsByKey scans es (cell_at c.args.db.now) equal =
+    subst (λ s. TellsByKey s es (cell_at c.args.db.now) equal) (sym same)
+    (subst (λ es. TellsByKey (scans_of query tables) es (cell_at c.args.db.now) equal) (sym edges)
+    (tells query c.args.db.now c.requires.database c.texts_are_different.ensures.different c.texts_are_different.ensures.utf8)) in
+    let sifted : IsSifted scans es equal left =
+    subst (λ (lists : List (Rows ℕ)). IsSifted scans es equal (lists_of lists)) (sym c.as_slice-left.ensures)
+    (c.in_ok-lists.ensures.sifted equal tell (subst AreAscending (sym same) (ascending query tables))) in
     let kept = marked c.in_ok-marks.marks.items in
-    let reduced : IsReduced (lists_of c.args.scans.now) c.as_slice.result.now (are_equal_at tables) (marked_family kept 0 (lists_of c.args.scans.now)) =
-    c.in_ok-marks.ensures.reduced (are_equal_at tables)
-    (subst (λ s. TellsByKey s c.as_slice.result.now (cell_at c.args.db.now) (are_equal_at tables)) (sym same)
-    (subst (λ es. TellsByKey (scans_of query tables) es (cell_at c.args.db.now) (are_equal_at tables)) (sym edges)
-    (tells query c.args.db.now c.requires.database c.texts_are_different.ensures.different c.texts_are_different.ensures.utf8)))
-    (subst AreAscending (sym same) (ascending query tables)) in
-    subst (IsReduced (scans_of query tables) (equalities_of query) (are_equal_at tables)) (sym c.in_ok-reduced.ensures.lists)
-    (subst (λ es. IsReduced (scans_of query tables) es (are_equal_at tables) (marked_family kept 0 (lists_of c.args.scans.now))) edges
-    (subst (λ s. IsReduced s c.as_slice.result.now (are_equal_at tables) (marked_family kept 0 (lists_of c.args.scans.now))) same reduced))
+    let reduced : IsReduced scans es equal (marked_family kept 0 left) =
+    reduced_of_sifted scans es equal left (marked_family kept 0 left) sifted
+    (c.in_ok-marks.ensures.reduced equal (sifted_tell scans es equal (cell_at c.args.db.now) left tell sifted) sifted.is_family.ascending) in
+    subst (IsReduced (scans_of query tables) (equalities_of query) equal) (sym c.in_ok-reduced.ensures.lists)
+    (subst (λ es. IsReduced (scans_of query tables) es equal (marked_family kept 0 left)) edges
+    (subst (λ s. IsReduced s es equal (marked_family kept 0 left)) same reduced))

@@ -1,0 +1,86 @@
+//! The values of a column in the rows of a list, where they lie in a short range: each is looked up by its place in it.
+ghost use Rattle.std.specs.Prelude.{◌≡◌, ◌+◌, ◌-◌, ◌*◌, ◌<◌, ◌≤◌, true, All, IfOk, IfSome, length, slice_index};
+ghost use Rattle.limits.specs.Profile.{most_rows};
+ghost use Rattle.reduced_scans.specs.SemiJoins.{is_marked};
+
+use base_io::NoMemory;
+use std::alloc::Global;
+
+// Fewer places than this are always few enough.
+const FEW: u64 = 64;
+
+/// Values: the least of their range, and for each place from there on whether its value is one of them.
+#[derive(Drop)]
+pub(crate) struct ValueSet {
+    least: u64,
+    marks: Vec<bool>,
+}
+
+impl ValueSet {
+    /// Whether the value is one of them.
+    pub(crate) fn has(&self, value: u64) -> bool
+        ensures { result ≡ is_marked self.now.least self.now.marks.items value }
+    {
+        if value < self.least {
+            return false;
+        }
+        let place = (value - self.least) as usize;
+        place < self.marks.len() && self.marks[place]
+    }
+}
+
+// At most the least of the cells in these rows, and at least the greatest.
+fn ends_of(cells: &[u64], list: &[u32]) -> (u64, u64)
+    requires { All (λ row. row < length cells.now) list.now }
+    ensures { All (λ row. (result.0 ≤ slice_index cells.now row) × (slice_index cells.now row ≤ result.1)) list.now }
+{
+    let mut least = u64::MAX;
+    let mut greatest = 0;
+    'rows: for row in list {
+        let cell = cells[*row as usize];
+        least = least.min(cell);
+        greatest = greatest.max(cell);
+    }
+    (least, greatest)
+}
+
+// Marks the places of the cells in these rows, all of which lie in the range.
+fn mark(cells: &[u64], list: &[u32], least: u64, marks: &mut [bool])
+    requires rows { All (λ row. row < length cells.now) list.now }
+    requires above { All (λ row. least ≤ slice_index cells.now row) list.now }
+    requires below { All (λ row. slice_index cells.now row - least < length marks.old) list.now }
+    ensures { All (λ row. is_marked least marks.new (slice_index cells.now row) ≡ true) list.now }
+{
+    'rows: for row in list {
+        let cell = cells[*row as usize];
+        marks[(cell - least) as usize] = true;
+    }
+}
+
+/// The cells of a column in these rows, where their range has few places: at most eight for each of so many rows, and some more.
+pub(crate) fn values_of(
+    alloc: Global,
+    cells: &[u64],
+    list: &[u32],
+    rows: u64,
+) -> Result<Option<ValueSet>, NoMemory>
+    requires rows { All (λ row. row < length cells.now) list.now }
+    requires few { rows ≤ 2 * most_rows }
+    ensures { IfOk result (λ found. IfSome found (λ values.
+        All (λ row. is_marked values.least values.marks.items (slice_index cells.now row) ≡ true) list.now)) }
+{
+    if list.is_empty() {
+        return Ok(Some(ValueSet {
+            least: 0,
+            marks: Vec::new(alloc),
+        }));
+    }
+    let (least, greatest) = ends_of(cells, list);
+    let beyond = greatest - least;
+    if beyond >= FEW + 8 * rows {
+        return Ok(None);
+    }
+    let mut marks = vec![in alloc; false; beyond as usize + 1]?;
+    mark(cells, list, least, &mut marks);
+    Ok(Some(ValueSet { least, marks }))
+}
