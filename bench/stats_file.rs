@@ -147,7 +147,8 @@ impl Draft {
         if pairs.last().is_some_and(|last| (last.filter, last.joined) >= (filter, joined)) {
             return None;
         }
-        self.like = pairs.iter().position(|pair| pair.filter == filter);
+        // pairs ascend, so the last one has this filter column if any has
+        self.like = pairs.len().checked_sub(1).filter(|last| pairs[*last].filter == filter);
         self.twin = pairs.iter().position(|pair| pair.joined == joined);
         self.pair = Some(Pair {
             filter,

@@ -14,11 +14,12 @@ use Rattle.stats_reading.specs.declared.line.LineKind.TheVariants as kind
 use Rattle.stats_reading.specs.declared.stages.Stage.{Stage}
 use Rattle.stats_reading.specs.declared.stages.Stage.TheVariants as stage
 use Rattle.stats_reading.specs.Drafts.{list_word, number_word, value_word, with_cut, with_node, with_rest, with_whole, MayBeAccuracy, MayBeCut, MayBeNode, MayBeRest, MayBeWhole, Takes}
-use Rattle.stats_reading.specs.Goes.{Answers, IsReady, Reads, ReadsAt}
-use Rattle.stats_reading.specs.Kinds.{IsLineOf, Says}
+use Rattle.stats_reading.specs.Goes.{Answers, IsReadyAt, Reads, ReadsAt}
+use Rattle.stats_reading.specs.Kinds.{IsLineOf, IsNoLine}
 use Rattle.stats_reading.specs.Left.{CutsLeft, FileLeft, FrequentLeft, InFile, InPair, InTable, NodesLeft, WholeLeft}
 use Rattle.stats_reading.specs.Stages.{next_stage, TextLeft, TextLeftAt}
 use Rattle.stats_reading.specs.Valid.{IsValidDraft, IsValidPair}
+use Rattle.stats_reading.proofs.Ascending.{pairs_ascend_in_cuts, pairs_ascend_in_nodes, pairs_ascend_in_pairs, tables_ascend_in_cuts, tables_ascend_in_nodes, tables_ascend_in_pairs, tables_ascend_in_tables}
 use Rattle.stats_reading.proofs.Begun.{small_pairs}
 use Rattle.stats_reading.proofs.Going.{FilesGo}
 use Rattle.stats_reading.proofs.Grammar.{no_text, tag_of, text_back, text_step}
@@ -246,19 +247,22 @@ any_draft schema s t u line fault.Rule h = h
 any_draft schema s t u line fault.NoMemory h = h
 
 -- a line that is none of the grammar
-pub no_line : (schema : Schema) (s : Draft) (l : List ℕ) → Says l None → (more : List (List ℕ)) → TextLeft s.stage (ended l ∷ more) → ⊥
+pub no_line : (schema : Schema) (s : Draft) (l : List ℕ) → IsNoLine l → (more : List (List ℕ)) → TextLeft s.stage (ended l ∷ more) → ⊥
 no_line schema s l none more h = no_text s.stage (ended l) more (λ k is. let found = line_kind k l is in none k found.0 found.1 found.2) h
 
 -- a draft is ready for the words of each line that the grammar knows here
-pub is_ready : (at : Stage) (k : LineKind) (next : Stage) (schema : Schema) (s : Draft) → next_stage at k ≡ Some next → IsValidDraft at schema s → IsReady k schema s
+pub is_ready : (at : Stage) (k : LineKind) (next : Stage) (schema : Schema) (s : Draft) → next_stage at k ≡ Some next → IsValidDraft at schema s → IsReadyAt at k schema s
 is_ready at kind.First next schema s e v = tt
-is_ready at kind.Table next schema s e v = tt
 is_ready at kind.Whole next schema s e v = tt
 is_ready at kind.Cut next schema s e v = tt
 is_ready at kind.End next schema s e v = tt
-is_ready stage.Pairs kind.Pair next schema s e v = slice_get_within schema.tables s.section.table v.table v.exists
-is_ready stage.Cuts kind.Pair next schema s e v = slice_get_within schema.tables s.section.table v.table v.exists
-is_ready stage.Nodes kind.Pair next schema s e v = slice_get_within schema.tables s.section.table v.table v.exists
+is_ready stage.Tables kind.Table next schema s e v = tables_ascend_in_tables schema s v
+is_ready stage.Pairs kind.Table next schema s e v = tables_ascend_in_pairs schema s v
+is_ready stage.Cuts kind.Table next schema s e v = tables_ascend_in_cuts schema s v
+is_ready stage.Nodes kind.Table next schema s e v = tables_ascend_in_nodes schema s v
+is_ready stage.Pairs kind.Pair next schema s e v = (slice_get_within schema.tables s.section.table v.table v.exists, pairs_ascend_in_pairs schema s v)
+is_ready stage.Cuts kind.Pair next schema s e v = (slice_get_within schema.tables s.section.table v.table v.exists, pairs_ascend_in_cuts schema s v)
+is_ready stage.Nodes kind.Pair next schema s e v = (slice_get_within schema.tables s.section.table v.table v.exists, pairs_ascend_in_nodes schema s v)
 is_ready stage.Frequent kind.Frequent next schema s e v = small_pairs schema v.table s (v.pair ∷ []) [] v.exists v.keeps
 is_ready stage.Frequent kind.Rest next schema s e v = small_pairs schema v.table s (v.pair ∷ []) [] v.exists v.keeps
 is_ready stage.Cuts kind.Node next schema s e v = small_pairs schema v.table s (v.pair ∷ []) [] v.exists v.keeps

@@ -1,6 +1,6 @@
 -- What the code's tests say.
-use Rattle.std.proofs.Common.{◌≡◌, ◌↔◌, ℕ, suc, ◌<◌, arith, true, Bool, List, [], ◌∷◌, length, get_or, refl, ap, sym, subst, ◌∙◌, Some, IsTrue}
-use Rattle.std.specs.Prelude.{slice_get, Result}
+use Rattle.std.proofs.Common.{◌≡◌, ◌↔◌, ℕ, suc, ◌<◌, arith, true, Bool, List, [], ◌∷◌, ◌++◌, length, get_or, refl, ap, sym, subst, ◌∙◌, Some, IsTrue}
+use Rattle.std.specs.Prelude.{slice_get, codes, Result}
 use Rattle.std.specs.declared.cmp.Ordering.{Ordering}
 use Rattle.std.specs.declared.cmp.Ordering.TheVariants.{Less, Equal, Greater}
 use Rattle.std.specs.Cmp.{IsTotalOrder}
@@ -25,7 +25,7 @@ use Rattle.stats_reading.specs.declared.line.LineKind.TheVariants as kind
 use Rattle.stats_reading.specs.declared.stages.Stage.{Stage}
 use Rattle.stats_reading.specs.declared.stages.Stage.TheVariants as stage
 use Rattle.stats_reading.specs.Drafts.{table_ended}
-use Rattle.stats_reading.specs.Kinds.{has_two, words_text, AreParts}
+use Rattle.stats_reading.specs.Kinds.{has_two, words_text, AreParts, MayStandBehind}
 use Rattle.stats_reading.specs.Steps.{Ends, PairEnds, TableEnds}
 use Rattle.stats_reading.proofs.Seams.{same_some}
 use Rattle.stats_reading.proofs.WordFacts.{hex_word_blank, value_blank}
@@ -64,18 +64,29 @@ no_blank kind.Pair words two none first second are e = not_without 32 first seco
 no_blank kind.Frequent words two none first second are e = not_without 32 first second (subst (λ (w : List ℕ). Without 32 w) e none)
 no_blank _ words two none first second are e = absurd (cc)
 
-pub other_parts : (k : LineKind) (words f s : List ℕ) → has_two k ≡ true → IsSplit 32 words f s → (AreParts k f s → ⊥) → (first second : List ℕ) → AreParts k first second
-    → words ≡ words_text k first second → ⊥
-other_parts kind.Table words f s two split no' first second are e =
+-- where words of the grammar stand there, they are the two that the first blank parts
+pub parts_there : (k : LineKind) (words f s : List ℕ) → has_two k ≡ true → IsSplit 32 words f s → (first second : List ℕ) → AreParts k first second
+    → words ≡ words_text k first second → AreParts k f s
+parts_there kind.Table words f s two split first second are e =
     let same = split_same 32 f first s second split.first (hex_word_blank first are.0) (sym split.whole ∙ e) in
-    no' (subst (λ (x : List ℕ). AreParts kind.Table x s) (sym same.0) (subst (λ (x : List ℕ). AreParts kind.Table first x) (sym same.1) are))
-other_parts kind.Pair words f s two split no' first second are e =
+    subst (λ (x : List ℕ). AreParts kind.Table x s) (sym same.0) (subst (λ (x : List ℕ). AreParts kind.Table first x) (sym same.1) are)
+parts_there kind.Pair words f s two split first second are e =
     let same = split_same 32 f first s second split.first (hex_word_blank first are.0) (sym split.whole ∙ e) in
-    no' (subst (λ (x : List ℕ). AreParts kind.Pair x s) (sym same.0) (subst (λ (x : List ℕ). AreParts kind.Pair first x) (sym same.1) are))
-other_parts kind.Frequent words f s two split no' first second are e =
+    subst (λ (x : List ℕ). AreParts kind.Pair x s) (sym same.0) (subst (λ (x : List ℕ). AreParts kind.Pair first x) (sym same.1) are)
+parts_there kind.Frequent words f s two split first second are e =
     let same = split_same 32 f first s second split.first (value_blank first are.0) (sym split.whole ∙ e) in
-    no' (subst (λ (x : List ℕ). AreParts kind.Frequent x s) (sym same.0) (subst (λ (x : List ℕ). AreParts kind.Frequent first x) (sym same.1) are))
-other_parts _ words f s two split no' first second are e = absurd (cc)
+    subst (λ (x : List ℕ). AreParts kind.Frequent x s) (sym same.0) (subst (λ (x : List ℕ). AreParts kind.Frequent first x) (sym same.1) are)
+parts_there _ words f s two split first second are e = absurd (cc)
+
+pub two_behind : (k : LineKind) (words f s : List ℕ) → has_two k ≡ true → IsSplit 32 words f s → MayStandBehind k words f s
+two_behind k words f s two split = record {
+  whole = split.whole ∙ sym (two_text k f s two);
+  alone = λ one. absurd (cc);
+  only = parts_there k words f s two split;
+}
+  where
+    two_text : (k : LineKind) (f s : List ℕ) → has_two k ≡ true → words_text k f s ≡ f ++ (codes " " ++ s)
+    two_text k f s two = rw two refl
 
 pub open_table_ends : (at : Stage) (s new : Draft) (r : Result (Unit {0}) Fault) → (at ≡ stage.Tables → ⊥)
     → Ends (λ t. (m : Draft) × PairEnds at s m × (t ≡ table_ended m)) new r → Ends (TableEnds at s) new r

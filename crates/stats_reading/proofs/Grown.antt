@@ -1,26 +1,22 @@
 -- A draft that some file begins as is still such a one when the next value is read into the pair at hand.
-use Rattle.std.proofs.Common.{◌≡◌, ◌≢◌, ℕ, zero, suc, ◌-◌, ◌<◌, ◌≤◌, List, [], ◌∷◌, ◌++◌, length, length-append, map, replicate, refl, ap, sym, subst, ◌∙◌, arith, append-nil, append_assoc, Option, Some, None}
+use Rattle.std.proofs.Common.{◌≡◌, ◌≢◌, ℕ, ◌<◌, ◌≤◌, List, [], ◌∷◌, ◌++◌, length, length-append, map, refl, ap, sym, subst, ◌∙◌, arith, append-nil, append_assoc, Option, Some, None}
 use Rattle.std.specs.Prelude.{All, AllPairs, slice_get, sum}
-use Rattle.std.specs.declared.cmp.Ordering.TheVariants.{Greater}
-use Rattle.std.proofs.lemmas.List.{length-replicate}
-use Rattle.std.proofs.lemmas.List.Elements.{All-append}
 use Rattle.std.proofs.lemmas.List.Quantifiers.{all_pairs_push}
 use Rattle.schema_types.specs.declared.types.Kind.{Kind}
 use Rattle.schema_types.specs.declared.types.Schema.{Schema}
 use Rattle.schema_types.specs.declared.types.Table.{Table}
 use Rattle.stats_file.specs.declared.types.Datum.{Datum}
 use Rattle.stats_file.specs.declared.types.Pair.{Pair}
-use Rattle.stats_file.specs.Rules.{datum_cmp, AreFrequent, CountTheSame, IsList, IsOfKind, IsTree, IsTreeOf, KeepsRules}
+use Rattle.stats_file.specs.Rules.{AreFrequent, CountTheSame, IsList, IsOfKind, KeepsRules}
 use Rattle.stats_reading.specs.declared.draft.Draft.{Draft}
-use Rattle.stats_reading.specs.Drafts.{with_cut, with_frequent, with_node, with_rest, with_whole, IsLike, MayBeCut, MayBeFrequent, MayBeNode, MayBeRest, MayBeWhole}
-use Rattle.stats_reading.specs.Left.{file_of, frequent_lines, section_of, tree_lines, CutsLeft, FrequentLeft, NodesLeft, WholeLeft}
+use Rattle.stats_reading.specs.Drafts.{with_frequent, with_rest, with_whole, IsLike, MayBeFrequent, MayBeRest, MayBeWhole}
+use Rattle.stats_reading.specs.Left.{file_of, frequent_lines, section_of, tree_lines, CutsLeft, FrequentLeft, WholeLeft}
 use Rattle.stats_reading.specs.Valid.{IsKnown, IsValidPair}
 use Rattle.stats_reading.proofs.Counts.{agrees_after, agrees_whole}
 use Rattle.stats_reading.proofs.NextFacts.{kind_of_pair, like_counts, same_count}
-use Rattle.stats_reading.proofs.OrderFacts.{all_same, none_above, pairs_padded, value_itself}
 use Rattle.stats_reading.proofs.Replaced.{all_replaced, length_replaced, map_replaced, still_all, still_differ}
 use Rattle.stats_reading.proofs.RuleFacts.{pair_rules, with_pair, without_pair, PairRules}
-use Rattle.stats_reading.proofs.Seams.{all_left, all_more, get_here, get_map, map_get, pairs_front, same_some}
+use Rattle.stats_reading.proofs.Seams.{all_left, all_more, get_map, map_get, pairs_front, same_some}
 
 pub rules_of : (Left : Pair → List (List ℕ) → Type 0) (schema : Schema) (s : Draft) (v : IsValidPair Left schema s) → PairRules v.table s.section.rows s.section.pairs v.pair
 rules_of Left schema s v = pair_rules schema v.table s v.pair [] [] v.exists v.keeps

@@ -1,5 +1,7 @@
 pub mod Answering
+pub mod Ascending
 pub mod Begun
+pub mod ByteFacts
 pub mod CodeFacts
 pub mod Counts
 pub mod Edges
@@ -7,6 +9,7 @@ pub mod Going
 pub mod Grammar
 pub mod Grown
 pub mod GrownTrees
+pub mod Known
 pub mod LineEnds
 pub mod NextFacts
 pub mod OneFile

@@ -44,19 +44,24 @@ pub value_itself : (a : Datum) → datum_cmp a a ≢ Greater
 value_itself (datum.Int a) = itself int_cmp int_cmp_total a
 value_itself (datum.Text a) = itself (slice_cmp nat_cmp) nat_list_cmp_total a
 
+-- what the last one of an ordered list tells of all
+pub last_tells : {X : Type 0} (R : X → X → Type 0) (Q : X → Type 0) → ((a b : X) → R a b → Q b → Q a) → (xs : List X) → AllPairs R xs
+    → ((last : X) → slice_get xs (length xs - 1) ≡ Some last → Q last) → All Q xs
+last_tells {X} R Q carry xs sorted last k d lt = at (length xs - 1 - k) refl
+  where
+    at : (n : ℕ) → length xs - 1 - k ≡ n → Q (get_or xs k d)
+    at zero e =
+        let same : k ≡ length xs - 1 = omega arith in
+        last (get_or xs k d) (ap (λ i. slice_get xs i) (sym same) ∙ slice_get-get_or xs k d lt)
+    at (suc n) e =
+        let less : length xs - 1 < length xs = omega arith in
+        let z = get_or xs (length xs - 1) d in
+        carry (get_or xs k d) z (sorted k (length xs - 1) d (omega arith) less) (last z (slice_get-get_or xs (length xs - 1) d less))
+
 -- where the last one isn't above, none is
 pub none_above : (cuts : List Datum) (cut : Datum) → AllPairs (λ a b. datum_cmp a b ≢ Greater) cuts
     → ((last : Datum) → slice_get cuts (length cuts - 1) ≡ Some last → datum_cmp last cut ≢ Greater) → All (λ a. datum_cmp a cut ≢ Greater) cuts
-none_above cuts cut sorted last k d lt = at (length cuts - 1 - k) refl
-  where
-    at : (n : ℕ) → length cuts - 1 - k ≡ n → datum_cmp (get_or cuts k d) cut ≢ Greater
-    at zero e =
-        let same : k ≡ length cuts - 1 = omega arith in
-        last (get_or cuts k d) (ap (λ i. slice_get cuts i) (sym same) ∙ slice_get-get_or cuts k d lt)
-    at (suc n) e =
-        let less : length cuts - 1 < length cuts = omega arith in
-        let z = get_or cuts (length cuts - 1) d in
-        values_not_above (get_or cuts k d) z cut (sorted k (length cuts - 1) d (omega arith) less) (last z (slice_get-get_or cuts (length cuts - 1) d less))
+none_above cuts cut sorted last = last_tells (λ a b. datum_cmp a b ≢ Greater) (λ a. datum_cmp a cut ≢ Greater) (λ a b. values_not_above a b cut) cuts sorted last
 
 pub all_same : {X : Type 0} (P : X → Type 0) (m : ℕ) (x : X) → P x → All P (replicate m x)
 all_same P zero x h = λ k d lt. absurd (omega arith)

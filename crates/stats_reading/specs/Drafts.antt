@@ -1,5 +1,5 @@
 -- What may be read next into a draft, and what the draft then is.
-use Rattle.std.specs.Prelude.{ℕ, ◌≡◌, ◌≢◌, ◌<◌, ◌≤◌, ◌-◌, ◌^◌, ⊤, List, [], ◌∷◌, ◌++◌, length, sum, All, Option, Some, None, slice_get, decimal, Result, Ok, Err}
+use Rattle.std.specs.Prelude.{ℕ, ◌≡◌, ◌≢◌, ◌<◌, ◌≤◌, ◌-◌, ◌^◌, ⊤, List, [], ◌∷◌, ◌++◌, length, sum, All, AllPairs, Option, Some, None, slice_get, decimal, Result, Ok, Err}
 use Rattle.std.specs.declared.cmp.Ordering.TheVariants.{Greater}
 use Rattle.limits.specs.Profile.{least_accuracy, most_accuracy, most_rows}
 use Rattle.schema_types.specs.declared.types.Column.{Column}
@@ -78,6 +78,13 @@ pub record BeginsPair (table : Table) (old new : Draft) (filter joined : ℕ) : 
   pub like : IsPlaceOf (λ q. q.filter) filter old.section.pairs new.like
   pub twin : IsPlaceOf (λ q. q.joined) joined old.section.pairs new.twin
   pub whole : new ≡ record old { pair = empty_pair filter joined; kind = column.kind; like = new.like; twin = new.twin }
+
+-- the tables that are complete, and the pairs of the table at hand that are, ascend
+abbrev pub TablesAscend : Draft → Type 0
+TablesAscend s = AllPairs (λ (a b : TableStats). a.table < b.table) s.tables
+
+abbrev pub PairsAscend : Draft → Type 0
+PairsAscend s = AllPairs StandsBefore s.section.pairs
 
 -- ---- what may be next
 

@@ -9,7 +9,7 @@ use Rattle.stats_reading.specs.declared.fault.Fault.TheVariants as fault
 use Rattle.stats_reading.specs.declared.line.LineKind.{LineKind}
 use Rattle.stats_reading.specs.declared.line.LineKind.TheVariants as kind
 use Rattle.stats_reading.specs.declared.stages.Stage.{Stage}
-use Rattle.stats_reading.specs.Drafts.{empty_section, frequent_words, list_word, number_word, pair_words, table_words, value_word, with_cut, with_frequent, with_node, with_rest, with_whole, AreSmall, BeginsPair, MayBeAccuracy, MayBeCut, MayBeFrequent, MayBeNode, MayBePair, MayBeRest, MayBeTable, MayBeWhole, Takes}
+use Rattle.stats_reading.specs.Drafts.{empty_section, frequent_words, list_word, number_word, pair_words, table_words, value_word, with_cut, with_frequent, with_node, with_rest, with_whole, AreSmall, BeginsPair, MayBeAccuracy, MayBeCut, MayBeFrequent, MayBeNode, MayBePair, MayBeRest, MayBeTable, MayBeWhole, PairsAscend, TablesAscend, Takes}
 use Rattle.stats_reading.specs.Left.{FileLeft}
 use Rattle.stats_reading.specs.Stages.{TextLeft}
 use Rattle.stats_reading.specs.Steps.{Ends, EndsAnd, PairEnds, TableEnds}
@@ -25,13 +25,17 @@ abbrev pub BeginsPairOf : Schema → Draft → List ℕ × List ℕ → Draft �
 BeginsPairOf schema t words m result = (table : Table) → slice_get schema.tables m.section.table ≡ Some table
     → Takes (pair_words table) (λ c. MayBePair table m c.0 c.1) (λ c. BeginsPair table m t c.0 c.1) words result
 
--- what the words of a line of this kind are read with: a table that is open, or totals that can be compared
+-- what the words of a line of this kind are read with: tables or pairs that ascend, a table that is open, or totals that can be compared
+abbrev pub IsReadyAt : Stage → LineKind → Schema → Draft → Type 0
+IsReadyAt at kind.Table schema s = (m : Draft) → TableEnds at s m → TablesAscend m
+IsReadyAt at kind.Pair schema s = s.section.table < length schema.tables × ((m : Draft) → PairEnds at s m → PairsAscend m)
+IsReadyAt at kind.Frequent schema s = All AreSmall s.section.pairs
+IsReadyAt at kind.Rest schema s = All AreSmall s.section.pairs
+IsReadyAt at kind.Node schema s = All AreSmall s.section.pairs
+IsReadyAt at _ schema s = ⊤
+
 abbrev pub IsReady : LineKind → Schema → Draft → Type 0
-IsReady kind.Pair schema s = s.section.table < length schema.tables
-IsReady kind.Frequent schema s = All AreSmall s.section.pairs
-IsReady kind.Rest schema s = All AreSmall s.section.pairs
-IsReady kind.Node schema s = All AreSmall s.section.pairs
-IsReady _ schema s = ⊤
+IsReady k schema s = IsReadyAt s.stage k schema s
 
 -- the words of a line of this kind are read into a draft
 abbrev pub ReadsAt : Stage → Schema → LineKind → Draft → Draft → List ℕ × List ℕ → Result (Unit {0}) Fault → Type 0

@@ -1,7 +1,8 @@
 -- What a line is, without its end: its front, and one word behind it or two.
 use Rattle.std.specs.Prelude.{ℕ, ◌≡◌, Bool, true, false, if◌then◌else◌, List, [], ◌++◌, Option, None, Some, codes}
 use Rattle.stats_file.specs.Grammar.{IsCutLine, IsFirstLine, IsFrequentLine, IsHexWord, IsListWord, IsNodeLine, IsNumeral, IsPairLine, IsRestLine, IsTableLine, IsValueWord, IsWholeLine}
-use Rattle.stats_reading.specs.declared.line.Line.{Line}
+use Rattle.stats_reading.specs.declared.fault.Fault.{Fault}
+use Rattle.stats_reading.specs.declared.fault.Fault.TheVariants as fault
 use Rattle.stats_reading.specs.declared.line.LineKind.{LineKind}
 use Rattle.stats_reading.specs.declared.line.LineKind.TheVariants as kind
 
@@ -49,16 +50,47 @@ pub record IsLineOf (kind : LineKind) (first second line : List ℕ) : Type 0 wh
   pub parts : AreParts kind first second
   pub whole : line ≡ front kind ++ words_text kind first second
 
--- what a line is, if it is one of the grammar
-abbrev pub Says : List ℕ → Option Line → Type 0
-Says line None = (kind : LineKind) (first second : List ℕ) → IsLineOf kind first second line → ⊥
-Says line (Some said) = IsLineOf said.kind said.first.now said.second.now line
+-- where there is one word, the second one is empty
+abbrev pub IsAlone : LineKind → List ℕ → Type 0
+IsAlone kind second = has_two kind ≡ false → second ≡ []
 
--- the same behind the front of a line of this kind
-abbrev pub SaysBehind : LineKind → List ℕ → Option Line → Type 0
-SaysBehind kind words None = (first second : List ℕ) → AreParts kind first second → words ≡ words_text kind first second → ⊥
-SaysBehind kind words (Some said) =
-    (said.kind ≡ kind) × AreParts kind said.first.now said.second.now × (words ≡ words_text kind said.first.now said.second.now)
+-- a line with this front and these words, which is one of the grammar only if its words are
+pub record MayBeLineOf (kind : LineKind) (first second line : List ℕ) : Type 0 where
+  pub whole : line ≡ front kind ++ words_text kind first second
+  pub alone : IsAlone kind second
+  pub only : (k : LineKind) (a b : List ℕ) → IsLineOf k a b line → AreParts kind first second
+
+abbrev pub IsNoLine : List ℕ → Type 0
+IsNoLine line = (kind : LineKind) (first second : List ℕ) → IsLineOf kind first second line → ⊥
+
+-- these words stand behind the front of a line of this kind, and no others of the grammar
+pub record MayStandBehind (kind : LineKind) (words first second : List ℕ) : Type 0 where
+  pub whole : words ≡ words_text kind first second
+  pub alone : IsAlone kind second
+  pub only : (a b : List ℕ) → AreParts kind a b → words ≡ words_text kind a b → AreParts kind first second
+
+abbrev pub HasNoWords : LineKind → List ℕ → Type 0
+HasNoWords kind words = (first second : List ℕ) → AreParts kind first second → words ≡ words_text kind first second → ⊥
+
+-- the kinds whose words are tested before they are read; what is read of the others is in the grammar
+abbrev pub is_tested : LineKind → Bool
+is_tested kind.First = true
+is_tested kind.Table = true
+is_tested kind.Pair = true
+is_tested kind.Whole = false
+is_tested kind.Frequent = false
+is_tested kind.Rest = false
+is_tested kind.Cut = false
+is_tested kind.Node = false
+is_tested kind.End = true
+
+-- a rule is broken only by words of the grammar: others are no line of it
+abbrev pub IsFaultOf : LineKind → List ℕ → List ℕ → Fault → Fault → Type 0
+IsFaultOf kind first second fault.Rule fault.Rule = AreParts kind first second
+IsFaultOf kind first second fault.Rule fault.Syntax = AreParts kind first second → ⊥
+IsFaultOf kind first second fault.Rule fault.NoMemory = ⊥
+IsFaultOf kind first second fault.Syntax new = new ≡ fault.Syntax
+IsFaultOf kind first second fault.NoMemory new = new ≡ fault.NoMemory
 
 -- a line has no front but that of this kind
 abbrev pub CanBe : List ℕ → Option LineKind → Type 0

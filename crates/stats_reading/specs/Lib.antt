@@ -2,6 +2,7 @@ pub mod Drafts
 pub mod Goes
 pub mod Kinds
 pub mod Left
+pub mod Names
 pub mod Refusals
 pub mod Stages
 pub mod Steps

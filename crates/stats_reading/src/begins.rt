@@ -1,10 +1,11 @@
 //! Tables and pairs that begin.
-ghost use Rattle.std.specs.Prelude.{◌≡◌, ◌≢◌, ◌<◌, ◌≤◌, ◌↔◌, ℕ, List, length, slice_get, All, Some, IsTrue, MatchOption};
+ghost use Rattle.std.specs.Prelude.{◌≡◌, ◌≢◌, ◌<◌, ◌≤◌, ◌↔◌, ℕ, List, length, slice_get, All, AllPairs, Some, IsTrue, MatchOption};
 ghost use Rattle.schema_types.specs.declared.types.Table.{Table as Declared};
 ghost use Rattle.schema_types.specs.Validity.{IsValid, IsValidTable};
+ghost use Rattle.stats_file.specs.declared.types.TableStats.{TableStats as Section};
 ghost use Rattle.stats_file.specs.Lines.{hex_text};
 ghost use Rattle.stats_file.specs.Rules.{StandsBefore};
-ghost use Rattle.stats_reading.specs.Drafts.{empty_pair, empty_section, pair_words, table_words, BeginsPair, IsNamed, IsPlaceOf, MayBePair, MayBeTable, Takes};
+ghost use Rattle.stats_reading.specs.Drafts.{empty_pair, empty_section, pair_words, table_words, BeginsPair, IsNamed, IsPlaceOf, MayBePair, MayBeTable, PairsAscend, TablesAscend, Takes};
 
 use crate::draft::{Draft, new_pair, new_section};
 use crate::fault::Fault;
@@ -48,28 +49,42 @@ fn stands_before(earlier: &Pair, filter: u32, joined: u32) -> bool
     earlier.filter < filter || (earlier.filter == filter && earlier.joined < joined)
 }
 
-// Whether a pair of these columns stands behind all pairs.
+// Whether a pair of these columns stands behind all pairs. The last one tells it, since pairs ascend.
 fn is_later(pairs: &[Pair], filter: u32, joined: u32) -> bool
+    requires { AllPairs StandsBefore pairs.now }
     ensures { IsTrue result ↔ All (λ q. StandsBefore q (empty_pair filter joined)) pairs.now }
 {
-    pairs.iter().all(|pair| stands_before(pair, filter, joined))
+    if pairs.is_empty() {
+        return true;
+    }
+    stands_before(&pairs[pairs.len() - 1], filter, joined)
 }
 
 fn is_later_table(tables: &[TableStats], place: u32) -> bool
+    requires { AllPairs (λ (a b : Section). a.table < b.table) tables.now }
     ensures { IsTrue result ↔ All (λ t. t.table < place) tables.now }
 {
-    tables.iter().all(|table| table.table < place)
+    if tables.is_empty() {
+        return true;
+    }
+    tables[tables.len() - 1].table < place
 }
 
+// Where a pair with this filter column stands. It is the last one, if there is one, since no pair has a later column.
 fn place_of_filter(pairs: &[Pair], filter: u32) -> usize
+    requires ascend { AllPairs StandsBefore pairs.now }
+    requires none_later { All (λ q. q.filter ≤ filter) pairs.now }
     ensures { IsPlaceOf (λ q. q.filter) filter pairs.now result }
 {
-    for i in 0..pairs.len() {
-        if pairs[i].filter == filter {
-            return i;
-        }
+    if pairs.is_empty() {
+        return 0;
     }
-    pairs.len()
+    let last = pairs.len() - 1;
+    if pairs[last].filter == filter {
+        last
+    } else {
+        pairs.len()
+    }
 }
 
 fn place_of_joined(pairs: &[Pair], joined: u32) -> usize
@@ -97,7 +112,8 @@ pub fn take_table(
     name: &[u8],
     rows: &[u8],
 ) -> Result<(), Fault>
-    requires { IsValid schema.now }
+    requires valid { IsValid schema.now }
+    requires ascend { TablesAscend draft.old }
     ensures { Takes table_words (MayBeTable schema.now draft.old)
         (λ v. draft.new ≡ record draft.old { section = empty_section v.place v.rows }) (name.now, rows.now) result }
 {
@@ -115,7 +131,9 @@ pub fn take_table(
 }
 
 fn begin_pair(alloc: Global, table: &Table, draft: &mut Draft, filter: u32, joined: u32)
-    requires { filter < length table.now.columns }
+    requires within { filter < length table.now.columns }
+    requires ascend { PairsAscend draft.old }
+    requires later { All (λ q. q.filter ≤ filter) draft.old.section.pairs }
     ensures { BeginsPair table.now draft.old draft.new filter joined }
 {
     draft.like = place_of_filter(draft.section.pairs.as_slice(), filter);
@@ -132,7 +150,8 @@ pub fn take_pair(
     filter: &[u8],
     joined: &[u8],
 ) -> Result<(), Fault>
-    requires { IsValidTable table.now }
+    requires valid { IsValidTable table.now }
+    requires ascend { PairsAscend draft.old }
     ensures { Takes (pair_words table.now) (λ c. MayBePair table.now draft.old c.0 c.1)
         (λ c. BeginsPair table.now draft.old draft.new c.0 c.1) (filter.now, joined.now) result }
 {

@@ -2,6 +2,7 @@
 ghost use Rattle.std.specs.Prelude.{◌≡◌, ◌<◌, ◌^◌, ◌↔◌, length, sum, IsTrue};
 ghost use Rattle.std.specs.Ordering.{nat_cmp};
 ghost use Rattle.std.specs.Cmp.Lexicographic.{slice_cmp};
+ghost use Rattle.stats_file.specs.declared.types.Datum.TheVariants as datums;
 ghost use Rattle.stats_file.specs.Rules.{datum_cmp};
 
 use piece_math::{Piece, Pieces};
@@ -42,11 +43,40 @@ fn is_equal(order: Ordering) -> bool
     matches!(order, Ordering::Equal)
 }
 
+// Whether a value is this number.
+fn is_number(value: &Datum, number: i64) -> bool
+    ensures { IsTrue result ↔ (datums.Int number ≡ value.now) }
+{
+    match value {
+        Datum::Int(own) => number == *own,
+        Datum::Text(_) => false,
+    }
+}
+
+fn same_text(a: &str, b: &str) -> bool
+    ensures { IsTrue result ↔ (datums.Text a.now ≡ datums.Text b.now) }
+{
+    is_equal(compare_texts(a, b))
+}
+
+// Whether a value is this text.
+fn is_text(value: &Datum, text: &str) -> bool
+    ensures { IsTrue result ↔ (datums.Text text.now ≡ value.now) }
+{
+    match value {
+        Datum::Int(_) => false,
+        Datum::Text(own) => same_text(text, own.as_str()),
+    }
+}
+
 /// Whether two values are the same.
 pub fn same_value(a: &Datum, b: &Datum) -> bool
     ensures { IsTrue result ↔ (a.now ≡ b.now) }
 {
-    is_equal(compare(a, b))
+    match a {
+        Datum::Int(number) => is_number(b, *number),
+        Datum::Text(text) => is_text(b, text.as_str()),
+    }
 }
 
 /// Whether two lists have one total.

@@ -6,9 +6,9 @@ ghost use Rattle.stats_file.specs.declared.types.StatsError.{StatsError};
 ghost use Rattle.stats_file.specs.declared.types.StatsError.TheVariants as error;
 ghost use Rattle.stats_file.specs.declared.types.StatsFile.{StatsFile};
 ghost use Rattle.stats_file.specs.Answers.{Answers};
-ghost use Rattle.stats_file.specs.Bytes.{ConsistOfBytes};
 ghost use Rattle.stats_file.specs.FileText.{file_text};
 ghost use Rattle.stats_file.specs.Rules.{KeepsRules};
+ghost use Rattle.stats_reading.specs.Names.{HasByteColumns};
 
 /// A text is that of at most one file.
 pub fn a_text_spells_one_file()
@@ -16,9 +16,10 @@ pub fn a_text_spells_one_file()
         → file_text schema a ≡ file_text schema b → a ≡ b }
 {}
 
-/// The text of a file is answered by that file, or by want of memory, and by no refusal.
+/// The text of a file is answered by that file, or by want of memory, and by no refusal. Of the schema it is asked beside
+/// that names of columns consist of bytes; the rest of names and values follows.
 pub fn a_written_file_is_read()
     ensures { (schema : Schema) (file : StatsFile) (answer : Result StatsFile StatsError)
-        → IsValid schema → ConsistOfBytes schema file → KeepsRules schema file
+        → IsValid schema → HasByteColumns schema → KeepsRules schema file
         → Answers schema (file_text schema file) answer → (answer ≡ Ok file) ⊎ (answer ≡ Err error.NoMemory) }
 {}

@@ -1,7 +1,8 @@
 //! What a line is.
-ghost use Rattle.std.specs.Prelude.{◌≡◌, ◌≢◌, ◌↔◌, ◌++◌, [], ℕ, List, true, false, IsTrue, MatchOption};
-ghost use Rattle.stats_reading.specs.Kinds.{front, has_two, AreParts, CanBe, Says, SaysBehind};
+ghost use Rattle.std.specs.Prelude.{◌≡◌, ◌≢◌, ◌↔◌, ◌++◌, [], ℕ, List, true, false, Some, IsTrue, MatchOption};
+ghost use Rattle.stats_reading.specs.Kinds.{front, has_two, is_tested as tested, AreParts, CanBe, HasNoWords, IsFaultOf, IsNoLine, MayBeLineOf, MayStandBehind};
 
+use crate::fault::Fault;
 use stats_words::{is_hex_word, is_list_word, is_numeral, is_value_word, split_at_byte};
 
 /// What a line says, by its first word.
@@ -26,8 +27,8 @@ pub struct Line<'a> {
     pub second: &'a [u8],
 }
 
-// The only kind that a line may have.
-fn kind_of(line: &[u8]) -> Option<LineKind>
+/// The only kind that a line may have.
+pub fn kind_of(line: &[u8]) -> Option<LineKind>
     ensures { CanBe line.now result }
 {
     match line {
@@ -62,27 +63,28 @@ const NODE: &[u8] = b"node ";
 
 const END: &[u8] = b"end";
 
-fn front_of(kind: LineKind) -> &'static [u8]
-    ensures { result.now ≡ front kind }
-{
-    match kind {
-        LineKind::First => FIRST,
-        LineKind::Table => TABLE,
-        LineKind::Pair => PAIR,
-        LineKind::Whole => WHOLE,
-        LineKind::Frequent => FREQUENT,
-        LineKind::Rest => REST,
-        LineKind::Cut => CUT,
-        LineKind::Node => NODE,
-        LineKind::End => END,
-    }
-}
-
 // What stands behind the front of a line.
 fn behind<'a>(line: &'a [u8], front: &[u8]) -> Option<&'a [u8]>
     ensures { MatchOption result ((rest : List ℕ) → line.now ≢ front.now ++ rest) (λ rest. line.now ≡ front.now ++ rest.now) }
 {
     line.strip_prefix(front)
+}
+
+// What stands behind the front of a line of this kind.
+fn behind_front(kind: LineKind, line: &[u8]) -> Option<&[u8]>
+    ensures { MatchOption result ((rest : List ℕ) → line.now ≢ front kind ++ rest) (λ rest. line.now ≡ front kind ++ rest.now) }
+{
+    match kind {
+        LineKind::First => behind(line, FIRST),
+        LineKind::Table => behind(line, TABLE),
+        LineKind::Pair => behind(line, PAIR),
+        LineKind::Whole => behind(line, WHOLE),
+        LineKind::Frequent => behind(line, FREQUENT),
+        LineKind::Rest => behind(line, REST),
+        LineKind::Cut => behind(line, CUT),
+        LineKind::Node => behind(line, NODE),
+        LineKind::End => behind(line, END),
+    }
 }
 
 // Whether a word is that of a line of this kind, which has one.
@@ -116,58 +118,85 @@ fn has_two_words(kind: LineKind) -> bool
     matches!(kind, LineKind::Table | LineKind::Pair | LineKind::Frequent)
 }
 
-fn one(kind: LineKind, word: &[u8]) -> Option<Line>
-    requires { has_two kind ≡ false }
-    ensures { SaysBehind kind word.now result }
-{
-    if is_part(kind, word) {
-        let second: &[u8] = &[];
-        Some(Line {
-            kind,
-            first: word,
-            second,
-        })
-    } else {
-        None
-    }
-}
-
-fn two(kind: LineKind, words: &[u8]) -> Option<Line>
+fn two(kind: LineKind, words: &[u8]) -> Option<(&[u8], &[u8])>
     requires { has_two kind ≡ true }
-    ensures { SaysBehind kind words.now result }
+    ensures { MatchOption result (HasNoWords kind words.now) (λ w. MayStandBehind kind words.now w.0.now w.1.now) }
 {
     match split_at_byte(words, b' ') {
         None => None,
-        Some((first, second)) => {
-            if are_parts(kind, first, second) {
-                Some(Line {
-                    kind,
-                    first,
-                    second,
-                })
-            } else {
-                None
-            }
-        }
+        Some((first, second)) => Some((first, second)),
     }
 }
 
-// The line of this kind whose words these are.
-fn words_of(kind: LineKind, words: &[u8]) -> Option<Line>
-    ensures { SaysBehind kind words.now result }
+// The words of a line of this kind, which stand behind its front.
+fn words_of(kind: LineKind, words: &[u8]) -> Option<(&[u8], &[u8])>
+    ensures { MatchOption result (HasNoWords kind words.now) (λ w. MayStandBehind kind words.now w.0.now w.1.now) }
 {
     if has_two_words(kind) {
         two(kind, words)
     } else {
-        one(kind, words)
+        let none: &[u8] = &[];
+        Some((words, none))
     }
 }
 
-/// What a line without its end is, if it is one of the grammar.
-pub fn line_of(line: &[u8]) -> Option<Line>
-    ensures { Says line.now result }
+/// The words of a line without its end, if it may be one of the grammar. They aren't tested.
+pub fn words_in(kind: LineKind, line: &[u8]) -> Option<(&[u8], &[u8])>
+    requires { CanBe line.now (Some kind) }
+    ensures { MatchOption result (IsNoLine line.now) (λ w. MayBeLineOf kind w.0.now w.1.now line.now) }
 {
-    let kind = kind_of(line)?;
-    let words = behind(line, front_of(kind))?;
+    let words = behind_front(kind, line)?;
     words_of(kind, words)
+}
+
+// Whether these are the words of a line of this kind, which has one: the second is empty.
+fn is_part_alone(kind: LineKind, word: &[u8], second: &[u8]) -> bool
+    requires { has_two kind ≡ false }
+    ensures { IsTrue result ↔ AreParts kind word.now second.now }
+{
+    second.is_empty() && is_part(kind, word)
+}
+
+// Whether the words of a line are those of the grammar.
+fn are_words(line: Line) -> bool
+    ensures { IsTrue result ↔ AreParts line.entry.kind line.entry.first.now line.entry.second.now }
+{
+    if has_two_words(line.kind) {
+        are_parts(line.kind, line.first, line.second)
+    } else {
+        is_part_alone(line.kind, line.first, line.second)
+    }
+}
+
+fn is_tested(kind: LineKind) -> bool
+    ensures { result ≡ tested kind }
+{
+    matches!(
+        kind,
+        LineKind::First | LineKind::Table | LineKind::Pair | LineKind::End
+    )
+}
+
+/// Whether the words of a line are known to be of the grammar, where its kind is one whose words are tested.
+pub fn may_be_read(line: Line) -> bool
+    ensures { IsTrue result ↔ (tested line.entry.kind ≡ true → AreParts line.entry.kind line.entry.first.now line.entry.second.now) }
+{
+    !is_tested(line.kind) || are_words(line)
+}
+
+/// The fault of a line whose words aren't taken, where they may be none of the grammar.
+pub fn fault_of(line: Line, fault: Fault) -> Fault
+    ensures { IsFaultOf line.entry.kind line.entry.first.now line.entry.second.now fault result }
+{
+    match fault {
+        Fault::Syntax => Fault::Syntax,
+        Fault::NoMemory => Fault::NoMemory,
+        Fault::Rule => {
+            if are_words(line) {
+                Fault::Rule
+            } else {
+                Fault::Syntax
+            }
+        }
+    }
 }

@@ -11,7 +11,7 @@ ghost use Rattle.stats_reading.specs.Valid.{IsValidDraft};
 
 use crate::draft::Draft;
 use crate::fault::Fault;
-use crate::line::line_of;
+use crate::line::{Line, fault_of, kind_of, may_be_read, words_in};
 use crate::stages::Stage;
 use crate::take::take;
 use schema_types::Schema;
@@ -29,15 +29,30 @@ fn refusal(fault: Fault, line: u32) -> StatsError
     }
 }
 
-// Takes a line without its end.
+// Takes a line without its end. The words of lists and values are gone through once: only where they aren't taken, it is
+// asked whether the grammar has them.
 fn take_line(alloc: Global, schema: &Schema, draft: &mut Draft, text: &[u8]) -> Result<(), Fault>
     requires schema { IsValid schema.now }
     requires valid { IsValidDraft draft.old.stage schema.now draft.old }
     ensures { Answers schema.now draft.old draft.new (text.now ++ codes "\n") result }
 {
-    match line_of(text) {
-        None => Err(Fault::Syntax),
-        Some(line) => take(alloc, schema, draft, line),
+    let Some(kind) = kind_of(text) else {
+        return Err(Fault::Syntax);
+    };
+    let Some((first, second)) = words_in(kind, text) else {
+        return Err(Fault::Syntax);
+    };
+    let line = Line {
+        kind,
+        first,
+        second,
+    };
+    if !may_be_read(line) {
+        return Err(Fault::Syntax);
+    }
+    match take(alloc, schema, draft, line) {
+        Ok(()) => Ok(()),
+        Err(fault) => Err(fault_of(line, fault)),
     }
 }
 

@@ -1,8 +1,10 @@
 //! A line that is taken into a draft.
-ghost use Rattle.std.specs.Prelude.{◌≡◌, ◌<◌, ◌++◌, ℕ, List, codes, length};
+ghost use Rattle.std.specs.Prelude.{◌≡◌, ◌<◌, ◌++◌, ℕ, List, false, codes, length, OnOk};
 ghost use Rattle.schema_types.specs.Validity.{IsValid};
+ghost use Rattle.stats_reading.specs.declared.draft.Draft.{Draft as State};
+ghost use Rattle.stats_reading.specs.Drafts.{PairsAscend, TablesAscend};
 ghost use Rattle.stats_reading.specs.Goes.{Answers, BeginsPairOf, BeginsTable, IsReady, Reads};
-ghost use Rattle.stats_reading.specs.Kinds.{IsLineOf};
+ghost use Rattle.stats_reading.specs.Kinds.{is_tested, AreParts, IsAlone, IsLineOf};
 ghost use Rattle.stats_reading.specs.Steps.{EndsAnd, PairEnds, TableEnds};
 ghost use Rattle.stats_reading.specs.Valid.{IsValidDraft};
 
@@ -24,7 +26,8 @@ fn take_table_line(
     name: &[u8],
     rows: &[u8],
 ) -> Result<(), Fault>
-    requires { IsValid schema.now }
+    requires valid { IsValid schema.now }
+    requires ascend { (m : State) → TableEnds draft.old.stage draft.old m → TablesAscend m }
     ensures { EndsAnd (TableEnds draft.old.stage draft.old) (BeginsTable schema.now draft.new (name.now, rows.now)) result }
 {
     match end_table(alloc, draft) {
@@ -43,6 +46,7 @@ fn take_pair_line(
 ) -> Result<(), Fault>
     requires valid { IsValid schema.now }
     requires exists { draft.old.section.table < length schema.now.tables }
+    requires ascend { (m : State) → PairEnds draft.old.stage draft.old m → PairsAscend m }
     ensures { EndsAnd (PairEnds draft.old.stage draft.old) (BeginsPairOf schema.now draft.new (filter.now, joined.now)) result }
 {
     match end_pair(alloc, draft) {
@@ -73,12 +77,16 @@ fn take_words(alloc: Global, schema: &Schema, draft: &mut Draft, line: Line) -> 
     }
 }
 
-/// Takes a line of the grammar, if one of its kind may come here and its words may.
+/// Takes a line, if one of its kind may come here and its words may. It is answered as a line of the grammar; where its
+/// words aren't tested before, they are of the grammar if they are taken.
 pub fn take(alloc: Global, schema: &Schema, draft: &mut Draft, line: Line) -> Result<(), Fault>
     requires schema { IsValid schema.now }
     requires valid { IsValidDraft draft.old.stage schema.now draft.old }
-    ensures { (l : List ℕ) → IsLineOf line.entry.kind line.entry.first.now line.entry.second.now l
+    requires alone { IsAlone line.kind line.second.now }
+    ensures answers { (l : List ℕ) → IsLineOf line.entry.kind line.entry.first.now line.entry.second.now l
         → Answers schema.now draft.old draft.new (l ++ codes "\n") result }
+    ensures known { is_tested line.entry.kind ≡ false
+        → OnOk result (AreParts line.entry.kind line.entry.first.now line.entry.second.now) }
 {
     let Some(stage) = stage_after(draft.stage, line.kind) else {
         return Err(Fault::Syntax);

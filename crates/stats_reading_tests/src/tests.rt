@@ -355,3 +355,236 @@ fn many(rt: HostRuntime) -> Result<(), Fail> {
     );
     Ok(())
 }
+
+// 2.13: the whole file and more behind it. 2.14: where lines are missing, with one row.
+#[test]
+fn ends(rt: HostRuntime) -> Result<(), Fail> {
+    let a = rt.alloc();
+    for (more, want) in [
+        ("x", Verdict::Syntax(7)),
+        ("\n", Verdict::Syntax(7)),
+        ("end\n", Verdict::Syntax(7)),
+        ("", Verdict::Read),
+    ] {
+        let mut text = String::from_str(a, EMPTY)?;
+        text.push_str(more)?;
+        assert_eq!(rt; answer(a, E, text.as_str()), want, "at {more}");
+    }
+    for (more, want) in [
+        ("end\n", Verdict::Rule(6)),
+        ("foo\n", Verdict::Syntax(6)),
+        ("", Verdict::Syntax(6)),
+        ("end", Verdict::Syntax(6)),
+        ("pair x58 x58\n", Verdict::Rule(6)),
+    ] {
+        let mut text = String::from_str(
+            a,
+            "safebound-stats 1 1\ntable x45 1\npair x58 x58\nwhole 1*1\nrest -\n",
+        )?;
+        text.push_str(more)?;
+        assert_eq!(rt; answer(a, E, text.as_str()), want, "at {more}");
+    }
+    Ok(())
+}
+
+// Words of lists: those that the grammar lacks are Syntax, also where a number is too large.
+#[test]
+fn lists(rt: HostRuntime) -> Result<(), Fail> {
+    let a = rt.alloc();
+    for (line, want) in [
+        ("whole 1*1\n", Verdict::Rule(4)),
+        ("whole 3*1\n", Verdict::Rule(4)),
+        ("whole 1*3\n", Verdict::Rule(4)),
+        ("whole 1*2\n", Verdict::Syntax(5)),
+        ("whole 2*0\n", Verdict::Rule(4)),
+        (
+            "whole 340282366920938463463374607431768211455*1\n",
+            Verdict::Rule(4),
+        ),
+        (
+            "whole 340282366920938463463374607431768211456*1\n",
+            Verdict::Rule(4),
+        ),
+        ("whole 1*18446744073709551615\n", Verdict::Rule(4)),
+        ("whole 1*18446744073709551616\n", Verdict::Rule(4)),
+        ("whole 9*9 x\n", Verdict::Syntax(4)),
+        ("whole 9*09\n", Verdict::Syntax(4)),
+        ("whole 2*1 \n", Verdict::Syntax(4)),
+        ("whole  2*1\n", Verdict::Syntax(4)),
+        ("whole 2\n", Verdict::Syntax(4)),
+        ("whole 2*\n", Verdict::Syntax(4)),
+        ("whole *2\n", Verdict::Syntax(4)),
+        ("whole 1*1*2\n", Verdict::Syntax(4)),
+        ("whole --\n", Verdict::Syntax(4)),
+        ("whole\n", Verdict::Syntax(4)),
+        ("whole \n", Verdict::Syntax(4)),
+    ] {
+        let mut text = String::from_str(a, "safebound-stats 1 1\ntable x45 2\npair x58 x58\n")?;
+        text.push_str(line)?;
+        assert_eq!(rt; answer(a, E, text.as_str()), want, "at {line}");
+    }
+    for (line, want) in [
+        ("frequent x31 9\n", Verdict::Syntax(5)),
+        ("frequent x31 9*1\n", Verdict::Rule(5)),
+        ("frequent 9223372036854775808 -0\n", Verdict::Syntax(5)),
+        ("frequent 1 9*1\n", Verdict::Rule(5)),
+        ("frequent 1\n", Verdict::Syntax(5)),
+        ("endfoo\n", Verdict::Syntax(5)),
+    ] {
+        let mut text = String::from_str(
+            a,
+            "safebound-stats 1 1\ntable x45 0\npair x58 x58\nwhole -\n",
+        )?;
+        text.push_str(line)?;
+        assert_eq!(rt; answer(a, E, text.as_str()), want, "at {line}");
+    }
+    Ok(())
+}
+
+// A name beyond ASCII is spelled by its bytes in UTF-8: C3 84.
+#[test]
+fn byte_names(rt: HostRuntime) -> Result<(), Fail> {
+    let a = rt.alloc();
+    let schema = "CREATE TABLE E (\"\u{c4}\" INTEGER NOT NULL);";
+    for (line, want) in [
+        ("pair xc384 xc384\nwhole -\nrest -\nend\n", Verdict::Read),
+        ("pair xC384 xc384\n", Verdict::Syntax(3)),
+        ("pair xc4 xc4\n", Verdict::Rule(3)),
+        ("pair xc384 xe4\n", Verdict::Rule(3)),
+    ] {
+        let mut text = String::from_str(a, "safebound-stats 1 1\ntable x45 0\n")?;
+        text.push_str(line)?;
+        assert_eq!(rt; answer(a, schema, text.as_str()), want, "at {line}");
+    }
+    Ok(())
+}
+
+// Pairs ascend in the order in which columns are declared, which isn't that of their names' bytes.
+#[test]
+fn declared_order(rt: HostRuntime) -> Result<(), Fail> {
+    let a = rt.alloc();
+    let schema = "CREATE TABLE E (B INTEGER NOT NULL, A INTEGER NOT NULL);";
+    for (pairs, want) in [
+        (
+            "pair x42 x42\nwhole -\nrest -\npair x42 x41\nwhole -\nrest -\npair x41 x42\nwhole -\nrest -\nend\n",
+            Verdict::Read,
+        ),
+        (
+            "pair x41 x42\nwhole -\nrest -\npair x42 x42\n",
+            Verdict::Rule(6),
+        ),
+        (
+            "pair x42 x41\nwhole -\nrest -\npair x42 x42\n",
+            Verdict::Rule(6),
+        ),
+        (
+            "pair x42 x42\nwhole -\nrest -\npair x42 x42\n",
+            Verdict::Rule(6),
+        ),
+    ] {
+        let mut text = String::from_str(a, "safebound-stats 1 1\ntable x45 0\n")?;
+        text.push_str(pairs)?;
+        assert_eq!(rt; answer(a, schema, text.as_str()), want, "at {pairs}");
+    }
+    Ok(())
+}
+
+fn push_times(text: &mut String, count: usize, line: &str) -> Result<(), AllocError> {
+    for _ in 0..count {
+        text.push_str(line)?;
+    }
+    Ok(())
+}
+
+// A table of two rows with one pair, whose columns are both X, and further lines. These begin at line 101.
+fn two_rows(alloc: Global, more: &str) -> Result<String, AllocError> {
+    let mut text = String::from_str(
+        alloc,
+        "safebound-stats 1 1\ntable x52 2\npair x58 x58\nwhole 2*1\nrest 1*1\n",
+    )?;
+    push_times(&mut text, 32, "cut 1\n")?;
+    push_times(&mut text, 63, "node 1*1\n")?;
+    text.push_str(more)?;
+    Ok(text)
+}
+
+// 2.15: the later of two pairs with a column in common fails at its line that differs.
+#[test]
+fn later_pairs(rt: HostRuntime) -> Result<(), Fail> {
+    let a = rt.alloc();
+    for (more, want) in [
+        ("pair x59 x58\nwhole 1*2\n", Verdict::Rule(102)),
+        ("pair x59 x58\nwhole 2*1\n", Verdict::Syntax(103)),
+        (
+            "pair x58 x59\nwhole 1*2\nfrequent 1 -\n",
+            Verdict::Rule(103),
+        ),
+        ("pair x58 x59\nwhole 1*2\nrest -\n", Verdict::Rule(103)),
+        ("pair x58 x59\nwhole 1*2\nrest 1*2\n", Verdict::Rule(103)),
+        (
+            "pair x58 x59\nwhole 1*2\nrest 1*1\ncut 2\n",
+            Verdict::Rule(104),
+        ),
+        (
+            "pair x58 x59\nwhole 1*2\nrest 1*1\ncut 1\n",
+            Verdict::Syntax(105),
+        ),
+    ] {
+        let text = two_rows(a, more)?;
+        assert_eq!(rt; answer(a, TWO, text.as_str()), want, "at {more}");
+    }
+    for (node, want) in [
+        ("node -\n", Verdict::Rule(136)),
+        ("node 2*1\n", Verdict::Rule(136)),
+        ("node 1*1\n", Verdict::Syntax(137)),
+    ] {
+        let mut text = two_rows(a, "pair x58 x59\nwhole 1*2\nrest 1*1\n")?;
+        push_times(&mut text, 32, "cut 1\n")?;
+        text.push_str(node)?;
+        assert_eq!(rt; answer(a, TWO, text.as_str()), want, "at {node}");
+    }
+    Ok(())
+}
+
+// So many empty nodes, and then one that isn't.
+fn push_nodes(text: &mut String, empty: usize, node: &str) -> Result<(), AllocError> {
+    push_times(text, empty, "node -\n")?;
+    text.push_str(node)
+}
+
+// The statistics of R(X) with 1, 1, 1, 2, 2, 3. The values lie in the leaves 15, 26 and 31.
+fn one_two_three(alloc: Global) -> Result<String, AllocError> {
+    let mut text = String::from_str(
+        alloc,
+        "safebound-stats 1 1\ntable x52 6\npair x58 x58\nwhole 3*2\nfrequent 1 3*1\nfrequent 2 2*1\nfrequent 3 1*1\nrest -\n",
+    )?;
+    push_times(&mut text, 16, "cut 1\n")?;
+    push_times(&mut text, 11, "cut 2\n")?;
+    push_times(&mut text, 5, "cut 3\n")?;
+    // leaves, two of them, four
+    push_nodes(&mut text, 15, "node 3*1\n")?;
+    push_nodes(&mut text, 10, "node 2*1\n")?;
+    push_nodes(&mut text, 4, "node 1*1\n")?;
+    push_nodes(&mut text, 7, "node 3*1\n")?;
+    push_nodes(&mut text, 5, "node 2*1\n")?;
+    push_nodes(&mut text, 1, "node 1*1\n")?;
+    push_nodes(&mut text, 3, "node 3*1\n")?;
+    push_nodes(&mut text, 2, "node 2*1\nnode 1*1\n")?;
+    // eight, sixteen, all
+    push_nodes(&mut text, 1, "node 3*1\n")?;
+    push_nodes(&mut text, 1, "node 2*1 1*1\n")?;
+    text.push_str("node 3*1\nnode 2*1 1*1\nnode 3*2\nend\n")?;
+    Ok(text)
+}
+
+#[test]
+fn file_of_six_rows(rt: HostRuntime) -> Result<(), Fail> {
+    let a = rt.alloc();
+    let text = one_two_three(a)?;
+    assert_eq!(rt;
+        answer(a, "CREATE TABLE R (X INTEGER NOT NULL);", text.as_str()),
+        Verdict::Read
+    );
+    assert_eq!(rt; text.as_str().lines().count(), 8 + 32 + 63 + 1);
+    Ok(())
+}

@@ -1,5 +1,5 @@
 -- Numerals and their values.
-use Rattle.std.proofs.Common.{[], ◌≡◌, ◌≢◌, ℕ, suc, ◌+◌, ◌*◌, ◌-◌, ◌^◌, ◌<◌, ◌≤◌, true, false, ◌||◌, ◌&&◌, ◌==◌, List, ◌∷◌, length, get_or, drop, refl, ap, sym, subst, ◌∙◌, arith, rules, Option, None, Some}
+use Rattle.std.proofs.Common.{[], ◌≡◌, ◌≢◌, ℕ, suc, ◌+◌, ◌*◌, ◌-◌, ◌^◌, ◌<◌, ◌≤◌, true, false, ◌||◌, ◌&&◌, ◌==◌, List, ◌∷◌, length, get_or, drop, refl, ap, sym, subst, ◌∙◌, arith, rules, Bool, Option, None, Some}
 use Rattle.std.specs.Prelude.{ℤ, pos, negsuc, decimal, FitsSigned, nat_lt, option_map}
 use Rattle.std.specs.Char.{digit_value, is_ascii_digit}
 use Rattle.std.specs.Fmt.{signed_decimal}
@@ -24,13 +24,46 @@ pub at_least : (n : ℕ) (ds : List ℕ) → n ≤ digits_value_after 10 n ds
 at_least n [] = omega arith
 at_least n (c ∷ cs) = let h = at_least (n * 10 + digit_value c) cs in omega arith
 
+-- a digit's value
+digit_is : (c : ℕ) → is_ascii_digit c ≡ true → digit_value c ≡ c - 48
+digit_is c is =
+    let range = digit_at (c ∷ []) 0 (own.to (c ∷ []) (rw is refl)) (omega arith) in
+    omega (arith, digit_value_digit c range)
+
 -- one more digit is read
-pub next_value : (ds : List ℕ) (i v : ℕ) → list_all is_ascii_digit ds ≡ true → i < length ds
+pub next_value : (ds : List ℕ) (i v : ℕ) → i < length ds → is_ascii_digit (get_or ds i 0) ≡ true
     → digits_value_after 10 v (drop i ds) ≡ digits_value_after 10 (10 * v + (get_or ds i 0 - 48)) (drop (i + 1) ds)
-next_value ds i v are lt =
-    let range = digit_at ds i (own.to ds are) lt in
-    let e : v * 10 + digit_value (get_or ds i 0) ≡ 10 * v + (get_or ds i 0 - 48) = omega (arith, digit_value_digit (get_or ds i 0) range) in
+next_value ds i v lt is =
+    let e : v * 10 + digit_value (get_or ds i 0) ≡ 10 * v + (get_or ds i 0 - 48) = omega (arith, digit_is (get_or ds i 0) is) in
     at_drop_more (digits_value_after 10 v) ds i 0 lt ∙ ap (λ n. digits_value_after 10 n (drop (i + 1) ds)) e
+
+-- a value so far, the byte at i, and those behind it
+pub record Reads (ds : List ℕ) (i v : ℕ) : Type 0 where
+  pub value : digits_value_after 10 v (drop i ds) ≡ digits_value 10 ds
+  pub digits : list_all is_ascii_digit (drop i ds) ≡ list_all is_ascii_digit ds
+
+rest_digits : (ds : List ℕ) (i : ℕ) → i < length ds → is_ascii_digit (get_or ds i 0) ≡ true
+    → list_all is_ascii_digit (drop i ds) ≡ list_all is_ascii_digit (drop (i + 1) ds)
+rest_digits ds i lt is = at_drop_more (list_all is_ascii_digit) ds i 0 lt ∙ rw is refl
+
+pub read_more : (ds : List ℕ) (i v next : ℕ) → i < length ds → is_ascii_digit (get_or ds i 0) ≡ true
+    → next ≡ 10 * v + (get_or ds i 0 - 48) → Reads ds i v → Reads ds (i + 1) next
+read_more ds i v next lt is e h = record {
+  value = ap (λ n. digits_value_after 10 n (drop (i + 1) ds)) e ∙ sym (next_value ds i v lt is) ∙ h.value;
+  digits = sym (rest_digits ds i lt is) ∙ h.digits;
+}
+
+-- a byte that is no digit, or a value that is too large: so it is with the whole
+pub read_none : (ds : List ℕ) (i v most : ℕ) → i < length ds
+    → ((is_ascii_digit (get_or ds i 0) ≡ true) × (10 * v + (get_or ds i 0 - 48) ≤ most) → ⊥) → Reads ds i v
+    → (list_all is_ascii_digit ds ≡ true) × (digits_value 10 ds ≤ most) → ⊥
+read_none ds i v most lt stops h (all, le) =
+    let here : is_ascii_digit (get_or ds i 0) && list_all is_ascii_digit (drop (i + 1) ds) ≡ true =
+    sym (at_drop_more (list_all is_ascii_digit) ds i 0 lt) ∙ h.digits ∙ all in
+    let is = (and_parts (is_ascii_digit (get_or ds i 0)) (list_all is_ascii_digit (drop (i + 1) ds)) here).0 in
+    let more = at_least (10 * v + (get_or ds i 0 - 48)) (drop (i + 1) ds) in
+    let whole = next_value ds i v lt is in
+    stops (is, omega (arith, more, whole, h.value))
 
 -- a numeral has digits alone, at least one, and a zero in front only where nothing follows it
 parts_of : (d : ℕ) (ds : List ℕ) → is_numeral (d ∷ ds) ≡ true
@@ -71,6 +104,23 @@ pub not_spelled : (word : List ℕ) (most : ℕ) → most < 2 ^ 64 → is_numera
 not_spelled word most small not_so n le e =
     let is : is_numeral word ≡ true = subst (λ (w : List ℕ). is_numeral w ≡ true) e (numeral n (omega arith)) in
     absurd (cc)
+
+-- what is read of a word that may be a numeral
+pub number_read : (word : List ℕ) (most : ℕ) (lead : Bool) (r : Option ℕ) → most < 2 ^ 64 → is_numeral word ≡ (list_all is_ascii_digit word && lead) → lead ≡ true
+    → SomeIff r ((list_all is_ascii_digit word ≡ true) × (digits_value 10 word ≤ most)) (digits_value 10 word) → Spells decimal (λ n. n ≤ most) word r
+number_read word most lead None small whole leads stops = λ n le e.
+    let is : is_numeral word ≡ true = subst (λ (w : List ℕ). is_numeral w ≡ true) e (numeral n (omega arith)) in
+    spelled word most None small is (λ within. stops (are_digits word is, within)) n le e
+number_read word most lead (Some n) small whole leads (both, at') =
+    spelled word most (Some n) small (whole ∙ and_from (list_all is_ascii_digit word) lead both.0 leads) (both.1, at')
+
+never : (a lead : Bool) → lead ≡ false → (a && lead) ≡ false
+never true lead e = e
+never false lead e = refl
+
+pub none_read : (word : List ℕ) (most : ℕ) (lead : Bool) → most < 2 ^ 64 → is_numeral word ≡ (list_all is_ascii_digit word && lead) → lead ≡ false
+    → Spells decimal (λ n. n ≤ most) word None
+none_read word most lead small whole leads = not_spelled word most small (whole ∙ never (list_all is_ascii_digit word) lead leads)
 
 no_dash : (n : ℕ) (rest : List ℕ) → n < 2 ^ 64 → decimal n ≢ 45 ∷ rest
 no_dash n rest small e =

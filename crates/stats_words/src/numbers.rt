@@ -1,5 +1,5 @@
 //! Numbers, with a sign and without.
-ghost use Rattle.std.specs.Prelude.{◌≡◌, ◌≢◌, ◌<◌, ◌≤◌, ◌&&◌, ◌||◌, ◌==◌, ◌↔◌, ◌∷◌, nat_lt, true, length, codes, decimal, slice_index, FitsSigned, IsTrue};
+ghost use Rattle.std.specs.Prelude.{◌≡◌, ◌≢◌, ◌+◌, ◌*◌, ◌-◌, ◌<◌, ◌≤◌, ◌&&◌, ◌||◌, ◌==◌, ◌↔◌, ◌∷◌, nat_lt, true, length, codes, decimal, slice_index, FitsSigned, IsTrue};
 ghost use Rattle.std.specs.Char.{is_ascii_digit as digit_test};
 ghost use Rattle.std.specs.Fmt.{signed_decimal};
 ghost use Rattle.std.specs.Int.{w64};
@@ -32,26 +32,50 @@ pub fn is_numeral(word: &[u8]) -> bool
     }
 }
 
-// The number that digits spell, where it is at most so much.
-fn value_within(digits: &[u8], most: u64) -> Option<u64>
-    requires { list_all digit_test digits.now ≡ true }
-    ensures { SomeIff result (digits_value 10 digits.now ≤ most) (digits_value 10 digits.now) }
+// Whether a word that consists of digits is a numeral: one digit at least, and no zero in front of others.
+fn may_lead(word: &[u8]) -> bool
+    ensures { numeral_test word.now ≡ (list_all digit_test word.now && result) }
 {
-    let mut value: u128 = 0;
-    for digit in digits {
-        value = 10 * value + u128::from(*digit - b'0');
-        if value > u128::from(most) {
-            return None;
-        }
+    match word {
+        [] => false,
+        [first, others @ ..] => *first > b'0' || others.is_empty(),
     }
-    Some(value as u64)
+}
+
+// A value with one more digit, where the byte is one and this is at most so much.
+fn next_value(value: u64, byte: u8, most: u64) -> Option<u64>
+    ensures { SomeIff result ((digit_test byte ≡ true) × (10 * value + (byte - 48) ≤ most)) (10 * value + (byte - 48)) }
+{
+    if !byte.is_ascii_digit() {
+        return None;
+    }
+    let next = 10 * u128::from(value) + u128::from(byte - b'0');
+    if next <= u128::from(most) {
+        Some(next as u64)
+    } else {
+        None
+    }
+}
+
+// The number that a word's digits spell, where it has nothing else and the number is at most so much.
+fn value_within(word: &[u8], most: u64) -> Option<u64>
+    ensures { SomeIff result ((list_all digit_test word.now ≡ true) × (digits_value 10 word.now ≤ most)) (digits_value 10 word.now) }
+{
+    let mut value: u64 = 0;
+    for byte in word {
+        let Some(next) = next_value(value, *byte, most) else {
+            return None;
+        };
+        value = next;
+    }
+    Some(value)
 }
 
 /// The number that a numeral spells, where it is at most so much.
 pub fn number(word: &[u8], most: u64) -> Option<u64>
     ensures { Spells decimal (λ n. n ≤ most) word.now result }
 {
-    if !is_numeral(word) {
+    if !may_lead(word) {
         return None;
     }
     value_within(word, most)

@@ -3,6 +3,7 @@ use Rattle.std.specs.Prelude.{All}
 use Rattle.stats_file.specs.declared.types.Pair.{Pair}
 use Rattle.stats_file.specs.Rules.{StandsBefore}
 use Rattle.stats_reading.specs.Drafts.{empty_pair}
+use Rattle.stats_reading.proofs.Ascending.{none_later}
 use Rattle.stats_reading.proofs.PlaceFacts.{column_within, no_pair, some_pair}
 use Rattle.stats_reading.proofs.begins.take_pair.Goals as goal
 
@@ -10,7 +11,7 @@ pub returns-then-not-is_later : goal.returns-then-not-is_later
 returns-then-not-is_later c =
     let i = c.in-Some.filter in
     let j = c.in-Some-column_place.joined in
-    no_pair c.args.table.now c.args.draft.now c.args.filter.now c.args.joined.now i j c.requires c.in-Some.ensures c.in-Some-column_place.ensures
+    no_pair c.args.table.now c.args.draft.now c.args.filter.now c.args.joined.now i j c.requires.valid c.in-Some.ensures c.in-Some-column_place.ensures
     (λ all. let told = c.is_later.ensures.1 (subst (λ (ps : List Pair). All (λ q. StandsBefore q (empty_pair i j)) ps) (sym c.as_slice.ensures) all) in cc)
 
 pub overflow_cast-filter-2 : goal.overflow_cast-filter-2
@@ -24,8 +25,13 @@ overflow_cast-joined-2 c =
     column_within c.args.table.now c.args.joined.now c.in-Some-column_place.joined c.in-Some-column_place.ensures in
     omega arith
 
-pub begin_pair-requires : goal.begin_pair-requires
-begin_pair-requires c = column_within c.args.table.now c.args.filter.now c.in-Some.filter c.in-Some.ensures
+pub begin_pair-requires-clause-later : goal.begin_pair-requires-clause-later
+begin_pair-requires-clause-later c =
+    none_later c.args.draft.now.section.pairs c.in-Some.filter c.in-Some-column_place.joined
+    (subst (λ (ps : List Pair). All (λ q. StandsBefore q (empty_pair c.in-Some.filter c.in-Some-column_place.joined)) ps) c.as_slice.ensures (c.is_later.ensures.0 (cc)))
+
+pub begin_pair-requires-clause-within : goal.begin_pair-requires-clause-within
+begin_pair-requires-clause-within c = column_within c.args.table.now c.args.filter.now c.in-Some.filter c.in-Some.ensures
 
 pub returns : goal.returns
 returns c =

@@ -8,7 +8,7 @@ use Rattle.stats_reading.proofs.begins.take_table.Goals as goal
 pub returns-then-not-is_later_table : goal.returns-then-not-is_later_table
 returns-then-not-is_later_table c =
     let i = c.in-Some.place in
-    no_table c.args.schema.now c.args.draft.now c.args.name.now c.args.rows.now i c.requires c.in-Some.ensures
+    no_table c.args.schema.now c.args.draft.now c.args.name.now c.args.rows.now i c.requires.valid c.in-Some.ensures
     (λ all. let told = c.is_later_table.ensures.1 (subst (λ (ts : List TableStats). All (λ t. t.table < i) ts) (sym c.as_slice.ensures) all) in cc)
 
 pub overflow_cast-place-2 : goal.overflow_cast-place-2

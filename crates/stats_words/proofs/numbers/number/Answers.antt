@@ -1,14 +1,11 @@
-use Rattle.std.proofs.Common.{◌≡◌, true, false, arith, rules}
-use Rattle.stats_file.specs.Grammar.{is_numeral}
-use Rattle.stats_words.proofs.NumberFacts.{not_spelled, spelled}
+use Rattle.std.proofs.Common.{arith}
+use Rattle.stats_words.proofs.NumberFacts.{none_read, number_read}
 use Rattle.stats_words.proofs.numbers.number.Goals as goal
 
-pub returns-then-not-is_numeral : goal.returns-then-not-is_numeral
-returns-then-not-is_numeral c =
-    let isnt : is_numeral c.args.word.now ≡ false = search rules in
-    not_spelled c.args.word.now c.args.most (omega (arith, c.ranges.most)) isnt
+pub returns-then-not-may_lead : goal.returns-then-not-may_lead
+returns-then-not-may_lead c =
+    none_read c.args.word.now c.args.most c.may_lead.result (omega (arith, c.ranges.most)) c.may_lead.ensures (cc)
 
 pub returns : goal.returns
 returns c =
-    let is : is_numeral c.args.word.now ≡ true = search rules in
-    spelled c.args.word.now c.args.most c.value_within.result (omega (arith, c.ranges.most)) is c.value_within.ensures
+    number_read c.args.word.now c.args.most c.may_lead.result c.value_within.result (omega (arith, c.ranges.most)) c.may_lead.ensures (cc) c.value_within.ensures

@@ -1,6 +1,0 @@
-use Rattle.std.proofs.Common.{◌≢◌, ℕ, ◌<◌, get_or}
-use Rattle.stats_file.specs.declared.types.Pair.{Pair}
-use Rattle.stats_reading.proofs.begins.place_of_filter.Given as goal
-
-abbrev pub invariant-loop-i : goal.invariant-loop-i
-invariant-loop-i l = (k : ℕ) (d : Pair) → k < l.i → (get_or l.pairs k d).filter ≢ l.filter

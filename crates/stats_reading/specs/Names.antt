@@ -1,0 +1,10 @@
+-- Names of columns.
+use Rattle.std.specs.Prelude.{All}
+use Rattle.schema_types.specs.declared.types.Column.{Column}
+use Rattle.schema_types.specs.declared.types.Schema.{Schema}
+use Rattle.schema_types.specs.declared.types.Table.{Table}
+use Rattle.stats_file.specs.Bytes.{AreBytes}
+
+-- the names of columns consist of bytes, as those of every schema that a program holds
+abbrev pub HasByteColumns : Schema → Type 0
+HasByteColumns schema = All (λ (table : Table). All (λ (column : Column). AreBytes column.name) table.columns) schema.tables
