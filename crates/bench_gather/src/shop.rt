@@ -6,14 +6,13 @@ ghost use Rattle.sql_meaning.specs.Databases.{IsDatabaseOf};
 use base_io::MemStore;
 use csv_tables::Database;
 use demo_files::demo_store;
+use limits::MOST_TEXT;
 use outcomes::{Ending, FileId};
 use query_types::Query;
 use schema_types::read_schema;
 use sql_parse::read_query;
 use std::alloc::Global;
 use table_files::{load_file, read_tables};
-
-const TEXT_BYTES: u32 = 1_048_576;
 
 /// A query, and the database of its tables.
 #[derive(Drop)]
@@ -27,9 +26,9 @@ fn read(alloc: Global, store: &mut MemStore) -> Result<Shop, Ending>
     ensures database { IfOk result (λ shop. IsDatabaseOf shop.query shop.db) }
     ensures texts { IfOk result (λ shop. HaveDifferentCharacters shop.db.pool) }
 {
-    let text = load_file(alloc, store, FileId::Schema, "schema.sql", TEXT_BYTES)?;
+    let text = load_file(alloc, store, FileId::Schema, "schema.sql", MOST_TEXT)?;
     let schema = read_schema(alloc, text.as_slice())?;
-    let text = load_file(alloc, store, FileId::Query, "query.sql", TEXT_BYTES)?;
+    let text = load_file(alloc, store, FileId::Query, "query.sql", MOST_TEXT)?;
     let query = read_query(alloc, &schema, text.as_slice())?;
     let db = read_tables(alloc, store, &schema, &query)?;
     Ok(Shop { query, db })

@@ -1,6 +1,5 @@
 -- The records of the rows text, line by line.
-use Rattle.std.specs.Prelude.{◌≡◌, ℕ, ◌<◌, List, [], ◌∷◌, ◌++◌, length, map, slice_index, ⊤}
-use Rattle.std.specs.List.{flat_map}
+use Rattle.std.specs.Prelude.{◌≡◌, ℕ, ◌<◌, List, ◌∷◌, length, map, slice_index, ⊤}
 use Rattle.csv_tables.specs.declared.types.Database.{Database}
 use Rattle.row_printer.specs.Fields.{field_text, fields_text, record_text}
 use Rattle.sql_meaning.specs.Conditions.{column_value}
@@ -42,7 +41,3 @@ line_at outs tables l = record_text (map (field_at tables l) outs)
 -- the record of the outputs where each entry has its row of a choice
 abbrev pub choice_text : List Out → Tables → List ℕ → List ℕ
 choice_text outs tables rows = record_text (map (field_of tables rows) outs)
-
--- the header, and then the records of these rows of the one entry
-abbrev pub lines_at : List Out → Tables → List ℕ → List ℕ
-lines_at outs tables rows = line_at outs tables line.Header ++ flat_map (λ row. choice_text outs tables (row ∷ [])) rows

@@ -1,11 +1,11 @@
-//! The texts that a run prints: the plan text, the rows text, and the line that tells a status. Nothing here
-//! takes memory, so nothing here can want it.
+//! The texts that a run prints: the plan text, the records of the rows text, and the line that tells a status.
+//! Nothing here takes memory, so nothing here can want it.
 //!
-//! In come a plan, the entries of a query, a database and the rows to print; or a status, and what its line may
-//! name. Callers cite `plan_lines` and `audit_lines` (in `specs/Plans.antt`), `rows_lines` and `lines_at` (in
+//! In come a plan, the entries of a query, a database and the rows of a choice; or a status, and what its line may
+//! name. Callers cite `plan_lines` and `audit_lines` (in `specs/Plans.antt`), `rows_lines` and `choice_text` (in
 //! `specs/Texts.antt` and `specs/Lines.antt`) and `fault_line` (in `specs/Faults.antt`). Each writing call has one
 //! clause, `Wrote`: it leaves a prefix of its text where the sink fails, as `write_line(status, names, notes)` does.
-//! `put_line` and `alias_at` are parts for texts over several entries.
+//! `put_line` and `alias_at` are parts of which joined_texts makes the rows and audit texts.
 #![tactic(auto)]
 
 mod fault_lines;
@@ -15,4 +15,4 @@ mod rows;
 
 pub use fault_lines::{Named, write_line};
 pub use plan::{alias_at, write_plan};
-pub use rows::{Line, put_line, write_rows};
+pub use rows::{Line, put_line};

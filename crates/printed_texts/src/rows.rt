@@ -1,13 +1,13 @@
-//! The rows text. Nothing here takes memory.
-ghost use Rattle.std.specs.Prelude.{◌≡◌, ◌≤◌, ◌<◌, ◌∷◌, [], All, length};
+//! The records of the rows text. Nothing here takes memory.
+ghost use Rattle.std.specs.Prelude.{◌≡◌, ◌≤◌, All, length};
 ghost use Rattle.std.specs.List.{flat_map};
 ghost use Rattle.outcomes.specs.Devices.{growth};
-ghost use Rattle.outcomes.specs.Writes.{Put, Wrote};
+ghost use Rattle.outcomes.specs.Writes.{Put};
 ghost use Rattle.row_printer.specs.Fields.{field_text, lone_field_text};
 ghost use Rattle.sql_meaning.specs.Databases.{AreTables, IsColumnOf};
-ghost use Rattle.sql_meaning.specs.Seen.{value_seen};
+ghost use Rattle.sql_meaning.specs.ValueRefs.{value_of_ref};
 ghost use Rattle.sql_meaning.specs.Tables.{tables_of};
-ghost use Rattle.printed_texts.specs.Lines.{IsChoice, IsLineOf, choice_text, field_at, fields_at, line_at, lines_at, next_field};
+ghost use Rattle.printed_texts.specs.Lines.{IsLineOf, field_at, fields_at, line_at, next_field};
 ghost use Rattle.printed_texts.specs.Texts.{value_text};
 
 use base_io::{Buffer, Failed, Sink};
@@ -28,7 +28,7 @@ fn field<'a>(out: &'a Out, line: Line, db: &'a Database) -> ValueRef<'a>
     requires tables { AreTables db.now }
     requires column { IsColumnOf db.now out.now.column }
     requires line { IsLineOf db.now line }
-    ensures { value_text (value_seen result) ≡ field_at (tables_of db.now) line.entry out.now }
+    ensures { value_text (value_of_ref result) ≡ field_at (tables_of db.now) line.entry out.now }
 {
     match line {
         Line::Header => ValueRef::Text(out.name.as_str()),
@@ -38,7 +38,7 @@ fn field<'a>(out: &'a Out, line: Line, db: &'a Database) -> ValueRef<'a>
 
 fn put_value<N: Sink>(value: ValueRef, buffer: &mut Buffer, sink: &mut N) -> Result<(), Failed>
     ensures { Put (growth N.taken N.faults sink.old sink.new) buffer.old buffer.new
-        (field_text (value_text (value_seen value.entry))) result }
+        (field_text (value_text (value_of_ref value.entry))) result }
 {
     match value {
         ValueRef::Int(number) => {
@@ -52,7 +52,7 @@ fn put_value<N: Sink>(value: ValueRef, buffer: &mut Buffer, sink: &mut N) -> Res
 // The same of a record's only field.
 fn put_lone_value<N: Sink>(value: ValueRef, buffer: &mut Buffer, sink: &mut N) -> Result<(), Failed>
     ensures { Put (growth N.taken N.faults sink.old sink.new) buffer.old buffer.new
-        (lone_field_text (value_text (value_seen value.entry))) result }
+        (lone_field_text (value_text (value_of_ref value.entry))) result }
 {
     match value {
         ValueRef::Int(number) => {
@@ -158,59 +158,4 @@ pub fn put_line<N: Sink>(
 {
     put_fields(outs, line, db, buffer, sink)?;
     put_record_end(buffer, sink)
-}
-
-// The record of a row of the one entry.
-fn put_row<N: Sink>(
-    outs: &[Out],
-    row: u32,
-    db: &Database,
-    buffer: &mut Buffer,
-    sink: &mut N,
-) -> Result<(), Failed>
-    requires tables { AreTables db.now }
-    requires columns { All (λ out. IsColumnOf db.now out.column) outs.now }
-    requires row { IsChoice db.now (row ∷ []) }
-    ensures { Put (growth N.taken N.faults sink.old sink.new) buffer.old buffer.new (choice_text outs.now (tables_of db.now) (row
-        ∷ [])) result }
-{
-    put_line(outs, Line::Rows(&[row]), db, buffer, sink)
-}
-
-// A record for each of these rows.
-fn put_rows<N: Sink>(
-    outs: &[Out],
-    rows: &[u32],
-    db: &Database,
-    buffer: &mut Buffer,
-    sink: &mut N,
-) -> Result<(), Failed>
-    requires tables { AreTables db.now }
-    requires columns { All (λ out. IsColumnOf db.now out.column) outs.now }
-    requires rows { All (λ row. IsChoice db.now (row ∷ [])) rows.now }
-    ensures { Put (growth N.taken N.faults sink.old sink.new) buffer.old buffer.new (flat_map
-        (λ row. choice_text outs.now (tables_of db.now) (row ∷ [])) rows.now) result }
-{
-    'rows: for row in rows {
-        put_row(outs, *row, db, buffer, sink)?;
-    }
-    Ok(())
-}
-
-/// Writes the rows text: a header of the outputs' names, and a record for each of these rows of the one entry.
-pub fn write_rows<N: Sink>(
-    outs: &[Out],
-    rows: &[u32],
-    db: &Database,
-    sink: &mut N,
-) -> Result<(), Failed>
-    requires tables { AreTables db.now }
-    requires columns { All (λ out. IsColumnOf db.now out.column) outs.now }
-    requires rows { All (λ row. IsChoice db.now (row ∷ [])) rows.now }
-    ensures { Wrote (growth N.taken N.faults sink.old sink.new) (lines_at outs.now (tables_of db.now) rows.now) result }
-{
-    let mut buffer = Buffer::new();
-    put_line(outs, Line::Header, db, &mut buffer, sink)?;
-    put_rows(outs, rows, db, &mut buffer, sink)?;
-    buffer.flush(sink)
 }

@@ -21,7 +21,7 @@ use Rattle.outcomes.specs.Reads.{◌>>=◌, Tells, told}
 use Rattle.outcomes.specs.declared.refusal.Refusal.{Refusal}
 use Rattle.planning.specs.Plans.{planned}
 use Rattle.sql_meaning.specs.Tables.{Tables}
-use Rattle.table_files.specs.Found.{tables_in}
+use Rattle.table_files.specs.EntryTables.{tables_in}
 use Rattle.safebound_top.specs.Accepted.{Accepted}
 use Rattle.safebound_top.specs.Asks.{Ask}
 use Rattle.safebound_top.specs.Verdict.{plan_asked, plan_stage}

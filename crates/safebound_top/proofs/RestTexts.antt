@@ -13,7 +13,7 @@ use Rattle.reduced_scans.specs.Rounds.{reduced_of}
 use Rattle.reduced_bounds.specs.Plans.{list_levels}
 use Rattle.printed_texts.specs.Plans.{audit_lines}
 use Rattle.printed_texts.specs.Texts.{rows_lines}
-use Rattle.table_files.specs.Found.{entry_rows, tables_in}
+use Rattle.table_files.specs.EntryTables.{entry_rows, tables_in}
 use Rattle.safebound_top.specs.Prepared.{IsPlanBy, are_reduced, text_from, text_left}
 use Rattle.safebound_top.specs.Texts.{out_text_of}
 use Rattle.safebound_top.specs.declared.prepare.Rest.{Rest}

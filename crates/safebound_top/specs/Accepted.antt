@@ -11,7 +11,7 @@ use Rattle.sql_meaning.specs.Tables.{Tables, row_counts}
 use Rattle.reduced_scans.specs.Families.{list_at}
 use Rattle.reduced_scans.specs.Rounds.{reduced_of}
 use Rattle.reduced_bounds.specs.Plans.{list_levels}
-use Rattle.table_files.specs.Found.{tables_in}
+use Rattle.table_files.specs.EntryTables.{tables_in}
 use Rattle.safebound_top.specs.declared.task.OutText.{OutText}
 
 -- a query, for each of its FROM entries the rows of its table, its plan, whether that is over reduced scans, and which text goes to out

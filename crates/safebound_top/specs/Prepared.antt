@@ -16,7 +16,7 @@ use Rattle.reduced_scans.specs.Rounds.{reduced_of}
 use Rattle.reserve_plan.specs.declared.reserved.Reserved.{Reserved}
 use Rattle.sql_meaning.specs.Databases.{IsDatabaseOf}
 use Rattle.sql_meaning.specs.Tables.{Tables, tables_of}
-use Rattle.table_files.specs.Found.{entry_rows, tables_in}
+use Rattle.table_files.specs.EntryTables.{entry_rows, tables_in}
 use Rattle.safebound_top.specs.Accepted.{Accepted}
 use Rattle.safebound_top.specs.declared.prepare.Prepared.{Prepared}
 use Rattle.safebound_top.specs.declared.prepare.Rest.{Rest}

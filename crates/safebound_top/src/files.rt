@@ -22,10 +22,8 @@ pub fn load_schema<S: Store>(alloc: Global, store: &mut S, name: &str) -> Result
     ensures reads { Reads (reading S.files S.faults S.misses store.old store.new) (schema_stage name.now) (AtFile FileId.Schema) result }
 {
     let text = load_file(alloc, store, FileId::Schema, name, MOST_TEXT)?;
-    match read_schema(alloc, text.as_slice()) {
-        Ok(schema) => Ok(schema),
-        Err(error) => Err(Ending::from(error)),
-    }
+    let schema = read_schema(alloc, text.as_slice())?;
+    Ok(schema)
 }
 
 /// Reads the query that the file of this name asks of a schema.
@@ -42,8 +40,6 @@ pub fn load_query<S: Store>(
         (AtFile FileId.Query) result }
 {
     let text = load_file(alloc, store, FileId::Query, name, MOST_TEXT)?;
-    match read_query(alloc, schema, text.as_slice()) {
-        Ok(query) => Ok(query),
-        Err(error) => Err(Ending::from(error)),
-    }
+    let query = read_query(alloc, schema, text.as_slice())?;
+    Ok(query)
 }

@@ -9,7 +9,7 @@ ghost use Rattle.query_types.specs.Validity.{IsOf};
 ghost use Rattle.schema_types.specs.Validity.{IsValid};
 ghost use Rattle.sql_meaning.specs.Databases.{IsDatabaseOf};
 ghost use Rattle.sql_meaning.specs.Tables.{tables_of};
-ghost use Rattle.table_files.specs.Found.{entry_rows, tables_in};
+ghost use Rattle.table_files.specs.EntryTables.{entry_rows, tables_in};
 ghost use Rattle.table_files.specs.Stage.{IsReached, tables_of_query};
 ghost use Rattle.safebound_top.specs.Asks.{asked};
 ghost use Rattle.safebound_top.specs.Prepared.{HasRoom, IsPlanBy, IsReady, accepted_of, text_left};

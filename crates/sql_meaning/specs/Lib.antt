@@ -4,5 +4,5 @@ pub mod Conditions
 pub mod Databases
 pub mod Examples
 pub mod Levels
-pub mod Seen
+pub mod ValueRefs
 pub mod Tables

@@ -5,7 +5,7 @@ ghost use Rattle.csv_tables.specs.Values.{Int};
 ghost use Rattle.sql_meaning.specs.Conditions.{column_value, operand_value};
 ghost use Rattle.query_types.specs.Named.{entries_of_operand};
 ghost use Rattle.sql_meaning.specs.Databases.{AreCells, AreTables, HasColumn, HaveRows, IsColumnOf};
-ghost use Rattle.sql_meaning.specs.Seen.{value_seen};
+ghost use Rattle.sql_meaning.specs.ValueRefs.{value_of_ref};
 ghost use Rattle.sql_meaning.specs.Tables.{cells_of, tables_of};
 
 use crate::values::ValueRef;
@@ -16,7 +16,7 @@ use schema_types::Kind;
 // The value of a cell: a number, or a text of the pool.
 fn read_cell<'a>(kind: Kind, pool: &'a Pool, cell: u64) -> ValueRef<'a>
     requires { IsCell pool.now kind cell }
-    ensures { value_seen result ≡ value_of_cell pool.now kind cell }
+    ensures { value_of_ref result ≡ value_of_cell pool.now kind cell }
 {
     match kind {
         Kind::Int => ValueRef::Int(value_of(cell)),
@@ -32,7 +32,7 @@ fn value_in<'a>(cells: &Cells, pool: &'a Pool, column: u32, row: u32) -> ValueRe
     requires cells { AreCells pool.now cells.now }
     requires column { column < length cells.now.kinds }
     requires row { row < cells.now.rows }
-    ensures { value_seen result ≡ slice_index_or (slice_index_or (rows_of_cells pool.now cells.now) row []) column (Int (pos 0)) }
+    ensures { value_of_ref result ≡ slice_index_or (slice_index_or (rows_of_cells pool.now cells.now) row []) column (Int (pos 0)) }
 {
     let kind = cells.kinds.as_slice()[column as usize];
     let cells = cells.columns.as_slice()[column as usize].as_slice();
@@ -45,7 +45,7 @@ pub fn value_of_column<'a>(column: &ColumnRef, db: &'a Database, rows: &[u32]) -
     requires column { IsColumnOf db.now column.now }
     requires places { length rows.now ≡ length db.now.slots }
     requires row { slice_index rows.now column.now.from < (cells_of db.now column.now.from).rows }
-    ensures { value_seen result ≡ column_value (tables_of db.now) (slice_index rows.now) column.now }
+    ensures { value_of_ref result ≡ column_value (tables_of db.now) (slice_index rows.now) column.now }
 {
     let from = column.from as usize;
     let slot = db.slots.as_slice()[from] as usize;
@@ -63,7 +63,7 @@ pub(crate) fn value_of_operand<'a>(
     requires column { HasColumn db.now operand.now }
     requires places { length rows.now ≡ length db.now.slots }
     requires rows { HaveRows db.now rows.now (entries_of_operand operand.now) }
-    ensures { value_seen result ≡ operand_value (tables_of db.now) (slice_index rows.now) operand.now }
+    ensures { value_of_ref result ≡ operand_value (tables_of db.now) (slice_index rows.now) operand.now }
 {
     match operand {
         Operand::Column(column) => value_of_column(column, db, rows),

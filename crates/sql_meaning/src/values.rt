@@ -5,7 +5,7 @@ ghost use Rattle.std.specs.Ordering.{nat_cmp};
 ghost use Rattle.std.specs.Str.{chars};
 ghost use Rattle.csv_tables.specs.Values.{value_cmp};
 ghost use Rattle.sql_meaning.specs.Conditions.{compares};
-ghost use Rattle.sql_meaning.specs.Seen.{value_seen};
+ghost use Rattle.sql_meaning.specs.ValueRefs.{value_of_ref};
 
 use query_types::Op;
 use std::cmp::Ordering;
@@ -26,7 +26,7 @@ fn compare_texts(a: &str, b: &str) -> Ordering
 
 /// The order of two values.
 pub(crate) fn compare_values(a: ValueRef, b: ValueRef) -> Ordering
-    ensures { result ≡ value_cmp (value_seen a.entry) (value_seen b.entry) }
+    ensures { result ≡ value_cmp (value_of_ref a.entry) (value_of_ref b.entry) }
 {
     match (a, b) {
         (ValueRef::Int(a), ValueRef::Int(b)) => a.cmp(&b),

@@ -26,7 +26,7 @@ use Rattle.query_types.specs.declared.types.Source.{Source}
 use Rattle.sql_meaning.specs.Databases as asked
 use Rattle.sql_meaning.specs.Tables.{cells_of}
 use Rattle.sql_meaning.proofs.ConditionFacts.{every_and, every_or, every_not, every_compare}
-use Rattle.table_files.specs.Found.{AreCellsOfEach, HasCells}
+use Rattle.table_files.specs.EntryTables.{AreCellsOfEach, HasCells}
 use Rattle.table_files.specs.Stage.{different, no_table, numbers_of, place_of, table_at, tables_of_query}
 use Rattle.table_files.proofs.EntryRows.{db, each_long, each_sound, has_cells, place_low, slot_is}
 use Rattle.table_files.proofs.PlaceFacts.{different_all, different_short}

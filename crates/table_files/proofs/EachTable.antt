@@ -21,7 +21,7 @@ use Rattle.outcomes.specs.declared.names.FileId.TheVariants as file
 use Rattle.outcomes.specs.declared.refusal.Refusal.{Refusal}
 use Rattle.outcomes.specs.declared.refusal.Refusal.TheVariants as refusal
 use Rattle.outcomes.proofs.ReadFacts.{Meets, joined, reads_as, then_gives, then_reads, then_stops}
-use Rattle.table_files.specs.Found.{AreCellsOfEach, rows_of_tables}
+use Rattle.table_files.specs.EntryTables.{AreCellsOfEach, rows_of_tables}
 use Rattle.table_files.specs.Stage.{IsReached, no_table, rows_of_each, table_at, table_rows}
 use Rattle.table_files.specs.TableFile.{file_rows}
 

@@ -14,7 +14,7 @@ use Rattle.csv_tables.specs.declared.types.Database.{Database}
 use Rattle.query_types.specs.declared.types.Source.{Source}
 use Rattle.sql_meaning.specs.Databases.{AreCells}
 use Rattle.sql_meaning.specs.Tables.{cells_of, no_cells, tables_of}
-use Rattle.table_files.specs.Found.{AreCellsOfEach, HasCells, entry_rows, rows_of_tables}
+use Rattle.table_files.specs.EntryTables.{AreCellsOfEach, HasCells, entry_rows, rows_of_tables}
 use Rattle.table_files.specs.Stage.{different, numbers_of, place_of, rows_by_entry, table_at, tables_of_query}
 use Rattle.table_files.proofs.PlaceFacts.{at_place, has_different, has_each, has_place}
 

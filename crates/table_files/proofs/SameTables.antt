@@ -12,7 +12,7 @@ use Rattle.csv_tables.specs.Rows.{Row}
 use Rattle.csv_tables.specs.declared.types.Database.{Database}
 use Rattle.query_types.specs.declared.types.Source.{Source}
 use Rattle.sql_meaning.specs.Tables.{no_cells, tables_of}
-use Rattle.table_files.specs.Found.{entry_rows, tables_in}
+use Rattle.table_files.specs.EntryTables.{entry_rows, tables_in}
 use Rattle.table_files.specs.Stage.{numbers_of, place_of, tables_of_query}
 
 -- FROM's first table is the first of its tables

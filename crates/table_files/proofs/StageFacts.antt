@@ -15,7 +15,7 @@ use Rattle.outcomes.specs.declared.ending.Ending.{Ending}
 use Rattle.outcomes.specs.declared.names.FileId.{FileId}
 use Rattle.outcomes.specs.declared.refusal.Refusal.{Refusal}
 use Rattle.outcomes.proofs.ReadFacts.{then_gives, then_stops}
-use Rattle.table_files.specs.Found.{AreCellsOfEach, HasCells, entry_rows, rows_of_tables}
+use Rattle.table_files.specs.EntryTables.{AreCellsOfEach, HasCells, entry_rows, rows_of_tables}
 use Rattle.table_files.specs.Stage.{IsReached, numbers_of, place_of, rows_by_entry, rows_of_each, tables_of_query, tables_stage}
 use Rattle.table_files.proofs.Asked.{database_is}
 use Rattle.table_files.proofs.EntryRows.{db, has_cells, rows_by_place}

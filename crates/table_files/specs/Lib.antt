@@ -1,4 +1,4 @@
 pub mod Examples
-pub mod Found
+pub mod EntryTables
 pub mod Stage
 pub mod TableFile

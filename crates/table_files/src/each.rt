@@ -4,7 +4,7 @@ ghost use Rattle.limits.specs.Profile.{most_rows};
 ghost use Rattle.outcomes.specs.Devices.{reading};
 ghost use Rattle.outcomes.specs.Reads.{Reads, seen};
 ghost use Rattle.schema_types.specs.Validity.{IsValid};
-ghost use Rattle.table_files.specs.Found.{AreCellsOfEach, rows_of_tables};
+ghost use Rattle.table_files.specs.EntryTables.{AreCellsOfEach, rows_of_tables};
 ghost use Rattle.table_files.specs.Stage.{IsReached, rows_of_each};
 
 use crate::table::load_table;

@@ -6,7 +6,7 @@
 //!
 //! Callers cite `tables_stage` (in `specs/Stage.antt`): for each entry the rows of its table, or the first
 //! refusal, as the schema, FROM and the files determine it; `IsReached` (there): to which files the stage
-//! comes; and `entry_rows` and `HasCells` (in `specs/Found.antt`): what a database has for each entry.
+//! comes; and `entry_rows` and `HasCells` (in `specs/EntryTables.antt`): what a database has for each entry.
 #![tactic(auto)]
 
 mod each;

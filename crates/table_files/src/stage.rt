@@ -8,7 +8,7 @@ ghost use Rattle.query_types.specs.Validity.{IsOf};
 ghost use Rattle.schema_types.specs.Validity.{IsValid};
 ghost use Rattle.sql_meaning.specs.Databases.{IsDatabaseOf};
 ghost use Rattle.sql_meaning.specs.Tables.{row_counts, tables_of};
-ghost use Rattle.table_files.specs.Found.{HasCells, entry_rows, tables_in};
+ghost use Rattle.table_files.specs.EntryTables.{HasCells, entry_rows, tables_in};
 ghost use Rattle.table_files.specs.Stage.{IsReached, tables_of_query, tables_stage};
 
 use crate::each::read_each;

@@ -1,4 +1,4 @@
 pub mod Trees
 pub mod Nodes
 pub mod Rooms
-pub mod Seen
+pub mod ReadableNodes

@@ -15,7 +15,7 @@ use Rattle.sql_meaning.proofs.ConditionFacts.{entries_compare, holds_compare}
 use Rattle.query_bounds.specs.Examples.{pair}
 use Rattle.printed_texts.specs.Plans.{audit_lines}
 use Rattle.printed_texts.specs.Texts.{rows_lines}
-use Rattle.table_files.specs.Found.{tables_in}
+use Rattle.table_files.specs.EntryTables.{tables_in}
 use Rattle.safebound_top.specs.Accepted.{level_counts, level_rows}
 use Rattle.safebound_top.specs.Texts.{out_text_of, plan_text}
 use Rattle.safebound_top.specs.declared.task.OutText.{OutText}

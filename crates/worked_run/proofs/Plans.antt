@@ -12,7 +12,7 @@ use Rattle.sql_meaning.proofs.ConditionFacts.{entries_compare}
 use Rattle.query_bounds.specs.Examples.{pair}
 use Rattle.planning.specs.Bounds.{scan_bounds_of, set_bounds_of}
 use Rattle.planning.specs.Plans.{planned}
-use Rattle.table_files.specs.Found.{tables_in}
+use Rattle.table_files.specs.EntryTables.{tables_in}
 use Rattle.worked_run.specs.Meaning.{small_rows}
 
 scans : scan_bounds_of pair (tables_in small_rows) 1 ≡ 6 ∷ 5 ∷ []

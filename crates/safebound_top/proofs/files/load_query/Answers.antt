@@ -9,15 +9,16 @@ returns-in_err-text-clause-reads g c =
     let p = err_from_is_err_and c.from_residual.result c.from_residual.ensures.1 in
     rw (p.1, p.2) (query_stops c.args.name.now c.args.schema.now c.in_err-text.field-0.0 c.in_err-text.ensures.reads)
 
-pub returns-in-Ok-clause-reads : goal.returns-in-Ok-clause-reads
-returns-in-Ok-clause-reads g c =
-    query_spelled c.args.name.now c.args.schema.now _ c.as_slice.result.now c.in-Ok.query c.as_slice.ensures
-    (query_read c.args.schema.now c.as_slice.result.now c.in-Ok.query c.in-Ok.ensures.meaning) c.in_ok-text.ensures.reads
+pub returns-in_err-query-clause-reads : goal.returns-in_err-query-clause-reads
+returns-in_err-query-clause-reads g c =
+    let p = err_from_is_err_and c.from_residual-in_err-query.result c.from_residual-in_err-query.ensures.1 in
+    rw (p.1, p.2) (query_refused c.args.name.now c.args.schema.now _ c.as_slice.result.now _ c.as_slice.ensures
+    (query_told c.args.schema.now c.as_slice.result.now c.in_err-query.field-0.0 c.in_err-query.ensures.meaning) c.in_ok-text.ensures.reads)
 
 pub returns-clause-reads : goal.returns-clause-reads
 returns-clause-reads g c =
-    rw c.from.ensures (query_refused c.args.name.now c.args.schema.now _ c.as_slice.result.now _ c.as_slice.ensures
-    (query_told c.args.schema.now c.as_slice.result.now c.in-Err.error c.in-Err.ensures.meaning) c.in_ok-text.ensures.reads)
+    query_spelled c.args.name.now c.args.schema.now _ c.as_slice.result.now c.in_ok-query.query c.as_slice.ensures
+    (query_read c.args.schema.now c.as_slice.result.now c.in_ok-query.query c.in_ok-query.ensures.meaning) c.in_ok-text.ensures.reads
 
-pub returns-in-Ok-clause-few : goal.returns-in-Ok-clause-few
-returns-in-Ok-clause-few g c = (answer_keeps c.args.schema.now c.as_slice.result.now c.in-Ok.query c.in-Ok.ensures.meaning).conjuncts
+pub returns-clause-few : goal.returns-clause-few
+returns-clause-few g c = (answer_keeps c.args.schema.now c.as_slice.result.now c.in_ok-query.query c.in_ok-query.ensures.meaning).conjuncts

@@ -8,10 +8,11 @@ returns-in_err-text-clause-reads g c =
     let p = err_from_is_err_and c.from_residual.result c.from_residual.ensures.1 in
     rw (p.1, p.2) (schema_stops c.args.name.now c.in_err-text.field-0.0 c.in_err-text.ensures.reads)
 
-pub returns-in-Ok-clause-reads : goal.returns-in-Ok-clause-reads
-returns-in-Ok-clause-reads g c =
-    schema_spelled c.args.name.now _ c.as_slice.result.now c.in-Ok.schema c.as_slice.ensures (schema_read c.as_slice.result.now c.in-Ok.schema c.in-Ok.ensures.meaning) c.in_ok-text.ensures.reads
+pub returns-in_err-schema-clause-reads : goal.returns-in_err-schema-clause-reads
+returns-in_err-schema-clause-reads g c =
+    let p = err_from_is_err_and c.from_residual-in_err-schema.result c.from_residual-in_err-schema.ensures.1 in
+    rw (p.1, p.2) (schema_refused c.args.name.now _ c.as_slice.result.now _ c.as_slice.ensures (schema_told c.as_slice.result.now c.in_err-schema.field-0.0 c.in_err-schema.ensures.meaning) c.in_ok-text.ensures.reads)
 
 pub returns-clause-reads : goal.returns-clause-reads
 returns-clause-reads g c =
-    rw c.from.ensures (schema_refused c.args.name.now _ c.as_slice.result.now _ c.as_slice.ensures (schema_told c.as_slice.result.now c.in-Err.error c.in-Err.ensures.meaning) c.in_ok-text.ensures.reads)
+    schema_spelled c.args.name.now _ c.as_slice.result.now c.in_ok-schema.schema c.as_slice.ensures (schema_read c.as_slice.result.now c.in_ok-schema.schema c.in_ok-schema.ensures.meaning) c.in_ok-text.ensures.reads

@@ -1,7 +1,7 @@
 use Rattle.std.proofs.Common.{Bool, Ok, ◌∙◌, ap, sym}
 use Rattle.std.proofs.lemmas.Result.{err_from_is_err_and}
 use Rattle.sql_meaning.specs.Tables.{tables_of}
-use Rattle.table_files.specs.Found.{entry_rows}
+use Rattle.table_files.specs.EntryTables.{entry_rows}
 use Rattle.safebound_top.specs.Asks.{asked}
 use Rattle.safebound_top.specs.Prepared.{are_reduced}
 use Rattle.safebound_top.specs.declared.task.OutText.{OutText}
