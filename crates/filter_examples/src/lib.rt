@@ -2,11 +2,12 @@
 //! The row bound of an entry is the sum of its list.
 #![tactic(auto)]
 
-ghost use Rattle.std.specs.Prelude.{◌≡◌, [], ◌∷◌, replicate};
-ghost use Rattle.std.specs.List.{range_with_len};
+ghost use Rattle.std.specs.Prelude.{◌≡◌, [], ◌∷◌, None, Some, replicate};
+ghost use Rattle.std.specs.List.{range_with_len, sum};
+ghost use Rattle.degree_sequences.specs.ByRank.{rank_sum};
 ghost use Rattle.query_grammar.specs.declared.tree.Op.TheVariants as op;
-ghost use Rattle.query_types.specs.declared.types.Cond.{And, Not, Or};
-ghost use Rattle.filtered_lists.specs.Examples.{list_where, x_is};
+ghost use Rattle.query_types.specs.declared.types.Cond.{And, Compare, Not, Or};
+ghost use Rattle.filtered_lists.specs.Examples.{column_x, list_where, range_x, value, x_is};
 ghost use Rattle.filter_examples.specs.Columns.{lists_of};
 
 /// Columns that join and filter.
@@ -22,4 +23,11 @@ pub fn small_columns()
         ≡ 3 ∷ 3 ∷ [] }
     // NOT (X IN (1, 3)): the sums 9 and 7, cut in the same way
     ensures not_in { list_where (lists_of (1 ∷ 1 ∷ 1 ∷ 2 ∷ 2 ∷ 3 ∷ [])) (Not (Or (x_is op.Eq 1 ∷ x_is op.Eq 3 ∷ []))) ≡ 3 ∷ 3 ∷ [] }
+    // the two sums: X <> 1 is up to 1 (3 rows) or from 1 on (6), and X <> 3 up to 3 (6) or from 3 on (1)
+    ensures other_than_one { let lists = lists_of (1 ∷ 1 ∷ 1 ∷ 2 ∷ 2 ∷ 3 ∷ []) in
+        sum (rank_sum (lists.range (range_x None (Some (value 1)))) (lists.range (range_x (Some (value 1)) None))) ≡ 9 }
+    ensures other_than_three { let lists = lists_of (1 ∷ 1 ∷ 1 ∷ 2 ∷ 2 ∷ 3 ∷ []) in
+        sum (rank_sum (lists.range (range_x None (Some (value 3)))) (lists.range (range_x (Some (value 3)) None))) ≡ 7 }
+    // X = X compares no literal: the list of all rows
+    ensures same { list_where (lists_of (1 ∷ 1 ∷ 1 ∷ 2 ∷ 2 ∷ 3 ∷ [])) (Compare op.Eq column_x column_x) ≡ 3 ∷ 3 ∷ [] }
 {}

@@ -1,50 +1,28 @@
-//! Row bounds of R(X) of 1, 1, 1, 2, 2, 3 under a condition.
-ghost use Rattle.std.specs.Prelude.{IfOk};
-ghost use Rattle.level_bounds.specs.Keys.{HaveDifferentCharacters};
-ghost use Rattle.sql_meaning.specs.Databases.{IsDatabaseOf};
-
+//! Row bounds of R(X) of 1, 1, 1, 2, 2, 3, and of T(X) of the texts a, a, a, b, b, c, under a condition.
+use crate::asked::{Asked, ask};
 use base_io::{MemStore, Name, NoMemory, Seq};
-use csv_tables::Database;
-use limits::MOST_TEXT;
 use planning::scan_bounds;
-use query_types::Query;
-use schema_types::read_schema;
-use sql_parse::read_query;
 use std::alloc::Global;
 use std::test::Fail;
-use table_files::read_tables;
 
-const SCHEMA: &str = "CREATE TABLE R (X INT NOT NULL);";
+const SCHEMA: &str = "CREATE TABLE R (X INT NOT NULL); CREATE TABLE T (X VARCHAR(9) NOT NULL);";
+
+fn file(alloc: Global, name: &str, text: &str) -> Result<(Name, Seq<u8>), NoMemory> {
+    let bytes = Vec::from_slice(alloc, text.as_bytes())?;
+    Ok((Name::from_str(alloc, name)?, Seq::from_vec(bytes)))
+}
 
 fn files(alloc: Global) -> Result<MemStore, NoMemory> {
-    let rows = Vec::from_slice(alloc, b"X\r\n1\r\n1\r\n1\r\n2\r\n2\r\n3\r\n")?;
-    let file = (Name::from_str(alloc, "r.csv")?, Seq::from_vec(rows));
-    Ok(MemStore::new(Seq::one(alloc, file)?, Seq::new(alloc)))
-}
-
-#[derive(Drop)]
-struct Filtered {
-    query: Query,
-    db: Database,
-}
-
-fn asked(alloc: Global, text: &[u8]) -> Result<Filtered, Fail>
-    ensures database { IfOk result (λ filtered. IsDatabaseOf filtered.query filtered.db) }
-    ensures texts { IfOk result (λ filtered. HaveDifferentCharacters filtered.db.pool) }
-{
-    if text.len() > MOST_TEXT as usize {
-        return Err(Fail::from(NoMemory));
-    }
-    let schema = read_schema(alloc, SCHEMA.as_bytes())?;
-    let query = read_query(alloc, &schema, text)?;
-    let mut store = files(alloc)?;
-    let db = read_tables(alloc, &mut store, &schema, &query)?;
-    Ok(Filtered { query, db })
+    let mut files = Seq::new(alloc);
+    files.push(file(alloc, "r.csv", "X\r\n1\r\n1\r\n1\r\n2\r\n2\r\n3\r\n")?)?;
+    files.push(file(alloc, "t.csv", "X\r\na\r\na\r\na\r\nb\r\nb\r\nc\r\n")?)?;
+    Ok(MemStore::new(files, Seq::new(alloc)))
 }
 
 // The bound of the one scan.
 fn rows(alloc: Global, text: &str) -> Result<Seq<u64>, Fail> {
-    let Filtered { query, db } = asked(alloc, text.as_bytes())?;
+    let mut store = files(alloc)?;
+    let Asked { query, db } = ask(alloc, &mut store, SCHEMA.as_bytes(), text.as_bytes())?;
     Ok(scan_bounds(alloc, &query, &db, 1)?)
 }
 
@@ -55,6 +33,21 @@ fn row_bounds(rt: HostRuntime) -> Result<(), Fail> {
         ("SELECT X FROM R WHERE NOT X IN (1, 3)", 6),
         ("SELECT X FROM R WHERE X = 3", 1),
         ("SELECT X FROM R WHERE X = 7 OR X = 8", 0),
+        ("SELECT X FROM R WHERE X = X", 6),
+        ("SELECT X FROM R WHERE 2 = 2 AND X = 1", 3),
+        ("SELECT X FROM R WHERE 1 < X", 6),
+        ("SELECT X FROM R WHERE NOT X >= 2", 6),
+        ("SELECT X FROM R WHERE X BETWEEN 2 AND 3 AND X <> 3", 3),
+        (
+            "SELECT X FROM R WHERE X = 1 AND (X = 2 OR X = 3) OR X = 2",
+            5,
+        ),
+        // the leaves of a, b and c are 15, 26 and 31
+        ("SELECT X FROM T WHERE X > 'b'", 3),
+        ("SELECT X FROM T WHERE X <= 'a'", 3),
+        ("SELECT X FROM T WHERE X < 'b'", 6),
+        ("SELECT X FROM T WHERE X BETWEEN 'a' AND 'a'", 3),
+        ("SELECT X FROM T WHERE X = 'zz'", 0),
     ] {
         let rows = rows(rt.alloc(), text)?;
         assert!(rt; rows.as_slice() == [bound].as_slice());

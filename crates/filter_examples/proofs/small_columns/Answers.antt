@@ -45,3 +45,15 @@ returns-clause-not_in c = rw (
   of_compare (list_answers (lists_of (1 ∷ 1 ∷ 1 ∷ 2 ∷ 2 ∷ 3 ∷ []))) op.Eq column_x (number 1) false,
   of_compare (list_answers (lists_of (1 ∷ 1 ∷ 1 ∷ 2 ∷ 2 ∷ 3 ∷ []))) op.Eq column_x (number 3) false,
 ) refl
+
+pub returns-clause-other_than_one : goal.returns-clause-other_than_one
+unfolding cuts rest list_of_value list_of_node
+returns-clause-other_than_one c = refl
+
+pub returns-clause-other_than_three : goal.returns-clause-other_than_three
+unfolding cuts rest list_of_value list_of_node
+returns-clause-other_than_three c = refl
+
+pub returns-clause-same : goal.returns-clause-same
+unfolding cuts rest list_of_value list_of_node
+returns-clause-same c = worked.one (lists_of (1 ∷ 1 ∷ 1 ∷ 2 ∷ 2 ∷ 3 ∷ [])) op.Eq column_x column_x refl
