@@ -3,7 +3,7 @@
 //! Without a word it writes the bounds of two small queries. With one, as `time`, it writes a line for each measure: the
 //! shape, the entries, the pieces of each list, the trees that are folded, the bound, and the nanoseconds of one bound,
 //! the least of several. With two, as `time sets`, it does the same for the bounds of all sets of twelve entries:
-//! the shape, the sum of the bounds, and the nanoseconds; bench/planning.rs is the plain side of that.
+//! the shape, the sum of the bounds, and the nanoseconds; bench/fold.rs is the plain side of that.
 #![tactic(auto)]
 
 mod queries;

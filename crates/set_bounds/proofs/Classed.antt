@@ -18,35 +18,6 @@ use Rattle.set_bounds.specs.declared.alike.ClassedEdge.{ClassedEdge}
 use Rattle.set_bounds.proofs.Forests.{all_in, each}
 use Rattle.set_bounds.proofs.SameTrees.{classes_among}
 
--- ---- the class of a column
-
-either : (x y : Bool) → (x || y) ≡ true → (x ≡ true) ⊎ (y ≡ true)
-either true y e = inl refl
-either false y e = inr e
-
-pub has_column : (e : Edge) (p : Place) (x y : Bool) → x ≡ same_place e.left p → y ≡ same_place e.right p → (x || y) ≡ true → (e.left ≡ p) ⊎ (e.right ≡ p)
-has_column e p x y left right h = elim (either x y h) [
-  | inl t ↦ inl (same_place-true e.left p (sym left ∙ t))
-  | inr t ↦ inr (same_place-true e.right p (sym right ∙ t))
-]
-
-item : (Q : ClassedEdge → Type 0) (cs : List ClassedEdge) (i : ℕ) (d : ClassedEdge) → AllByRecursion Q cs → i < length cs → Q (get_or cs i d)
-item Q [] i d h low = absurd (omega arith)
-item Q (c ∷ cs) zero d h low = h.0
-item Q (c ∷ cs) (suc i) d h low = item Q cs i d h.1 (omega arith)
-
-pub all_more : (Q : ClassedEdge → Type 0) (cs : List ClassedEdge) (i : ℕ) (d : ClassedEdge) → i < length cs → AllByRecursion Q (take i cs) → Q (get_or cs i d)
-    → AllByRecursion Q (take (suc i) cs)
-all_more Q [] i d low h k = absurd (omega arith)
-all_more Q (c ∷ cs) zero d low h k = (k, tt)
-all_more Q (c ∷ cs) (suc i) d low h k = (h.0, all_more Q cs i d (omega arith) h.1 k)
-
-pub class_found : (cs : List ClassedEdge) (i : ℕ) (c : ClassedEdge) (p : Place) → i < length cs → c ≡ get_or cs i c → (c.edge.left ≡ p) ⊎ (c.edge.right ≡ p)
-    → (es : List Edge) → AreClassed es cs → class_of es c.class ≡ class_of es p
-class_found cs i c p low is at es h =
-    let own : HasItsClass es c = subst (HasItsClass es) (sym is) (item (HasItsClass es) cs i c h.classes low) in
-    elim at [ inl left ↦ own.left ∙ ap (class_of es) left | inr right ↦ own.right ∙ ap (class_of es) right ]
-
 -- ---- one equality more
 
 -- one class more is renamed
@@ -115,6 +86,12 @@ added es e cs slice written more n old new h old_is new_is is long renames pushe
 
 -- ---- equalities whose columns are in the classes of others
 
+pub all_more : (Q : ClassedEdge → Type 0) (cs : List ClassedEdge) (i : ℕ) (d : ClassedEdge) → i < length cs → AllByRecursion Q (take i cs) → Q (get_or cs i d)
+    → AllByRecursion Q (take (suc i) cs)
+all_more Q [] i d low h k = absurd (omega arith)
+all_more Q (c ∷ cs) zero d low h k = (k, tt)
+all_more Q (c ∷ cs) (suc i) d low h k = (h.0, all_more Q cs i d (omega arith) h.1 k)
+
 edges_from : (Q : Edge → Type 0) (cs : List ClassedEdge) → AllByRecursion (λ c. Q c.edge) cs → AllByRecursion Q (map (λ (c : ClassedEdge). c.edge) cs)
 edges_from Q [] h = tt
 edges_from Q (c ∷ cs) h = (h.0, edges_from Q cs h.1)
@@ -130,6 +107,10 @@ wider es fs h p q same =
 abbrev is_named : List Edge → Place → Bool
 is_named [] p = false
 is_named (e ∷ es) p = same_place e.left p || (same_place e.right p || is_named es p)
+
+either : (x y : Bool) → (x || y) ≡ true → (x ≡ true) ⊎ (y ≡ true)
+either true y e = inl refl
+either false y e = inr e
 
 neither : (x y : Bool) → (x || y) ≡ false → (x ≡ false) × (y ≡ false)
 neither true y e = absurd (cc e)

@@ -6,3 +6,4 @@ pub mod Parted
 pub mod Tested
 pub mod Classed
 pub mod Skipping
+pub mod Within

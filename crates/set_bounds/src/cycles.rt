@@ -1,6 +1,6 @@
 //! The bound of a set whose equalities close a cycle: the least over its turns, of which those that are alike are folded once.
 ghost use Rattle.std.specs.Prelude.{◌≡◌, ◌+◌, ◌-◌, ◌<◌, IfOk};
-ghost use Rattle.join_graph.specs.Kept.{kept_of};
+ghost use Rattle.join_graph.specs.Kept.{equalities_within, kept_of};
 ghost use Rattle.bound_fold.specs.Lists.{bounds_of};
 ghost use Rattle.bound_fold.specs.Sets.{SetIsListed};
 ghost use Rattle.set_bounds.specs.Alike.{AreClassed, AreOfTurnsBefore, least_told};
@@ -8,10 +8,11 @@ ghost use Rattle.set_bounds.specs.AllSets.{bound_told};
 
 use crate::alike::{ClassedEdge, is_like_earlier, with_classes};
 use base_io::{NoMemory, Seq};
+use berge_tree::Edge;
 use bound_fold::{EntryLists, turn_bound};
 use entry_sets::EntrySet;
-use join_graph::{Parts, kept, turns};
-use std::alloc::Global;
+use join_graph::{Parts, joins_within, kept, turns};
+use std::alloc::{AllocError, Global};
 
 // The equalities that a set keeps in a turn, with their classes.
 fn classed_turn(
@@ -52,8 +53,8 @@ fn least_with(
     Ok(least.min(bound))
 }
 
-/// The bound of a set, the least over its turns. Of turns that are alike the first alone is folded.
-pub(crate) fn cyclic_bound(
+// The least over the turns. Of turns that are alike the first alone is folded.
+fn least_of_turns(
     alloc: Global,
     parts: &Parts,
     lists: &EntryLists,
@@ -70,4 +71,40 @@ pub(crate) fn cyclic_bound(
         least = least_with(alloc, parts, lists, subset, turn, least, &mut folded)?;
     }
     Ok(least)
+}
+
+fn equalities_of(alloc: Global, edges: &[Edge], subset: EntrySet) -> Result<Vec<Edge>, AllocError>
+    ensures { IfOk result (λ own. own.items ≡ equalities_within subset edges.now) }
+{
+    let own = edges.iter().copied();
+    own.filter(|edge| joins_within(subset, *edge))
+        .collect(alloc)
+}
+
+// A set's equalities alone.
+fn only_within(alloc: Global, parts: &Parts, subset: EntrySet) -> Result<Parts, NoMemory>
+    ensures { IfOk result (λ own. own.equalities ≡ equalities_within subset parts.now.equalities) }
+{
+    let equalities = equalities_of(alloc, parts.equalities.as_slice(), subset)?;
+    Ok(Parts {
+        local: Seq::new(alloc),
+        equalities: Seq::from_vec(equalities),
+        residual: Seq::new(alloc),
+    })
+}
+
+/// The bound of a set, the least over its turns. These go through the set's equalities alone, since each goes through all that it
+/// is given.
+pub(crate) fn cyclic_bound(
+    alloc: Global,
+    parts: &Parts,
+    lists: &EntryLists,
+    subset: EntrySet,
+) -> Result<u128, NoMemory>
+    requires listed { SetIsListed lists.now parts.now.equalities subset }
+    ensures { IfOk result (λ n. n ≡ bound_told (bounds_of lists.now) parts.now.equalities subset) }
+{
+    let own = only_within(alloc, parts, subset)?;
+    let bound = least_of_turns(alloc, &own, lists, subset)?;
+    Ok(bound)
 }

@@ -1,5 +1,5 @@
 //! The bound of every set, one after another. Where a set's equalities close no cycle, one fold for each connected set serves: the others
-//! have the products of what was found before.
+//! have the products of what was found before. Where they close one, turns that are alike are folded once.
 ghost use Rattle.std.specs.Prelude.{◌≡◌, ◌⊎◌, ◌-◌, ◌^◌, ◌<◌, ◌≤◌, ℕ, List, length, slice_index, IfOk};
 ghost use Rattle.std.specs.List.{AllByRecursion};
 ghost use Rattle.limits.specs.Profile.{most_entries, top_bound};

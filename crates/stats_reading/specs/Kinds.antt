@@ -60,6 +60,7 @@ pub record MayBeLineOf (kind : LineKind) (first second line : List ℕ) : Type 0
   pub alone : IsAlone kind second
   pub only : (k : LineKind) (a b : List ℕ) → IsLineOf k a b line → AreParts kind first second
 
+-- a line that is none of the grammar
 abbrev pub IsNoLine : List ℕ → Type 0
 IsNoLine line = (kind : LineKind) (first second : List ℕ) → IsLineOf kind first second line → ⊥
 
@@ -69,6 +70,7 @@ pub record MayStandBehind (kind : LineKind) (words first second : List ℕ) : Ty
   pub alone : IsAlone kind second
   pub only : (a b : List ℕ) → AreParts kind a b → words ≡ words_text kind a b → AreParts kind first second
 
+-- no words of a line of this kind stand there
 abbrev pub HasNoWords : LineKind → List ℕ → Type 0
 HasNoWords kind words = (first second : List ℕ) → AreParts kind first second → words ≡ words_text kind first second → ⊥
 

@@ -30,7 +30,7 @@ fn refusal(fault: Fault, line: u32) -> StatsError
 }
 
 // Takes a line without its end. The words of lists and values are gone through once: only where they aren't taken, it is
-// asked whether the grammar has them.
+// asked whether the grammar has them. Kind and words come apart, since an `Option` of both is slow to copy.
 fn take_line(alloc: Global, schema: &Schema, draft: &mut Draft, text: &[u8]) -> Result<(), Fault>
     requires schema { IsValid schema.now }
     requires valid { IsValidDraft draft.old.stage schema.now draft.old }

@@ -1,7 +1,7 @@
 use Rattle.std.proofs.Common.{◌≡◌, ◌-◌}
 use Rattle.bound_fold.specs.Lists.{bounds_of}
 use Rattle.set_bounds.specs.Alike.{AreOfTurnsBefore, least_told}
-use Rattle.set_bounds.proofs.cycles.cyclic_bound.Given as goal
+use Rattle.set_bounds.proofs.cycles.least_of_turns.Given as goal
 
 abbrev pub invariant-loop-turn : goal.invariant-loop-turn
 invariant-loop-turn l = record {
