@@ -48,6 +48,10 @@ none_last : (xs ys : List QueryError) → first (xs ++ ys) ≡ None → first ys
 none_last [] ys none = none
 none_last (x ∷ xs) ys none = absurd cc
 
+none_at_all : (xs : List QueryError) → first xs ≡ None → xs ≡ []
+none_at_all [] none = refl
+none_at_all (x ∷ xs) none = absurd cc
+
 at_place : (wrong : ℕ → QueryError) (places : List ℕ) (at : ℕ) → first places ≡ Some at → first (first_place wrong places) ≡ Some (wrong at)
 at_place wrong [] at is = absurd cc
 at_place wrong (place ∷ rest) at is = let same : place ≡ at = cc in ap (λ p. Some (wrong p)) same
@@ -95,11 +99,11 @@ module _ (from counted conjuncts outputs : ℕ) where
   passed lists same = passed_by (nat_lt most_entries from) lists refl same
 
 module _ (binder : Binder) (query : QueryText) where
-  pub kind_first : (at : ℕ) → Some at ≡ first (kinds_behind binder query) → Some (error.Kind at) ≡ first (late_refusals binder query)
+  kind_first : (at : ℕ) → Some at ≡ first (kinds_behind binder query) → Some (error.Kind at) ≡ first (late_refusals binder query)
   unfolding late_refusals
   kind_first at is = sym (first_append (first_place kind_error (kinds_behind binder query)) (limits_by binder query) (error.Kind at) (at_place kind_error (kinds_behind binder query) at (sym is)))
 
-  pub limit_first : (list : Option ℕ) (found : List Cond) (outputs : ℕ) → list ≡ first (lists_behind binder query)
+  limit_first : (list : Option ℕ) (found : List Cond) (outputs : ℕ) → list ≡ first (lists_behind binder query)
       → (length (from_of binder) ≤ 12 → list ≡ None → found ≡ conjuncts_by binder query) → outputs ≡ capped (length (selected_by binder query.outs))
       → first (limits_passed (length (from_of binder)) list (length found) outputs) ≡ first (limits_by binder query)
   unfolding limits_by
@@ -108,7 +112,7 @@ module _ (binder : Binder) (query : QueryText) where
       ∙ ap (λ n. first (limits_passed (length (from_of binder)) (first (lists_behind binder query)) (length found) n)) is_outputs
       ∙ passed (length (from_of binder)) (length found) (length (conjuncts_by binder query)) (length (selected_by binder query.outs)) (lists_behind binder query) (λ few none. ap length (is_found few (is_list ∙ none)))
 
-  pub no_kind : None ≡ first (kinds_behind binder query) → first (limits_by binder query) ≡ first (late_refusals binder query)
+  no_kind : None ≡ first (kinds_behind binder query) → first (limits_by binder query) ≡ first (late_refusals binder query)
   unfolding late_refusals
   no_kind none = sym (first_behind (first_place kind_error (kinds_behind binder query)) (limits_by binder query) (no_place kind_error (kinds_behind binder query) (sym none)))
 
@@ -132,6 +136,17 @@ module _ (binder : Binder) (query : QueryText) where
   pub none_refused : names_behind binder query ≡ [] → None ≡ first (late_refusals binder query) → first (refusals_behind binder query) ≡ None
   none_refused none is = ap first (no_name none) ∙ sym is
 
+  -- the first wrong kind, and where there is none the first limit that is passed
+  pub kind_refused : (at : ℕ) → names_behind binder query ≡ [] → Some at ≡ first (kinds_behind binder query) → IsFirstOf (refusals_behind binder query) (error.Kind at)
+  kind_refused at none is = late_refused (error.Kind at) none (kind_first at is)
+
+  pub late_first : {wrong : Option QueryError} (list : Option ℕ) (found : List Cond) {entries number outputs : ℕ} → None ≡ first (kinds_behind binder query) → list ≡ first (lists_behind binder query)
+      → (length (from_of binder) ≤ 12 → list ≡ None → found ≡ conjuncts_by binder query) → outputs ≡ capped (length (selected_by binder query.outs))
+      → entries ≡ length (from_of binder) → number ≡ length found → wrong ≡ first (limits_passed entries list number outputs) → wrong ≡ first (late_refusals binder query)
+  late_first list found {entries} {number} {outputs} none is_list is_found is_outputs is_entries is_number is =
+      is ∙ ap (λ n. first (limits_passed n list number outputs)) is_entries ∙ ap (λ n. first (limits_passed (length (from_of binder)) list n outputs)) is_number
+      ∙ limit_first list found outputs is_list is_found is_outputs ∙ no_kind none
+
   module _ (is : None ≡ first (late_refusals binder query)) where
     abbrev many : List QueryError
     many = over limit.FromEntries most_entries (length (from_of binder))
@@ -139,20 +154,27 @@ module _ (binder : Binder) (query : QueryText) where
     abbrev lists : List QueryError
     lists = first_list (lists_behind binder query)
 
-    no_early : many ++ lists ≡ []
+    abbrev conjs : List QueryError
+    conjs = over limit.Conjuncts most_conjuncts (length (conjuncts_by binder query))
+
+    abbrev outs : List QueryError
+    outs = over limit.Outputs most_outputs (length (selected_by binder query.outs))
+
+    no_limit : first (((many ++ lists) ++ conjs) ++ outs) ≡ None
     unfolding late_refusals limits_by
-    no_early =
-        let conjs : List QueryError = over limit.Conjuncts most_conjuncts (length (conjuncts_by binder query)) in
-        let outs : List QueryError = over limit.Outputs most_outputs (length (selected_by binder query.outs)) in
-        let none : first (((many ++ lists) ++ conjs) ++ outs) ≡ None = none_last (first_place kind_error (kinds_behind binder query)) (limits_by binder query) (sym is) in
-        let three : (many ++ lists) ++ conjs ≡ [] = none_first ((many ++ lists) ++ conjs) outs none in
-        none_first (many ++ lists) conjs (ap first three)
+    no_limit = none_last (first_place kind_error (kinds_behind binder query)) (limits_by binder query) (sym is)
+
+    no_early : many ++ lists ≡ []
+    no_early = none_first (many ++ lists) conjs (ap first (none_first ((many ++ lists) ++ conjs) outs no_limit))
 
     pub few_entries : length (from_of binder) ≤ 12
     few_entries = not_over limit.FromEntries most_entries (length (from_of binder)) (none_first many lists (ap first no_early))
 
     pub no_long_list : first (lists_behind binder query) ≡ None
     no_long_list = no_list (lists_behind binder query) (none_last many lists (ap first no_early))
+
+    pub few_outputs : length (selected_by binder query.outs) ≤ most_outputs
+    few_outputs = not_over limit.Outputs most_outputs (length (selected_by binder query.outs)) (none_at_all outs (none_last ((many ++ lists) ++ conjs) outs no_limit))
 
 -- ---- from the binder's words to the schema's, the text's and the tree's
 

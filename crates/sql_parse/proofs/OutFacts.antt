@@ -1,9 +1,13 @@
--- The outputs of entries, column by column and entry by entry.
-use Rattle.std.proofs.Common.{◌≡◌, ℕ, suc, ◌+◌, ◌-◌, ◌^◌, ◌<◌, ◌≤◌, List, [], ◌∷◌, ◌++◌, length, take, drop, get_or, Option, Some, None, ap, subst, sym, ◌∙◌, refl, arith, append_assoc, length-append}
+-- The outputs of entries, column by column and entry by entry, and what is gathered of a list of outputs.
+use Rattle.std.proofs.Common.{◌≡◌, ℕ, suc, ◌+◌, ◌<◌, ◌≤◌, List, [], ◌∷◌, ◌++◌, length, take, drop, get_or, Option, Some, None, ap, subst, sym, ◌∙◌, refl, append_assoc, arith, length-append}
 use Rattle.std.specs.Prelude.{slice_get}
 use Rattle.std.specs.List.{flat_map}
-use Rattle.std.proofs.lemmas.List.{take_all, drop_all, append-nil}
+use Rattle.std.proofs.lemmas.Grind.{flat_map-append}
+use Rattle.std.proofs.lemmas.List.{take_more, take_all, drop_all, append-nil}
 use Rattle.std.proofs.lemmas.Option.{slice_get_within, get_or_from_slice_get}
+use Rattle.limits.specs.Profile.{most_outputs}
+use Rattle.query_grammar.specs.declared.tree.OutText.{OutText}
+use Rattle.query_grammar.specs.declared.tree.OutsText.TheVariants as outs
 use Rattle.schema_types.specs.declared.types.Column.{Column}
 use Rattle.schema_types.specs.declared.types.Table.{Table}
 use Rattle.schema_types.specs.declared.types.Schema.{Schema}
@@ -13,23 +17,19 @@ use Rattle.query_names.specs.declared.scope.Entry.{Entry}
 use Rattle.query_names.specs.declared.scope.Scope.{Scope}
 use Rattle.query_types.specs.declared.types.Source.{Source}
 use Rattle.query_types.specs.declared.types.Out.{Out}
-use Rattle.query_names.specs.Scopes.{in_scope, everything, numbered, entry_named}
+use Rattle.query_names.specs.Scopes.{in_scope, entry_named}
 use Rattle.query_names.specs.Values.{outs_from, outs_of_table, outs_of_entry}
 use Rattle.query_names.specs.Binding.{schema_of, from_of}
-use Rattle.sql_parse.specs.Outputs.{capped, outs_of_entry_by, all_outs_by}
+use Rattle.sql_parse.specs.declared.outputs.Selected.{Selected}
+use Rattle.sql_parse.specs.Outputs.{capped, outs_of_entry_by, all_outs_by, outs_by, selected_by}
 use Rattle.query_names.proofs.Walk.{left_at}
 use Rattle.query_names.proofs.Resolved.{IsEntry, named_is}
+use Rattle.query_names.proofs.ScopeFacts.{none_in_scope, one_more_in_scope}
 
--- ---- steps of a loop that adds or counts what is left
+-- ---- the columns of an entry
 
 added : {A : Type 0} (old item rest : List A) {new whole : List A} → old ++ (item ++ rest) ≡ whole → new ≡ old ++ item → new ++ rest ≡ whole
 added old item rest left is = ap (λ l. l ++ rest) is ∙ append_assoc old item rest ∙ left
-
-counted : {A : Type 0} (count n : ℕ) (item rest : List A) {count' whole : ℕ} → capped (count + length (item ++ rest)) ≡ whole → n ≡ length item → count' ≡ capped (count + n)
-    → capped (count' + length rest) ≡ whole
-counted count n item rest left is sum = omega (arith, length-append item rest)
-
--- ---- the columns of an entry
 
 pub column_added : (from : ℕ) (xs : List Column) {i n : ℕ} (d : Column) (old : List Out) {new whole : List Out} {name : List ℕ} → n ≡ i → i < length xs
     → old ++ outs_from from n (drop i xs) ≡ whole → name ≡ (get_or xs i d).name
@@ -59,26 +59,56 @@ some_outs binder e table is = sym (outs_at binder e (Some table) is)
 pub no_outs : (binder : Binder) (e : Entry) → None ≡ slice_get (schema_of binder).tables e.table → outs_of_entry_by binder e ≡ []
 no_outs binder e is = sym (outs_at binder e None is)
 
-pub some_counted : (binder : Binder) (e : Entry) (table : Table) → Some table ≡ slice_get (schema_of binder).tables e.table → length table.columns ≡ length (outs_of_entry_by binder e)
-some_counted binder e table is = sym (ap length (some_outs binder e table is) ∙ columns_counted e.number 0 table.columns)
-
-pub none_counted : (binder : Binder) (e : Entry) → None ≡ slice_get (schema_of binder).tables e.table → 0 ≡ length (outs_of_entry_by binder e)
-none_counted binder e is = sym (ap length (no_outs binder e is))
-
 pub few_columns : (schema : Schema) (i : ℕ) (table : Table) → IsValid schema → Some table ≡ slice_get schema.tables i → length table.columns ≤ 64
 few_columns schema i table valid found =
     let is : slice_get schema.tables i ≡ Some table = sym found in
     let one : IsValidTable table = subst IsValidTable (get_or_from_slice_get schema.tables i table table is) (valid.tables i table (slice_get_within schema.tables i table is)) in
     one.few
 
--- ---- the entries of FROM
+-- ---- what is gathered
 
-pub everything_is : (from : List Source) → in_scope from (everything from) ≡ numbered 0 from
-unfolding in_scope
-everything_is from =
-    let whole : length from - 0 ≡ length from = omega arith in
-    let enough : length from ≤ length from = omega arith in
-    ap (λ n. numbered 0 (take n from)) whole ∙ ap (numbered 0) (take_all (length from) from enough)
+-- these outputs were counted, and built where neither limit is passed
+pub record IsGathered (binder : Binder) (found : Selected) (list : List Out) : Type 0 where
+  pub count : found.count ≡ capped (length list)
+  pub outs : length (from_of binder) ≤ 12 → found.count ≤ most_outputs → found.outs ≡ list
+
+module _ (binder : Binder) where
+  pub none_gathered : (found : Selected) {list : List Out} → found.outs ≡ [] → found.count ≡ 0 → list ≡ [] → IsGathered binder found list
+  none_gathered found {list} outs count none = subst (IsGathered binder found) (sym none) (record { count = omega arith; outs = λ few within. outs })
+
+  pub gathered_more : (list item : List Out) {old new : Selected} {next : List Out} → next ≡ list ++ item → IsGathered binder old list
+      → new.count ≡ capped (old.count + length item) → (length (from_of binder) ≤ 12 → new.count ≤ most_outputs → new.outs ≡ old.outs ++ item) → IsGathered binder new next
+  gathered_more list item {old} {new} {next} is so_far counted added = subst (IsGathered binder new) (sym is) (record {
+    count = omega (arith, length-append list item, so_far.count);
+    outs = λ few within. added few within ∙ ap (λ l. l ++ item) (so_far.outs few (omega (arith, so_far.count)));
+  })
+
+  -- ---- the entries of FROM
+
+  -- the outputs of the entries before this number
+  abbrev pub outs_before : ℕ → List Out
+  outs_before number = flat_map (outs_of_entry_by binder) (in_scope (from_of binder) (record { first = 0; end = number }))
+
+  pub none_before : outs_before 0 ≡ []
+  none_before = ap (flat_map (outs_of_entry_by binder)) (none_in_scope (from_of binder) 0)
+
+  pub one_more_before : {number : ℕ} (d : Source) {items : List Source} → items ≡ from_of binder → number < length (from_of binder)
+      → outs_before (number + 1) ≡ outs_before number ++ outs_of_entry_by binder (record { number = number; table = (get_or items number d).table })
+  one_more_before {number} d {items} same below =
+      let entry : Entry = record { number = number; table = (get_or (from_of binder) number d).table } in
+      let before : List Entry = in_scope (from_of binder) (record { first = 0; end = number }) in
+      let begins : 0 ≤ number = omega arith in
+      ap (flat_map (outs_of_entry_by binder)) (one_more_in_scope (from_of binder) 0 number d begins below)
+      ∙ flat_map-append (outs_of_entry_by binder) before (entry ∷ [])
+      ∙ ap (λ l. outs_before number ++ l) (append-nil (outs_of_entry_by binder entry))
+      ∙ ap (λ l. outs_before number ++ outs_of_entry_by binder (record { number = number; table = (get_or l number d).table })) (sym same)
+
+  pub all_before : (number : ℕ) → number ≡ length (from_of binder) → outs_before number ≡ all_outs_by binder
+  unfolding all_outs_by outs_of_entry_by
+  all_before number is = ap (λ n. flat_map (outs_of_entry (schema_of binder)) (in_scope (from_of binder) (record { first = 0; end = n }))) is
+
+  pub gathered_all : (found : Selected) {number : ℕ} → number ≡ length (from_of binder) → IsGathered binder found (outs_before number) → IsGathered binder found (all_outs_by binder)
+  gathered_all found {number} done so_far = subst (IsGathered binder found) (all_before number done) so_far
 
 pub named_small : (from : List Source) (scope : Scope) (alias : List ℕ) (e : Entry) → entry_named from scope alias ≡ Some e → length from ≤ 12 → e.number < 256
 named_small from scope alias e is few =
@@ -86,46 +116,15 @@ named_small from scope alias e is few =
     let below : e.number < length from = slice_get_within from e.number there.source there.there in
     omega arith
 
-numbered_left : (from : List Source) (i : ℕ) (d : Source) → i < length from → numbered i (drop i from) ≡ record { number = i; table = (get_or from i d).table } ∷ numbered (i + 1) (drop (i + 1) from)
-numbered_left from i d below = ap (numbered i) (left_at from i d below)
+-- ---- the items of the list
 
-pub all_outs_start : (binder : Binder) → flat_map (outs_of_entry_by binder) (numbered 0 (drop 0 (from_of binder))) ≡ all_outs_by binder
-unfolding all_outs_by outs_of_entry_by
-all_outs_start binder = ap (flat_map (outs_of_entry (schema_of binder))) (sym (everything_is (from_of binder)))
+pub selected_listed : (binder : Binder) (list : List OutText) → selected_by binder (outs.Listed list) ≡ flat_map (outs_by binder) list
+unfolding selected_by outs_by
+selected_listed binder list = refl
 
-module _ (f : Entry → List Out) (from : List Source) where
-  pub entry_added : {i : ℕ} (d : Source) (old : List Out) {new whole : List Out} {items : List Source} → items ≡ from → i < length from → old ++ flat_map f (numbered i (drop i from)) ≡ whole
-      → new ≡ old ++ f (record { number = i; table = (get_or items i d).table }) → new ++ flat_map f (numbered (i + 1) (drop (i + 1) from)) ≡ whole
-  entry_added {i} d old {new} {whole} {items} same below left is =
-      let rest : List Out = flat_map f (numbered (i + 1) (drop (i + 1) from)) in
-      added old (f (record { number = i; table = (get_or items i d).table })) rest
-      (ap (λ l. old ++ (f (record { number = i; table = (get_or l i d).table }) ++ rest)) same ∙ ap (λ es. old ++ flat_map f es) (sym (numbered_left from i d below)) ∙ left)
-      is
+pub one_more_item : {A : Type 0} (f : A → List Out) (xs : List A) {i : ℕ} (d : A) → i < length xs → flat_map f (take (i + 1) xs) ≡ flat_map f (take i xs) ++ f (get_or xs i d)
+one_more_item f xs {i} d below =
+    ap (flat_map f) (take_more xs i d below) ∙ flat_map-append f (take i xs) (get_or xs i d ∷ []) ∙ ap (λ l. flat_map f (take i xs) ++ l) (append-nil (f (get_or xs i d)))
 
-  pub entries_added : {i : ℕ} {old whole : List Out} → length from ≤ i → old ++ flat_map f (numbered i (drop i from)) ≡ whole → old ≡ whole
-  entries_added {i} {old} {whole} done left = sym (append-nil old) ∙ ap (λ l. old ++ flat_map f (numbered i l)) (sym (drop_all i from done)) ∙ left
-
-  pub entry_counted : {i : ℕ} (d : Source) (count n : ℕ) {count' whole : ℕ} {items : List Source} → items ≡ from → i < length from → capped (count + length (flat_map f (numbered i (drop i from)))) ≡ whole
-      → n ≡ length (f (record { number = i; table = (get_or items i d).table })) → count' ≡ capped (count + n)
-      → capped (count' + length (flat_map f (numbered (i + 1) (drop (i + 1) from)))) ≡ whole
-  entry_counted {i} d count n {count'} {whole} {items} same below left is sum =
-      let rest : List Out = flat_map f (numbered (i + 1) (drop (i + 1) from)) in
-      counted count n (f (record { number = i; table = (get_or items i d).table })) rest
-      (ap (λ l. capped (count + length (f (record { number = i; table = (get_or l i d).table }) ++ rest))) same ∙ ap (λ es. capped (count + length (flat_map f es))) (sym (numbered_left from i d below)) ∙ left)
-      is sum
-
-  pub entries_counted : {i : ℕ} (count : ℕ) {whole : ℕ} → length from ≤ i → count < 2 ^ 64 → capped (count + length (flat_map f (numbered i (drop i from)))) ≡ whole → count ≡ whole
-  entries_counted {i} count {whole} done fits left =
-      let none : length (flat_map f (numbered i (drop i from))) ≡ 0 = ap (λ l. length (flat_map f (numbered i l))) (drop_all i from done) in
-      omega arith
-
-module _ {A : Type 0} (f : A → List Out) (xs : List A) where
-  pub item_counted : {i : ℕ} (d : A) (count n : ℕ) {count' whole : ℕ} → i < length xs → capped (count + length (flat_map f (drop i xs))) ≡ whole
-      → n ≡ length (f (get_or xs i d)) → count' ≡ capped (count + n) → capped (count' + length (flat_map f (drop (i + 1) xs))) ≡ whole
-  item_counted {i} d count n {count'} {whole} below left is sum =
-      counted count n (f (get_or xs i d)) (flat_map f (drop (i + 1) xs)) (ap (λ l. capped (count + length (flat_map f l))) (sym (left_at xs i d below)) ∙ left) is sum
-
-  pub items_counted : {i : ℕ} (count : ℕ) {whole : ℕ} → length xs ≤ i → count < 2 ^ 64 → capped (count + length (flat_map f (drop i xs))) ≡ whole → count ≡ whole
-  items_counted {i} count {whole} done fits left =
-      let none : length (flat_map f (drop i xs)) ≡ 0 = ap (λ l. length (flat_map f l)) (drop_all i xs done) in
-      omega arith
+pub gathered_list : {A : Type 0} (binder : Binder) (f : A → List Out) (xs : List A) (found : Selected) {i : ℕ} → length xs ≤ i → IsGathered binder found (flat_map f (take i xs)) → IsGathered binder found (flat_map f xs)
+gathered_list binder f xs found {i} done so_far = subst (λ l. IsGathered binder found (flat_map f l)) (take_all i xs done) so_far

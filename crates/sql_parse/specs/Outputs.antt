@@ -1,16 +1,13 @@
 -- The outputs of a query, as the code that builds them knows the schema, the text and FROM.
-use Rattle.std.specs.Prelude.{ℕ, ◌-◌, ◌^◌, min, List, Option, unwrap_or}
+use Rattle.std.specs.Prelude.{ℕ, ◌-◌, ◌^◌, min, List}
 use Rattle.std.specs.List.{flat_map}
-use Rattle.ll_grammars.specs.declared.lexeme.Lexeme.{Lexeme}
-use Rattle.sql_tokens.specs.Words.{name_of}
-use Rattle.query_grammar.specs.declared.tree.ColumnText.{ColumnText}
 use Rattle.query_grammar.specs.declared.tree.OutText.{OutText}
 use Rattle.query_grammar.specs.declared.tree.OutsText.{OutsText}
 use Rattle.query_names.specs.declared.binder.Binder.{Binder}
 use Rattle.query_names.specs.declared.scope.Entry.{Entry}
 use Rattle.query_types.specs.declared.types.Out.{Out}
-use Rattle.query_names.specs.Scopes.{in_scope, everything, resolve}
-use Rattle.query_names.specs.Values.{outs_of_entry, outs_of, selected, reference_to}
+use Rattle.query_names.specs.Scopes.{in_scope, everything}
+use Rattle.query_names.specs.Values.{outs_of_entry, outs_of, selected}
 use Rattle.query_names.specs.Binding.{schema_of, from_of}
 
 unfoldable pub outs_of_entry_by : Binder → Entry → List Out
@@ -19,13 +16,6 @@ outs_of_entry_by binder entry = outs_of_entry (schema_of binder) entry
 -- the outputs of *
 unfoldable pub all_outs_by : Binder → List Out
 all_outs_by binder = flat_map (outs_of_entry (schema_of binder)) (in_scope (from_of binder) (everything (from_of binder)))
-
--- a column, by the name that is written after it or by its own
-unfoldable pub column_out_by : Binder → ColumnText → Option Lexeme → Out
-column_out_by binder reference name = record {
-  column = reference_to (resolve (schema_of binder) binder.text.now (from_of binder) (everything (from_of binder)) reference);
-  name = name_of binder.text.now (unwrap_or name reference.column);
-}
 
 unfoldable pub outs_by : Binder → OutText → List Out
 outs_by binder out = outs_of (schema_of binder) binder.text.now (from_of binder) out

@@ -1,23 +1,27 @@
 //! Names, kinds and the lengths of lists behind FROM.
 ghost use Rattle.std.specs.Prelude.{◌≡◌, ◌≤◌, ◌++◌, [], None, IfOk, IfErr, length};
 ghost use Rattle.std.specs.List.{flat_map};
+ghost use Rattle.limits.specs.Profile.{most_outputs};
+ghost use Rattle.schema_types.specs.Validity.{IsValid};
 ghost use Rattle.sql_tokens.specs.Words.{IsLexemeOf};
 ghost use Rattle.query_grammar.specs.Lexemes.{IsQueryOf};
 ghost use Rattle.query_names.specs.Names.{sources_of};
 ghost use Rattle.query_names.specs.Scopes.{everything};
 ghost use Rattle.query_names.specs.Answers.{IsNameError, or_first};
-ghost use Rattle.query_names.specs.Binding.{Shows, from_of};
+ghost use Rattle.query_names.specs.Binding.{Shows, schema_of, from_of};
 ghost use Rattle.sql_parse.specs.Behind.{names_behind, kinds_behind, lists_behind, conjuncts_by};
+ghost use Rattle.sql_parse.specs.Outputs.{selected_by, capped};
 
-use crate::outputs::check_outs;
+use crate::outputs::Selected;
 use crate::parts::{look_at_filter, look_at_parts};
+use crate::select_list::select;
 use base_io::Seq;
 use query_grammar::QueryText;
 use query_names::{Binder, HeldOffences, QueryError, Visible};
 use query_types::Cond;
 
-/// Looks at the SELECT list and then at all conditions, and adds the conjuncts where the query has not too many
-/// entries and no list of IN is too long.
+/// Looks at the SELECT list, whose outputs it gathers, and then at all conditions, and adds the conjuncts where the
+/// query has not too many entries and no list of IN is too long.
 #[tactic(auto, using(crate::proofs::BehindFacts::no_name, crate::proofs::BehindFacts::name_in_outs, crate::proofs::BehindFacts::name_in_parts, crate::proofs::BehindFacts::name_in_filter, crate::proofs::BehindFacts::kinds_behind_are, crate::proofs::BehindFacts::lists_behind_are, crate::proofs::BehindFacts::conjuncts_are_both), unfolding(query_grammar::specs::Lexemes::IsQueryOf))]
 pub fn check_clauses(
     binder: &Binder<'_>,
@@ -25,9 +29,10 @@ pub fn check_clauses(
     query: &QueryText,
     held: &mut HeldOffences,
     conjuncts: &mut Seq<Cond>,
-) -> Result<(), QueryError>
+) -> Result<Selected, QueryError>
     requires shows { Shows binder.now visible.now }
     requires all { visible.now.scope ≡ everything (from_of binder.now) }
+    requires valid { IsValid (schema_of binder.now) }
     requires ends { length (flat_map sources_of query.now.parts) ≤ length (from_of binder.now) }
     requires tokens { IsQueryOf (IsLexemeOf binder.now.text.now) query.now }
     ensures names { IfOk result (λ _. names_behind binder.now query.now ≡ []) }
@@ -35,10 +40,13 @@ pub fn check_clauses(
     ensures list { IfOk result (λ _. held.new.list ≡ or_first held.old.list (lists_behind binder.now query.now)) }
     ensures members { IfOk result (λ _. length (from_of binder.now) ≤ 12 → held.new.list ≡ None
         → conjuncts.new ≡ conjuncts.old ++ conjuncts_by binder.now query.now) }
+    ensures count { IfOk result (λ found. found.count ≡ capped (length (selected_by binder.now query.now.outs))) }
+    ensures outs { IfOk result (λ found. length (from_of binder.now) ≤ 12 → found.count ≤ most_outputs
+        → found.outs ≡ selected_by binder.now query.now.outs) }
     ensures err { IfErr result (IsNameError (names_behind binder.now query.now)) }
 {
-    check_outs(binder, visible, &query.outs)?;
+    let found = select(binder, visible, &query.outs)?;
     look_at_parts(binder, query.parts.as_slice(), held, conjuncts)?;
     look_at_filter(binder, &query.filter, held, conjuncts)?;
-    Ok(())
+    Ok(found)
 }

@@ -28,7 +28,6 @@ mod outputs;
 mod parts;
 mod query_limits;
 mod read;
-mod select_counts;
 mod select_list;
 
 pub use laws::{of_schema, one_answer};

@@ -1,62 +1,131 @@
-//! Names in the SELECT list.
-ghost use Rattle.std.specs.Prelude.{◌≡◌, [], All, IfOk, IfErr};
-ghost use Rattle.std.specs.List.{flat_map};
-ghost use Rattle.sql_tokens.specs.Words.{IsLexemeOf};
-ghost use Rattle.query_grammar.specs.Lexemes.{IsOutOf, IsOutListOf};
-ghost use Rattle.query_names.specs.Answers.{IsNameError};
-ghost use Rattle.query_names.specs.Binding.{Shows, out_offences_of, outs_offences_of};
+//! The outputs of a query (SQL-92 7.9), counted, and built while neither limit is passed.
+ghost use Rattle.std.specs.Prelude.{◌≡◌, ◌≤◌, ◌<◌, ◌+◌, ◌++◌, ◌∷◌, [], true, false, IfOk, length};
+ghost use Rattle.limits.specs.Profile.{most_outputs};
+ghost use Rattle.schema_types.specs.Validity.{IsValid};
+ghost use Rattle.sql_tokens.specs.Words.{IsLexemeOf, name_of};
+ghost use Rattle.query_grammar.specs.Lexemes.{IsNameOf};
+ghost use Rattle.query_names.specs.Values.{outs_from, reference_to};
+ghost use Rattle.query_names.specs.Binding.{schema_of, from_of};
+ghost use Rattle.sql_parse.specs.Outputs.{outs_of_entry_by, capped};
 
-use query_grammar::{OutText, OutsText};
-use query_names::{Binder, QueryError, Visible};
+use base_io::{Name, NoMemory, Seq};
+use limits::{MOST_ENTRIES, MOST_OUTPUTS};
+use ll_grammars::Lexeme;
+use query_names::{Binder, Entry, EntryColumn, reference_to};
+use query_types::{ColumnRef, Out};
+use schema_types::Column;
 use sql_tokens::name;
+use std::alloc::Global;
 
-/// Looks at the names of an output.
-#[tactic(auto, unfolding(query_names::specs::Binding::out_offences_of))]
-fn check_out(binder: &Binder<'_>, visible: &Visible, out: &OutText) -> Result<(), QueryError>
-    requires shows { Shows binder.now visible.now }
-    requires tokens { IsOutOf (IsLexemeOf binder.now.text.now) out.now }
-    ensures names { IfOk result (λ _. out_offences_of binder.now visible.now.scope out.now ≡ []) }
-    ensures err { IfErr result (IsNameError (out_offences_of binder.now visible.now.scope out.now)) }
-{
-    match out {
-        OutText::All(token) => {
-            let alias = name(binder.alloc, binder.text, token)?;
-            match binder.entry_named(visible.scope, alias.as_str()) {
-                Some(_) => Ok(()),
-                None => Err(QueryError::Name { at: token.start }),
-            }
+/// How many outputs were found, or `u64::MAX` where they are more, and themselves while neither the limit on them
+/// nor that on FROM entries is passed.
+#[derive(Drop)]
+pub struct Selected {
+    pub outs: Seq<Out>,
+    pub count: u64,
+}
+
+impl Selected {
+    /// None yet. It takes no memory.
+    pub fn new(alloc: Global) -> Selected
+        ensures outs { result.outs ≡ [] }
+        ensures count { result.count ≡ 0 }
+    {
+        Selected {
+            outs: Seq::new(alloc),
+            count: 0,
         }
-        OutText::Column { column, .. } => match binder.resolve(visible, column)? {
-            Some(_) => Ok(()),
-            None => Err(QueryError::Name {
-                at: column.table.unwrap_or(column.column).start,
-            }),
-        },
+    }
+
+    /// Counts so many more, and says whether they are to be built.
+    fn admits(&mut self, binder: &Binder<'_>, more: u64) -> bool
+        ensures count { self.new.count ≡ capped (self.old.count + more) }
+        ensures outs { self.new.outs ≡ self.old.outs }
+        ensures within { result ≡ true → length (from_of binder.now) ≤ 12 }
+        ensures beyond { result ≡ false → length (from_of binder.now) ≤ 12 → most_outputs < self.new.count }
+    {
+        self.count = self.count.saturating_add(more);
+        binder.entries.sources.len() <= MOST_ENTRIES && self.count <= MOST_OUTPUTS as u64
     }
 }
 
-fn check_listed(binder: &Binder<'_>, visible: &Visible, outs: &[OutText]) -> Result<(), QueryError>
-    requires shows { Shows binder.now visible.now }
-    requires tokens { All (IsOutOf (IsLexemeOf binder.now.text.now)) outs.now }
-    ensures names { IfOk result (λ _. flat_map (out_offences_of binder.now visible.now.scope) outs.now ≡ []) }
-    ensures err { IfErr result (IsNameError (flat_map (out_offences_of binder.now visible.now.scope) outs.now)) }
+/// Adds these columns of an entry, in their order.
+#[tactic(auto, using(crate::proofs::OutFacts::column_added, crate::proofs::OutFacts::columns_added))]
+fn add_columns(
+    alloc: Global,
+    from: u8,
+    columns: &[Column],
+    outs: &mut Seq<Out>,
+) -> Result<(), NoMemory>
+    requires few { length columns.now ≤ 64 }
+    ensures { IfOk result (λ _. outs.new ≡ outs.old ++ outs_from from 0 columns.now) }
 {
-    'all: for out in outs {
-        check_out(binder, visible, out)?;
+    let mut number: u32 = 0;
+    'all: for column in columns {
+        let name = Name::from_str(alloc, column.name.as_str())?;
+        outs.push(Out {
+            column: ColumnRef {
+                from,
+                column: number,
+            },
+            name,
+        })?;
+        number += 1;
     }
     Ok(())
 }
 
-/// Looks at the names of all outputs, in text order.
-#[tactic(auto, unfolding(query_names::specs::Binding::outs_offences_of, query_names::specs::Binding::out_offences_of))]
-pub fn check_outs(binder: &Binder<'_>, visible: &Visible, outs: &OutsText) -> Result<(), QueryError>
-    requires shows { Shows binder.now visible.now }
-    requires tokens { IsOutListOf (IsLexemeOf binder.now.text.now) outs.now }
-    ensures names { IfOk result (λ _. outs_offences_of binder.now visible.now.scope outs.now ≡ []) }
-    ensures err { IfErr result (IsNameError (outs_offences_of binder.now visible.now.scope outs.now)) }
+/// The columns of an entry, in declared order.
+#[tactic(auto, using(crate::proofs::OutFacts::few_columns, crate::proofs::OutFacts::some_outs, crate::proofs::OutFacts::no_outs))]
+fn columns_of<'a>(binder: &'a Binder<'_>, entry: Entry) -> &'a [Column]
+    requires valid { IsValid (schema_of binder.now) }
+    ensures few { length result.now ≤ 64 }
+    ensures outs { outs_of_entry_by binder.now entry ≡ outs_from entry.number 0 result.now }
 {
-    match outs {
-        OutsText::All => Ok(()),
-        OutsText::Listed(list) => check_listed(binder, visible, list.as_slice()),
+    match binder.table_at(entry) {
+        Some(table) => table.columns.as_slice(),
+        None => &[],
     }
+}
+
+/// Adds all columns of an entry.
+#[tactic(auto, using(crate::proofs::OutFacts::columns_counted))]
+pub fn add_entry(binder: &Binder<'_>, entry: Entry, found: &mut Selected) -> Result<(), NoMemory>
+    requires valid { IsValid (schema_of binder.now) }
+    requires small { length (from_of binder.now) ≤ 12 → entry.number < 256 }
+    ensures count { IfOk result (λ _. found.new.count ≡ capped (found.old.count + length (outs_of_entry_by binder.now entry))) }
+    ensures outs { IfOk result (λ _. length (from_of binder.now) ≤ 12 → found.new.count ≤ most_outputs
+        → found.new.outs ≡ found.old.outs ++ outs_of_entry_by binder.now entry) }
+{
+    let columns = columns_of(binder, entry);
+    if !found.admits(binder, columns.len() as u64) {
+        return Ok(());
+    }
+    add_columns(binder.alloc, entry.number as u8, columns, &mut found.outs)
+}
+
+/// Adds a column, by the name that this token spells.
+pub fn add_column(
+    binder: &Binder<'_>,
+    column: EntryColumn,
+    token: &Lexeme,
+    found: &mut Selected,
+) -> Result<(), NoMemory>
+    requires small { length (from_of binder.now) ≤ 12 → column.from < 256 }
+    requires token { IsNameOf (IsLexemeOf binder.now.text.now) token.now }
+    ensures count { IfOk result (λ _. found.new.count ≡ capped (found.old.count + 1)) }
+    ensures outs { IfOk result (λ _. length (from_of binder.now) ≤ 12 → found.new.count ≤ most_outputs
+        → found.new.outs ≡ found.old.outs ++ record {
+          column = reference_to (Some column);
+          name = name_of binder.now.text.now token.now;
+        } ∷ []) }
+{
+    if !found.admits(binder, 1) {
+        return Ok(());
+    }
+    let name = name(binder.alloc, binder.text, token)?;
+    found.outs.push(Out {
+        column: reference_to(Some(column)),
+        name,
+    })
 }

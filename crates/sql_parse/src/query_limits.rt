@@ -6,20 +6,17 @@ ghost use Rattle.sql_tokens.specs.Words.{IsLexemeOf};
 ghost use Rattle.query_grammar.specs.Lexemes.{IsQueryOf};
 ghost use Rattle.query_names.specs.declared.errors.QueryError.TheVariants as error;
 ghost use Rattle.query_names.specs.Names.{sources_of};
-ghost use Rattle.query_names.specs.Scopes.{everything};
 ghost use Rattle.query_names.specs.Answers.{first};
 ghost use Rattle.query_names.specs.Binding.{schema_of, from_of};
-ghost use Rattle.sql_parse.specs.Behind.{kinds_behind, lists_behind, conjuncts_by};
+ghost use Rattle.sql_parse.specs.Behind.{conjuncts_by};
 ghost use Rattle.sql_parse.specs.Outputs.{selected_by};
-ghost use Rattle.sql_parse.specs.Refusing.{limits_passed, limits_by, late_refusals, refusals_behind, IsFirstOf};
+ghost use Rattle.sql_parse.specs.Refusing.{limits_passed, refusals_behind, IsFirstOf};
 
 use crate::clauses::check_clauses;
-use crate::select_counts::output_count;
-use crate::select_list::outputs;
-use base_io::{NoMemory, Seq};
+use base_io::Seq;
 use limits::{MOST_CONJUNCTS, MOST_ENTRIES, MOST_OUTPUTS};
 use query_grammar::QueryText;
-use query_names::{Binder, HeldOffences, QueryError, Scope};
+use query_names::{Binder, HeldOffences, QueryError};
 use query_types::{Cond, Out};
 use schema_types::LimitKind;
 
@@ -51,50 +48,8 @@ fn first_limit(
     }
 }
 
-/// The first limit that the query passes.
-#[tactic(auto, unfolding(query_grammar::specs::Lexemes::IsQueryOf))]
-fn limit_passed(
-    binder: &Binder<'_>,
-    scope: Scope,
-    query: &QueryText,
-    list: Option<usize>,
-    conjuncts: &[Cond],
-) -> Result<Option<QueryError>, NoMemory>
-    requires all { scope ≡ everything (from_of binder.now) }
-    requires list { list ≡ first (lists_behind binder.now query.now) }
-    requires members { length (from_of binder.now) ≤ 12 → list ≡ None → conjuncts.now ≡ conjuncts_by binder.now query.now }
-    requires tokens { IsQueryOf (IsLexemeOf binder.now.text.now) query.now }
-    ensures { IfOk result (λ wrong. wrong ≡ first (limits_by binder.now query.now)) }
-{
-    let entries = binder.entries.sources.len() as u64;
-    let outputs = output_count(binder, scope, &query.outs)?;
-    Ok(first_limit(entries, list, conjuncts.len() as u64, outputs))
-}
-
-/// The first refusal for a kind or a limit.
-#[tactic(auto, using(crate::proofs::BindFacts::kind_first, crate::proofs::BindFacts::no_kind))]
-fn late_refusal(
-    binder: &Binder<'_>,
-    scope: Scope,
-    query: &QueryText,
-    held: HeldOffences,
-    conjuncts: &[Cond],
-) -> Result<Option<QueryError>, NoMemory>
-    requires all { scope ≡ everything (from_of binder.now) }
-    requires kind { held.kind ≡ first (kinds_behind binder.now query.now) }
-    requires list { held.list ≡ first (lists_behind binder.now query.now) }
-    requires members { length (from_of binder.now) ≤ 12 → held.list ≡ None → conjuncts.now ≡ conjuncts_by binder.now query.now }
-    requires tokens { IsQueryOf (IsLexemeOf binder.now.text.now) query.now }
-    ensures { IfOk result (λ wrong. wrong ≡ first (late_refusals binder.now query.now)) }
-{
-    match held.kind {
-        Some(at) => Ok(Some(QueryError::Kind { at })),
-        None => limit_passed(binder, scope, query, held.list, conjuncts),
-    }
-}
-
 /// The conjuncts and the outputs, or the first refusal behind FROM.
-#[tactic(auto, using(crate::proofs::BindFacts::name_refused, crate::proofs::BindFacts::none_refused, crate::proofs::BindFacts::few_entries, crate::proofs::BindFacts::no_long_list), unfolding(query_grammar::specs::Lexemes::IsQueryOf))]
+#[tactic(auto, using(crate::proofs::BindFacts::name_refused, crate::proofs::BindFacts::kind_refused))]
 pub fn behind_from(
     binder: &Binder<'_>,
     query: &QueryText,
@@ -113,12 +68,13 @@ pub fn behind_from(
         list: None,
     };
     let mut conjuncts = Seq::new(binder.alloc);
-    check_clauses(binder, &visible, query, &mut held, &mut conjuncts)?;
-    match late_refusal(binder, visible.scope, query, held, conjuncts.as_slice())? {
+    let found = check_clauses(binder, &visible, query, &mut held, &mut conjuncts)?;
+    if let Some(at) = held.kind {
+        return Err(QueryError::Kind { at });
+    }
+    let entries = binder.entries.sources.len() as u64;
+    match first_limit(entries, held.list, conjuncts.len() as u64, found.count) {
         Some(wrong) => Err(wrong),
-        None => {
-            let select = outputs(binder, &visible, &query.outs)?;
-            Ok((conjuncts, select))
-        }
+        None => Ok((conjuncts, found.outs)),
     }
 }

@@ -1,169 +1,112 @@
-//! The outputs of a query (SQL-92 7.9), and how many there are.
-ghost use Rattle.std.specs.Prelude.{◌≡◌, ◌≤◌, ◌<◌, ◌++◌, All, IfOk, IfSome, length};
+//! The SELECT list: its names, each resolved once, and the outputs that it gives.
+ghost use Rattle.std.specs.Prelude.{◌≡◌, ◌≤◌, ◌+◌, ◌++◌, [], All, IfOk, IfErr, length};
 ghost use Rattle.std.specs.List.{flat_map};
+ghost use Rattle.limits.specs.Profile.{most_outputs};
 ghost use Rattle.schema_types.specs.Validity.{IsValid};
 ghost use Rattle.sql_tokens.specs.Words.{IsLexemeOf};
-ghost use Rattle.query_grammar.specs.Lexemes.{IsNameOf, IsColumnOf, IsOutOf, IsOutListOf};
+ghost use Rattle.query_grammar.specs.Lexemes.{IsOutOf, IsOutListOf};
+ghost use Rattle.query_names.specs.Answers.{IsNameError};
 ghost use Rattle.query_names.specs.Scopes.{everything};
-ghost use Rattle.query_names.specs.Values.{outs_from};
-ghost use Rattle.query_names.specs.Binding.{Shows, schema_of, from_of};
-ghost use Rattle.sql_parse.specs.Outputs.{outs_of_entry_by, all_outs_by, outs_by, column_out_by, selected_by};
+ghost use Rattle.query_names.specs.Binding.{Shows, schema_of, from_of, out_offences_of, outs_offences_of};
+ghost use Rattle.sql_parse.specs.Outputs.{all_outs_by, outs_by, selected_by, capped};
 
-use base_io::{Name, NoMemory, Seq};
-use ll_grammars::Lexeme;
-use query_grammar::{ColumnText, OutText, OutsText};
-use query_names::{Binder, Entry, Visible, reference_to};
-use query_types::{ColumnRef, Out};
-use schema_types::{Column, Table};
+use crate::outputs::{Selected, add_column, add_entry};
+use base_io::NoMemory;
+use query_grammar::{OutText, OutsText};
+use query_names::{Binder, Entry, QueryError, Visible};
 use sql_tokens::name;
-use std::alloc::Global;
 
-/// Adds these columns of an entry, in their order.
-#[tactic(auto, using(crate::proofs::OutFacts::column_added, crate::proofs::OutFacts::columns_added))]
-fn add_columns(
-    alloc: Global,
-    from: u8,
-    columns: &[Column],
-    found: &mut Seq<Out>,
-) -> Result<(), NoMemory>
-    requires few { length columns.now ≤ 64 }
-    ensures { IfOk result (λ _. found.new ≡ found.old ++ outs_from from 0 columns.now) }
-{
-    let mut number: u32 = 0;
-    'all: for column in columns {
-        let name = Name::from_str(alloc, column.name.as_str())?;
-        found.push(Out {
-            column: ColumnRef {
-                from,
-                column: number,
-            },
-            name,
-        })?;
-        number += 1;
-    }
-    Ok(())
-}
-
-/// Adds all columns of an entry, in declared order.
-#[tactic(auto, using(crate::proofs::OutFacts::few_columns, crate::proofs::OutFacts::some_outs, crate::proofs::OutFacts::no_outs))]
-fn add_entry(binder: &Binder<'_>, entry: Entry, found: &mut Seq<Out>) -> Result<(), NoMemory>
+/// The columns of all entries.
+fn all_outputs(binder: &Binder<'_>) -> Result<Selected, NoMemory>
     requires valid { IsValid (schema_of binder.now) }
-    requires few { entry.number < 256 }
-    ensures { IfOk result (λ _. found.new ≡ found.old ++ outs_of_entry_by binder.now entry) }
+    ensures count { IfOk result (λ found. found.count ≡ capped (length (all_outs_by binder.now))) }
+    ensures outs { IfOk result (λ found. length (from_of binder.now) ≤ 12 → found.count ≤ most_outputs
+        → found.outs ≡ all_outs_by binder.now) }
 {
-    match binder.table_at(entry) {
-        Some(table) => add_columns(
-            binder.alloc,
-            entry.number as u8,
-            table.columns.as_slice(),
-            found,
-        ),
-        None => Ok(()),
-    }
-}
-
-/// Adds all columns of all entries.
-fn add_all(binder: &Binder<'_>, found: &mut Seq<Out>) -> Result<(), NoMemory>
-    requires valid { IsValid (schema_of binder.now) }
-    requires few { length (from_of binder.now) ≤ 12 }
-    ensures { IfOk result (λ _. found.new ≡ found.old ++ all_outs_by binder.now) }
-{
+    let mut found = Selected::new(binder.alloc);
     'all: for number in 0..binder.entries.sources.len() {
         let table = binder.entries.sources.as_slice()[number].table;
-        add_entry(binder, Entry { number, table }, found)?;
+        add_entry(binder, Entry { number, table }, &mut found)?;
     }
-    Ok(())
+    Ok(found)
 }
 
-/// The output that is a column, by its new name where one is written.
-#[tactic(auto, using(query_names::proofs::Meanings::found_small), unfolding(crate::specs::Outputs::column_out_by))]
-fn column_out(
-    binder: &Binder<'_>,
-    visible: &Visible,
-    column: &ColumnText,
-    new: &Option<Lexeme>,
-) -> Result<Out, NoMemory>
-    requires shows { Shows binder.now visible.now }
-    requires all { visible.now.scope ≡ everything (from_of binder.now) }
-    requires few { length (from_of binder.now) ≤ 12 }
-    requires tokens { IsColumnOf (IsLexemeOf binder.now.text.now) column.now × IfSome new.now (IsNameOf (IsLexemeOf binder.now.text.now)) }
-    ensures { IfOk result (λ one. one ≡ column_out_by binder.now column.now new.now) }
-{
-    let reference = reference_to(binder.resolve(visible, column)?);
-    let token = new.unwrap_or(column.column);
-    let name = name(binder.alloc, binder.text, &token)?;
-    Ok(Out {
-        column: reference,
-        name,
-    })
-}
-
-/// Adds what an item of the list gives.
-#[tactic(auto, using(crate::proofs::OutFacts::named_small), unfolding(crate::specs::Outputs::outs_by, crate::specs::Outputs::column_out_by, crate::specs::Outputs::outs_of_entry_by))]
+/// Looks at the name of an item of the list, and adds what the item gives.
+#[tactic(auto, using(crate::proofs::OutFacts::named_small), unfolding(query_names::specs::Binding::out_offences_of, crate::specs::Outputs::outs_by, crate::specs::Outputs::outs_of_entry_by))]
 fn add_out(
     binder: &Binder<'_>,
     visible: &Visible,
     out: &OutText,
-    found: &mut Seq<Out>,
-) -> Result<(), NoMemory>
+    found: &mut Selected,
+) -> Result<(), QueryError>
     requires shows { Shows binder.now visible.now }
     requires all { visible.now.scope ≡ everything (from_of binder.now) }
-    requires few { length (from_of binder.now) ≤ 12 }
     requires valid { IsValid (schema_of binder.now) }
     requires tokens { IsOutOf (IsLexemeOf binder.now.text.now) out.now }
-    ensures { IfOk result (λ _. found.new ≡ found.old ++ outs_by binder.now out.now) }
+    ensures names { IfOk result (λ _. out_offences_of binder.now visible.now.scope out.now ≡ []) }
+    ensures count { IfOk result (λ _. found.new.count ≡ capped (found.old.count + length (outs_by binder.now out.now))) }
+    ensures outs { IfOk result (λ _. length (from_of binder.now) ≤ 12 → found.new.count ≤ most_outputs
+        → found.new.outs ≡ found.old.outs ++ outs_by binder.now out.now) }
+    ensures err { IfErr result (IsNameError (out_offences_of binder.now visible.now.scope out.now)) }
 {
     match out {
-        OutText::All(alias) => {
-            let alias = name(binder.alloc, binder.text, alias)?;
+        OutText::All(token) => {
+            let alias = name(binder.alloc, binder.text, token)?;
             match binder.entry_named(visible.scope, alias.as_str()) {
-                Some(entry) => add_entry(binder, entry, found),
-                None => Ok(()),
+                Some(entry) => Ok(add_entry(binder, entry, found)?),
+                None => Err(QueryError::Name { at: token.start }),
             }
         }
-        OutText::Column { column, name } => {
-            found.push(column_out(binder, visible, column, name)?)?;
-            Ok(())
-        }
+        OutText::Column { column, name } => match binder.resolve(visible, column)? {
+            Some(one) => {
+                let token = name.unwrap_or(column.column);
+                Ok(add_column(binder, one, &token, found)?)
+            }
+            None => Err(QueryError::Name {
+                at: column.table.unwrap_or(column.column).start,
+            }),
+        },
     }
 }
 
-/// What the items of a list give.
-fn listed(binder: &Binder<'_>, visible: &Visible, list: &[OutText]) -> Result<Seq<Out>, NoMemory>
+/// Looks at the names of all items of a list, in text order, and gathers what the items give.
+fn listed(binder: &Binder<'_>, visible: &Visible, list: &[OutText]) -> Result<Selected, QueryError>
     requires shows { Shows binder.now visible.now }
     requires all { visible.now.scope ≡ everything (from_of binder.now) }
-    requires few { length (from_of binder.now) ≤ 12 }
     requires valid { IsValid (schema_of binder.now) }
     requires tokens { All (IsOutOf (IsLexemeOf binder.now.text.now)) list.now }
-    ensures { IfOk result (λ found. found ≡ flat_map (outs_by binder.now) list.now) }
+    ensures names { IfOk result (λ _. flat_map (out_offences_of binder.now visible.now.scope) list.now ≡ []) }
+    ensures count { IfOk result (λ found. found.count ≡ capped (length (flat_map (outs_by binder.now) list.now))) }
+    ensures outs { IfOk result (λ found. length (from_of binder.now) ≤ 12 → found.count ≤ most_outputs
+        → found.outs ≡ flat_map (outs_by binder.now) list.now) }
+    ensures err { IfErr result (IsNameError (flat_map (out_offences_of binder.now visible.now.scope) list.now)) }
 {
-    let mut found = Seq::new(binder.alloc);
+    let mut found = Selected::new(binder.alloc);
     'all: for out in list {
         add_out(binder, visible, out, &mut found)?;
     }
     Ok(found)
 }
 
-/// The outputs of a query.
-#[tactic(auto, unfolding(crate::specs::Outputs::selected_by, crate::specs::Outputs::all_outs_by, crate::specs::Outputs::outs_by))]
-pub fn outputs(
+/// Looks at the names of the SELECT list, in text order, and gathers the outputs.
+#[tactic(auto, unfolding(query_names::specs::Binding::outs_offences_of, query_names::specs::Binding::out_offences_of, crate::specs::Outputs::selected_by, crate::specs::Outputs::all_outs_by, crate::specs::Outputs::outs_by))]
+pub fn select(
     binder: &Binder<'_>,
     visible: &Visible,
     outs: &OutsText,
-) -> Result<Seq<Out>, NoMemory>
+) -> Result<Selected, QueryError>
     requires shows { Shows binder.now visible.now }
     requires all { visible.now.scope ≡ everything (from_of binder.now) }
-    requires few { length (from_of binder.now) ≤ 12 }
     requires valid { IsValid (schema_of binder.now) }
     requires tokens { IsOutListOf (IsLexemeOf binder.now.text.now) outs.now }
-    ensures { IfOk result (λ found. found ≡ selected_by binder.now outs.now) }
+    ensures names { IfOk result (λ _. outs_offences_of binder.now visible.now.scope outs.now ≡ []) }
+    ensures count { IfOk result (λ found. found.count ≡ capped (length (selected_by binder.now outs.now))) }
+    ensures outs { IfOk result (λ found. length (from_of binder.now) ≤ 12 → found.count ≤ most_outputs
+        → found.outs ≡ selected_by binder.now outs.now) }
+    ensures err { IfErr result (IsNameError (outs_offences_of binder.now visible.now.scope outs.now)) }
 {
     match outs {
-        OutsText::All => {
-            let mut found = Seq::new(binder.alloc);
-            add_all(binder, &mut found)?;
-            Ok(found)
-        }
+        OutsText::All => Ok(all_outputs(binder)?),
         OutsText::Listed(list) => listed(binder, visible, list.as_slice()),
     }
 }
