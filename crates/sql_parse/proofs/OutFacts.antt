@@ -1,9 +1,9 @@
 -- The outputs of entries, column by column and entry by entry, and what is gathered of a list of outputs.
-use Rattle.std.proofs.Common.{◌≡◌, ℕ, suc, ◌+◌, ◌<◌, ◌≤◌, List, [], ◌∷◌, ◌++◌, length, take, drop, get_or, Option, Some, None, ap, subst, sym, ◌∙◌, refl, append_assoc, arith, length-append}
+use Rattle.std.proofs.Common.{◌≡◌, ℕ, suc, ◌+◌, ◌<◌, ◌≤◌, List, [], ◌∷◌, ◌++◌, length, drop, get_or, Option, Some, None, ap, subst, sym, ◌∙◌, refl, append_assoc, arith, length-append}
 use Rattle.std.specs.Prelude.{slice_get}
 use Rattle.std.specs.List.{flat_map}
 use Rattle.std.proofs.lemmas.Grind.{flat_map-append}
-use Rattle.std.proofs.lemmas.List.{take_more, take_all, drop_all, append-nil}
+use Rattle.std.proofs.lemmas.List.{drop_all, append-nil}
 use Rattle.std.proofs.lemmas.Option.{slice_get_within, get_or_from_slice_get}
 use Rattle.limits.specs.Profile.{most_outputs}
 use Rattle.query_grammar.specs.declared.tree.OutText.{OutText}
@@ -73,9 +73,6 @@ pub record IsGathered (binder : Binder) (found : Selected) (list : List Out) : T
   pub outs : length (from_of binder) ≤ 12 → found.count ≤ most_outputs → found.outs ≡ list
 
 module _ (binder : Binder) where
-  pub none_gathered : (found : Selected) {list : List Out} → found.outs ≡ [] → found.count ≡ 0 → list ≡ [] → IsGathered binder found list
-  none_gathered found {list} outs count none = subst (IsGathered binder found) (sym none) (record { count = omega arith; outs = λ few within. outs })
-
   pub gathered_more : (list item : List Out) {old new : Selected} {next : List Out} → next ≡ list ++ item → IsGathered binder old list
       → new.count ≡ capped (old.count + length item) → (length (from_of binder) ≤ 12 → new.count ≤ most_outputs → new.outs ≡ old.outs ++ item) → IsGathered binder new next
   gathered_more list item {old} {new} {next} is so_far counted added = subst (IsGathered binder new) (sym is) (record {
@@ -107,9 +104,6 @@ module _ (binder : Binder) where
   unfolding all_outs_by outs_of_entry_by
   all_before number is = ap (λ n. flat_map (outs_of_entry (schema_of binder)) (in_scope (from_of binder) (record { first = 0; end = n }))) is
 
-  pub gathered_all : (found : Selected) {number : ℕ} → number ≡ length (from_of binder) → IsGathered binder found (outs_before number) → IsGathered binder found (all_outs_by binder)
-  gathered_all found {number} done so_far = subst (IsGathered binder found) (all_before number done) so_far
-
 pub named_small : (from : List Source) (scope : Scope) (alias : List ℕ) (e : Entry) → entry_named from scope alias ≡ Some e → length from ≤ 12 → e.number < 256
 named_small from scope alias e is few =
     let there : IsEntry from e = named_is from scope alias e is in
@@ -121,10 +115,3 @@ named_small from scope alias e is few =
 pub selected_listed : (binder : Binder) (list : List OutText) → selected_by binder (outs.Listed list) ≡ flat_map (outs_by binder) list
 unfolding selected_by outs_by
 selected_listed binder list = refl
-
-pub one_more_item : {A : Type 0} (f : A → List Out) (xs : List A) {i : ℕ} (d : A) → i < length xs → flat_map f (take (i + 1) xs) ≡ flat_map f (take i xs) ++ f (get_or xs i d)
-one_more_item f xs {i} d below =
-    ap (flat_map f) (take_more xs i d below) ∙ flat_map-append f (take i xs) (get_or xs i d ∷ []) ∙ ap (λ l. flat_map f (take i xs) ++ l) (append-nil (f (get_or xs i d)))
-
-pub gathered_list : {A : Type 0} (binder : Binder) (f : A → List Out) (xs : List A) (found : Selected) {i : ℕ} → length xs ≤ i → IsGathered binder found (flat_map f (take i xs)) → IsGathered binder found (flat_map f xs)
-gathered_list binder f xs found {i} done so_far = subst (λ l. IsGathered binder found (flat_map f l)) (take_all i xs done) so_far

@@ -17,6 +17,7 @@ use query_names::{Binder, Entry, QueryError, Visible};
 use sql_tokens::name;
 
 /// The columns of all entries.
+#[tactic(auto, using(crate::proofs::OutFacts::none_before, crate::proofs::OutFacts::all_before))]
 fn all_outputs(binder: &Binder<'_>) -> Result<Selected, NoMemory>
     requires valid { IsValid (schema_of binder.now) }
     ensures count { IfOk result (λ found. found.count ≡ capped (length (all_outs_by binder.now))) }
