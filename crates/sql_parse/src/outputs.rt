@@ -37,11 +37,12 @@ impl Selected {
         }
     }
 
-    /// Counts so many more, and says whether they are to be built.
+    /// Counts so many more, and says whether they are to be built: what is refused later takes no memory.
     fn admits(&mut self, binder: &Binder<'_>, more: u64) -> bool
         ensures count { self.new.count ≡ capped (self.old.count + more) }
         ensures outs { self.new.outs ≡ self.old.outs }
-        ensures within { result ≡ true → length (from_of binder.now) ≤ 12 }
+        ensures few { result ≡ true → length (from_of binder.now) ≤ 12 }
+        ensures within { result ≡ true → self.new.count ≤ most_outputs }
         ensures beyond { result ≡ false → length (from_of binder.now) ≤ 12 → most_outputs < self.new.count }
     {
         self.count = self.count.saturating_add(more);
