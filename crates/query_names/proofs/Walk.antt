@@ -59,7 +59,7 @@ or_first_append (Some n) xs ys = refl
 or_first_append None [] ys = refl
 or_first_append None (x ∷ xs) ys = refl
 
-or_first-nil : (found : Option ℕ) → or_first found [] ≡ found
+pub or_first-nil : (found : Option ℕ) → or_first found [] ≡ found
 or_first-nil (Some n) = refl
 or_first-nil None = refl
 
