@@ -2,6 +2,7 @@
 use Rattle.std.proofs.Common.{◌≡◌, ℕ, ◌+◌, ◌<◌, ◌≤◌, Bool, List, [], ◌∷◌, ◌++◌, length, map, take, get_or, Option, Some, ap, subst, sym, ◌∙◌, refl}
 use Rattle.std.specs.Prelude.{is_none}
 use Rattle.std.specs.List.{flat_map}
+use Rattle.std.proofs.lemmas.List.Folds.{flat_map-map}
 use Rattle.std.proofs.lemmas.List.{append-nil, map-append, take_more}
 use Rattle.ll_grammars.specs.declared.lexeme.Lexeme.{Lexeme}
 use Rattle.query_grammar.specs.declared.tree.ColumnText.{ColumnText}
@@ -31,7 +32,6 @@ use Rattle.query_names.specs.Answers.{IsNameError, or_first}
 use Rattle.query_names.specs.Binding.{schema_of, from_of, resolved_by, name_offences_of, is_text_by, kind_offence_of, test_offences_of, operand_by, compared_by}
 use Rattle.query_names.specs.Looking.{bound_literal, IsBound, Looked, LookedAtTest, comparisons_by, wrong_literal, equal_to}
 use Rattle.query_names.proofs.Walk.{error_behind, name_error_append, or_first-nil}
-use Rattle.query_names.proofs.TestFacts.{flat_map_of_map}
 use Rattle.query_names.proofs.CheckFacts.{error_at_left, error_at_others, no_error, kinds_of_test}
 use Rattle.query_names.proofs.Meanings.{found_small}
 use Rattle.query_names.proofs.LookSteps.{looked_as, then_looked, flat_map_step}
@@ -143,7 +143,7 @@ no_names binder scope (l ∷ values) = no_names binder scope values
 wrong_values : (binder : Binder) (scope : Scope) (text : Bool) (values : List LiteralText)
     → flat_map (wrong_literal text) values ≡ flat_map (kind_offence_of binder scope text) (map of_literal values)
 unfolding kind_offence_of
-wrong_values binder scope text values = sym (flat_map_of_map (kind_offence_of binder scope text) of_literal values)
+wrong_values binder scope text values = sym (flat_map-map (kind_offence_of binder scope text) of_literal values)
 
 equal_values : (binder : Binder) (scope : Scope) (left : OperandText) (values : List LiteralText)
     → map (equal_to binder.text.now (operand_by binder scope left)) values ≡ map (λ l. compared_by binder scope op.Eq left (of_literal l)) values

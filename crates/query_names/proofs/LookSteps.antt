@@ -11,9 +11,8 @@ use Rattle.query_names.specs.declared.checks.HeldOffences.{HeldOffences}
 use Rattle.query_names.specs.declared.errors.QueryError.{QueryError}
 use Rattle.query_names.specs.declared.scope.Scope.{Scope}
 use Rattle.query_names.specs.Scopes.{tests}
-use Rattle.query_names.specs.Offences.{too_long}
 use Rattle.query_names.specs.Answers.{IsNameError, or_first}
-use Rattle.query_names.specs.Binding.{from_of, test_offences_of, kind_offences_of}
+use Rattle.query_names.specs.Binding.{from_of, test_offences_of}
 use Rattle.query_names.specs.Looking.{Looked, LookedAt}
 use Rattle.query_names.proofs.Walk.{left_at, or_first_append, or_first-nil, none_before, error_behind, name_error_append}
 
@@ -65,15 +64,6 @@ pub flat_map_step : {A B : Type 0} (f : A → List B) (xs : List A) (i : ℕ) (d
 flat_map_step f xs i d below = flat_map_more f [] (take i xs) (get_or xs i d) ∙ ap (flat_map f) (sym (take_more xs i d below))
 
 module _ (binder : Binder) (scope : Scope) where
-  pub looked_more : (cs : List CondText) {i : ℕ} (d : CondText) {held mid held' : HeldOffences} {found between found' more more' whole : List Cond}
-      → i < length cs → LookedAt binder scope (flat_map tests (take i cs)) held mid found between more
-      → LookedAt binder scope (tests (get_or cs i d)) mid held' between found' more' → more ++ more' ≡ whole
-      → LookedAt binder scope (flat_map tests (take (i + 1) cs)) held held' found found' whole
-  looked_more cs {i} d below one next same =
-      looked_as (over (test_offences_of binder scope)) (over (kind_offences_of binder scope)) (over too_long) (λ _. same) (then_looked one next) where
-        over : (f : TestText → List ℕ) → flat_map f (flat_map tests (take i cs)) ++ flat_map f (tests (get_or cs i d)) ≡ flat_map f (flat_map tests (take (i + 1) cs))
-        over f = sym (flat_map-append f (flat_map tests (take i cs)) (tests (get_or cs i d))) ∙ ap (flat_map f) (flat_map_step tests cs i d below)
-
   pub looked_all : (cs : List CondText) {i : ℕ} {held held' : HeldOffences} {found found' : List Cond} (more : List CondText → List Cond)
       → length cs ≤ i → LookedAt binder scope (flat_map tests (take i cs)) held held' found found' (more (take i cs))
       → LookedAt binder scope (flat_map tests cs) held held' found found' (more cs)

@@ -76,4 +76,5 @@ LookedAtTest binder scope t held held' found found' more =
 
 abbrev pub LookedAt : Binder → Scope → List TestText → HeldOffences → HeldOffences → List Cond → List Cond → List Cond → Type 0
 LookedAt binder scope ts held held' found found' more =
-    Looked binder (flat_map (test_offences_of binder scope) ts) (flat_map (kind_offences_of binder scope) ts) (flat_map too_long ts) held held' found found' more
+    Looked binder (flat_map (test_offences_of binder scope) ts) (flat_map (kind_offences_of binder scope) ts) (flat_map too_long ts)
+    held held' found found' more
