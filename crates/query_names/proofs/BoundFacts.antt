@@ -65,21 +65,21 @@ module _ (binder : Binder) (scope : Scope) where
 -- ---- names
 
 module _ (binder : Binder) (scope : Scope) (t : TestText) where
-  pub wrong_left : {left : OperandText} (e : QueryError) → left_of t ≡ left → IsNameError (name_offences_of binder scope left) e → IsNameError (test_offences_of binder scope t) e
-  wrong_left e is wrong = error_at_left binder scope t e (subst (λ o. IsNameError (name_offences_of binder scope o) e) (sym is) wrong)
+  pub wrong_left : {left : OperandText} (e : QueryError) → left ≡ left_of t → IsNameError (name_offences_of binder scope left) e → IsNameError (test_offences_of binder scope t) e
+  wrong_left e is wrong = error_at_left binder scope t e (subst (λ o. IsNameError (name_offences_of binder scope o) e) is wrong)
 
-  pub wrong_other : {left other : OperandText} (after : List OperandText) (e : QueryError) → left_of t ≡ left → others_of t ≡ other ∷ after
+  pub wrong_other : {left other : OperandText} (after : List OperandText) (e : QueryError) → left ≡ left_of t → others_of t ≡ other ∷ after
       → name_offences_of binder scope left ≡ [] → IsNameError (name_offences_of binder scope other) e → IsNameError (test_offences_of binder scope t) e
   wrong_other {left} {other} after e is are none wrong =
-      error_at_others binder scope t e (ap (name_offences_of binder scope) is ∙ none)
+      error_at_others binder scope t e (ap (name_offences_of binder scope) (sym is) ∙ none)
       (subst (λ l. IsNameError (flat_map (name_offences_of binder scope) l) e) (sym are)
       (name_error_append (name_offences_of binder scope other) (flat_map (name_offences_of binder scope) after) e wrong))
 
-  pub wrong_second : {left low high : OperandText} (e : QueryError) → left_of t ≡ left → others_of t ≡ low ∷ high ∷ []
+  pub wrong_second : {left low high : OperandText} (e : QueryError) → left ≡ left_of t → others_of t ≡ low ∷ high ∷ []
       → name_offences_of binder scope left ≡ [] → name_offences_of binder scope low ≡ [] → IsNameError (name_offences_of binder scope high) e
       → IsNameError (test_offences_of binder scope t) e
   wrong_second {left} {low} {high} e is are none before wrong =
-      error_at_others binder scope t e (ap (name_offences_of binder scope) is ∙ none)
+      error_at_others binder scope t e (ap (name_offences_of binder scope) (sym is) ∙ none)
       (subst (λ l. IsNameError (flat_map (name_offences_of binder scope) l) e) (sym are)
       (error_behind (name_offences_of binder scope low) (name_offences_of binder scope high ++ []) e before
       (name_error_append (name_offences_of binder scope high) [] e wrong)))
@@ -100,12 +100,17 @@ module _ {binder : Binder} {scope : Scope} where
   unfolding compared_by operand_by
   value_is {left} {right} {l} {r} how lb rb few = ap (λ v. cond.Compare how v r.value) (lb.value few) ∙ ap (λ v. cond.Compare how (operand_by binder scope left) v) (rb.value few)
 
-  pub compare_looked : {t : TestText} {left right : OperandText} (how : Op) {l r : BoundOperand} {held held' : HeldOffences} {found found' : List Cond}
-      → t ≡ test.Compare left how right → IsBound binder scope left l → IsBound binder scope right r
+  -- the left operand, where it is known what the test is
+  bound_left : (t : TestText) {o left : OperandText} {l : BoundOperand} → o ≡ left_of t → left_of t ≡ left → IsBound binder scope o l → IsBound binder scope left l
+  bound_left t {l = l} from is bound = subst (λ o. IsBound binder scope o l) (from ∙ is) bound
+
+  pub compare_looked : {t : TestText} {o left right : OperandText} (how : Op) {l r : BoundOperand} {held held' : HeldOffences} {found found' : List Cond}
+      → t ≡ test.Compare left how right → o ≡ left_of t → IsBound binder scope o l → IsBound binder scope right r
       → Looked binder [] (at (differ l.is_text r.is_text) r.first) [] held held' found found' (cond.Compare how l.value r.value ∷ [])
       → LookedAtTest binder scope t held held' found found' (comparisons_by binder scope t)
   unfolding comparisons_by
-  compare_looked {t} {left} {right} how {l} {r} {held} {held'} {found} {found'} is lb rb looked =
+  compare_looked {t} {o} {left} {right} how {l} {r} {held} {held'} {found} {found'} is from ob rb looked =
+      let lb : IsBound binder scope left l = bound_left t from (ap left_of is) ob in
       subst (λ t. LookedAtTest binder scope t held held' found found' (comparisons_by binder scope t)) (sym is)
       (looked_as
       (sym (no_error binder scope (test.Compare left how right) lb.none (ap (λ n. n ++ []) rb.none)))
@@ -114,13 +119,14 @@ module _ {binder : Binder} {scope : Scope} where
       (λ few. ap (λ c. c ∷ []) (value_is how lb rb few))
       looked)
 
-  pub between_looked : {t : TestText} {left low high : OperandText} (negated : Bool) {l a b : BoundOperand} {held mid held' : HeldOffences} {found between found' : List Cond}
-      → t ≡ test.Between left negated low high → IsBound binder scope left l → IsBound binder scope low a → IsBound binder scope high b
+  pub between_looked : {t : TestText} {o left low high : OperandText} (negated : Bool) {l a b : BoundOperand} {held mid held' : HeldOffences} {found between found' : List Cond}
+      → t ≡ test.Between left negated low high → o ≡ left_of t → IsBound binder scope o l → IsBound binder scope low a → IsBound binder scope high b
       → Looked binder [] (at (differ l.is_text a.is_text) a.first) [] held mid found between (cond.Compare op.Ge l.value a.value ∷ [])
       → Looked binder [] (at (differ l.is_text b.is_text) b.first) [] mid held' between found' (cond.Compare op.Le l.value b.value ∷ [])
       → LookedAtTest binder scope t held held' found found' (comparisons_by binder scope t)
   unfolding comparisons_by
-  between_looked {t} {left} {low} {high} negated {l} {a} {b} {held} {mid} {held'} {found} {between} {found'} is lb ab bb first second =
+  between_looked {t} {o} {left} {low} {high} negated {l} {a} {b} {held} {mid} {held'} {found} {between} {found'} is from ob ab bb first second =
+      let lb : IsBound binder scope left l = bound_left t from (ap left_of is) ob in
       let range : TestText = test.Between left negated low high in
       let kind : OperandText → List ℕ = kind_offence_of binder scope (is_text_by binder scope left) in
       subst (λ t. LookedAtTest binder scope t held held' found found' (comparisons_by binder scope t)) (sym is)
@@ -150,15 +156,18 @@ equal_values : (binder : Binder) (scope : Scope) (left : OperandText) (values : 
 unfolding compared_by operand_by
 equal_values binder scope left values = refl
 
-pub in_looked : {binder : Binder} {scope : Scope} {t : TestText} {left : OperandText} (negated : Bool) {values items : List LiteralText} {l : BoundOperand}
+pub in_looked : {binder : Binder} {scope : Scope} {t : TestText} {o left : OperandText} (negated : Bool) {values items : List LiteralText} {l : BoundOperand}
     {held mid held' : HeldOffences} {found found' : List Cond}
-    → t ≡ test.In left negated values → items ≡ values → IsBound binder scope left l
+    → t ≡ test.In left negated values → items ≡ values → o ≡ left_of t → IsBound binder scope o l
     → mid.list ≡ or_first held.list (too_long t) → mid.kind ≡ held.kind
     → Looked binder [] (flat_map (wrong_literal l.is_text) items) [] mid held' found found' (map (equal_to binder.text.now l.value) items)
     → LookedAtTest binder scope t held held' found found' (comparisons_by binder scope t)
 unfolding comparisons_by
-in_looked {binder} {scope} {t} {left} negated {values} {items} {l} {held} {mid} {held'} {found} {found'} is same lb list kind looked =
+in_looked {binder} {scope} {t} {o} {left} negated {values} {items} {l} {held} {mid} {held'} {found} {found'} is same from ob list kind looked =
     subst (λ t. mid.list ≡ or_first held.list (too_long t) → LookedAtTest binder scope t held held' found found' (comparisons_by binder scope t)) (sym is) whole list where
+      lb : IsBound binder scope left l
+      lb = bound_left t from (ap left_of is) ob
+
       noted : mid.list ≡ or_first held.list (too_long (test.In left negated values)) → Looked binder [] [] (too_long (test.In left negated values)) held mid found found []
       noted list = record { none = refl; kind = kind ∙ sym (or_first-nil held.kind); list = list; built = λ _ _. sym (append-nil found) }
 

@@ -18,7 +18,7 @@ pub struct HeldOffences {
 
 impl HeldOffences {
     /// Keeps the place of a token that is of the wrong kind.
-    pub fn note_kind(&mut self, wrong: bool, token: Lexeme)
+    pub(crate) fn note_kind(&mut self, wrong: bool, token: Lexeme)
         ensures kind { self.new.kind ≡ or_first self.old.kind (at wrong token) }
         ensures list { self.new.list ≡ self.old.list }
     {
@@ -28,7 +28,7 @@ impl HeldOffences {
     }
 
     /// Keeps the length of a list of IN that is too long.
-    pub fn note_list(&mut self, test: &TestText)
+    pub(crate) fn note_list(&mut self, test: &TestText)
         ensures list { self.new.list ≡ or_first self.old.list (too_long test.now) }
         ensures kind { self.new.kind ≡ self.old.kind }
     {

@@ -5,7 +5,7 @@ ghost use Rattle.sql_tokens.specs.Words.{IsLexemeOf};
 ghost use Rattle.query_grammar.specs.Lexemes.{IsLiteralOf, IsTestOf};
 ghost use Rattle.query_types.specs.declared.types.Cond.TheVariants as cond;
 ghost use Rattle.query_names.specs.Names.{at};
-ghost use Rattle.query_names.specs.Offences.{differ};
+ghost use Rattle.query_names.specs.Offences.{left_of, differ};
 ghost use Rattle.query_names.specs.Answers.{IsNameError};
 ghost use Rattle.query_names.specs.Binding.{Shows, from_of, test_offences_of, test_value_by, test_members_by};
 ghost use Rattle.query_names.specs.Looking.{Looked, LookedAtTest, comparisons_by, is_range, wrong_literal, equal_to};
@@ -18,8 +18,19 @@ use crate::scope::Visible;
 use crate::values::whole_of;
 use base_io::{NoMemory, Seq};
 use limits::MOST_ENTRIES;
-use query_grammar::{LiteralText, TestText};
+use query_grammar::{LiteralText, OperandText, TestText};
 use query_types::{Cond, Op};
+
+/// The left operand of a test.
+fn left_of(test: &TestText) -> OperandText
+    ensures { result ≡ left_of test.now }
+{
+    match test {
+        TestText::Compare { left, .. } => *left,
+        TestText::Between { operand, .. } => *operand,
+        TestText::In { operand, .. } => *operand,
+    }
+}
 
 /// Whether a test is two comparisons that hold together, and so two members of what it stands in.
 fn is_range(test: &TestText) -> bool
@@ -33,7 +44,7 @@ fn is_range(test: &TestText) -> bool
 
 impl<'a> Binder<'a> {
     /// Whether conditions are built: FROM has not too many entries, and no list of IN up to here is too long.
-    pub fn builds(&self, held: &HeldOffences) -> bool
+    pub(crate) fn builds(&self, held: &HeldOffences) -> bool
         ensures { length (from_of self.now) ≤ 12 → held.now.list ≡ None → result ≡ true }
     {
         self.entries.sources.len() <= MOST_ENTRIES && held.list.is_none()
@@ -96,30 +107,19 @@ impl<'a> Binder<'a> {
             (comparisons_by self.now visible.now.scope test.now)) }
         ensures err { IfErr result (IsNameError (test_offences_of self.now visible.now.scope test.now)) }
     {
+        let left = self.bind_operand(visible, &left_of(test))?;
         match test {
-            TestText::Compare { left, op, right } => {
-                let left = self.bind_operand(visible, left)?;
+            TestText::Compare { op, right, .. } => {
                 let right = self.bind_operand(visible, right)?;
                 Ok(self.compare(&left, *op, right, held, found)?)
             }
-            TestText::Between {
-                operand,
-                low,
-                high,
-                ..
-            } => {
-                let left = self.bind_operand(visible, operand)?;
+            TestText::Between { low, high, .. } => {
                 let low = self.bind_operand(visible, low)?;
                 let high = self.bind_operand(visible, high)?;
                 self.compare(&left, Op::Ge, low, held, found)?;
                 Ok(self.compare(&left, Op::Le, high, held, found)?)
             }
-            TestText::In {
-                operand,
-                values,
-                ..
-            } => {
-                let left = self.bind_operand(visible, operand)?;
+            TestText::In { values, .. } => {
                 held.note_list(test);
                 Ok(self.add_equalities(&left, values.as_slice(), held, found)?)
             }
@@ -127,7 +127,7 @@ impl<'a> Binder<'a> {
     }
 
     /// Looks at a test, and adds what it means.
-    pub fn add_test(
+    pub(crate) fn add_test(
         &self,
         visible: &Visible,
         test: &TestText,
@@ -149,7 +149,7 @@ impl<'a> Binder<'a> {
     }
 
     /// Looks at a test, and adds the members of what it means.
-    pub fn add_test_members(
+    pub(crate) fn add_test_members(
         &self,
         visible: &Visible,
         test: &TestText,

@@ -96,7 +96,7 @@ pub fn bind_literal(
 impl<'a> Binder<'a> {
     /// What an operand is, or where its name is wrong.
     #[tactic(auto, unfolding(crate::specs::Binding::name_offences_of))]
-    pub fn bind_operand(
+    pub(crate) fn bind_operand(
         &self,
         visible: &Visible,
         operand: &OperandText,
