@@ -1,5 +1,5 @@
 //! What conditions mean, and their members.
-ghost use Rattle.std.specs.Prelude.{◌≡◌, [], ◌∷◌, All, IfOk, IfErr, map};
+ghost use Rattle.std.specs.Prelude.{[], ◌∷◌, All, IfOk, IfErr, map};
 ghost use Rattle.std.specs.List.{flat_map};
 ghost use Rattle.sql_tokens.specs.Words.{IsLexemeOf};
 ghost use Rattle.query_grammar.specs.Lexemes.{IsCondOf};

@@ -1,4 +1,4 @@
-use Rattle.std.proofs.Common.{All, rules, true, [], ◌∷◌, ◌++◌, sym, subst, refl, ap, ◌∙◌}
+use Rattle.std.proofs.Common.{All, rules, [], ◌∷◌, ◌++◌, sym, subst, refl, ap, ◌∙◌}
 use Rattle.std.proofs.lemmas.Bool.{false≢true}
 use Rattle.std.proofs.lemmas.Result.{err_from_is_err_and}
 use Rattle.query_types.specs.declared.types.Cond.TheVariants as cond
