@@ -11,13 +11,13 @@ ghost use Rattle.query_names.specs.Looking.{bound_literal, IsBound};
 use crate::QueryError;
 use crate::binder::Binder;
 use crate::scope::{EntryColumn, Visible};
-use crate::values::{is_negative, signed};
+use crate::values::number_value;
 use base_io::{Name, NoMemory};
 use ll_grammars::Lexeme;
 use query_grammar::{LiteralText, OperandText};
 use query_types::{ColumnRef, Operand};
 use schema_types::Kind;
-use sql_tokens::{literal, number};
+use sql_tokens::literal;
 use std::alloc::Global;
 
 /// An operand that has no wrong name: its value, whether it is a text, and the token that it begins with.
@@ -70,7 +70,6 @@ fn capped_reference(column: EntryColumn) -> ColumnRef
 }
 
 /// What a literal is. It needs no name.
-#[tactic(auto, unfolding(crate::specs::Numbers::number_value))]
 pub fn bind_literal(
     alloc: Global,
     text: &[u8],
@@ -81,7 +80,7 @@ pub fn bind_literal(
 {
     match value {
         LiteralText::Number { sign, digits } => Ok(BoundOperand {
-            value: Operand::Int(signed(is_negative(sign), number(text, digits))),
+            value: Operand::Int(number_value(text, sign, digits)),
             is_text: false,
             first: sign.unwrap_or(*digits),
         }),

@@ -1,7 +1,8 @@
 //! What numbers mean, and what the comparisons of a test make together.
 ghost use Rattle.std.specs.Prelude.{◌≡◌, IfOk, if◌then◌else◌};
+ghost use Rattle.sql_tokens.specs.Words.{IsLexemeOf};
 ghost use Rattle.query_types.specs.declared.types.Cond.TheVariants as cond;
-ghost use Rattle.query_names.specs.Numbers.{signed, is_negative};
+ghost use Rattle.query_names.specs.Numbers.{signed, is_negative, number_value};
 ghost use Rattle.query_names.specs.Values.{any_of};
 ghost use Rattle.query_names.specs.Looking.{whole_of};
 
@@ -9,12 +10,13 @@ use base_io::{Boxed, NoMemory, Seq};
 use ll_grammars::{Lexeme, Terminal};
 use query_grammar::TestText;
 use query_types::Cond;
+use sql_tokens::number;
 use std::alloc::Global;
 
 const MINUS: &[Terminal] = &[Terminal::Minus];
 
 /// A number with its sign, cut off at the ends of the range.
-pub fn signed(negative: bool, value: u64) -> i64
+fn signed(negative: bool, value: u64) -> i64
     ensures { result ≡ signed negative value }
 {
     if negative {
@@ -37,6 +39,15 @@ pub fn is_negative(sign: &Option<Lexeme>) -> bool
         Some(sign) => ll_grammars::is_among(sign.terminal, MINUS),
         None => false,
     }
+}
+
+/// The value of a number with its sign.
+#[tactic(auto, unfolding(crate::specs::Numbers::number_value))]
+pub fn number_value(text: &[u8], sign: &Option<Lexeme>, digits: &Lexeme) -> i64
+    requires { IsLexemeOf text.now digits.now }
+    ensures { result ≡ number_value text.now sign.now digits.now }
+{
+    signed(is_negative(sign), number(text, digits))
 }
 
 /// One condition, or the OR of several.
