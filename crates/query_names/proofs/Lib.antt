@@ -6,3 +6,6 @@ pub mod TestFacts
 pub mod CheckFacts
 pub mod Resolved
 pub mod Meanings
+pub mod BoundFacts
+pub mod LookSteps
+pub mod CondFacts

@@ -1,46 +1,37 @@
 -- What texts mean, part by part.
-use Rattle.std.proofs.Common.{◌≡◌, ℕ, zero, suc, ◌+◌, ◌<◌, ◌≤◌, List, [], ◌∷◌, ◌++◌, length, map, take, get_or, Option, Some, None, ap, subst, sym, ◌∙◌, refl, arith}
-use Rattle.std.specs.Prelude.{IfSome, slice_get, Bool, true, false, if◌then◌else◌}
-use Rattle.std.proofs.lemmas.List.{append_assoc}
+use Rattle.std.proofs.Common.{◌≡◌, ℕ, zero, suc, ◌<◌, ◌≤◌, List, [], ◌∷◌, ◌++◌, length, map, Some, ap, subst, sym, ◌∙◌, refl, arith}
+use Rattle.std.specs.Prelude.{slice_get, true, false}
 use Rattle.query_grammar.specs.declared.tree.ColumnText.{ColumnText}
 use Rattle.query_names.specs.declared.binder.Binder.{Binder}
 use Rattle.query_names.specs.declared.scope.Scope.{Scope}
 use Rattle.query_names.specs.declared.scope.EntryColumn.{EntryColumn}
 use Rattle.query_types.specs.declared.types.Source.{Source}
 use Rattle.query_types.specs.declared.types.Cond.{Cond}
-use Rattle.query_types.specs.declared.types.Operand.{Operand}
 use Rattle.query_types.specs.declared.types.Cond.TheVariants as cond
 use Rattle.std.specs.List.{flat_map}
-use Rattle.std.specs.Prelude.{Result, Ok, Err, IfOk, OnOk, All}
+use Rattle.std.specs.Prelude.{Result, Ok, Err, IfOk, All}
 use Rattle.ll_grammars.specs.declared.lexeme.Lexeme.{Lexeme}
 use Rattle.query_grammar.specs.Lexemes.{IsCondOf, IsTestOf}
 use Rattle.query_grammar.proofs.CondTokens.{members_of_and, members_of_or, inner_of_not, test_in}
-use Rattle.query_grammar.specs.declared.tree.LiteralText.{LiteralText}
-use Rattle.query_grammar.specs.declared.tree.OperandText.{OperandText}
 use Rattle.query_grammar.specs.declared.tree.TestText.{TestText}
 use Rattle.query_grammar.specs.declared.tree.TestText.TheVariants as test
-use Rattle.query_grammar.specs.declared.tree.Op.{Op}
-use Rattle.query_grammar.specs.declared.tree.Op.TheVariants as op
 use Rattle.query_grammar.specs.declared.tree.CondText.{CondText}
 use Rattle.query_grammar.specs.declared.tree.CondText.TheVariants as text
 use Rattle.query_grammar.specs.declared.tree.CondText.TheVariants.{rolls-And, rolls-Or, rolls-Not, rolls-Test}
 use Rattle.query_grammar.specs.declared.tree.CondText.TheOpen.{CondText-F}
 use Rattle.query_grammar.specs.declared.tree.CondText.TheFolds.{fold-roll-CondText}
-use Rattle.query_names.specs.Offences.{of_literal}
-use Rattle.query_names.specs.Values.{any_of, all_of, equality, alone, wholes, negated_where, Meaning, meaning, meaning_step, test_meaning, literal_value}
-use Rattle.query_names.specs.Binding.{schema_of, from_of, resolved_by, operand_by, compared_by, test_value_by, test_members_by, value_by, members_by}
+use Rattle.query_names.specs.Values.{any_of, all_of, equality, alone, wholes, Meaning, meaning, meaning_step, test_meaning}
+use Rattle.query_names.specs.Binding.{schema_of, from_of, resolved_by, compared_by, test_value_by, test_members_by, value_by, members_by}
+use Rattle.query_names.specs.Looking.{comparisons_by, whole_of, is_range}
 use Rattle.query_names.proofs.Resolved.{Stands, resolve_stands}
-use Rattle.query_names.proofs.Walk.{map_more}
 
 within : (from : List Source) (n : ℕ) (source : Source) → slice_get from n ≡ Some source → n < length from
 within [] n source is = absurd cc
 within (x ∷ from) zero source is = omega arith
 within (x ∷ from) (suc n) source is = let more : n < length from = within from n source is in omega arith
 
-pub found_small : (binder : Binder) (scope : Scope) (reference : ColumnText) (found : Option EntryColumn) → found ≡ resolved_by binder scope reference → length (from_of binder) ≤ 12
-    → IfSome found (λ column. column.from < 256)
-found_small binder scope reference None is few = tt
-found_small binder scope reference (Some column) is few =
+pub found_small : (binder : Binder) (scope : Scope) (reference : ColumnText) (column : EntryColumn) → Some column ≡ resolved_by binder scope reference → length (from_of binder) ≤ 12 → column.from < 256
+found_small binder scope reference column is few =
     let stands : Stands (schema_of binder) (from_of binder) column = resolve_stands (schema_of binder) binder.text.now (from_of binder) scope reference column (sym is) in
     let below : column.from < length (from_of binder) = within (from_of binder) column.from stands.source stands.entry in
     omega arith
@@ -59,28 +50,36 @@ several_of [] many = refl
 several_of (x ∷ []) many = absurd (many refl)
 several_of (x ∷ y ∷ parts) many = refl
 
-negated_whole : (negated : Bool) (m : Meaning) → (negated_where negated m).whole ≡ (if negated then cond.Not m.whole else m.whole)
-negated_whole true m = refl
-negated_whole false m = refl
+-- ---- what the comparisons of a test make
 
--- one more equality of IN, from what its operands mean
-pub equality_more : (binder : Binder) (scope : Scope) (left : OperandText) (values : List LiteralText) (i : ℕ) (d : LiteralText) {old new : List Cond} {subject copy right : Operand}
-    → i < length values → old ≡ map (λ value. compared_by binder scope op.Eq left (of_literal value)) (take i values)
-    → subject ≡ operand_by binder scope left → copy ≡ subject → right ≡ literal_value binder.text.now (get_or values i d)
-    → new ≡ old ++ cond.Compare op.Eq copy right ∷ []
-    → new ≡ map (λ value. compared_by binder scope op.Eq left (of_literal value)) (take (i + 1) values)
-unfolding operand_by compared_by
-equality_more binder scope left values i d {old} {new} {subject} {copy} {right} below so_far means same is pushed =
-    map_more (λ value. compared_by binder scope op.Eq left (of_literal value)) values i d old new (cond.Compare op.Eq copy right) below so_far
-    (ap (λ o. cond.Compare op.Eq o right) (same ∙ means) ∙ ap (λ o. cond.Compare op.Eq (operand_by binder scope left) o) is) pushed
+module _ (binder : Binder) (scope : Scope) where
+  pub whole_is : (t : TestText) → whole_of t (comparisons_by binder scope t) ≡ test_value_by binder scope t
+  unfolding comparisons_by compared_by test_value_by
+  whole_is (test.Compare left how right) = refl
+  whole_is (test.Between left true low high) = refl
+  whole_is (test.Between left false low high) = refl
+  whole_is (test.In left true values) = refl
+  whole_is (test.In left false values) = refl
 
--- IN is the OR of the equalities, or NOT of it
-pub in_means : (binder : Binder) (scope : Scope) (left : OperandText) (negated : Bool) (values : List LiteralText) {each : List Cond} {one v : Cond}
-    → each ≡ map (λ value. compared_by binder scope op.Eq left (of_literal value)) values → one ≡ (any_of each).whole → v ≡ (if negated then cond.Not one else one)
-    → v ≡ test_value_by binder scope (test.In left negated values)
-unfolding test_value_by compared_by
-in_means binder scope left negated values {each} {one} {v} equal any made =
-    made ∙ ap (λ c. if negated then cond.Not c else c) (any ∙ ap (λ l. (any_of l).whole) equal) ∙ sym (negated_whole negated _)
+  pub range_members : (t : TestText) → is_range t ≡ true → comparisons_by binder scope t ≡ test_members_by binder scope t
+  unfolding comparisons_by compared_by test_members_by
+  range_members (test.Compare left how right) is = absurd cc
+  range_members (test.Between left true low high) is = absurd cc
+  range_members (test.Between left false low high) is = refl
+  range_members (test.In left negated values) is = absurd cc
+
+  any_alone : (parts : List Cond) → (any_of parts).whole ∷ [] ≡ (any_of parts).members
+  any_alone [] = refl
+  any_alone (x ∷ []) = refl
+  any_alone (x ∷ y ∷ parts) = refl
+
+  pub whole_member : (t : TestText) → is_range t ≡ false → test_value_by binder scope t ∷ [] ≡ test_members_by binder scope t
+  unfolding test_value_by test_members_by
+  whole_member (test.Compare left how right) is = refl
+  whole_member (test.Between left true low high) is = refl
+  whole_member (test.Between left false low high) is = absurd cc
+  whole_member (test.In left true values) is = refl
+  whole_member (test.In left false values) is = any_alone (map (equality (schema_of binder) binder.text.now (from_of binder) scope left) values)
 
 -- ---- conditions, member by member
 
@@ -142,29 +141,6 @@ module _ (binder : Binder) (scope : Scope) where
   unfolding members_by test_members_by
   members_test t = ap (λ m. m.members) (meaning_test t)
 
-  -- only a range has more than one member
-  pub members_compare : (left : OperandText) (how : Op) (right : OperandText) → test_members_by binder scope (test.Compare left how right) ≡ test_value_by binder scope (test.Compare left how right) ∷ []
-  unfolding test_members_by test_value_by
-  members_compare left how right = refl
-
-  pub members_between : (left low high : OperandText) → test_members_by binder scope (test.Between left false low high) ≡ compared_by binder scope op.Ge left low ∷ compared_by binder scope op.Le left high ∷ []
-  unfolding test_members_by compared_by
-  members_between left low high = refl
-
-  pub members_outside : (left low high : OperandText) → test_members_by binder scope (test.Between left true low high) ≡ test_value_by binder scope (test.Between left true low high) ∷ []
-  unfolding test_members_by test_value_by
-  members_outside left low high = refl
-
-  any_alone : (parts : List Cond) → (any_of parts).members ≡ (any_of parts).whole ∷ []
-  any_alone [] = refl
-  any_alone (x ∷ []) = refl
-  any_alone (x ∷ y ∷ parts) = refl
-
-  pub members_in : (left : OperandText) (negated : Bool) (values : List LiteralText) → test_members_by binder scope (test.In left negated values) ≡ test_value_by binder scope (test.In left negated values) ∷ []
-  unfolding test_members_by test_value_by
-  members_in left true values = refl
-  members_in left false values = any_alone (map (equality (schema_of binder) binder.text.now (from_of binder) scope left) values)
-
 -- ---- the tokens of a condition's members
 
 pub told_and : (P : Lexeme → Type 0) (c : CondText) (members items : List CondText) → c ≡ text.And members → items ≡ members → IsCondOf P c → All (IsCondOf P) items
@@ -182,17 +158,3 @@ told_test P c t is h = test_in P t (subst (IsCondOf P) is h)
 pub if_ok_map : {A E : Type 0} (P Q : A → Type 0) (r : Result A E) → IfOk r P → ((v : A) → P v → Q v) → IfOk r Q
 if_ok_map P Q (Ok v) h f = f v h
 if_ok_map P Q (Err e) h f = tt
-
-pub on_ok_map : {A E : Type 0} (P Q : Type 0) (r : Result A E) → OnOk r P → (P → Q) → IfOk r (λ _. Q)
-on_ok_map P Q (Ok v) h f = f h
-on_ok_map P Q (Err e) h f = tt
-
--- a range is two members
-pub range_members : (binder : Binder) (scope : Scope) (t : TestText) (left : OperandText) (negated : Bool) (low high : OperandText) (old mid new : List Cond) (above below : Cond)
-    → t ≡ test.Between left negated low high → negated ≡ false → mid ≡ old ++ above ∷ []
-    → above ≡ compared_by binder scope op.Ge left low → below ≡ compared_by binder scope op.Le left high → new ≡ mid ++ below ∷ []
-    → new ≡ old ++ test_members_by binder scope t
-range_members binder scope t left negated low high old mid new above below is plain first above_is below_is second =
-    second ∙ ap (λ l. l ++ below ∷ []) first ∙ append_assoc old (above ∷ []) (below ∷ [])
-    ∙ ap (λ a. old ++ (a ∷ below ∷ [])) above_is ∙ ap (λ b. old ++ (compared_by binder scope op.Ge left low ∷ b ∷ [])) below_is
-    ∙ ap (λ l. old ++ l) (sym (ap (test_members_by binder scope) (is ∙ ap (λ n. test.Between left n low high) plain) ∙ members_between binder scope left low high))

@@ -1,8 +1,7 @@
 -- Steps of the loops that walk over a syntax tree: what is left of a list, and of its offences.
-use Rattle.std.proofs.Common.{◌≡◌, ℕ, add-one, ◌+◌, ◌<◌, ◌≤◌, List, [], ◌∷◌, ◌++◌, length, map, take, drop, get_or, Option, Some, None, ap, subst, sym, ◌∙◌, refl}
+use Rattle.std.proofs.Common.{◌≡◌, ℕ, add-one, ◌+◌, ◌<◌, List, [], ◌∷◌, ◌++◌, length, map, take, drop, get_or, Option, Some, None, ap, subst, sym, ◌∙◌, refl}
 use Rattle.std.proofs.Math.Seq.{drop-cons}
-use Rattle.std.proofs.lemmas.List.{take_more, map-append, drop_all}
-use Rattle.std.specs.List.{flat_map}
+use Rattle.std.proofs.lemmas.List.{take_more, map-append}
 use Rattle.query_grammar.specs.declared.tree.SourceText.{SourceText}
 use Rattle.schema_types.specs.declared.types.Schema.{Schema}
 use Rattle.query_types.specs.declared.types.Source.{Source}
@@ -59,7 +58,7 @@ or_first_append (Some n) xs ys = refl
 or_first_append None [] ys = refl
 or_first_append None (x ∷ xs) ys = refl
 
-or_first-nil : (found : Option ℕ) → or_first found [] ≡ found
+pub or_first-nil : (found : Option ℕ) → or_first found [] ≡ found
 or_first-nil (Some n) = refl
 or_first-nil None = refl
 
@@ -71,32 +70,3 @@ none_before None xs none = refl
 -- an error behind what has no offence
 pub error_behind : (xs ys : List ℕ) (e : QueryError) → xs ≡ [] → IsNameError ys e → IsNameError (xs ++ ys) e
 error_behind xs ys e none wrong = subst (λ l. IsNameError (l ++ ys) e) (sym none) wrong
-
-module _ {A : Type 0} (f : A → List ℕ) (xs : List A) where
-  left_here : (i : ℕ) (d : A) → i < length xs → flat_map f (drop i xs) ≡ f (get_or xs i d) ++ flat_map f (drop (i + 1) xs)
-  left_here i d below = ap (flat_map f) (left_at xs i d below)
-
-  nothing_left : (i : ℕ) → length xs ≤ i → flat_map f (drop i xs) ≡ []
-  nothing_left i done = ap (flat_map f) (drop_all i xs done)
-
-  -- an item without an offence
-  pub none_here : {i : ℕ} (d : A) {whole : List ℕ} → i < length xs → whole ≡ flat_map f (drop i xs) → f (get_or xs i d) ≡ [] → whole ≡ flat_map f (drop (i + 1) xs)
-  none_here {i} d {whole} below left none = left ∙ left_here i d below ∙ ap (λ here. here ++ flat_map f (drop (i + 1) xs)) none
-
-  -- an item whose first one is kept
-  pub first_here : {i : ℕ} (d : A) {whole : Option ℕ} (old : Option ℕ) {new : Option ℕ} → i < length xs → whole ≡ or_first old (flat_map f (drop i xs)) → new ≡ or_first old (f (get_or xs i d))
-      → whole ≡ or_first new (flat_map f (drop (i + 1) xs))
-  first_here {i} d {whole} old {new} below left is =
-      left ∙ ap (or_first old) (left_here i d below) ∙ or_first_append old (f (get_or xs i d)) (flat_map f (drop (i + 1) xs))
-      ∙ ap (λ found. or_first found (flat_map f (drop (i + 1) xs))) (sym is)
-
-  pub none_at_end : {i : ℕ} {whole : List ℕ} → length xs ≤ i → whole ≡ flat_map f (drop i xs) → whole ≡ []
-  none_at_end {i} {whole} done left = left ∙ nothing_left i done
-
-  pub first_at_end : {i : ℕ} {whole : Option ℕ} {found : Option ℕ} → length xs ≤ i → whole ≡ or_first found (flat_map f (drop i xs)) → found ≡ whole
-  first_at_end {i} {whole} {found} done left = sym (left ∙ ap (or_first found) (nothing_left i done) ∙ or_first-nil found)
-
-  -- an item whose first offence is answered
-  pub error_here : {i : ℕ} (d : A) {whole : List ℕ} (e : QueryError) → i < length xs → whole ≡ flat_map f (drop i xs) → IsNameError (f (get_or xs i d)) e → IsNameError whole e
-  error_here {i} d {whole} e below left wrong =
-      subst (λ l. IsNameError l e) (sym (left ∙ left_here i d below)) (name_error_append (f (get_or xs i d)) (flat_map f (drop (i + 1) xs)) e wrong)

@@ -60,7 +60,7 @@ any_of [] = alone (cond.Or [])
 any_of (one ∷ []) = alone one
 any_of (one ∷ other ∷ rest) = alone (cond.Or (one ∷ other ∷ rest))
 
--- what a reference stands for
+-- what a reference stands for. The first case is never met where no name is wrong
 abbrev pub reference_to : Option EntryColumn → ColumnRef
 reference_to None = record { from = 0; column = 0 }
 reference_to (Some column) = record { from = column.from; column = column.column }

@@ -1,115 +1,109 @@
 //! What conditions mean, and their members.
-ghost use Rattle.std.specs.Prelude.{◌≡◌, ◌≤◌, ◌++◌, All, IfOk, length, map};
+ghost use Rattle.std.specs.Prelude.{[], ◌∷◌, All, IfOk, IfErr, map};
 ghost use Rattle.std.specs.List.{flat_map};
 ghost use Rattle.sql_tokens.specs.Words.{IsLexemeOf};
-ghost use Rattle.query_grammar.specs.Lexemes.{IsTestOf, IsCondOf};
-ghost use Rattle.query_names.specs.Binding.{Shows, from_of, value_by, test_members_by, members_by};
+ghost use Rattle.query_grammar.specs.Lexemes.{IsCondOf};
+ghost use Rattle.query_names.specs.Scopes.{tests};
+ghost use Rattle.query_names.specs.Answers.{IsNameError};
+ghost use Rattle.query_names.specs.Binding.{Shows, test_offences_of, value_by, members_by};
+ghost use Rattle.query_names.specs.Looking.{LookedAt};
 
+use crate::QueryError;
 use crate::binder::Binder;
+use crate::checks::HeldOffences;
 use crate::scope::Visible;
-use base_io::{Boxed, NoMemory, Seq};
-use query_grammar::{CondText, TestText};
-use query_types::{Cond, Op};
+use base_io::{Boxed, Seq};
+use query_grammar::CondText;
+use query_types::Cond;
 
 impl<'a> Binder<'a> {
-    /// What each of some conditions means.
+    /// Looks at conditions, and says what each means.
     #[cycle(values)]
-    #[tactic(auto, using(crate::proofs::Meanings::value_and, crate::proofs::Meanings::value_or, crate::proofs::Meanings::value_not, crate::proofs::Meanings::value_test))]
-    fn values(&self, visible: &Visible, conditions: &[CondText]) -> Result<Seq<Cond>, NoMemory>
+    fn values(
+        &self,
+        visible: &Visible,
+        conditions: &[CondText],
+        held: &mut HeldOffences,
+    ) -> Result<Seq<Cond>, QueryError>
         requires shows { Shows self.now visible.now }
-        requires few { length (from_of self.now) ≤ 12 }
         requires tokens { All (IsCondOf (IsLexemeOf self.now.text.now)) conditions.now }
-        ensures { IfOk result (λ found. found ≡ map (value_by self.now visible.now.scope) conditions.now) }
+        ensures ok { IfOk result (λ found. LookedAt self.now visible.now.scope (flat_map tests conditions.now) held.old held.new [] found
+            (map (value_by self.now visible.now.scope) conditions.now)) }
+        ensures err { IfErr result (IsNameError (flat_map (test_offences_of self.now visible.now.scope) (flat_map tests conditions.now))) }
     {
         let mut found = Seq::new(self.alloc);
         'all: for condition in conditions {
-            found.push(self.value(visible, condition)?)?;
+            self.add_value(visible, condition, held, &mut found)?;
         }
         Ok(found)
     }
 
-    /// What a condition means.
+    /// Looks at a condition, and adds what it means.
     #[cycle(values)]
-    #[tactic(auto, using(crate::proofs::Meanings::value_and, crate::proofs::Meanings::value_or, crate::proofs::Meanings::value_not, crate::proofs::Meanings::value_test, crate::proofs::Meanings::told_and, crate::proofs::Meanings::told_or, crate::proofs::Meanings::told_not, crate::proofs::Meanings::told_test))]
-    fn value(&self, visible: &Visible, condition: &CondText) -> Result<Cond, NoMemory>
+    fn add_value(
+        &self,
+        visible: &Visible,
+        condition: &CondText,
+        held: &mut HeldOffences,
+        found: &mut Seq<Cond>,
+    ) -> Result<(), QueryError>
         requires shows { Shows self.now visible.now }
-        requires few { length (from_of self.now) ≤ 12 }
         requires tokens { IsCondOf (IsLexemeOf self.now.text.now) condition.now }
-        ensures { IfOk result (λ found. found ≡ value_by self.now visible.now.scope condition.now) }
+        ensures ok { IfOk result (λ _. LookedAt self.now visible.now.scope (tests condition.now) held.old held.new found.old found.new
+            (value_by self.now visible.now.scope condition.now ∷ [])) }
+        ensures err { IfErr result (IsNameError (flat_map (test_offences_of self.now visible.now.scope) (tests condition.now))) }
     {
         match condition {
             CondText::And(members) => {
-                let parts = self.values(visible, members.as_slice())?;
-                Ok(Cond::And(parts))
+                let parts = self.values(visible, members.as_slice(), held)?;
+                if self.builds(held) {
+                    found.push(Cond::And(parts))?;
+                }
+                Ok(())
             }
             CondText::Or(members) => {
-                let parts = self.values(visible, members.as_slice())?;
-                Ok(Cond::Or(parts))
+                let parts = self.values(visible, members.as_slice(), held)?;
+                if self.builds(held) {
+                    found.push(Cond::Or(parts))?;
+                }
+                Ok(())
             }
             CondText::Not(member) => {
-                let part = self.value(visible, member.get())?;
-                Ok(Cond::Not(Boxed::new(self.alloc, part)?))
-            }
-            CondText::Test(test) => self.test_value(visible, test),
-        }
-    }
-
-    /// Adds the members of what a test means.
-    #[tactic(auto, using(crate::proofs::Meanings::members_compare, crate::proofs::Meanings::members_between, crate::proofs::Meanings::members_outside, crate::proofs::Meanings::members_in))]
-    fn add_test_members(
-        &self,
-        visible: &Visible,
-        test: &TestText,
-        found: &mut Seq<Cond>,
-    ) -> Result<(), NoMemory>
-        requires shows { Shows self.now visible.now }
-        requires few { length (from_of self.now) ≤ 12 }
-        requires tokens { IsTestOf (IsLexemeOf self.now.text.now) test.now }
-        ensures { IfOk result (λ _. found.new ≡ found.old ++ test_members_by self.now visible.now.scope test.now) }
-    {
-        match test {
-            TestText::Between {
-                operand,
-                negated,
-                low,
-                high,
-            } => {
-                if *negated {
-                    return found.push(self.test_value(visible, test)?);
+                let mut parts = Seq::new(self.alloc);
+                self.add_value(visible, member.get(), held, &mut parts)?;
+                if let Some(part) = parts.pop() {
+                    found.push(Cond::Not(Boxed::new(self.alloc, part)?))?;
                 }
-                let above = self.compared(visible, Op::Ge, operand, low)?;
-                found.push(above)?;
-                let below = self.compared(visible, Op::Le, operand, high)?;
-                found.push(below)
+                Ok(())
             }
-            TestText::Compare { .. } | TestText::In { .. } => {
-                found.push(self.test_value(visible, test)?)
-            }
+            CondText::Test(test) => self.add_test(visible, test, held, found),
         }
     }
 
-    /// Adds the members of what a condition means.
-    #[tactic(auto, using(crate::proofs::Meanings::members_and, crate::proofs::Meanings::members_or, crate::proofs::Meanings::members_not, crate::proofs::Meanings::members_test, crate::proofs::Meanings::told_and, crate::proofs::Meanings::told_test))]
+    /// Looks at a condition, and adds the members of what it means where FROM has not too many entries, and no
+    /// list of IN up to here is too long.
     pub fn add_members(
         &self,
         visible: &Visible,
         condition: &CondText,
+        held: &mut HeldOffences,
         found: &mut Seq<Cond>,
-    ) -> Result<(), NoMemory>
+    ) -> Result<(), QueryError>
         requires shows { Shows self.now visible.now }
-        requires few { length (from_of self.now) ≤ 12 }
         requires tokens { IsCondOf (IsLexemeOf self.now.text.now) condition.now }
-        ensures { IfOk result (λ _. found.new ≡ found.old ++ members_by self.now visible.now.scope condition.now) }
+        ensures ok { IfOk result (λ _. LookedAt self.now visible.now.scope (tests condition.now) held.old held.new found.old found.new
+            (members_by self.now visible.now.scope condition.now)) }
+        ensures err { IfErr result (IsNameError (flat_map (test_offences_of self.now visible.now.scope) (tests condition.now))) }
     {
         match condition {
             CondText::And(members) => {
                 'all: for member in members.as_slice() {
-                    self.add_members(visible, member, found)?;
+                    self.add_members(visible, member, held, found)?;
                 }
                 Ok(())
             }
-            CondText::Or(_) | CondText::Not(_) => found.push(self.value(visible, condition)?),
-            CondText::Test(test) => self.add_test_members(visible, test, found),
+            CondText::Or(_) | CondText::Not(_) => self.add_value(visible, condition, held, found),
+            CondText::Test(test) => self.add_test_members(visible, test, held, found),
         }
     }
 }

@@ -14,19 +14,21 @@
 //! let entries = read_entries(alloc, &catalog, text, sources)?;
 //! let binder = Binder { alloc, catalog: &catalog, text, entries: &entries };
 //! let visible = binder.all_visible()?;
-//! binder.check_condition(&visible, condition, &mut held)?;
+//! binder.add_members(&visible, condition, &mut held, &mut conjuncts)?;
 //! ```
 //!
-//! and knows that the condition has no wrong name, and of the wrong kinds in it the first.
+//! and knows that the condition has no wrong name, of the wrong kinds in it the first, and the members of what it
+//! means.
 #![tactic(auto)]
 
 mod binder;
 mod catalog;
 mod checks;
-mod comparands;
+mod comparisons;
 mod conditions;
 mod errors;
 mod name_numbers;
+mod operands;
 mod scope;
 mod sources;
 mod values;
@@ -36,6 +38,7 @@ pub use catalog::Catalog;
 pub use checks::HeldOffences;
 pub use errors::QueryError;
 pub use name_numbers::NameNumbers;
+pub use operands::reference_to;
 pub use scope::{Entry, EntryColumn, Scope, Visible};
 pub use sources::{Entries, all_sources, read_entries};
-pub use values::{is_negative, reference_to};
+pub use values::is_negative;

@@ -8,7 +8,6 @@ ghost use Rattle.query_names.specs.Answers.{IsNameError, or_first};
 ghost use Rattle.query_names.specs.Binding.{Shows, from_of, names_in, kinds_in, lists_in, members_in};
 
 use base_io::Seq;
-use limits::MOST_ENTRIES;
 use query_grammar::{CondText, JoinText};
 use query_names::{Binder, HeldOffences, QueryError, Visible};
 use query_types::Cond;
@@ -35,11 +34,7 @@ pub fn look_at_condition(
         → conjuncts.new ≡ conjuncts.old ++ members_in binder.now (record { scope = visible.now.scope; condition = condition.now })) }
     ensures err { IfErr result (IsNameError (names_in binder.now (record { scope = visible.now.scope; condition = condition.now }))) }
 {
-    binder.check_condition(visible, condition, held)?;
-    if binder.entries.sources.len() <= MOST_ENTRIES && held.list.is_none() {
-        binder.add_members(visible, condition, conjuncts)?;
-    }
-    Ok(())
+    binder.add_members(visible, condition, held, conjuncts)
 }
 
 /// Looks at the conditions of a part's joins: each join brings an entry into scope.

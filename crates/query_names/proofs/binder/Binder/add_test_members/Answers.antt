@@ -1,9 +1,14 @@
-use Rattle.query_names.proofs.Meanings.{on_ok_map, range_members}
+use Rattle.std.proofs.Common.{refl, sym, ◌∙◌}
+use Rattle.query_names.proofs.Meanings.{range_members, whole_member, if_ok_map}
+use Rattle.query_names.proofs.LookSteps.{looked_as}
 use Rattle.query_names.proofs.binder.Binder.add_test_members.Goals as goal
 
-pub returns-in_ok-below-in-Between : goal.returns-in_ok-below-in-Between
-returns-in_ok-below-in-Between c =
-    on_ok_map _ _ c.push-in-Between-2.result c.push-in-Between-2.ensures.ok (λ pushed.
-    range_members c.args.self.now c.args.visible.now.scope c.args.test.now c.in-Between.operand c.in-Between.negated c.in-Between.low c.in-Between.high
-    c.args.found.now c.push-in-Between.new.self c.push-in-Between-2.new.self c.in_ok-above-in-Between.above c.in_ok-below-in-Between.below
-    c.in-Between.is c.if-negated.false c.in_ok-push-in-Between.ensures.ok c.in_ok-above-in-Between.ensures c.in_ok-below-in-Between.ensures pushed)
+pub returns-then-is_range-clause-ok : goal.returns-then-is_range-clause-ok
+returns-then-is_range-clause-ok c =
+    if_ok_map _ _ c.add_comparisons.result c.add_comparisons.ensures.ok (λ _ l.
+    looked_as refl refl refl (λ _. range_members c.args.self.now c.args.visible.now.scope c.args.test.now (sym c.is_range.ensures ∙ c.if-is_range.true)) l)
+
+pub returns-else-is_range-clause-ok : goal.returns-else-is_range-clause-ok
+returns-else-is_range-clause-ok c =
+    if_ok_map _ _ c.add_test.result c.add_test.ensures.ok (λ _ l.
+    looked_as refl refl refl (λ _. whole_member c.args.self.now c.args.visible.now.scope c.args.test.now (sym c.is_range.ensures ∙ c.if-is_range.false)) l)

@@ -1,0 +1,85 @@
+-- Looking at one part of a condition, and then at the next.
+use Rattle.std.proofs.Common.{◌≡◌, ℕ, ◌+◌, ◌<◌, ◌≤◌, List, [], ◌∷◌, ◌++◌, length, take, drop, get_or, None, ap, subst, sym, ◌∙◌, refl}
+use Rattle.std.proofs.lemmas.List.{append_assoc, append-nil, take_more, take_all, take-append-drop, flat_map_more}
+use Rattle.std.proofs.lemmas.Grind.{flat_map-append}
+use Rattle.std.specs.List.{flat_map}
+use Rattle.query_grammar.specs.declared.tree.CondText.{CondText}
+use Rattle.query_grammar.specs.declared.tree.TestText.{TestText}
+use Rattle.query_types.specs.declared.types.Cond.{Cond}
+use Rattle.query_names.specs.declared.binder.Binder.{Binder}
+use Rattle.query_names.specs.declared.checks.HeldOffences.{HeldOffences}
+use Rattle.query_names.specs.declared.errors.QueryError.{QueryError}
+use Rattle.query_names.specs.declared.scope.Scope.{Scope}
+use Rattle.query_names.specs.Scopes.{tests}
+use Rattle.query_names.specs.Answers.{IsNameError, or_first}
+use Rattle.query_names.specs.Binding.{from_of, test_offences_of}
+use Rattle.query_names.specs.Looking.{Looked, LookedAt}
+use Rattle.query_names.proofs.Walk.{left_at, or_first_append, or_first-nil, none_before, error_behind, name_error_append}
+
+-- the same in other words
+pub looked_as : {binder : Binder} {names names' kinds kinds' lists lists' : List ℕ} {held held' : HeldOffences} {found found' more more' : List Cond}
+    → names ≡ names' → kinds ≡ kinds' → lists ≡ lists' → (length (from_of binder) ≤ 12 → more ≡ more')
+    → Looked binder names kinds lists held held' found found' more → Looked binder names' kinds' lists' held held' found found' more'
+looked_as {held = held} {found = found} same_names same_kinds same_lists same_more l = record {
+  none = sym same_names ∙ l.none;
+  kind = l.kind ∙ ap (or_first held.kind) same_kinds;
+  list = l.list ∙ ap (or_first held.list) same_lists;
+  built = λ few none. l.built few none ∙ ap (λ m. found ++ m) (same_more few);
+}
+
+pub nothing_looked : {binder : Binder} (held : HeldOffences) (found : List Cond) → Looked binder [] [] [] held held found found []
+nothing_looked held found = record {
+  none = refl;
+  kind = sym (or_first-nil held.kind);
+  list = sym (or_first-nil held.list);
+  built = λ _ _. sym (append-nil found);
+}
+
+pub then_looked : {binder : Binder} {names kinds lists names' kinds' lists' : List ℕ} {held mid held' : HeldOffences} {found between found' more more' : List Cond}
+    → Looked binder names kinds lists held mid found between more → Looked binder names' kinds' lists' mid held' between found' more'
+    → Looked binder (names ++ names') (kinds ++ kinds') (lists ++ lists') held held' found found' (more ++ more')
+then_looked {kinds = kinds} {lists = lists} {names' = names'} {kinds' = kinds'} {lists' = lists'} {held = held} {mid = mid} {found = found} {more = more} {more' = more'} one next = record {
+  none = ap (λ l. l ++ names') one.none ∙ next.none;
+  kind = next.kind ∙ ap (λ k. or_first k kinds') one.kind ∙ sym (or_first_append held.kind kinds kinds');
+  list = next.list ∙ ap (λ k. or_first k lists') one.list ∙ sym (or_first_append held.list lists lists');
+  built = λ few none.
+      let before : mid.list ≡ None = none_before mid.list lists' (sym next.list ∙ none) in
+      next.built few none ∙ ap (λ l. l ++ more') (one.built few before) ∙ append_assoc found more more';
+}
+
+-- what was built apart, and then put together
+pub looked_wrapped : {binder : Binder} {names kinds lists : List ℕ} {held held' : HeldOffences} {found found' start parts more : List Cond} {whole : Cond} (wrap : List Cond → Cond)
+    → wrap more ≡ whole → start ≡ [] → Looked binder names kinds lists held held' start parts more → (length (from_of binder) ≤ 12 → held'.list ≡ None → found' ≡ found ++ wrap parts ∷ [])
+    → Looked binder names kinds lists held held' found found' (whole ∷ [])
+looked_wrapped {found = found} {more = more} wrap is empty l added = record {
+  none = l.none;
+  kind = l.kind;
+  list = l.list;
+  built = λ few none. added few none ∙ ap (λ c. found ++ c ∷ []) (ap wrap (l.built few none ∙ ap (λ s. s ++ more) empty) ∙ is);
+}
+
+-- ---- item by item
+
+pub flat_map_step : {A B : Type 0} (f : A → List B) (xs : List A) (i : ℕ) (d : A) → i < length xs → flat_map f (take i xs) ++ f (get_or xs i d) ≡ flat_map f (take (i + 1) xs)
+flat_map_step f xs i d below = flat_map_more f [] (take i xs) (get_or xs i d) ∙ ap (flat_map f) (sym (take_more xs i d below))
+
+module _ (binder : Binder) (scope : Scope) where
+  pub looked_all : (cs : List CondText) {i : ℕ} {held held' : HeldOffences} {found found' : List Cond} (more : List CondText → List Cond)
+      → length cs ≤ i → LookedAt binder scope (flat_map tests (take i cs)) held held' found found' (more (take i cs))
+      → LookedAt binder scope (flat_map tests cs) held held' found found' (more cs)
+  looked_all cs {i} {held} {held'} {found} {found'} more done l = subst (λ taken. LookedAt binder scope (flat_map tests taken) held held' found found' (more taken)) (take_all i cs done) l
+
+  -- a name that is wrong in one of several conditions
+  pub wrong_in : (cs : List CondText) {i : ℕ} (d : CondText) (e : QueryError)
+      → i < length cs → flat_map (test_offences_of binder scope) (flat_map tests (take i cs)) ≡ []
+      → IsNameError (flat_map (test_offences_of binder scope) (tests (get_or cs i d))) e → IsNameError (flat_map (test_offences_of binder scope) (flat_map tests cs)) e
+  wrong_in cs {i} d e below none wrong =
+      let offences : List TestText → List ℕ = flat_map (test_offences_of binder scope) in
+      let here : List TestText = tests (get_or cs i d) in
+      let rest : List TestText = flat_map tests (drop (i + 1) cs) in
+      let split : flat_map tests cs ≡ flat_map tests (take i cs) ++ (here ++ rest) =
+      ap (flat_map tests) (sym (take-append-drop i cs)) ∙ flat_map-append tests (take i cs) (drop i cs) ∙ ap (λ l. flat_map tests (take i cs) ++ flat_map tests l) (left_at cs i d below) in
+      let parts : offences (flat_map tests cs) ≡ offences (flat_map tests (take i cs)) ++ (offences here ++ offences rest) =
+      ap offences split ∙ flat_map-append (test_offences_of binder scope) (flat_map tests (take i cs)) (here ++ rest)
+      ∙ ap (λ l. offences (flat_map tests (take i cs)) ++ l) (flat_map-append (test_offences_of binder scope) here rest) in
+      subst (λ l. IsNameError l e) (sym parts) (error_behind _ _ e none (name_error_append (offences here) (offences rest) e wrong))

@@ -1,0 +1,80 @@
+-- What looking at the tests of a condition tells of them, and what is built on the way.
+use Rattle.std.specs.Prelude.{◌≡◌, ◌≤◌, ℕ, Bool, false, not, if◌then◌else◌, List, [], ◌∷◌, ◌++◌, length, map, None}
+use Rattle.std.specs.List.{flat_map}
+use Rattle.query_grammar.specs.declared.tree.LiteralText.{LiteralText}
+use Rattle.query_grammar.specs.declared.tree.Op.TheVariants as op
+use Rattle.query_grammar.specs.declared.tree.OperandText.{OperandText}
+use Rattle.query_grammar.specs.declared.tree.TestText.{TestText}
+use Rattle.query_grammar.specs.declared.tree.TestText.TheVariants as test
+use Rattle.query_types.specs.declared.types.Operand.{Operand}
+use Rattle.query_types.specs.declared.types.Cond.{Cond}
+use Rattle.query_types.specs.declared.types.Cond.TheVariants as cond
+use Rattle.query_names.specs.declared.binder.Binder.{Binder}
+use Rattle.query_names.specs.declared.checks.HeldOffences.{HeldOffences}
+use Rattle.query_names.specs.declared.operands.BoundOperand.{BoundOperand}
+use Rattle.query_names.specs.declared.scope.Scope.{Scope}
+use Rattle.query_names.specs.Names.{at}
+use Rattle.query_names.specs.Offences.{first_of, first_of_literal, is_text_literal, differ, of_literal, too_long}
+use Rattle.query_names.specs.Values.{literal_value, any_of}
+use Rattle.query_names.specs.Answers.{or_first}
+use Rattle.query_names.specs.Binding.{from_of, name_offences_of, is_text_by, test_offences_of, kind_offences_of, operand_by, compared_by}
+
+-- ---- operands
+
+-- what a literal is
+abbrev pub bound_literal : List ℕ → LiteralText → BoundOperand
+bound_literal text l = record { value = literal_value text l; is_text = is_text_literal l; first = first_of_literal l }
+
+-- what an operand is that has no wrong name. Its value counts where FROM has at most 12 entries
+pub record IsBound (binder : Binder) (scope : Scope) (operand : OperandText) (bound : BoundOperand) : Type 0 where
+  pub none : name_offences_of binder scope operand ≡ []
+  pub text : bound.is_text ≡ is_text_by binder scope operand
+  pub first : bound.first ≡ first_of operand
+  pub value : length (from_of binder) ≤ 12 → bound.value ≡ operand_by binder scope operand
+
+-- ---- tests
+
+-- a value of IN that isn't of the left operand's kind, and the equality with a value
+abbrev pub wrong_literal : Bool → LiteralText → List ℕ
+wrong_literal left l = at (differ left (is_text_literal l)) (first_of_literal l)
+
+abbrev pub equal_to : List ℕ → Operand → LiteralText → Cond
+equal_to text left l = cond.Compare op.Eq left (literal_value text l)
+
+-- the comparisons of a test's left operand with the others
+unfoldable pub comparisons_by : Binder → Scope → TestText → List Cond
+comparisons_by binder scope (test.Compare left how right) = compared_by binder scope how left right ∷ []
+comparisons_by binder scope (test.Between left negated low high) =
+    compared_by binder scope op.Ge left low ∷ compared_by binder scope op.Le left high ∷ []
+comparisons_by binder scope (test.In left negated values) = map (λ value. compared_by binder scope op.Eq left (of_literal value)) values
+
+-- the condition that they make together
+abbrev pub whole_of : TestText → List Cond → Cond
+whole_of (test.Compare left how right) parts = (any_of parts).whole
+whole_of (test.Between left negated low high) parts = if negated then cond.Not (cond.And parts) else cond.And parts
+whole_of (test.In left negated values) parts = if negated then cond.Not (any_of parts).whole else (any_of parts).whole
+
+-- whether they are members of the condition in which the test stands
+abbrev pub is_range : TestText → Bool
+is_range (test.Compare left how right) = false
+is_range (test.Between left negated low high) = not negated
+is_range (test.In left negated values) = false
+
+-- ---- what looking leaves
+
+-- Of these names none is wrong, and of these wrong kinds and too long lists the first is kept, where none was kept
+-- before. These conditions are added where FROM has at most 12 entries, and no list is kept.
+pub record Looked (binder : Binder) (names kinds lists : List ℕ) (held held' : HeldOffences) (found found' more : List Cond) : Type 0 where
+  pub none : names ≡ []
+  pub kind : held'.kind ≡ or_first held.kind kinds
+  pub list : held'.list ≡ or_first held.list lists
+  pub built : length (from_of binder) ≤ 12 → held'.list ≡ None → found' ≡ found ++ more
+
+abbrev pub LookedAtTest : Binder → Scope → TestText → HeldOffences → HeldOffences → List Cond → List Cond → List Cond → Type 0
+LookedAtTest binder scope t held held' found found' more =
+    Looked binder (test_offences_of binder scope t) (kind_offences_of binder scope t) (too_long t) held held' found found' more
+
+abbrev pub LookedAt : Binder → Scope → List TestText → HeldOffences → HeldOffences → List Cond → List Cond → List Cond → Type 0
+LookedAt binder scope ts held held' found found' more =
+    Looked binder (flat_map (test_offences_of binder scope) ts) (flat_map (kind_offences_of binder scope) ts) (flat_map too_long ts)
+    held held' found found' more

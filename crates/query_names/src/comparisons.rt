@@ -1,0 +1,171 @@
+//! The comparisons of a test: each name in them is resolved once.
+ghost use Rattle.std.specs.Prelude.{◌≡◌, ◌≤◌, [], ◌∷◌, All, None, true, IfOk, IfErr, length, map};
+ghost use Rattle.std.specs.List.{flat_map};
+ghost use Rattle.sql_tokens.specs.Words.{IsLexemeOf};
+ghost use Rattle.query_grammar.specs.Lexemes.{IsLiteralOf, IsTestOf};
+ghost use Rattle.query_types.specs.declared.types.Cond.TheVariants as cond;
+ghost use Rattle.query_names.specs.Names.{at};
+ghost use Rattle.query_names.specs.Offences.{left_of, differ};
+ghost use Rattle.query_names.specs.Answers.{IsNameError};
+ghost use Rattle.query_names.specs.Binding.{Shows, from_of, test_offences_of, test_value_by, test_members_by};
+ghost use Rattle.query_names.specs.Looking.{Looked, LookedAtTest, comparisons_by, is_range, wrong_literal, equal_to};
+
+use crate::QueryError;
+use crate::binder::Binder;
+use crate::checks::HeldOffences;
+use crate::operands::{BoundOperand, bind_literal, copied};
+use crate::scope::Visible;
+use crate::values::whole_of;
+use base_io::{NoMemory, Seq};
+use limits::MOST_ENTRIES;
+use query_grammar::{LiteralText, OperandText, TestText};
+use query_types::{Cond, Op};
+
+/// The left operand of a test.
+fn left_of(test: &TestText) -> OperandText
+    ensures { result ≡ left_of test.now }
+{
+    match test {
+        TestText::Compare { left, .. } => *left,
+        TestText::Between { operand, .. } => *operand,
+        TestText::In { operand, .. } => *operand,
+    }
+}
+
+/// Whether a test is two comparisons that hold together, and so two members of what it stands in.
+fn is_range(test: &TestText) -> bool
+    ensures { result ≡ is_range test.now }
+{
+    match test {
+        TestText::Between { negated, .. } => !*negated,
+        TestText::Compare { .. } | TestText::In { .. } => false,
+    }
+}
+
+impl<'a> Binder<'a> {
+    /// Whether conditions are built: FROM has not too many entries, and no list of IN up to here is too long.
+    pub(crate) fn builds(&self, held: &HeldOffences) -> bool
+        ensures { length (from_of self.now) ≤ 12 → held.now.list ≡ None → result ≡ true }
+    {
+        self.entries.sources.len() <= MOST_ENTRIES && held.list.is_none()
+    }
+
+    /// Compares two operands: keeps the place of the other one where its kind is wrong, and adds the comparison.
+    fn compare(
+        &self,
+        left: &BoundOperand,
+        op: Op,
+        other: BoundOperand,
+        held: &mut HeldOffences,
+        found: &mut Seq<Cond>,
+    ) -> Result<(), NoMemory>
+        ensures { IfOk result (λ _. Looked self.now [] (at (differ left.now.is_text other.is_text) other.first) []
+            held.old held.new found.old found.new (cond.Compare op left.now.value other.value ∷ [])) }
+    {
+        held.note_kind(other.is_text != left.is_text, other.first);
+        if self.builds(held) {
+            let left = copied(self.alloc, &left.value)?;
+            found.push(Cond::Compare {
+                op,
+                left,
+                right: other.value,
+            })?;
+        }
+        Ok(())
+    }
+
+    /// Compares an operand with each value of a list of IN.
+    fn add_equalities(
+        &self,
+        left: &BoundOperand,
+        values: &[LiteralText],
+        held: &mut HeldOffences,
+        found: &mut Seq<Cond>,
+    ) -> Result<(), NoMemory>
+        requires { All (IsLiteralOf (IsLexemeOf self.now.text.now)) values.now }
+        ensures { IfOk result (λ _. Looked self.now [] (flat_map (wrong_literal left.now.is_text) values.now) []
+            held.old held.new found.old found.new (map (equal_to self.now.text.now left.now.value) values.now)) }
+    {
+        'all: for value in values {
+            let other = bind_literal(self.alloc, self.text, value)?;
+            self.compare(left, Op::Eq, other, held, found)?;
+        }
+        Ok(())
+    }
+
+    /// Looks at a test, and adds its comparisons.
+    fn add_comparisons(
+        &self,
+        visible: &Visible,
+        test: &TestText,
+        held: &mut HeldOffences,
+        found: &mut Seq<Cond>,
+    ) -> Result<(), QueryError>
+        requires shows { Shows self.now visible.now }
+        requires tokens { IsTestOf (IsLexemeOf self.now.text.now) test.now }
+        ensures ok { IfOk result (λ _. LookedAtTest self.now visible.now.scope test.now held.old held.new found.old found.new
+            (comparisons_by self.now visible.now.scope test.now)) }
+        ensures err { IfErr result (IsNameError (test_offences_of self.now visible.now.scope test.now)) }
+    {
+        let left = self.bind_operand(visible, &left_of(test))?;
+        match test {
+            TestText::Compare { op, right, .. } => {
+                let right = self.bind_operand(visible, right)?;
+                Ok(self.compare(&left, *op, right, held, found)?)
+            }
+            TestText::Between { low, high, .. } => {
+                let low = self.bind_operand(visible, low)?;
+                let high = self.bind_operand(visible, high)?;
+                self.compare(&left, Op::Ge, low, held, found)?;
+                Ok(self.compare(&left, Op::Le, high, held, found)?)
+            }
+            TestText::In { values, .. } => {
+                held.note_list(test);
+                Ok(self.add_equalities(&left, values.as_slice(), held, found)?)
+            }
+        }
+    }
+
+    /// Looks at a test, and adds what it means.
+    pub(crate) fn add_test(
+        &self,
+        visible: &Visible,
+        test: &TestText,
+        held: &mut HeldOffences,
+        found: &mut Seq<Cond>,
+    ) -> Result<(), QueryError>
+        requires shows { Shows self.now visible.now }
+        requires tokens { IsTestOf (IsLexemeOf self.now.text.now) test.now }
+        ensures ok { IfOk result (λ _. LookedAtTest self.now visible.now.scope test.now held.old held.new found.old found.new
+            (test_value_by self.now visible.now.scope test.now ∷ [])) }
+        ensures err { IfErr result (IsNameError (test_offences_of self.now visible.now.scope test.now)) }
+    {
+        let mut parts = Seq::new(self.alloc);
+        self.add_comparisons(visible, test, held, &mut parts)?;
+        if self.builds(held) {
+            found.push(whole_of(self.alloc, test, parts)?)?;
+        }
+        Ok(())
+    }
+
+    /// Looks at a test, and adds the members of what it means.
+    pub(crate) fn add_test_members(
+        &self,
+        visible: &Visible,
+        test: &TestText,
+        held: &mut HeldOffences,
+        found: &mut Seq<Cond>,
+    ) -> Result<(), QueryError>
+        requires shows { Shows self.now visible.now }
+        requires tokens { IsTestOf (IsLexemeOf self.now.text.now) test.now }
+        ensures ok { IfOk result (λ _. LookedAtTest self.now visible.now.scope test.now held.old held.new found.old found.new
+            (test_members_by self.now visible.now.scope test.now)) }
+        ensures err { IfErr result (IsNameError (test_offences_of self.now visible.now.scope test.now)) }
+    {
+        if is_range(test) {
+            self.add_comparisons(visible, test, held, found)
+        } else {
+            self.add_test(visible, test, held, found)
+        }
+    }
+}

@@ -1,0 +1,123 @@
+//! The operands of tests, each with its name resolved.
+ghost use Rattle.std.specs.Prelude.{◌≡◌, ◌<◌, Some, IfOk, IfErr};
+ghost use Rattle.sql_tokens.specs.Words.{IsLexemeOf};
+ghost use Rattle.query_grammar.specs.Lexemes.{IsLiteralOf, IsOperandOf};
+ghost use Rattle.query_types.specs.Validity.{is_text};
+ghost use Rattle.query_names.specs.Values.{reference_to};
+ghost use Rattle.query_names.specs.Answers.{IsNameError};
+ghost use Rattle.query_names.specs.Binding.{Shows, name_offences_of};
+ghost use Rattle.query_names.specs.Looking.{bound_literal, IsBound};
+
+use crate::QueryError;
+use crate::binder::Binder;
+use crate::scope::{EntryColumn, Visible};
+use crate::values::number_value;
+use base_io::{Name, NoMemory};
+use ll_grammars::Lexeme;
+use query_grammar::{LiteralText, OperandText};
+use query_types::{ColumnRef, Operand};
+use schema_types::Kind;
+use sql_tokens::literal;
+use std::alloc::Global;
+
+/// An operand that has no wrong name: its value, whether it is a text, and the token that it begins with.
+#[derive(Drop)]
+pub struct BoundOperand {
+    pub value: Operand,
+    pub is_text: bool,
+    pub first: Lexeme,
+}
+
+fn is_text(kind: Kind) -> bool
+    ensures { result ≡ is_text kind }
+{
+    match kind {
+        Kind::Int => false,
+        Kind::Text(_) => true,
+    }
+}
+
+/// The same value once more.
+pub fn copied(alloc: Global, operand: &Operand) -> Result<Operand, NoMemory>
+    ensures { IfOk result (λ copy. copy ≡ operand.now) }
+{
+    match operand {
+        Operand::Column(column) => Ok(Operand::Column(*column)),
+        Operand::Int(value) => Ok(Operand::Int(*value)),
+        Operand::Text(text) => Ok(Operand::Text(Name::from_str(alloc, text.as_str())?)),
+    }
+}
+
+/// The reference to a column that was found.
+pub fn reference_to(column: EntryColumn) -> ColumnRef
+    requires { column.from < 256 }
+    ensures { result ≡ reference_to (Some column) }
+{
+    ColumnRef {
+        from: column.from as u8,
+        column: column.column,
+    }
+}
+
+/// The same, for an entry of any number. A query with so many entries is refused, and nothing is built for it.
+fn capped_reference(column: EntryColumn) -> ColumnRef
+    ensures { column.from < 256 → result ≡ reference_to (Some column) }
+{
+    reference_to(EntryColumn {
+        from: column.from.min(255),
+        ..column
+    })
+}
+
+/// What a literal is. It needs no name.
+pub fn bind_literal(
+    alloc: Global,
+    text: &[u8],
+    value: &LiteralText,
+) -> Result<BoundOperand, NoMemory>
+    requires { IsLiteralOf (IsLexemeOf text.now) value.now }
+    ensures { IfOk result (λ found. found ≡ bound_literal text.now value.now) }
+{
+    match value {
+        LiteralText::Number { sign, digits } => Ok(BoundOperand {
+            value: Operand::Int(number_value(text, sign, digits)),
+            is_text: false,
+            first: sign.unwrap_or(*digits),
+        }),
+        LiteralText::Text(token) => Ok(BoundOperand {
+            value: Operand::Text(literal(alloc, text, token)?),
+            is_text: true,
+            first: *token,
+        }),
+    }
+}
+
+impl<'a> Binder<'a> {
+    /// What an operand is, or where its name is wrong.
+    #[tactic(auto, unfolding(crate::specs::Binding::name_offences_of))]
+    pub(crate) fn bind_operand(
+        &self,
+        visible: &Visible,
+        operand: &OperandText,
+    ) -> Result<BoundOperand, QueryError>
+        requires shows { Shows self.now visible.now }
+        requires tokens { IsOperandOf (IsLexemeOf self.now.text.now) operand.now }
+        ensures ok { IfOk result (λ found. IsBound self.now visible.now.scope operand.now found) }
+        ensures err { IfErr result (IsNameError (name_offences_of self.now visible.now.scope operand.now)) }
+    {
+        match operand {
+            OperandText::Column(reference) => {
+                let first = reference.table.unwrap_or(reference.column);
+                match self.resolve(visible, reference)? {
+                    Some(column) => Ok(BoundOperand {
+                        value: Operand::Column(capped_reference(column)),
+                        is_text: is_text(column.kind),
+                        first,
+                    }),
+                    None => Err(QueryError::Name { at: first.start }),
+                }
+            }
+            OperandText::Literal(value) => Ok(bind_literal(self.alloc, self.text, value)?),
+        }
+    }
+}
