@@ -126,7 +126,7 @@ pub fn add_column(
     }
     let name = name(binder.alloc, binder.text, token)?;
     found.outs.push(Out {
-        column: reference_to(Some(column)),
+        column: reference_to(column),
         name,
     })
 }
