@@ -1,25 +1,33 @@
-//! The proved side of the benchmark of order_search; bench/orders.rs is the plain one.
+//! The proved side of the benchmarks of order_search and bushy_plan; bench/orders.rs and bench/bushy.rs are the plain ones.
 //!
-//! It chooses orders of twelve entries over several kinds of bounds, and writes what was chosen. With an argument it also writes to
-//! standard error the nanoseconds of a choice, the least of 50.
+//! It chooses orders of twelve entries over several kinds of bounds, then join trees over the same ones, and writes what was chosen. With
+//! an argument it also writes to standard error the nanoseconds of each choice: the least of 50 of an order, and of 10 of a tree.
 #![tactic(auto)]
 
-ghost use Rattle.std.specs.Prelude.{◌≡◌, ◌<◌, length, vec_len, IfOk};
+ghost use Rattle.std.specs.Prelude.{◌≡◌, ◌<◌, length, replicate, vec_len, IfOk};
+
+mod orders;
+mod trees;
 
 use base_io::Seq;
-use order_search::{PlanError, choose};
-use plans::Plan;
 use std::alloc::{AllocError, Global};
-use std::rt::Runtime;
 use std::time::Instant;
 use std::{env, io};
 
-const ROUNDS: u32 = 50;
+// What is chosen.
+#[derive(Clone, Copy, Debug)]
+enum Wanted {
+    Order,
+    Tree,
+}
 
-fn no_plan(error: PlanError) -> io::Error {
-    match error {
-        PlanError::NoMemory => io::Error::from(io::ErrorKind::OutOfMemory),
-        _ => io::Error::from(io::ErrorKind::InvalidInput),
+impl Wanted {
+    // How often it is chosen where that is timed.
+    fn rounds(self) -> u32 {
+        match self {
+            Wanted::Order => 50,
+            Wanted::Tree => 10,
+        }
     }
 }
 
@@ -35,50 +43,77 @@ fn bounds_of(alloc: Global, step: u64, limit: u64) -> Result<Vec<u128>, AllocErr
     Ok(bounds)
 }
 
-fn chosen(alloc: Global, bounds: &Seq<u128>, scans: &Seq<u64>) -> io::Result<Plan>
-    requires scans { length scans.now ≡ 12 }
+// One choice, whose answer is dropped.
+fn choose_once(
+    alloc: Global,
+    wanted: Wanted,
+    bounds: &Seq<u128>,
+    scans: &Seq<u64>,
+) -> io::Result<()>
+    requires scans { scans.now ≡ replicate 12 1000 }
     requires bounds { length bounds.now ≡ 4096 }
 {
-    choose(alloc, bounds, scans, 20_000_000).map_err(no_plan)
+    match wanted {
+        Wanted::Order => {
+            let _plan = orders::chosen(alloc, bounds, scans)?;
+        }
+        Wanted::Tree => {
+            let _plan = trees::chosen(alloc, bounds, scans)?;
+        }
+    }
+    Ok(())
 }
 
 // The least time of a choice, in nanoseconds.
-fn measure<R: Runtime>(
-    rt: &R,
-    alloc: Global,
+fn measure(
+    rt: &HostRuntime,
+    wanted: Wanted,
     bounds: &Seq<u128>,
     scans: &Seq<u64>,
 ) -> io::Result<u128>
-    requires scans { length scans.now ≡ 12 }
+    requires scans { scans.now ≡ replicate 12 1000 }
     requires bounds { length bounds.now ≡ 4096 }
 {
     let mut least = u128::MAX;
-    for _ in 0..ROUNDS {
+    for _ in 0..wanted.rounds() {
         let start = Instant::now(rt)?;
-        let _plan = chosen(alloc, bounds, scans)?;
+        choose_once(rt.alloc(), wanted, bounds, scans)?;
         least = least.min(start.elapsed(rt)?.as_nanos());
     }
     Ok(least)
+}
+
+// The choice over each kind of bounds.
+fn write_choices(
+    rt: &HostRuntime,
+    wanted: Wanted,
+    scans: &Seq<u64>,
+    is_timed: bool,
+) -> io::Result<()>
+    requires { scans.now ≡ replicate 12 1000 }
+{
+    for (name, step, limit) in [
+        ("equal", 0, 1),
+        ("ascending", 1, 1_000_000),
+        ("mixed", 2_654_435_761, 1_000_003),
+    ] {
+        let bounds = Seq::from_vec(bounds_of(rt.alloc(), step, limit)?);
+        match wanted {
+            Wanted::Order => orders::write(rt, name, &bounds, scans)?,
+            Wanted::Tree => trees::write(rt, name, &bounds, scans)?,
+        }
+        if is_timed {
+            let nanoseconds = measure(rt, wanted, &bounds, scans)?;
+            eprintln!(rt; "{nanoseconds}")?;
+        }
+    }
+    Ok(())
 }
 
 fn main(rt: HostRuntime) -> io::Result<()> {
     let is_timed = env::args(&rt)?.count() > 1;
     let alloc = rt.alloc();
     let scans = Seq::from_vec(vec![in alloc; 1000; 12]?);
-    for (name, step, limit) in [
-        ("equal", 0, 1),
-        ("ascending", 1, 1_000_000),
-        ("mixed", 2_654_435_761, 1_000_003),
-    ] {
-        let bounds = Seq::from_vec(bounds_of(alloc, step, limit)?);
-        let plan = chosen(alloc, &bounds, &scans)?;
-        let order = plan.order.as_slice();
-        let levels = plan.levels.as_slice();
-        println!(rt; "{name} {order:?} {levels:?}")?;
-        if is_timed {
-            let nanoseconds = measure(&rt, alloc, &bounds, &scans)?;
-            eprintln!(rt; "{nanoseconds}")?;
-        }
-    }
-    Ok(())
+    write_choices(&rt, Wanted::Order, &scans, is_timed)?;
+    write_choices(&rt, Wanted::Tree, &scans, is_timed)
 }
