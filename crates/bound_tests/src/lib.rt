@@ -1,4 +1,4 @@
-//! Tests of the bounds: lists of runs, trees, conjuncts by kind, the bound of one tree, of one set and of all, and the best order.
+//! Tests of the bounds: lists of runs, trees, conjuncts by kind, the bound of one tree, of one set and of all.
 //!
 //! They stand apart from what they test, so that no crate of the bounds is proved a second time for its tests.
 #![tactic(auto)]
@@ -13,8 +13,6 @@ mod lists;
 mod one_set;
 #[cfg(test)]
 mod one_tree;
-#[cfg(test)]
-mod orders;
 #[cfg(test)]
 mod pieces;
 #[cfg(test)]

@@ -1,44 +1,10 @@
 //! The best order over given bounds.
-ghost use Rattle.std.specs.Prelude.{◌≡◌, ◌^◌, ◌≤◌};
-ghost use Rattle.limits.specs.Profile.{most_entries};
-
+use crate::choosing::{Fail, number_of_sets};
 use base_io::Seq;
 use limits::{MOST_BUDGET, MOST_ENTRIES};
 use order_search::{PlanError, choose};
 use plans::Plan;
-use std::alloc::{AllocError, AllocFailed, Global};
-
-#[derive(Debug, Drop)]
-enum Fail {
-    // The test asks for what `choose` has no answer to, or memory is wanting.
-    Unfit,
-    Refused(PlanError),
-}
-
-impl From<AllocError> for Fail {
-    fn from(_: AllocError) -> Self {
-        Fail::Unfit
-    }
-}
-
-impl<T: Drop> From<AllocFailed<T>> for Fail {
-    fn from(_: AllocFailed<T>) -> Self {
-        Fail::Unfit
-    }
-}
-
-impl From<PlanError> for Fail {
-    fn from(error: PlanError) -> Self {
-        Fail::Refused(error)
-    }
-}
-
-fn number_of_sets(count: usize) -> usize
-    requires { count ≤ most_entries }
-    ensures { result ≡ 2 ^ count }
-{
-    1 << count
-}
+use std::alloc::Global;
 
 // The choice over these bounds, where each entry's scan has two rows.
 fn chosen(alloc: Global, count: usize, bounds: Vec<u128>, budget: u64) -> Result<Plan, Fail> {
@@ -56,7 +22,7 @@ fn chosen(alloc: Global, count: usize, bounds: Vec<u128>, budget: u64) -> Result
 // Why nothing was chosen.
 fn refusal(alloc: Global, count: usize, bounds: Vec<u128>, budget: u64) -> Option<PlanError> {
     match chosen(alloc, count, bounds, budget) {
-        Err(Fail::Refused(error)) => Some(error),
+        Err(Fail::NoOrder(error)) => Some(error),
         _ => None,
     }
 }

@@ -1,44 +1,11 @@
-ghost use Rattle.std.specs.Prelude.{◌≡◌, ◌^◌, ◌≤◌};
-ghost use Rattle.limits.specs.Profile.{most_entries};
-
+//! The best join tree over given bounds.
+use crate::choosing::{Fail, number_of_sets};
 use base_io::Seq;
 use bushy_plan::{BushyError, choose_bushy};
 use limits::{MOST_ENTRIES, MOST_ROWS};
 use order_search::{PlanError, choose};
-use std::alloc::{AllocError, AllocFailed, Global};
+use std::alloc::Global;
 use tree_plans::{BushyPlan, Join};
-
-#[derive(Debug, Drop)]
-enum Fail {
-    // The test asks for what `choose_bushy` has no answer to, or memory is wanting.
-    Unfit,
-    Refused(BushyError),
-}
-
-impl From<AllocError> for Fail {
-    fn from(_: AllocError) -> Self {
-        Fail::Unfit
-    }
-}
-
-impl<T: Drop> From<AllocFailed<T>> for Fail {
-    fn from(_: AllocFailed<T>) -> Self {
-        Fail::Unfit
-    }
-}
-
-impl From<BushyError> for Fail {
-    fn from(error: BushyError) -> Self {
-        Fail::Refused(error)
-    }
-}
-
-fn number_of_sets(count: usize) -> usize
-    requires { count ≤ most_entries }
-    ensures { result ≡ 2 ^ count }
-{
-    1 << count
-}
 
 // The choice over these bounds, where each entry's scan has two rows.
 fn chosen(alloc: Global, count: usize, bounds: Vec<u128>, budget: u64) -> Result<BushyPlan, Fail> {
@@ -56,7 +23,7 @@ fn chosen(alloc: Global, count: usize, bounds: Vec<u128>, budget: u64) -> Result
 // Why nothing was chosen.
 fn refusal(alloc: Global, count: usize, bounds: Vec<u128>, budget: u64) -> Option<BushyError> {
     match chosen(alloc, count, bounds, budget) {
-        Err(Fail::Refused(error)) => Some(error),
+        Err(Fail::NoTree(error)) => Some(error),
         _ => None,
     }
 }

@@ -1,5 +1,0 @@
-//! Tests of bushy_plan, which stand above it so that it is proved once.
-#![tactic(auto)]
-
-#[cfg(test)]
-mod tests;

@@ -1,0 +1,46 @@
+//! What tests of orders and of join trees share.
+ghost use Rattle.std.specs.Prelude.{◌≡◌, ◌^◌, ◌≤◌};
+ghost use Rattle.limits.specs.Profile.{most_entries};
+
+use bushy_plan::BushyError;
+use order_search::PlanError;
+use std::alloc::{AllocError, AllocFailed};
+
+#[derive(Debug, Drop)]
+pub enum Fail {
+    // The test asks for what a choice has no answer to, or memory is wanting.
+    Unfit,
+    NoOrder(PlanError),
+    NoTree(BushyError),
+}
+
+impl From<AllocError> for Fail {
+    fn from(_: AllocError) -> Self {
+        Fail::Unfit
+    }
+}
+
+impl<T: Drop> From<AllocFailed<T>> for Fail {
+    fn from(_: AllocFailed<T>) -> Self {
+        Fail::Unfit
+    }
+}
+
+impl From<PlanError> for Fail {
+    fn from(error: PlanError) -> Self {
+        Fail::NoOrder(error)
+    }
+}
+
+impl From<BushyError> for Fail {
+    fn from(error: BushyError) -> Self {
+        Fail::NoTree(error)
+    }
+}
+
+pub fn number_of_sets(count: usize) -> usize
+    requires { count ≤ most_entries }
+    ensures { result ≡ 2 ^ count }
+{
+    1 << count
+}
