@@ -5,17 +5,17 @@
 //! 1,000,000 rows, and it writes to standard error the nanoseconds of each, the least of three.
 #![tactic(auto)]
 
-ghost use Rattle.std.specs.Prelude.{◌≡◌, ◌<◌, ◌≤◌, ◌^◌, length, All, IfOk, IsTrue};
-ghost use Rattle.csv_tables.specs.Cells.{IsCell};
+ghost use Rattle.std.specs.Prelude.{◌≡◌, ◌<◌, ◌≤◌, ◌^◌, length, IfOk};
 ghost use Rattle.column_stats.specs.Pairs.{HasColumn};
 
 mod columns;
 
-use base_io::{NoMemory, Seq};
+use base_io::NoMemory;
 use column_stats::{ColumnStats, gather};
 use columns::{Filter, Pair, Shop, pair_of, shop_columns, texts};
 use cond_stats::{FilterColumn, whole_list};
 use csv_tables::{Cells, Pool};
+use pair_tables::{are_cells, table_of_pair};
 use piece_math::Pieces;
 use schema_types::Kind;
 use std::alloc::Global;
@@ -45,17 +45,6 @@ fn runs_of(stats: &ColumnStats) -> u64 {
     all
 }
 
-// Whether each is a cell of the kind.
-fn are_cells(pool: &Pool, kind: Kind, cells: &[u64]) -> bool
-    ensures { IsTrue result → All (IsCell pool.now kind) cells.now }
-{
-    let texts = pool.len() as u64;
-    match kind {
-        Kind::Int => true,
-        Kind::Text(_) => cells.iter().all(|cell| *cell < texts),
-    }
-}
-
 // A column of a kind, sorted. What is no such column is answered as want of memory.
 fn sorted<'a>(
     alloc: Global,
@@ -69,34 +58,6 @@ fn sorted<'a>(
         return Err(NoMemory);
     }
     FilterColumn::new(alloc, pool, kind, cells)
-}
-
-// The table of a pair of columns.
-fn table(
-    alloc: Global,
-    pool: &Pool,
-    kind: Kind,
-    filter: &[u64],
-    joined: &[u64],
-) -> Result<Cells, NoMemory>
-    ensures filter { IfOk result (λ cells. HasColumn pool.now cells 0) }
-    ensures joined { IfOk result (λ cells. HasColumn pool.now cells 1) }
-{
-    if filter.len() != joined.len() || filter.len() > 4_000_000 {
-        return Err(NoMemory);
-    }
-    if !are_cells(pool, kind, filter) {
-        return Err(NoMemory);
-    }
-    let mut kinds = Seq::one(alloc, kind)?;
-    kinds.push(Kind::Int)?;
-    let mut columns = Seq::one(alloc, Seq::from_vec(Vec::from_slice(alloc, filter)?))?;
-    columns.push(Seq::from_vec(Vec::from_slice(alloc, joined)?))?;
-    Ok(Cells {
-        kinds,
-        columns,
-        rows: filter.len() as u32,
-    })
 }
 
 // The lists of one value, that of the row in the middle, and of one range.
@@ -257,7 +218,7 @@ fn measure_pair(rt: &HostRuntime, plan: Plan, pool: &Pool, filter: Filter) -> io
         Filter::Texts => Kind::Text(8),
     };
     let pair = pair_of(rt.alloc(), filter, plan.rows).map_err(out_of_memory)?;
-    let cells = table(
+    let cells = table_of_pair(
         rt.alloc(),
         pool,
         kind,
