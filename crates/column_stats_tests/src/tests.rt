@@ -1,62 +1,21 @@
-ghost use Rattle.std.specs.Prelude.{All, IfOk, IsTrue};
-ghost use Rattle.csv_tables.specs.Cells.{IsCell};
-ghost use Rattle.column_stats.specs.Pairs.{HasColumn};
+ghost use Rattle.std.specs.Prelude.{IfOk};
 ghost use Rattle.column_stats.specs.Stats.{IsValid};
 
-use base_io::{NoMemory, Seq};
+use base_io::NoMemory;
 use column_stats::{ColumnStats, gather};
-use csv_tables::{Cells, Pool};
+use csv_tables::Pool;
+use pair_tables::table_of_pair;
 use piece_math::Pieces;
 use schema_types::Kind;
 use std::alloc::Global;
 use std::test::Fail;
-
-// Whether each is a cell of the kind.
-fn are_cells(pool: &Pool, kind: Kind, cells: &[u64]) -> bool
-    ensures { IsTrue result → All (IsCell pool.now kind) cells.now }
-{
-    let texts = pool.len() as u64;
-    match kind {
-        Kind::Int => true,
-        Kind::Text(_) => cells.iter().all(|cell| *cell < texts),
-    }
-}
-
-// A table of two columns: a filter column of a kind and a joined column of numbers, of as many rows. What is no such table is answered
-// as want of memory, which fails a test.
-fn table(
-    alloc: Global,
-    pool: &Pool,
-    kind: Kind,
-    filter: &[u64],
-    joined: &[u64],
-) -> Result<Cells, NoMemory>
-    ensures filter { IfOk result (λ cells. HasColumn pool.now cells 0) }
-    ensures joined { IfOk result (λ cells. HasColumn pool.now cells 1) }
-{
-    if filter.len() != joined.len() || filter.len() > 1000 {
-        return Err(NoMemory);
-    }
-    if !are_cells(pool, kind, filter) {
-        return Err(NoMemory);
-    }
-    let mut kinds = Seq::one(alloc, kind)?;
-    kinds.push(Kind::Int)?;
-    let mut columns = Seq::one(alloc, Seq::from_vec(Vec::from_slice(alloc, filter)?))?;
-    columns.push(Seq::from_vec(Vec::from_slice(alloc, joined)?))?;
-    Ok(Cells {
-        kinds,
-        columns,
-        rows: filter.len() as u32,
-    })
-}
 
 // The statistics of a column of numbers.
 fn statistics(alloc: Global, filter: &[u64], joined: &[u64]) -> Result<ColumnStats, NoMemory>
     ensures { IfOk result IsValid }
 {
     let pool = Pool::new(alloc);
-    let cells = table(alloc, &pool, Kind::Int, filter, joined)?;
+    let cells = table_of_pair(alloc, &pool, Kind::Int, filter, joined)?;
     gather(alloc, &cells, &pool, 0, 1, 1)
 }
 
@@ -135,7 +94,7 @@ fn leaves_of_texts(alloc: Global) -> Result<([u8; 3], (u128, usize)), NoMemory> 
     }
     let a = u64::from(pool.intern("a")?);
     let filter = [b, a, b, a];
-    let cells = table(alloc, &pool, Kind::Text(1), &filter, &[1, 2, 3, 2])?;
+    let cells = table_of_pair(alloc, &pool, Kind::Text(1), &filter, &[1, 2, 3, 2])?;
     let stats = gather(alloc, &cells, &pool, 0, 1, 1)?;
     let low = stats.leaf_text(&pool, "a");
     let list = shape(stats.for_range(None, Some(low)));
