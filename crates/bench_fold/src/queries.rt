@@ -81,28 +81,22 @@ impl Shape {
     }
 }
 
+fn place(entry: u8, column: u32) -> Place {
+    Place { entry, column }
+}
+
 /// The equality of two columns, each of which has its entry before it.
 pub fn edge(left: u8, left_column: u32, right: u8, right_column: u32) -> Edge {
     Edge {
-        left: Place {
-            entry: left,
-            column: left_column,
-        },
-        right: Place {
-            entry: right,
-            column: right_column,
-        },
+        left: place(left, left_column),
+        right: place(right, right_column),
     }
 }
 
 fn parts_of(alloc: Global, edges: &[Edge]) -> Result<Parts, NoMemory> {
-    let mut equalities = Seq::new(alloc);
-    for edge in edges {
-        equalities.push(*edge)?;
-    }
     Ok(Parts {
         local: Seq::new(alloc),
-        equalities,
+        equalities: Seq::from_vec(Vec::from_slice(alloc, edges)?),
         residual: Seq::new(alloc),
     })
 }
