@@ -43,13 +43,9 @@ pub fn edge(left: u8, left_column: u32, right: u8, right_column: u32) -> Edge
 }
 
 pub fn parts_of(alloc: Global, edges: &[Edge]) -> Result<Parts, NoMemory> {
-    let mut equalities = Seq::new(alloc);
-    for edge in edges {
-        equalities.push(*edge)?;
-    }
     Ok(Parts {
         local: Seq::new(alloc),
-        equalities,
+        equalities: Seq::from_vec(Vec::from_slice(alloc, edges)?),
         residual: Seq::new(alloc),
     })
 }
