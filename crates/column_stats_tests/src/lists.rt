@@ -4,34 +4,25 @@ ghost use Rattle.std.specs.Prelude.{◌≡◌, ◌<◌, ◌^◌, length, IfOk};
 use base_io::NoMemory;
 use cond_stats::{FilterColumn, whole_list};
 use csv_tables::Pool;
+use pair_tables::are_cells;
 use schema_types::Kind;
 use std::alloc::Global;
 use std::test::Fail;
 
-fn int_column<'a>(
+// A column of a kind, sorted. What is no such column is answered as want of memory, which fails a test.
+fn column_of<'a>(
     alloc: Global,
     pool: &'a Pool,
+    kind: Kind,
     cells: &'a [u64],
 ) -> Result<FilterColumn<'a>, NoMemory>
     requires { length cells.now < 2 ^ 32 }
     ensures { IfOk result (λ column. column.cells ≡ cells.now) }
 {
-    FilterColumn::new(alloc, pool, Kind::Int, cells)
-}
-
-fn text_column<'a>(
-    alloc: Global,
-    pool: &'a Pool,
-    cells: &'a [u64],
-) -> Result<FilterColumn<'a>, NoMemory>
-    requires { length cells.now < 2 ^ 32 }
-    ensures { IfOk result (λ column. column.cells ≡ cells.now) }
-{
-    let texts = pool.len() as u64;
-    if !cells.iter().all(|cell| *cell < texts) {
+    if !are_cells(pool, kind, cells) {
         return Err(NoMemory);
     }
-    FilterColumn::new(alloc, pool, Kind::Text(10), cells)
+    FilterColumn::new(alloc, pool, kind, cells)
 }
 
 // The totals of the list of 1, of that of an absent value, of that of the range from 1 to 1, and of the whole list.
@@ -39,7 +30,7 @@ fn totals_of_numbers(alloc: Global, cells: &[u64]) -> Result<[u128; 4], NoMemory
     requires { length cells.now < 2 ^ 32 }
 {
     let pool = Pool::new(alloc);
-    let column = int_column(alloc, &pool, cells)?;
+    let column = column_of(alloc, &pool, Kind::Int, cells)?;
     let leaf = Some(column.leaf_of_int(1));
     let value = column.list_of_value(cells, Some(1), 1)?;
     let absent = column.list_of_value(cells, None, 1)?;
@@ -53,7 +44,7 @@ fn text_of_two_rows(alloc: Global) -> Result<(u128, u8), NoMemory> {
     let mut pool = Pool::new(alloc);
     pool.intern("a")?;
     let cells = [0, 0];
-    let column = text_column(alloc, &pool, &cells)?;
+    let column = column_of(alloc, &pool, Kind::Text(10), &cells)?;
     let list = column.list_of_value(&cells, Some(0), 1)?;
     Ok((list.total(), column.leaf_of_text("a")))
 }
