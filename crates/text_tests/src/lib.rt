@@ -12,4 +12,6 @@ mod schema_rules;
 #[cfg(test)]
 mod schemas;
 #[cfg(test)]
+mod token_lists;
+#[cfg(test)]
 mod tokens;

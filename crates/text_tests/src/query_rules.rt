@@ -1,5 +1,5 @@
-use base_io::Seq;
-use ll_grammars::{Lexeme, SyntaxError, Terminal};
+use crate::token_lists::{TEXT_LEN, tokens_of};
+use ll_grammars::{SyntaxError, Terminal};
 use query_grammar::{
     CondText, MAX_NESTING, Op, OutText, OutsText, QueryText, TestText, examples, nesting,
     one_meaning, read_query_text,
@@ -7,25 +7,8 @@ use query_grammar::{
 use std::alloc::Global;
 use std::test::Fail;
 
-const TEXT_LEN: u32 = 1000;
-
-// These terminals as tokens: the one at place i lies at byte 10 i.
-fn tokens(alloc: Global, terminals: &[Terminal]) -> Result<Seq<Lexeme>, Fail> {
-    let mut tokens = Seq::new(alloc);
-    let mut start = 0u32;
-    for terminal in terminals {
-        tokens.push(Lexeme {
-            terminal: *terminal,
-            start,
-            end: start.saturating_add(1),
-        })?;
-        start = start.saturating_add(10);
-    }
-    Ok(tokens)
-}
-
 fn read(alloc: Global, terminals: &[Terminal]) -> Result<Result<QueryText, SyntaxError>, Fail> {
-    let tokens = tokens(alloc, terminals)?;
+    let tokens = tokens_of(alloc, terminals)?;
     if nesting(tokens.as_slice()) > MAX_NESTING as u64 {
         return Ok(Err(SyntaxError::NoMemory));
     }
@@ -233,7 +216,7 @@ fn parentheses_are_counted(rt: HostRuntime) -> Result<(), Fail> {
         terminals.push(Terminal::Open)?;
     }
     terminals.push(Terminal::Close)?;
-    let tokens = tokens(rt.alloc(), &terminals)?;
+    let tokens = tokens_of(rt.alloc(), &terminals)?;
     assert_eq!(rt; nesting(tokens.as_slice()), 70);
     Ok(())
 }

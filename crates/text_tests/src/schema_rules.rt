@@ -1,36 +1,20 @@
+use crate::token_lists::{TEXT_LEN, tokens_of};
 use base_io::Seq;
-use ll_grammars::{Lexeme, SyntaxError, Terminal};
+use ll_grammars::{SyntaxError, Terminal};
 use schema_grammar::{
     ColumnRule, Element, TableRule, TableText, TypeText, examples, one_meaning, read_tables,
 };
 use std::alloc::Global;
 use std::test::Fail;
 
-const TEXT_LEN: u32 = 1000;
-
-// These terminals as tokens: the one at place i lies at byte 10 i.
-fn tokens(alloc: Global, terminals: &[Terminal]) -> Result<Seq<Lexeme>, Fail> {
-    let mut tokens = Seq::new(alloc);
-    let mut start = 0u32;
-    for terminal in terminals {
-        tokens.push(Lexeme {
-            terminal: *terminal,
-            start,
-            end: start.saturating_add(1),
-        })?;
-        start = start.saturating_add(10);
-    }
-    Ok(tokens)
-}
-
 fn tables(alloc: Global, terminals: &[Terminal]) -> Result<Seq<TableText>, Fail> {
-    let tokens = tokens(alloc, terminals)?;
+    let tokens = tokens_of(alloc, terminals)?;
     Ok(read_tables(alloc, tokens.as_slice(), TEXT_LEN)?)
 }
 
 // Where the terminals go wrong.
 fn place(alloc: Global, terminals: &[Terminal]) -> Result<Option<u32>, Fail> {
-    let tokens = tokens(alloc, terminals)?;
+    let tokens = tokens_of(alloc, terminals)?;
     match read_tables(alloc, tokens.as_slice(), TEXT_LEN) {
         Err(SyntaxError::At(at)) => Ok(Some(at)),
         _ => Ok(None),
