@@ -42,25 +42,23 @@ fn push_operand(out: &mut String, operand: &Operand) -> Result<(), AllocError> {
     }
 }
 
+// Members between a mark and a full stop.
+#[cycle(conditions)]
+fn push_members(out: &mut String, mark: &str, members: &[Cond]) -> Result<(), AllocError> {
+    out.push_str(mark)?;
+    for member in members {
+        push_condition(out, member)?;
+        out.push_str(" ")?;
+    }
+    out.push_str(".")
+}
+
 // A condition in prefix form: `&`, `|` and `!`, and what they hold up to the next full stop.
+#[cycle(conditions)]
 fn push_condition(out: &mut String, condition: &Cond) -> Result<(), AllocError> {
     match condition {
-        Cond::And(parts) => {
-            out.push_str("&")?;
-            'both: for part in parts.as_slice() {
-                push_condition(out, part)?;
-                out.push_str(" ")?;
-            }
-            out.push_str(".")
-        }
-        Cond::Or(parts) => {
-            out.push_str("|")?;
-            'either: for part in parts.as_slice() {
-                push_condition(out, part)?;
-                out.push_str(" ")?;
-            }
-            out.push_str(".")
-        }
+        Cond::And(members) => push_members(out, "&", members.as_slice()),
+        Cond::Or(members) => push_members(out, "|", members.as_slice()),
         Cond::Not(part) => {
             out.push_str("!")?;
             push_condition(out, part.get())
