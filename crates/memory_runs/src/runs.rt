@@ -27,6 +27,16 @@ const JOIN: Text<'static> = Text::Whole(b"SELECT R.X FROM R, S WHERE R.X = S.X")
 
 const PLAIN: &[&str] = &["run", "schema.sql", "query.sql"];
 
+const ONES: Text<'static> = Text::Column {
+    record: b"1\r\n",
+    count: 100,
+};
+
+const TWOS: Text<'static> = Text::Column {
+    record: b"2\r\n",
+    count: 100,
+};
+
 const HUNDREDS: &[u8] = b"scan R 100\nscan S 100\nlevel 1 R 100\nlevel 2 S 10000\n";
 
 /// A join of two tables, the same over reduced scans, a table of texts, the triangle, and two pairs of tables with the same bounds and
@@ -108,20 +118,8 @@ pub const RUNS: [Run<'static>; 6] = [
         files: &[
             ("schema.sql", TWO),
             ("query.sql", JOIN),
-            (
-                "r.csv",
-                Text::Column {
-                    record: b"1\r\n",
-                    count: 100,
-                },
-            ),
-            (
-                "s.csv",
-                Text::Column {
-                    record: b"1\r\n",
-                    count: 100,
-                },
-            ),
+            ("r.csv", ONES),
+            ("s.csv", ONES),
         ],
         notes: HUNDREDS,
         out: Text::Column {
@@ -135,20 +133,8 @@ pub const RUNS: [Run<'static>; 6] = [
         files: &[
             ("schema.sql", TWO),
             ("query.sql", JOIN),
-            (
-                "r.csv",
-                Text::Column {
-                    record: b"1\r\n",
-                    count: 100,
-                },
-            ),
-            (
-                "s.csv",
-                Text::Column {
-                    record: b"2\r\n",
-                    count: 100,
-                },
-            ),
+            ("r.csv", ONES),
+            ("s.csv", TWOS),
         ],
         notes: HUNDREDS,
         out: Text::Column {
