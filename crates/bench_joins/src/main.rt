@@ -152,30 +152,14 @@ fn main(rt: HostRuntime) -> io::Result<()> {
         show(&rt, "different", pair(10, 10, 2), Some(Op::Ne), 1)?;
         return show(&rt, "both", pair(2_000, 2_000, 100), Some(Op::Eq), 1);
     }
+    let unique = pair(1_000_000, 1_000_000, 1);
+    let heavy = pair(10_000, 10_000, 1_000);
     show(&rt, "orders", pair(50_000, 200_000, 4), None, ROUNDS)?;
     show(&rt, "items", pair(200_000, 400_000, 2), None, ROUNDS)?;
     show(&rt, "products", pair(400_000, 20_000, 1), None, ROUNDS)?;
-    show(&rt, "unique", pair(1_000_000, 1_000_000, 1), None, ROUNDS)?;
-    show(&rt, "heavy", pair(10_000, 10_000, 1_000), None, ROUNDS)?;
-    show(
-        &rt,
-        "unique-tested",
-        pair(1_000_000, 1_000_000, 1),
-        Some(Op::Ne),
-        ROUNDS,
-    )?;
-    show(
-        &rt,
-        "heavy-tested",
-        pair(10_000, 10_000, 1_000),
-        Some(Op::Ne),
-        ROUNDS,
-    )?;
-    show(
-        &rt,
-        "heavy-both",
-        pair(10_000, 10_000, 1_000),
-        Some(Op::Eq),
-        ROUNDS,
-    )
+    show(&rt, "unique", unique, None, ROUNDS)?;
+    show(&rt, "heavy", heavy, None, ROUNDS)?;
+    show(&rt, "unique-tested", unique, Some(Op::Ne), ROUNDS)?;
+    show(&rt, "heavy-tested", heavy, Some(Op::Ne), ROUNDS)?;
+    show(&rt, "heavy-both", heavy, Some(Op::Eq), ROUNDS)
 }
