@@ -4,6 +4,7 @@ ghost use Rattle.schema_types.specs.Validity.{IsValidTable};
 
 use base_io::{Name, NoMemory, Seq};
 use csv_tables::{Cells, Pool, TableError, read_table, value_of};
+use limits::{MOST_FILE, MOST_TEXT};
 use schema_types::{Column, Kind, LimitKind, SchemaError, Table, read_schema};
 use sql_parse::{QueryError, read_query};
 use std::alloc::Global;
@@ -25,7 +26,7 @@ enum Answer {
 }
 
 fn schema_answer(alloc: Global, text: &[u8]) -> Answer {
-    if text.len() > 1_048_576 {
+    if text.len() > MOST_TEXT as usize {
         return Answer::TooLong;
     }
     match read_schema(alloc, text) {
@@ -36,7 +37,7 @@ fn schema_answer(alloc: Global, text: &[u8]) -> Answer {
 
 // Over the schema of these tables.
 fn query_answer(alloc: Global, tables: &[u8], text: &[u8]) -> Answer {
-    if text.len() > 1_048_576 || tables.len() > 1_048_576 {
+    if text.len() > MOST_TEXT as usize || tables.len() > MOST_TEXT as usize {
         return Answer::TooLong;
     }
     match read_schema(alloc, tables) {
@@ -76,7 +77,7 @@ fn row_answer(cells: &Cells) -> Answer {
 }
 
 fn table_answer(alloc: Global, bytes: &[u8]) -> Result<Answer, NoMemory> {
-    if bytes.len() > 67_108_864 {
+    if bytes.len() > MOST_FILE as usize {
         return Ok(Answer::TooLong);
     }
     let table = numbers(alloc)?;
