@@ -4,6 +4,7 @@ ghost use Rattle.schema_types.specs.Validity.{IsValidTable};
 
 use base_io::{Name, NoMemory, Seq};
 use csv_tables::{Cells, Pool, TableError, cell_of, compare, examples, read_table, value_of};
+use limits::MOST_FILE;
 use schema_types::{Column, Kind, Table};
 use std::alloc::Global;
 use std::cmp::Ordering;
@@ -83,7 +84,7 @@ fn gives(
 ) -> Result<bool, Fail>
     requires { IsValidTable table.now }
 {
-    assert!(rt; bytes.len() <= 67_108_864);
+    assert!(rt; bytes.len() <= MOST_FILE as usize);
     let mut pool = Pool::new(alloc);
     let cells = read_table(alloc, table, bytes, &mut pool)?;
     if cells.rows as usize != numbers.len() || cells.columns.len() == 0 {
@@ -103,7 +104,7 @@ fn refuses(
 ) -> Result<bool, Fail>
     requires { IsValidTable table.now }
 {
-    assert!(rt; bytes.len() <= 67_108_864);
+    assert!(rt; bytes.len() <= MOST_FILE as usize);
     let mut pool = Pool::new(alloc);
     match read_table(alloc, table, bytes, &mut pool) {
         Ok(_) => Ok(false),
