@@ -1,13 +1,12 @@
 //! Query texts by example.
 ghost use Rattle.schema_types.specs.Validity.{IsValid};
 
+use limits::MOST_TEXT;
 use query_types::{Cond, Op, Operand, Query};
 use schema_types::{LimitKind, Schema, read_schema};
 use sql_parse::{QueryError, read_query};
 use std::alloc::{AllocError, Global};
 use std::test::Fail;
-
-const MOST: usize = 1_048_576;
 
 const R: &str = "CREATE TABLE R (X INTEGER NOT NULL);";
 
@@ -127,7 +126,7 @@ fn push_answer(
 ) -> Result<(), AllocError>
     requires { IsValid schema.now }
 {
-    if text.len() > MOST {
+    if text.len() > MOST_TEXT as usize {
         return out.push_str("too long\n");
     }
     match read_query(alloc, schema, text.as_bytes()) {
@@ -140,7 +139,7 @@ fn push_answer(
 // The answers to texts over these tables, a line for each.
 fn answers(alloc: Global, tables: &str, texts: &str) -> Result<String, AllocError> {
     let mut out = String::new(alloc);
-    if tables.len() > MOST {
+    if tables.len() > MOST_TEXT as usize {
         return Ok(out);
     }
     if let Ok(schema) = read_schema(alloc, tables.as_bytes()) {

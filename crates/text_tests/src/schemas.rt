@@ -1,11 +1,12 @@
 //! Schema texts by example.
+use limits::MOST_TEXT;
 use schema_types::{LimitKind, Schema, SchemaError, read_schema};
 use std::alloc::{AllocError, Global};
 use std::test::Fail;
 
 // What a text is refused for, and where or how many.
 fn refusal(alloc: Global, text: &[u8]) -> (char, u64) {
-    if text.len() > 1_048_576 {
+    if text.len() > MOST_TEXT as usize {
         return ('?', 0);
     }
     match read_schema(alloc, text) {
@@ -56,7 +57,7 @@ fn short(alloc: Global, schema: &Schema) -> Result<String, AllocError> {
 }
 
 fn read_short(alloc: Global, text: &[u8]) -> Result<String, AllocError> {
-    if text.len() <= 1_048_576 {
+    if text.len() <= MOST_TEXT as usize {
         if let Ok(schema) = read_schema(alloc, text) {
             return short(alloc, &schema);
         }

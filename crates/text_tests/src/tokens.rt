@@ -3,6 +3,7 @@ ghost use Rattle.std.specs.Prelude.{IfOk, All};
 ghost use Rattle.sql_tokens.specs.Words.{IsLexemeOf};
 
 use base_io::Seq;
+use limits::MOST_TEXT;
 use ll_grammars::{Lexeme, Terminal};
 use sql_tokens::{
     LexError, TokenKind, each_text, forms, lexemes, literal, longest, name, not_both, number,
@@ -15,7 +16,7 @@ use std::test::Fail;
 
 // The text goes wrong at this place.
 fn is_bad(rt: &impl Abort, alloc: Global, text: &[u8], place: u32) -> Result<(), Fail> {
-    assert!(rt; text.len() <= 1_048_576);
+    assert!(rt; text.len() <= MOST_TEXT as usize);
     match tokens(alloc, text) {
         Err(LexError::Bad { at }) => {
             assert_eq!(rt; at, place);
@@ -37,7 +38,7 @@ fn reads(
     kinds: &[TokenKind],
     ends: &[u32],
 ) -> Result<(), Fail> {
-    assert!(rt; text.len() <= 1_048_576);
+    assert!(rt; text.len() <= MOST_TEXT as usize);
     let found = tokens(alloc, text)?;
     assert_eq!(rt; found.len(), kinds.len());
     assert_eq!(rt; found.len(), ends.len());
@@ -51,7 +52,7 @@ fn reads(
 fn lexemes_of(rt: &impl Abort, alloc: Global, text: &[u8]) -> Result<Seq<Lexeme>, Fail>
     ensures { IfOk result (λ found. All (IsLexemeOf text.now) found) }
 {
-    assert!(rt; text.len() <= 1_048_576);
+    assert!(rt; text.len() <= MOST_TEXT as usize);
     let found = tokens(alloc, text)?;
     Ok(lexemes(alloc, text, found.as_slice())?)
 }
