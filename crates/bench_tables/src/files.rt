@@ -1,4 +1,5 @@
 //! Table files of a fixed rule: those of bench/tables.rs.
+use limits::MOST_ROWS;
 use std::alloc::{AllocError, Global};
 
 /// What a file is of: eight columns of numbers, or four of texts of which every second was there before.
@@ -79,14 +80,14 @@ fn push_record(file: &mut String, source: Source, state: &mut State) -> Result<(
     file.push_str("\r\n")
 }
 
-/// A header, and then records up to the first that ends at or after so many bytes.
+/// A header, and then records up to the first that ends at or after so many bytes, but no more of them than a table may have.
 pub fn file_of(alloc: Global, source: Source, bytes: usize) -> Result<String, AllocError> {
     let mut file = String::from_str(alloc, source.header())?;
     let mut state = State {
         bits: 88172645463325252,
         texts: 0,
     };
-    for _ in 0..4_000_000 {
+    for _ in 0..MOST_ROWS {
         if file.len() >= bytes {
             break;
         }

@@ -6,6 +6,7 @@
 #![tactic(auto)]
 
 ghost use Rattle.std.specs.Prelude.{◌≤◌, length};
+ghost use Rattle.limits.specs.Profile.{most_file, most_text};
 ghost use Rattle.schema_types.specs.Validity.{IsValidTable};
 
 mod files;
@@ -13,14 +14,12 @@ mod files;
 use base_io::Seq;
 use csv_tables::{Pool, TableError, read_table};
 use files::{Source, file_of};
+use limits::MOST_FILE;
 use schema_types::{SchemaError, Table, read_schema};
 use std::alloc::Global;
 use std::rt::Runtime;
 use std::time::Instant;
 use std::{env, io};
-
-// The greatest length of a table file.
-const MOST_BYTES: usize = 67_108_864;
 
 // What was read of a file, and the least time of a reading so far.
 #[derive(Clone, Copy, Debug)]
@@ -63,7 +62,7 @@ fn sum_of(columns: &[Seq<u64>]) -> u64 {
 // One reading into a new pool.
 fn read_once<R: Runtime>(rt: &R, alloc: Global, table: &Table, bytes: &[u8]) -> io::Result<Measure>
     requires valid { IsValidTable table.now }
-    requires few { length bytes.now ≤ 67108864 }
+    requires few { length bytes.now ≤ most_file }
 {
     let mut pool = Pool::new(alloc);
     let start = Instant::now(rt)?;
@@ -87,7 +86,7 @@ fn read_often<R: Runtime>(
 ) -> io::Result<Measure>
     requires valid { IsValidTable table.now }
 {
-    if bytes.len() > MOST_BYTES {
+    if bytes.len() > MOST_FILE as usize {
         return Err(invalid_data());
     }
     let mut least = read_once(rt, alloc, table, bytes)?;
@@ -115,12 +114,12 @@ const UNTIMED: Plan = Plan {
 // A record is shorter than 256 bytes.
 const TIMED: Plan = Plan {
     is_timed: true,
-    bytes: MOST_BYTES - 256,
+    bytes: MOST_FILE as usize - 256,
     rounds: 5,
 };
 
 fn measure_file(rt: &HostRuntime, plan: Plan, source: Source, schema: &[u8]) -> io::Result<()>
-    requires { length schema.now ≤ 1048576 }
+    requires { length schema.now ≤ most_text }
 {
     let alloc = rt.alloc();
     let schema = read_schema(alloc, schema).map_err(no_schema)?;
