@@ -6,10 +6,12 @@
 #![tactic(auto)]
 
 ghost use Rattle.std.specs.Prelude.{◌≤◌, length};
+ghost use Rattle.limits.specs.Profile.{most_text};
 ghost use Rattle.schema_types.specs.Validity.{IsValid};
 
 mod texts;
 
+use limits::MOST_TEXT;
 use schema_types::{Schema, SchemaError, read_schema};
 use sql_parse::{QueryError, read_query};
 use std::alloc::Global;
@@ -17,9 +19,6 @@ use std::rt::Runtime;
 use std::time::Instant;
 use std::{env, io};
 use texts::{SHAPES, Shape, text_of};
-
-// The greatest length of a query text.
-const MOST_BYTES: usize = 1_048_576;
 
 // How many things a small text has: more than any limit allows.
 const FEW: usize = 2_000;
@@ -39,7 +38,7 @@ fn no_schema(_: SchemaError) -> io::Error {
 
 fn read(alloc: Global, schema: &Schema, text: &[u8]) -> Answer
     requires valid { IsValid schema.now }
-    requires small { length text.now ≤ 1048576 }
+    requires small { length text.now ≤ most_text }
 {
     match read_query(alloc, schema, text) {
         Ok(query) => Answer::Query {
@@ -53,7 +52,7 @@ fn read(alloc: Global, schema: &Schema, text: &[u8]) -> Answer
 // The least nanoseconds of a reading.
 fn measure<R: Runtime>(rt: &R, alloc: Global, schema: &Schema, text: &[u8]) -> io::Result<u128>
     requires valid { IsValid schema.now }
-    requires small { length text.now ≤ 1048576 }
+    requires small { length text.now ≤ most_text }
 {
     let mut least = u128::MAX;
     for _ in 0..ROUNDS {
@@ -76,7 +75,7 @@ fn show(
     let alloc = rt.alloc();
     let name = shape.name;
     let text = text_of(alloc, shape, count)?;
-    if text.len() > MOST_BYTES {
+    if text.len() > MOST_TEXT as usize {
         return Err(io::Error::from(io::ErrorKind::InvalidData));
     }
     let answer = read(alloc, schema, text.as_bytes());
