@@ -14,6 +14,7 @@ mod tables;
 
 use base_io::MemStore;
 use failed::Failed;
+use limits::{MOST_CONJUNCTS, MOST_TEXT};
 use reducing::{Reduced, timed};
 use schema_types::read_schema;
 use sql_parse::read_query;
@@ -25,9 +26,6 @@ use tables::{CHAIN, CYCLE, SCHEMA, chain, cycle};
 
 const ROUNDS: u32 = 3;
 
-// The most bytes of a schema text and of a query text.
-const MOST_BYTES: usize = 1_048_576;
-
 // The least time of a reduction of the scans of a query.
 fn least_of<R: Runtime>(
     rt: &R,
@@ -36,13 +34,13 @@ fn least_of<R: Runtime>(
     store: &mut MemStore,
     rounds: u32,
 ) -> Result<Reduced, Failed> {
-    if SCHEMA.len() > MOST_BYTES || text.len() > MOST_BYTES {
+    if SCHEMA.len() > MOST_TEXT as usize || text.len() > MOST_TEXT as usize {
         return Err(Failed);
     }
     let schema = read_schema(alloc, SCHEMA.as_bytes())?;
     let query = read_query(alloc, &schema, text.as_bytes())?;
     let db = read_tables(alloc, store, &schema, &query)?;
-    if query.conjuncts.len() > 256 {
+    if query.conjuncts.len() > MOST_CONJUNCTS {
         return Err(Failed);
     }
     let mut least = timed(rt, alloc, &query, &db)?;
