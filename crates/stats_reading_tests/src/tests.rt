@@ -57,185 +57,162 @@ fn answer_bytes(alloc: Global, schema: &str, bytes: &[u8]) -> Verdict {
     }
 }
 
+// The number of the first text that isn't answered so. Each text is the head and an end of its own.
+fn first_wrong(
+    alloc: Global,
+    schema: &str,
+    head: &str,
+    cases: &[(&str, Verdict)],
+) -> Result<Option<usize>, AllocError> {
+    for (number, (end, want)) in cases.iter().enumerate() {
+        let mut text = String::from_str(alloc, head)?;
+        text.push_str(end)?;
+        if answer(alloc, schema, text.as_str()) != *want {
+            return Ok(Some(number));
+        }
+    }
+    Ok(None)
+}
+
 #[test]
 fn empty_table(rt: HostRuntime) -> Result<(), Fail> {
-    let a = rt.alloc();
-    assert_eq!(rt; answer(a, E, EMPTY), Verdict::Read);
-    assert_eq!(rt; answer(a, E, "safebound-stats 1 64\nend\n"), Verdict::Read);
-    assert_eq!(rt; answer(a, E, ""), Verdict::Syntax(1));
-    assert_eq!(rt;
-        answer(
-            a,
-            E,
-            "safebound-stats 1 1\ntable x45 0\npair x58 x58\nwhole -\nrest -\n"
-        ),
-        Verdict::Syntax(6)
-    );
-    assert_eq!(rt;
-        answer(
-            a,
-            E,
-            "safebound-stats 1 1\ntable x45 0\npair x58 x58\nwhole -\nrest -\nend"
-        ),
-        Verdict::Syntax(6)
-    );
-    assert_eq!(rt;
-        answer(a, E, "safebound-stats 1 1\nend\n\n"),
-        Verdict::Syntax(3)
-    );
-    assert_eq!(rt;
-        answer(a, E, "safebound-stats 1 1\nend\nx"),
-        Verdict::Syntax(3)
-    );
-    assert_eq!(rt;
-        answer(a, E, "\u{feff}safebound-stats 1 1\nend\n"),
-        Verdict::Syntax(1)
-    );
+    let wrong = first_wrong(
+        rt.alloc(),
+        E,
+        "",
+        &[
+            (EMPTY, Verdict::Read),
+            ("safebound-stats 1 64\nend\n", Verdict::Read),
+            ("", Verdict::Syntax(1)),
+            (
+                "safebound-stats 1 1\ntable x45 0\npair x58 x58\nwhole -\nrest -\n",
+                Verdict::Syntax(6),
+            ),
+            (
+                "safebound-stats 1 1\ntable x45 0\npair x58 x58\nwhole -\nrest -\nend",
+                Verdict::Syntax(6),
+            ),
+            ("safebound-stats 1 1\nend\n\n", Verdict::Syntax(3)),
+            ("safebound-stats 1 1\nend\nx", Verdict::Syntax(3)),
+            ("\u{feff}safebound-stats 1 1\nend\n", Verdict::Syntax(1)),
+        ],
+    )?;
+    assert_eq!(rt; wrong, None);
     Ok(())
 }
 
 #[test]
 fn numbers(rt: HostRuntime) -> Result<(), Fail> {
-    let a = rt.alloc();
-    assert_eq!(rt; answer(a, E, "safebound-stats 1 -1\n"), Verdict::Syntax(1));
-    assert_eq!(rt; answer(a, E, "safebound-stats 1 01\n"), Verdict::Syntax(1));
-    assert_eq!(rt; answer(a, E, "safebound-stats 1 0\n"), Verdict::Rule(1));
-    assert_eq!(rt; answer(a, E, "safebound-stats 1 65\n"), Verdict::Rule(1));
-    assert_eq!(rt;
-        answer(a, E, "safebound-stats 1 1\ntable x45 -1\n"),
-        Verdict::Syntax(2)
-    );
-    assert_eq!(rt;
-        answer(a, E, "safebound-stats 1 1\ntable x45 4000001\n"),
-        Verdict::Rule(2)
-    );
-    assert_eq!(rt;
-        answer(a, E, "safebound-stats 1 1\ntable x45 4000000\n"),
-        Verdict::Syntax(3)
-    );
-    assert_eq!(rt;
-        answer(
-            a,
-            E,
-            "safebound-stats 1 1\ntable x45 99999999999999999999999999999999999999999999999999999999999999999999999\n"
-        ),
-        Verdict::Rule(2)
-    );
-    assert_eq!(rt;
-        answer(
-            a,
-            E,
-            "safebound-stats 1 1\ntable x45 1\npair x58 x58\nwhole -1*1\n"
-        ),
-        Verdict::Syntax(4)
-    );
-    assert_eq!(rt;
-        answer(
-            a,
-            E,
-            "safebound-stats 1 1\ntable x45 1\npair x58 x58\nwhole 0*1\n"
-        ),
-        Verdict::Rule(4)
-    );
-    assert_eq!(rt;
-        answer(
-            a,
-            E,
-            "safebound-stats 1 1\ntable x45 2\npair x58 x58\nwhole 1*1 1*1\n"
-        ),
-        Verdict::Rule(4)
-    );
-    assert_eq!(rt;
-        answer(
-            a,
-            E,
-            "safebound-stats 1 1\ntable x45 2\npair x58 x58\nwhole 1*2\nrest 3*1\n"
-        ),
-        Verdict::Rule(5)
-    );
+    let wrong = first_wrong(
+        rt.alloc(),
+        E,
+        "safebound-stats 1 ",
+        &[
+            ("-1\n", Verdict::Syntax(1)),
+            ("01\n", Verdict::Syntax(1)),
+            ("0\n", Verdict::Rule(1)),
+            ("65\n", Verdict::Rule(1)),
+            ("1\ntable x45 -1\n", Verdict::Syntax(2)),
+            ("1\ntable x45 4000001\n", Verdict::Rule(2)),
+            ("1\ntable x45 4000000\n", Verdict::Syntax(3)),
+            (
+                "1\ntable x45 99999999999999999999999999999999999999999999999999999999999999999999999\n",
+                Verdict::Rule(2),
+            ),
+            (
+                "1\ntable x45 1\npair x58 x58\nwhole -1*1\n",
+                Verdict::Syntax(4),
+            ),
+            (
+                "1\ntable x45 1\npair x58 x58\nwhole 0*1\n",
+                Verdict::Rule(4),
+            ),
+            (
+                "1\ntable x45 2\npair x58 x58\nwhole 1*1 1*1\n",
+                Verdict::Rule(4),
+            ),
+            (
+                "1\ntable x45 2\npair x58 x58\nwhole 1*2\nrest 3*1\n",
+                Verdict::Rule(5),
+            ),
+        ],
+    )?;
+    assert_eq!(rt; wrong, None);
     Ok(())
 }
 
 #[test]
 fn values(rt: HostRuntime) -> Result<(), Fail> {
     let a = rt.alloc();
-    let head = "safebound-stats 1 1\ntable x52 0\npair x58 x58\nwhole -\n";
-    for (line, want) in [
-        ("frequent -9223372036854775808 -\n", Verdict::Syntax(6)),
-        ("frequent 9223372036854775807 -\n", Verdict::Syntax(6)),
-        ("frequent 9223372036854775808 -\n", Verdict::Rule(5)),
-        ("frequent -9223372036854775809 -\n", Verdict::Rule(5)),
-        ("frequent x31 -\n", Verdict::Rule(5)),
-        ("frequent -0 -\n", Verdict::Syntax(5)),
-        ("frequent 00 -\n", Verdict::Syntax(5)),
-        ("frequent xA0 -\n", Verdict::Syntax(5)),
-        ("frequent x0 -\n", Verdict::Syntax(5)),
-        ("cut 1\n", Verdict::Syntax(5)),
-        ("rest -\ncut 1\n", Verdict::Rule(6)),
-        ("rest -\nnode -\n", Verdict::Rule(6)),
-        ("rest -\nwhole -\n", Verdict::Syntax(6)),
-        ("frequent 1 -\nfrequent 1 -\n", Verdict::Rule(6)),
-    ] {
-        let mut text = String::from_str(a, head)?;
-        text.push_str(line)?;
-        assert_eq!(rt; answer(a, TWO, text.as_str()), want, "at {line}");
-    }
-    let head = "safebound-stats 1 1\ntable x52 0\npair x59 x58\nwhole -\n";
-    for (line, want) in [
-        ("frequent xff -\n", Verdict::Rule(5)),
-        ("frequent 1 -\n", Verdict::Rule(5)),
-        ("frequent x -\n", Verdict::Syntax(6)),
-        ("frequent xc3a4 -\n", Verdict::Syntax(6)),
-    ] {
-        let mut text = String::from_str(a, head)?;
-        text.push_str(line)?;
-        assert_eq!(rt; answer(a, TWO, text.as_str()), want, "at {line}");
-    }
+    let wrong = first_wrong(
+        a,
+        TWO,
+        "safebound-stats 1 1\ntable x52 0\npair x58 x58\nwhole -\n",
+        &[
+            ("frequent -9223372036854775808 -\n", Verdict::Syntax(6)),
+            ("frequent 9223372036854775807 -\n", Verdict::Syntax(6)),
+            ("frequent 9223372036854775808 -\n", Verdict::Rule(5)),
+            ("frequent -9223372036854775809 -\n", Verdict::Rule(5)),
+            ("frequent x31 -\n", Verdict::Rule(5)),
+            ("frequent -0 -\n", Verdict::Syntax(5)),
+            ("frequent 00 -\n", Verdict::Syntax(5)),
+            ("frequent xA0 -\n", Verdict::Syntax(5)),
+            ("frequent x0 -\n", Verdict::Syntax(5)),
+            ("cut 1\n", Verdict::Syntax(5)),
+            ("rest -\ncut 1\n", Verdict::Rule(6)),
+            ("rest -\nnode -\n", Verdict::Rule(6)),
+            ("rest -\nwhole -\n", Verdict::Syntax(6)),
+            ("frequent 1 -\nfrequent 1 -\n", Verdict::Rule(6)),
+        ],
+    )?;
+    assert_eq!(rt; wrong, None);
+    let wrong = first_wrong(
+        a,
+        TWO,
+        "safebound-stats 1 1\ntable x52 0\npair x59 x58\nwhole -\n",
+        &[
+            ("frequent xff -\n", Verdict::Rule(5)),
+            ("frequent 1 -\n", Verdict::Rule(5)),
+            ("frequent x -\n", Verdict::Syntax(6)),
+            ("frequent xc3a4 -\n", Verdict::Syntax(6)),
+        ],
+    )?;
+    assert_eq!(rt; wrong, None);
     Ok(())
 }
 
 #[test]
 fn names(rt: HostRuntime) -> Result<(), Fail> {
-    let a = rt.alloc();
-    assert_eq!(rt;
-        answer(a, TWO, "safebound-stats 1 1\ntable x51 0\n"),
-        Verdict::Rule(2)
-    );
-    assert_eq!(rt;
-        answer(a, TWO, "safebound-stats 1 1\ntable xff 0\n"),
-        Verdict::Rule(2)
-    );
-    assert_eq!(rt;
-        answer(a, TWO, "safebound-stats 1 1\ntable xFF 0\n"),
-        Verdict::Syntax(2)
-    );
-    assert_eq!(rt;
-        answer(a, TWO, "safebound-stats 1 1\ntable x53 0\ntable x52 0\n"),
-        Verdict::Rule(3)
-    );
-    assert_eq!(rt;
-        answer(a, TWO, "safebound-stats 1 1\ntable x52 0\ntable x52 0\n"),
-        Verdict::Rule(3)
-    );
-    assert_eq!(rt;
-        answer(
-            a,
-            TWO,
-            "safebound-stats 1 1\ntable x52 0\ntable x53 7\nend\n"
-        ),
-        Verdict::Read
-    );
-    assert_eq!(rt;
-        answer(a, TWO, "safebound-stats 1 1\ntable x52 0\npair x5a x58\n"),
-        Verdict::Rule(3)
-    );
-    let pair = "safebound-stats 1 1\ntable x52 0\npair x59 x58\nwhole -\nrest -\n";
-    let mut text = String::from_str(a, pair)?;
-    text.push_str("pair x58 x59\n")?;
-    assert_eq!(rt; answer(a, TWO, text.as_str()), Verdict::Rule(6));
-    let mut text = String::from_str(a, pair)?;
-    text.push_str("pair x59 x59\nwhole -\nrest -\nend\n")?;
-    assert_eq!(rt; answer(a, TWO, text.as_str()), Verdict::Read);
+    let wrong = first_wrong(
+        rt.alloc(),
+        TWO,
+        "safebound-stats 1 1\n",
+        &[
+            ("table x51 0\n", Verdict::Rule(2)),
+            ("table xff 0\n", Verdict::Rule(2)),
+            ("table xFF 0\n", Verdict::Syntax(2)),
+            ("table x53 0\ntable x52 0\n", Verdict::Rule(3)),
+            ("table x52 0\ntable x52 0\n", Verdict::Rule(3)),
+            ("table x52 0\ntable x53 7\nend\n", Verdict::Read),
+            ("table x52 0\npair x5a x58\n", Verdict::Rule(3)),
+            (
+                "table x52 0\npair x59 x58\nwhole -\nrest -\npair x58 x59\n",
+                Verdict::Rule(6),
+            ),
+            (
+                "table x52 0\npair x59 x58\nwhole -\nrest -\npair x59 x59\nwhole -\nrest -\nend\n",
+                Verdict::Read,
+            ),
+        ],
+    )?;
+    assert_eq!(rt; wrong, None);
+    Ok(())
+}
+
+fn push_times(text: &mut String, count: usize, line: &str) -> Result<(), AllocError> {
+    for _ in 0..count {
+        text.push_str(line)?;
+    }
     Ok(())
 }
 
@@ -245,86 +222,64 @@ fn six_rows(alloc: Global, cuts: usize, nodes: usize, last: &str) -> Result<Stri
         alloc,
         "safebound-stats 1 1\ntable x52 6\npair x58 x58\nwhole 3*1 2*1 1*1\nfrequent 1 3*1\nfrequent 2 2*1\nfrequent 3 1*1\nrest -\n",
     )?;
-    for i in 0..cuts {
-        if i < 16 {
-            text.push_str("cut 1\n")?;
-        } else {
-            text.push_str("cut 2\n")?;
-        }
-    }
-    for _ in 0..nodes {
-        text.push_str("node 3*1\n")?;
-    }
+    push_times(&mut text, cuts.min(16), "cut 1\n")?;
+    push_times(&mut text, cuts.saturating_sub(16), "cut 2\n")?;
+    push_times(&mut text, nodes, "node 3*1\n")?;
     text.push_str(last)?;
     Ok(text)
 }
 
+// The number of the first of these texts of six rows that isn't answered so.
+fn first_wrong_tree(
+    alloc: Global,
+    cases: &[(usize, usize, &str, Verdict)],
+) -> Result<Option<usize>, AllocError> {
+    for (number, (cuts, nodes, last, want)) in cases.iter().enumerate() {
+        let text = six_rows(alloc, *cuts, *nodes, last)?;
+        if answer(alloc, TWO, text.as_str()) != *want {
+            return Ok(Some(number));
+        }
+    }
+    Ok(None)
+}
+
 #[test]
 fn trees(rt: HostRuntime) -> Result<(), Fail> {
-    let a = rt.alloc();
-    assert_eq!(rt;
-        answer(a, TWO, six_rows(a, 32, 63, "end\n")?.as_str()),
-        Verdict::Read
-    );
-    assert_eq!(rt;
-        answer(a, TWO, six_rows(a, 0, 0, "end\n")?.as_str()),
-        Verdict::Rule(9)
-    );
-    assert_eq!(rt;
-        answer(a, TWO, six_rows(a, 0, 0, "foo\n")?.as_str()),
-        Verdict::Syntax(9)
-    );
-    assert_eq!(rt;
-        answer(a, TWO, six_rows(a, 0, 0, "")?.as_str()),
-        Verdict::Syntax(9)
-    );
-    assert_eq!(rt;
-        answer(a, TWO, six_rows(a, 31, 1, "")?.as_str()),
-        Verdict::Rule(40)
-    );
-    assert_eq!(rt;
-        answer(a, TWO, six_rows(a, 33, 0, "")?.as_str()),
-        Verdict::Rule(41)
-    );
-    assert_eq!(rt;
-        answer(a, TWO, six_rows(a, 20, 0, "cut 1\n")?.as_str()),
-        Verdict::Rule(29)
-    );
-    assert_eq!(rt;
-        answer(a, TWO, six_rows(a, 32, 62, "end\n")?.as_str()),
-        Verdict::Rule(103)
-    );
-    assert_eq!(rt;
-        answer(a, TWO, six_rows(a, 32, 62, "table x53 1\n")?.as_str()),
-        Verdict::Rule(103)
-    );
-    assert_eq!(rt;
-        answer(a, TWO, six_rows(a, 32, 64, "")?.as_str()),
-        Verdict::Rule(104)
-    );
-    assert_eq!(rt;
-        answer(a, TWO, six_rows(a, 32, 1, "cut 2\n")?.as_str()),
-        Verdict::Syntax(42)
-    );
+    let wrong = first_wrong_tree(
+        rt.alloc(),
+        &[
+            (32, 63, "end\n", Verdict::Read),
+            (0, 0, "end\n", Verdict::Rule(9)),
+            (0, 0, "foo\n", Verdict::Syntax(9)),
+            (0, 0, "", Verdict::Syntax(9)),
+            (31, 1, "", Verdict::Rule(40)),
+            (33, 0, "", Verdict::Rule(41)),
+            (20, 0, "cut 1\n", Verdict::Rule(29)),
+            (32, 62, "end\n", Verdict::Rule(103)),
+            (32, 62, "table x53 1\n", Verdict::Rule(103)),
+            (32, 64, "", Verdict::Rule(104)),
+            (32, 1, "cut 2\n", Verdict::Syntax(42)),
+        ],
+    )?;
+    assert_eq!(rt; wrong, None);
     Ok(())
 }
 
 // Two pairs with one filter column, of no rows.
 #[test]
 fn alike(rt: HostRuntime) -> Result<(), Fail> {
-    let a = rt.alloc();
-    let head =
-        "safebound-stats 1 1\ntable x52 0\npair x58 x58\nwhole -\nfrequent 1 -\nrest -\npair x58 x59\nwhole -\n";
-    for (line, want) in [
-        ("rest -\n", Verdict::Rule(9)),
-        ("frequent 2 -\n", Verdict::Rule(9)),
-        ("frequent 1 -\nfrequent 2 -\n", Verdict::Rule(10)),
-        ("frequent 1 -\nrest -\nend\n", Verdict::Read),
-    ] {
-        let mut text = String::from_str(a, head)?;
-        text.push_str(line)?;
-        assert_eq!(rt; answer(a, TWO, text.as_str()), want, "at {line}");
-    }
+    let wrong = first_wrong(
+        rt.alloc(),
+        TWO,
+        "safebound-stats 1 1\ntable x52 0\npair x58 x58\nwhole -\nfrequent 1 -\nrest -\npair x58 x59\nwhole -\n",
+        &[
+            ("rest -\n", Verdict::Rule(9)),
+            ("frequent 2 -\n", Verdict::Rule(9)),
+            ("frequent 1 -\nfrequent 2 -\n", Verdict::Rule(10)),
+            ("frequent 1 -\nrest -\nend\n", Verdict::Read),
+        ],
+    )?;
+    assert_eq!(rt; wrong, None);
     Ok(())
 }
 
@@ -356,34 +311,35 @@ fn many(rt: HostRuntime) -> Result<(), Fail> {
     Ok(())
 }
 
-// 2.13: the whole file and more behind it. 2.14: where lines are missing, with one row.
+// The whole file and more behind it; and where lines are missing, with one row.
 #[test]
 fn ends(rt: HostRuntime) -> Result<(), Fail> {
     let a = rt.alloc();
-    for (more, want) in [
-        ("x", Verdict::Syntax(7)),
-        ("\n", Verdict::Syntax(7)),
-        ("end\n", Verdict::Syntax(7)),
-        ("", Verdict::Read),
-    ] {
-        let mut text = String::from_str(a, EMPTY)?;
-        text.push_str(more)?;
-        assert_eq!(rt; answer(a, E, text.as_str()), want, "at {more}");
-    }
-    for (more, want) in [
-        ("end\n", Verdict::Rule(6)),
-        ("foo\n", Verdict::Syntax(6)),
-        ("", Verdict::Syntax(6)),
-        ("end", Verdict::Syntax(6)),
-        ("pair x58 x58\n", Verdict::Rule(6)),
-    ] {
-        let mut text = String::from_str(
-            a,
-            "safebound-stats 1 1\ntable x45 1\npair x58 x58\nwhole 1*1\nrest -\n",
-        )?;
-        text.push_str(more)?;
-        assert_eq!(rt; answer(a, E, text.as_str()), want, "at {more}");
-    }
+    let wrong = first_wrong(
+        a,
+        E,
+        EMPTY,
+        &[
+            ("x", Verdict::Syntax(7)),
+            ("\n", Verdict::Syntax(7)),
+            ("end\n", Verdict::Syntax(7)),
+            ("", Verdict::Read),
+        ],
+    )?;
+    assert_eq!(rt; wrong, None);
+    let wrong = first_wrong(
+        a,
+        E,
+        "safebound-stats 1 1\ntable x45 1\npair x58 x58\nwhole 1*1\nrest -\n",
+        &[
+            ("end\n", Verdict::Rule(6)),
+            ("foo\n", Verdict::Syntax(6)),
+            ("", Verdict::Syntax(6)),
+            ("end", Verdict::Syntax(6)),
+            ("pair x58 x58\n", Verdict::Rule(6)),
+        ],
+    )?;
+    assert_eq!(rt; wrong, None);
     Ok(())
 }
 
@@ -391,158 +347,165 @@ fn ends(rt: HostRuntime) -> Result<(), Fail> {
 #[test]
 fn lists(rt: HostRuntime) -> Result<(), Fail> {
     let a = rt.alloc();
-    for (line, want) in [
-        ("whole 1*1\n", Verdict::Rule(4)),
-        ("whole 3*1\n", Verdict::Rule(4)),
-        ("whole 1*3\n", Verdict::Rule(4)),
-        ("whole 1*2\n", Verdict::Syntax(5)),
-        ("whole 2*0\n", Verdict::Rule(4)),
-        (
-            "whole 340282366920938463463374607431768211455*1\n",
-            Verdict::Rule(4),
-        ),
-        (
-            "whole 340282366920938463463374607431768211456*1\n",
-            Verdict::Rule(4),
-        ),
-        ("whole 1*18446744073709551615\n", Verdict::Rule(4)),
-        ("whole 1*18446744073709551616\n", Verdict::Rule(4)),
-        ("whole 9*9 x\n", Verdict::Syntax(4)),
-        ("whole 9*09\n", Verdict::Syntax(4)),
-        ("whole 2*1 \n", Verdict::Syntax(4)),
-        ("whole  2*1\n", Verdict::Syntax(4)),
-        ("whole 2\n", Verdict::Syntax(4)),
-        ("whole 2*\n", Verdict::Syntax(4)),
-        ("whole *2\n", Verdict::Syntax(4)),
-        ("whole 1*1*2\n", Verdict::Syntax(4)),
-        ("whole --\n", Verdict::Syntax(4)),
-        ("whole\n", Verdict::Syntax(4)),
-        ("whole \n", Verdict::Syntax(4)),
-    ] {
-        let mut text = String::from_str(a, "safebound-stats 1 1\ntable x45 2\npair x58 x58\n")?;
-        text.push_str(line)?;
-        assert_eq!(rt; answer(a, E, text.as_str()), want, "at {line}");
-    }
-    for (line, want) in [
-        ("frequent x31 9\n", Verdict::Syntax(5)),
-        ("frequent x31 9*1\n", Verdict::Rule(5)),
-        ("frequent 9223372036854775808 -0\n", Verdict::Syntax(5)),
-        ("frequent 1 9*1\n", Verdict::Rule(5)),
-        ("frequent 1\n", Verdict::Syntax(5)),
-        ("endfoo\n", Verdict::Syntax(5)),
-    ] {
-        let mut text = String::from_str(
-            a,
-            "safebound-stats 1 1\ntable x45 0\npair x58 x58\nwhole -\n",
-        )?;
-        text.push_str(line)?;
-        assert_eq!(rt; answer(a, E, text.as_str()), want, "at {line}");
-    }
+    let wrong = first_wrong(
+        a,
+        E,
+        "safebound-stats 1 1\ntable x45 2\npair x58 x58\n",
+        &[
+            ("whole 1*1\n", Verdict::Rule(4)),
+            ("whole 3*1\n", Verdict::Rule(4)),
+            ("whole 1*3\n", Verdict::Rule(4)),
+            ("whole 1*2\n", Verdict::Syntax(5)),
+            ("whole 2*0\n", Verdict::Rule(4)),
+            (
+                "whole 340282366920938463463374607431768211455*1\n",
+                Verdict::Rule(4),
+            ),
+            (
+                "whole 340282366920938463463374607431768211456*1\n",
+                Verdict::Rule(4),
+            ),
+            ("whole 1*18446744073709551615\n", Verdict::Rule(4)),
+            ("whole 1*18446744073709551616\n", Verdict::Rule(4)),
+            ("whole 9*9 x\n", Verdict::Syntax(4)),
+            ("whole 9*09\n", Verdict::Syntax(4)),
+            ("whole 2*1 \n", Verdict::Syntax(4)),
+            ("whole  2*1\n", Verdict::Syntax(4)),
+            ("whole 2\n", Verdict::Syntax(4)),
+            ("whole 2*\n", Verdict::Syntax(4)),
+            ("whole *2\n", Verdict::Syntax(4)),
+            ("whole 1*1*2\n", Verdict::Syntax(4)),
+            ("whole --\n", Verdict::Syntax(4)),
+            ("whole\n", Verdict::Syntax(4)),
+            ("whole \n", Verdict::Syntax(4)),
+        ],
+    )?;
+    assert_eq!(rt; wrong, None);
+    let wrong = first_wrong(
+        a,
+        E,
+        "safebound-stats 1 1\ntable x45 0\npair x58 x58\nwhole -\n",
+        &[
+            ("frequent x31 9\n", Verdict::Syntax(5)),
+            ("frequent x31 9*1\n", Verdict::Rule(5)),
+            ("frequent 9223372036854775808 -0\n", Verdict::Syntax(5)),
+            ("frequent 1 9*1\n", Verdict::Rule(5)),
+            ("frequent 1\n", Verdict::Syntax(5)),
+            ("endfoo\n", Verdict::Syntax(5)),
+        ],
+    )?;
+    assert_eq!(rt; wrong, None);
     Ok(())
 }
 
 // A name beyond ASCII is spelled by its bytes in UTF-8: C3 84.
 #[test]
 fn byte_names(rt: HostRuntime) -> Result<(), Fail> {
-    let a = rt.alloc();
-    let schema = "CREATE TABLE E (\"\u{c4}\" INTEGER NOT NULL);";
-    for (line, want) in [
-        ("pair xc384 xc384\nwhole -\nrest -\nend\n", Verdict::Read),
-        ("pair xC384 xc384\n", Verdict::Syntax(3)),
-        ("pair xc4 xc4\n", Verdict::Rule(3)),
-        ("pair xc384 xe4\n", Verdict::Rule(3)),
-    ] {
-        let mut text = String::from_str(a, "safebound-stats 1 1\ntable x45 0\n")?;
-        text.push_str(line)?;
-        assert_eq!(rt; answer(a, schema, text.as_str()), want, "at {line}");
-    }
+    let wrong = first_wrong(
+        rt.alloc(),
+        "CREATE TABLE E (\"\u{c4}\" INTEGER NOT NULL);",
+        "safebound-stats 1 1\ntable x45 0\n",
+        &[
+            ("pair xc384 xc384\nwhole -\nrest -\nend\n", Verdict::Read),
+            ("pair xC384 xc384\n", Verdict::Syntax(3)),
+            ("pair xc4 xc4\n", Verdict::Rule(3)),
+            ("pair xc384 xe4\n", Verdict::Rule(3)),
+        ],
+    )?;
+    assert_eq!(rt; wrong, None);
     Ok(())
 }
 
 // Pairs ascend in the order in which columns are declared, which isn't that of their names' bytes.
 #[test]
 fn declared_order(rt: HostRuntime) -> Result<(), Fail> {
-    let a = rt.alloc();
-    let schema = "CREATE TABLE E (B INTEGER NOT NULL, A INTEGER NOT NULL);";
-    for (pairs, want) in [
-        (
-            "pair x42 x42\nwhole -\nrest -\npair x42 x41\nwhole -\nrest -\npair x41 x42\nwhole -\nrest -\nend\n",
-            Verdict::Read,
-        ),
-        (
-            "pair x41 x42\nwhole -\nrest -\npair x42 x42\n",
-            Verdict::Rule(6),
-        ),
-        (
-            "pair x42 x41\nwhole -\nrest -\npair x42 x42\n",
-            Verdict::Rule(6),
-        ),
-        (
-            "pair x42 x42\nwhole -\nrest -\npair x42 x42\n",
-            Verdict::Rule(6),
-        ),
-    ] {
-        let mut text = String::from_str(a, "safebound-stats 1 1\ntable x45 0\n")?;
-        text.push_str(pairs)?;
-        assert_eq!(rt; answer(a, schema, text.as_str()), want, "at {pairs}");
-    }
+    let wrong = first_wrong(
+        rt.alloc(),
+        "CREATE TABLE E (B INTEGER NOT NULL, A INTEGER NOT NULL);",
+        "safebound-stats 1 1\ntable x45 0\n",
+        &[
+            (
+                "pair x42 x42\nwhole -\nrest -\npair x42 x41\nwhole -\nrest -\npair x41 x42\nwhole -\nrest -\nend\n",
+                Verdict::Read,
+            ),
+            (
+                "pair x41 x42\nwhole -\nrest -\npair x42 x42\n",
+                Verdict::Rule(6),
+            ),
+            (
+                "pair x42 x41\nwhole -\nrest -\npair x42 x42\n",
+                Verdict::Rule(6),
+            ),
+            (
+                "pair x42 x42\nwhole -\nrest -\npair x42 x42\n",
+                Verdict::Rule(6),
+            ),
+        ],
+    )?;
+    assert_eq!(rt; wrong, None);
     Ok(())
 }
 
-fn push_times(text: &mut String, count: usize, line: &str) -> Result<(), AllocError> {
-    for _ in 0..count {
-        text.push_str(line)?;
-    }
-    Ok(())
-}
-
-// A table of two rows with one pair, whose columns are both X, and further lines. These begin at line 101.
-fn two_rows(alloc: Global, more: &str) -> Result<String, AllocError> {
+// A table of two rows with one pair, whose columns are both X. Further lines begin at line 101.
+fn two_rows(alloc: Global) -> Result<String, AllocError> {
     let mut text = String::from_str(
         alloc,
         "safebound-stats 1 1\ntable x52 2\npair x58 x58\nwhole 2*1\nrest 1*1\n",
     )?;
     push_times(&mut text, 32, "cut 1\n")?;
     push_times(&mut text, 63, "node 1*1\n")?;
-    text.push_str(more)?;
     Ok(text)
 }
 
-// 2.15: the later of two pairs with a column in common fails at its line that differs.
+// The same with a second pair as far as its nodes, which begin at line 136.
+fn second_pair(alloc: Global) -> Result<String, AllocError> {
+    let mut text = two_rows(alloc)?;
+    text.push_str("pair x58 x59\nwhole 1*2\nrest 1*1\n")?;
+    push_times(&mut text, 32, "cut 1\n")?;
+    Ok(text)
+}
+
+// The later of two pairs with a column in common fails at its line that differs.
 #[test]
 fn later_pairs(rt: HostRuntime) -> Result<(), Fail> {
     let a = rt.alloc();
-    for (more, want) in [
-        ("pair x59 x58\nwhole 1*2\n", Verdict::Rule(102)),
-        ("pair x59 x58\nwhole 2*1\n", Verdict::Syntax(103)),
-        (
-            "pair x58 x59\nwhole 1*2\nfrequent 1 -\n",
-            Verdict::Rule(103),
-        ),
-        ("pair x58 x59\nwhole 1*2\nrest -\n", Verdict::Rule(103)),
-        ("pair x58 x59\nwhole 1*2\nrest 1*2\n", Verdict::Rule(103)),
-        (
-            "pair x58 x59\nwhole 1*2\nrest 1*1\ncut 2\n",
-            Verdict::Rule(104),
-        ),
-        (
-            "pair x58 x59\nwhole 1*2\nrest 1*1\ncut 1\n",
-            Verdict::Syntax(105),
-        ),
-    ] {
-        let text = two_rows(a, more)?;
-        assert_eq!(rt; answer(a, TWO, text.as_str()), want, "at {more}");
-    }
-    for (node, want) in [
-        ("node -\n", Verdict::Rule(136)),
-        ("node 2*1\n", Verdict::Rule(136)),
-        ("node 1*1\n", Verdict::Syntax(137)),
-    ] {
-        let mut text = two_rows(a, "pair x58 x59\nwhole 1*2\nrest 1*1\n")?;
-        push_times(&mut text, 32, "cut 1\n")?;
-        text.push_str(node)?;
-        assert_eq!(rt; answer(a, TWO, text.as_str()), want, "at {node}");
-    }
+    let head = two_rows(a)?;
+    let wrong = first_wrong(
+        a,
+        TWO,
+        head.as_str(),
+        &[
+            ("pair x59 x58\nwhole 1*2\n", Verdict::Rule(102)),
+            ("pair x59 x58\nwhole 2*1\n", Verdict::Syntax(103)),
+            (
+                "pair x58 x59\nwhole 1*2\nfrequent 1 -\n",
+                Verdict::Rule(103),
+            ),
+            ("pair x58 x59\nwhole 1*2\nrest -\n", Verdict::Rule(103)),
+            ("pair x58 x59\nwhole 1*2\nrest 1*2\n", Verdict::Rule(103)),
+            (
+                "pair x58 x59\nwhole 1*2\nrest 1*1\ncut 2\n",
+                Verdict::Rule(104),
+            ),
+            (
+                "pair x58 x59\nwhole 1*2\nrest 1*1\ncut 1\n",
+                Verdict::Syntax(105),
+            ),
+        ],
+    )?;
+    assert_eq!(rt; wrong, None);
+    let head = second_pair(a)?;
+    let wrong = first_wrong(
+        a,
+        TWO,
+        head.as_str(),
+        &[
+            ("node -\n", Verdict::Rule(136)),
+            ("node 2*1\n", Verdict::Rule(136)),
+            ("node 1*1\n", Verdict::Syntax(137)),
+        ],
+    )?;
+    assert_eq!(rt; wrong, None);
     Ok(())
 }
 
