@@ -1,0 +1,108 @@
+//! The bounds of queries, and the least time that they took.
+ghost use Rattle.bound_fold.specs.Sets.{SetIsListed};
+ghost use Rattle.set_bounds.specs.AllSets.{first_entries};
+
+use crate::queries::Query;
+use base_io::NoMemory;
+use bound_fold::{is_listed, set_bound};
+use entry_sets::EntrySet;
+use set_bounds::bounds_of_sets;
+use std::alloc::Global;
+use std::io;
+use std::rt::Clock;
+use std::time::Instant;
+
+/// The bound of a set, or the sum of the bounds of all sets, and the least time that it took.
+#[derive(Clone, Copy)]
+pub struct Timing {
+    pub bound: u128,
+    pub nanos: u128,
+}
+
+impl Timing {
+    fn none() -> Timing {
+        Timing {
+            bound: 0,
+            nanos: u128::MAX,
+        }
+    }
+
+    // A later one, with the least time.
+    fn and(self, later: Timing) -> Timing {
+        Timing {
+            bound: later.bound,
+            nanos: self.nanos.min(later.nanos),
+        }
+    }
+}
+
+pub fn out_of_memory(_: NoMemory) -> io::Error {
+    io::Error::from(io::ErrorKind::OutOfMemory)
+}
+
+fn not_listed() -> io::Error {
+    io::Error::from(io::ErrorKind::InvalidInput)
+}
+
+fn bound_once(rt: &impl Clock, alloc: Global, query: &Query, subset: EntrySet) -> io::Result<Timing>
+    requires { SetIsListed query.now.lists query.now.parts.equalities subset }
+{
+    let start = Instant::now(rt)?;
+    let bound = set_bound(alloc, &query.parts, subset, &query.lists).map_err(out_of_memory)?;
+    let nanos = start.elapsed(rt)?.as_nanos();
+    Ok(Timing { bound, nanos })
+}
+
+/// The bound of a set. One that misses a row bound or a list is refused.
+pub fn timed(
+    rt: &impl Clock,
+    alloc: Global,
+    query: &Query,
+    subset: EntrySet,
+    rounds: u32,
+) -> io::Result<Timing> {
+    if !is_listed(&query.parts, subset, &query.lists) {
+        return Err(not_listed());
+    }
+    let mut least = Timing::none();
+    for _ in 0..rounds {
+        least = least.and(bound_once(rt, alloc, query, subset)?);
+    }
+    Ok(least)
+}
+
+fn sum_of(bounds: &[u128]) -> u128 {
+    let mut sum: u128 = 0;
+    for bound in bounds {
+        sum = sum.wrapping_add(*bound);
+    }
+    sum
+}
+
+fn sets_once(rt: &impl Clock, alloc: Global, query: &Query) -> io::Result<Timing>
+    requires { SetIsListed query.now.lists query.now.parts.equalities (first_entries 12) }
+{
+    let start = Instant::now(rt)?;
+    let bounds = bounds_of_sets(alloc, &query.parts, &query.lists, 12).map_err(out_of_memory)?;
+    let nanos = start.elapsed(rt)?.as_nanos();
+    let bound = sum_of(bounds.as_slice());
+    Ok(Timing { bound, nanos })
+}
+
+/// The sum of the bounds of all sets of twelve entries.
+pub fn timed_sets(
+    rt: &impl Clock,
+    alloc: Global,
+    query: &Query,
+    rounds: u32,
+) -> io::Result<Timing> {
+    let all = EntrySet::from_bits(0xfff);
+    if !is_listed(&query.parts, all, &query.lists) {
+        return Err(not_listed());
+    }
+    let mut least = Timing::none();
+    for _ in 0..rounds {
+        least = least.and(sets_once(rt, alloc, query)?);
+    }
+    Ok(least)
+}
