@@ -2,7 +2,7 @@
 use std::alloc::{AllocError, Global};
 
 /// How unequal keys are.
-#[derive(Clone, Copy, Debug)]
+#[derive(Clone, Copy)]
 pub enum Kind {
     Different,
     Equal,

@@ -7,118 +7,19 @@
 
 mod keys;
 mod lists;
+mod timing;
 
-use base_io::NoMemory;
-use degree_lists::falling;
 use keys::{Kind, keys_of};
-use lists::{Counts, staircase};
-use piece_math::{Child, Pieces, compose};
-use std::alloc::Global;
-use std::rt::Runtime;
-use std::time::Instant;
+use lists::{Lists, lists_of};
 use std::{env, io};
-
-// The least time of a call so far, and the length of what it gave.
-#[derive(Clone, Copy, Debug)]
-struct Measure {
-    len: usize,
-    nanos: u128,
-}
-
-impl Measure {
-    fn none() -> Measure {
-        Measure {
-            len: 0,
-            nanos: u128::MAX,
-        }
-    }
-
-    fn and(self, len: usize, nanos: u128) -> Measure {
-        Measure {
-            len,
-            nanos: self.nanos.min(nanos),
-        }
-    }
-}
-
-fn out_of_memory(_: NoMemory) -> io::Error {
-    io::Error::from(io::ErrorKind::OutOfMemory)
-}
-
-fn time_falling<R: Runtime>(
-    rt: &R,
-    alloc: Global,
-    keys: &[u64],
-    rounds: u32,
-) -> io::Result<Measure> {
-    let mut measure = Measure::none();
-    for _ in 0..rounds {
-        let start = Instant::now(rt)?;
-        let list = falling(alloc, keys).map_err(out_of_memory)?;
-        let nanos = start.elapsed(rt)?.as_nanos();
-        measure = measure.and(list.len(), nanos);
-    }
-    Ok(measure)
-}
-
-fn time_product<R: Runtime>(
-    rt: &R,
-    left: &Pieces,
-    right: &Pieces,
-    rounds: u32,
-) -> io::Result<Measure> {
-    let mut measure = Measure::none();
-    for _ in 0..rounds {
-        let start = Instant::now(rt)?;
-        let list = left.product(right).map_err(out_of_memory)?;
-        let nanos = start.elapsed(rt)?.as_nanos();
-        measure = measure.and(list.pieces().len(), nanos);
-    }
-    Ok(measure)
-}
-
-// Columns that don't have the parent's sum are refused.
-fn time_compose<R: Runtime>(
-    rt: &R,
-    alloc: Global,
-    parent: &Pieces,
-    children: &[Child; 2],
-    rounds: u32,
-) -> io::Result<Measure> {
-    let rows = parent.total();
-    let [first, second] = children;
-    if rows > 1 << 32 || first.column.total() != rows || second.column.total() != rows {
-        return Err(io::Error::from(io::ErrorKind::InvalidInput));
-    }
-    let mut measure = Measure::none();
-    for _ in 0..rounds {
-        let start = Instant::now(rt)?;
-        let list = compose(alloc, parent, children).map_err(out_of_memory)?;
-        let nanos = start.elapsed(rt)?.as_nanos();
-        measure = measure.and(list.pieces().len(), nanos);
-    }
-    Ok(measure)
-}
-
-// Both columns are copies. The runs of the class lists end at different ranks, so that a product has more than each.
-fn children_of(alloc: Global, pieces: u32, column: &Pieces) -> Result<[Child; 2], NoMemory> {
-    let first = Child {
-        column: column.copy()?,
-        class: staircase(alloc, pieces, 1, Counts { even: 1, odd: 3 })?,
-    };
-    let second = Child {
-        column: column.copy()?,
-        class: staircase(alloc, pieces, 1, Counts { even: 3, odd: 1 })?,
-    };
-    Ok([first, second])
-}
+use timing::{Measure, out_of_memory, time_compose, time_falling, time_product};
 
 // How much is measured, and how often each call is made.
-#[derive(Clone, Copy, Debug)]
+#[derive(Clone, Copy)]
 struct Plan {
     is_timed: bool,
     keys: u32,
-    pieces: u32,
+    pieces: [u32; 3],
     falling_rounds: u32,
     piece_rounds: u32,
 }
@@ -126,7 +27,7 @@ struct Plan {
 const UNTIMED: Plan = Plan {
     is_timed: false,
     keys: 100,
-    pieces: 10,
+    pieces: [10, 20, 40],
     falling_rounds: 1,
     piece_rounds: 1,
 };
@@ -134,51 +35,66 @@ const UNTIMED: Plan = Plan {
 const TIMED: Plan = Plan {
     is_timed: true,
     keys: 4_000_000,
-    pieces: 1_000,
+    pieces: [1_000, 2_000, 4_000],
     falling_rounds: 3,
     piece_rounds: 50,
 };
 
 fn report(rt: &HostRuntime, plan: Plan, name: &str, size: u32, measure: Measure) -> io::Result<()> {
-    if plan.is_timed {
-        println!(rt; "{name} {size} {} {}", measure.len, measure.nanos)?;
+    if !plan.is_timed {
+        return Ok(());
     }
-    Ok(())
+    let Measure { len, nanos } = measure;
+    println!(rt; "{name} {size} {len} {nanos}")
 }
 
-fn measure_falling(rt: &HostRuntime, plan: Plan) -> io::Result<()> {
-    for kind in [Kind::Different, Kind::Equal, Kind::Unequal] {
-        let keys = keys_of(rt.alloc(), kind, plan.keys)?;
-        let measure = time_falling(rt, rt.alloc(), keys.as_slice(), plan.falling_rounds)?;
-        report(rt, plan, kind.name(), plan.keys, measure)?;
-    }
-    Ok(())
+fn measure_falling(rt: &HostRuntime, plan: Plan, kind: Kind) -> io::Result<()> {
+    let keys = keys_of(rt.alloc(), kind, plan.keys)?;
+    let measure = time_falling(rt, rt.alloc(), keys.as_slice(), plan.falling_rounds)?;
+    report(rt, plan, kind.name(), plan.keys, measure)
 }
 
-// A block of the parent lies within one run of the rows' weights in `compose`, and in two runs in `compose_across`.
+fn measure_product(rt: &HostRuntime, plan: Plan, pieces: u32, lists: &Lists) -> io::Result<()> {
+    let [first, second] = &lists.children;
+    let measure = time_product(rt, &first.class, &second.class, plan.piece_rounds)?;
+    report(rt, plan, "product", pieces, measure)
+}
+
+// A block of the parent lies within one run of the rows' weights.
+fn measure_along(rt: &HostRuntime, plan: Plan, pieces: u32, lists: &Lists) -> io::Result<()> {
+    let rounds = plan.piece_rounds;
+    let measure = time_compose(rt, rt.alloc(), &lists.along, &lists.children, rounds)?;
+    report(rt, plan, "compose", pieces, measure)
+}
+
+// A block of the parent lies in two runs of the rows' weights.
+fn measure_across(rt: &HostRuntime, plan: Plan, pieces: u32, lists: &Lists) -> io::Result<()> {
+    let rounds = plan.piece_rounds;
+    let measure = time_compose(rt, rt.alloc(), &lists.across, &lists.children, rounds)?;
+    report(rt, plan, "compose_across", pieces, measure)
+}
+
 fn measure_pieces(rt: &HostRuntime, plan: Plan, pieces: u32) -> io::Result<()> {
-    let alloc = rt.alloc();
-    let column = staircase(alloc, pieces, 1, Counts { even: 2, odd: 2 }).map_err(out_of_memory)?;
-    let other = staircase(alloc, pieces, 2, Counts { even: 1, odd: 1 }).map_err(out_of_memory)?;
-    let children = children_of(alloc, pieces, &column).map_err(out_of_memory)?;
-    let [first, second] = &children;
-    let product = time_product(rt, &first.class, &second.class, plan.piece_rounds)?;
-    report(rt, plan, "product", pieces, product)?;
-    let along = time_compose(rt, alloc, &column, &children, plan.piece_rounds)?;
-    report(rt, plan, "compose", pieces, along)?;
-    let across = time_compose(rt, alloc, &other, &children, plan.piece_rounds)?;
-    report(rt, plan, "compose_across", pieces, across)
+    let lists = lists_of(rt.alloc(), pieces).map_err(out_of_memory)?;
+    measure_product(rt, plan, pieces, &lists)?;
+    measure_along(rt, plan, pieces, &lists)?;
+    measure_across(rt, plan, pieces, &lists)
+}
+
+fn measure_all(rt: &HostRuntime, plan: Plan) -> io::Result<()> {
+    measure_falling(rt, plan, Kind::Different)?;
+    measure_falling(rt, plan, Kind::Equal)?;
+    measure_falling(rt, plan, Kind::Unequal)?;
+    for pieces in plan.pieces {
+        measure_pieces(rt, plan, pieces)?;
+    }
+    Ok(())
 }
 
 fn main(rt: HostRuntime) -> io::Result<()> {
-    let plan = if env::args(&rt)?.count() > 1 {
-        TIMED
+    if env::args(&rt)?.count() > 1 {
+        measure_all(&rt, TIMED)
     } else {
-        UNTIMED
-    };
-    measure_falling(&rt, plan)?;
-    for scale in [1, 2, 4] {
-        measure_pieces(&rt, plan, plan.pieces * scale)?;
+        measure_all(&rt, UNTIMED)
     }
-    Ok(())
 }
