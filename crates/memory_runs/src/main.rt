@@ -9,7 +9,7 @@
 mod runs;
 
 use base_io::{MemSink, MemStore, Name, NoMemory, Seq};
-use runs::{RUNS, Run, is_text, text_of};
+use runs::{RUNS, Run, Text, is_text, text_of};
 use safebound_top::safebound;
 use std::alloc::Global;
 use std::process::ExitCode;
@@ -28,17 +28,43 @@ enum Outcome {
     Other,
 }
 
+impl Outcome {
+    fn status(self) -> u8 {
+        match self {
+            Outcome::Done | Outcome::Other => 0,
+            Outcome::WantsMemory => WANTING,
+            Outcome::NotMade => NOT_MADE,
+        }
+    }
+}
+
+fn file_of(alloc: Global, name: &str, text: Text) -> Result<(Name, Seq<u8>), NoMemory> {
+    let bytes = text_of(alloc, text)?;
+    Ok((Name::from_str(alloc, name)?, Seq::from_vec(bytes)))
+}
+
 fn store_of(alloc: Global, run: &Run) -> Result<MemStore, NoMemory> {
     let mut files = Seq::new(alloc);
     for (name, text) in run.files {
-        let bytes = text_of(alloc, *text)?;
-        files.push((Name::from_str(alloc, name)?, Seq::from_vec(bytes)))?;
+        files.push(file_of(alloc, name, *text)?)?;
     }
     Ok(MemStore::new(files, Seq::new(alloc)))
 }
 
 fn sink(alloc: Global) -> Result<MemSink, NoMemory> {
     MemSink::new(alloc, 50_000, Seq::new(alloc))
+}
+
+// The call alone, so that all that it promises stands in one short function.
+fn code_of(
+    alloc: Global,
+    words: &[&str],
+    store: &mut MemStore,
+    out: &mut MemSink,
+    notes: &mut MemSink,
+) -> u8 {
+    let status = safebound(alloc, words, store, out, notes);
+    status.code()
 }
 
 fn judged(run: &Run, code: u8, notes: &[u8], out: &[u8]) -> Outcome {
@@ -55,8 +81,23 @@ fn attempt(alloc: Global, run: &Run) -> Result<Outcome, NoMemory> {
     let mut store = store_of(alloc, run)?;
     let mut out = sink(alloc)?;
     let mut notes = sink(alloc)?;
-    let status = safebound(alloc, run.words, &mut store, &mut out, &mut notes);
-    Ok(judged(run, status.code(), notes.written(), out.written()))
+    let code = code_of(alloc, run.words, &mut store, &mut out, &mut notes);
+    Ok(judged(run, code, notes.written(), out.written()))
+}
+
+fn tell(rt: &HostRuntime, name: &str, outcome: Outcome) -> io::Result<()> {
+    let told = match outcome {
+        Outcome::Done => "done",
+        Outcome::Other => "another answer",
+        Outcome::WantsMemory | Outcome::NotMade => return Ok(()),
+    };
+    println!(rt; "{name}: {told}")
+}
+
+fn status_of(rt: &HostRuntime, run: &Run) -> io::Result<u8> {
+    let outcome = attempt(rt.alloc(), run).unwrap_or(Outcome::NotMade);
+    tell(rt, run.name, outcome)?;
+    Ok(outcome.status())
 }
 
 // The word after the program's name.
@@ -69,38 +110,29 @@ fn asked(rt: &HostRuntime) -> io::Result<Option<String>> {
     Ok(None)
 }
 
-fn told(rt: &HostRuntime, run: &Run) -> io::Result<u8> {
-    let name = run.name;
-    match attempt(rt.alloc(), run).unwrap_or(Outcome::NotMade) {
-        Outcome::Done => {
-            println!(rt; "{name}: done")?;
-            Ok(0)
-        }
-        Outcome::WantsMemory => Ok(WANTING),
-        Outcome::NotMade => Ok(NOT_MADE),
-        Outcome::Other => {
-            println!(rt; "{name}: another answer")?;
-            Ok(0)
+fn is_asked(word: &Option<String>, name: &str) -> bool {
+    match word {
+        Some(word) => word.as_str() == name,
+        None => true,
+    }
+}
+
+// The first status that isn't 0, of the runs that are asked for.
+fn status_of_all(rt: &HostRuntime, runs: &[Run], word: &Option<String>) -> io::Result<u8> {
+    for run in runs {
+        if is_asked(word, run.name) {
+            let status = status_of(rt, run)?;
+            if status != 0 {
+                return Ok(status);
+            }
         }
     }
+    Ok(0)
 }
 
 fn main(rt: HostRuntime) -> ExitCode {
     let Ok(word) = asked(&rt) else {
         return ExitCode::from(NOT_MADE);
     };
-    for run in RUNS {
-        let is_asked = match &word {
-            Some(word) => word.as_str() == run.name,
-            None => true,
-        };
-        if is_asked {
-            match told(&rt, &run) {
-                Ok(0) => {}
-                Ok(status) => return ExitCode::from(status),
-                Err(_) => return ExitCode::from(1),
-            }
-        }
-    }
-    ExitCode::from(0)
+    ExitCode::from(status_of_all(&rt, &RUNS, &word).unwrap_or(1))
 }
