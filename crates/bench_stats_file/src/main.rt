@@ -4,7 +4,7 @@
 //! file has, and the milliseconds that `read_stats` took, the least of several.
 #![tactic(auto)]
 
-ghost use Rattle.std.specs.Prelude.{◌≤◌, length};
+ghost use Rattle.std.specs.Prelude.{◌≤◌, length, IfOk};
 ghost use Rattle.limits.specs.Profile.{most_file};
 ghost use Rattle.schema_types.specs.Validity.{IsValid};
 
@@ -15,14 +15,17 @@ use schema_types::{Schema, SchemaError, read_schema};
 use stats_file::{StatsError, StatsFile};
 use stats_reading::read_stats;
 use std::alloc::Global;
-use std::rt::Runtime;
+use std::rt::Clock;
 use std::time::Instant;
 use std::{env, io};
 use texts::{file_text, schema_text};
 
+const ROUNDS: u32 = 5;
+
 // What was read, and how long it took.
-#[derive(Clone, Copy, Debug)]
+#[derive(Clone, Copy)]
 struct Measure {
+    bytes: usize,
     pairs: usize,
     nanos: u128,
 }
@@ -47,25 +50,23 @@ fn pairs_of(file: &StatsFile) -> usize {
     pairs
 }
 
-fn read_once<R: Runtime>(
-    rt: &R,
-    alloc: Global,
-    schema: &Schema,
-    bytes: &[u8],
-) -> io::Result<Measure>
+fn read_once(rt: &impl Clock, alloc: Global, schema: &Schema, bytes: &[u8]) -> io::Result<Measure>
     requires valid { IsValid schema.now }
     requires few { length bytes.now ≤ most_file }
 {
     let start = Instant::now(rt)?;
     let file = read_stats(alloc, schema, bytes).map_err(refused)?;
     let nanos = start.elapsed(rt)?.as_nanos();
-    let pairs = pairs_of(&file);
-    Ok(Measure { pairs, nanos })
+    Ok(Measure {
+        bytes: bytes.len(),
+        pairs: pairs_of(&file),
+        nanos,
+    })
 }
 
 // Several readings. A longer file than one may be is refused.
-fn read_often<R: Runtime>(
-    rt: &R,
+fn read_often(
+    rt: &impl Clock,
     alloc: Global,
     schema: &Schema,
     bytes: &[u8],
@@ -84,28 +85,37 @@ fn read_often<R: Runtime>(
     Ok(least)
 }
 
-fn read_and_print(rt: &HostRuntime, is_timed: bool) -> io::Result<()> {
-    let alloc = rt.alloc();
+fn schema_of(alloc: Global) -> io::Result<Schema>
+    ensures { IfOk result IsValid }
+{
     let text = schema_text(alloc)?;
     if text.len() > MOST_TEXT as usize {
         return Err(invalid_data());
     }
     let schema = read_schema(alloc, text.as_bytes()).map_err(no_schema)?;
-    let (bytes, rounds) = if is_timed {
-        (MOST_FILE as usize, 5)
-    } else {
-        (20_000, 1)
-    };
+    Ok(schema)
+}
+
+fn read_file(rt: &impl Clock, alloc: Global, bytes: usize, rounds: u32) -> io::Result<Measure> {
+    let schema = schema_of(alloc)?;
     let file = file_text(alloc, bytes)?;
-    let found = read_often(rt, alloc, &schema, file.as_bytes(), rounds)?;
-    if is_timed {
-        let millis = found.nanos / 1_000_000;
-        println!(rt; "{} {} {millis}", file.len(), found.pairs)?;
-    }
-    Ok(())
+    read_often(rt, alloc, &schema, file.as_bytes(), rounds)
+}
+
+fn write_times(rt: &HostRuntime) -> io::Result<()> {
+    let Measure {
+        bytes,
+        pairs,
+        nanos,
+    } = read_file(rt, rt.alloc(), MOST_FILE as usize, ROUNDS)?;
+    let millis = nanos / 1_000_000;
+    println!(rt; "{bytes} {pairs} {millis}")
 }
 
 fn main(rt: HostRuntime) -> io::Result<()> {
-    let is_timed = env::args(&rt)?.count() > 1;
-    read_and_print(&rt, is_timed)
+    if env::args(&rt)?.count() > 1 {
+        return write_times(&rt);
+    }
+    read_file(&rt, rt.alloc(), 20_000, 1)?;
+    Ok(())
 }

@@ -16,25 +16,26 @@ fn push_number(text: &mut String, number: usize) -> Result<(), AllocError> {
 
 fn push_columns(text: &mut String) -> Result<(), AllocError> {
     for i in 0..TABLES {
-        if i > 0 {
-            text.push_str(", ")?;
-        }
-        text.push_str("C")?;
+        text.push_str(if i > 0 { ", C" } else { "C" })?;
         push_number(text, i)?;
         text.push_str(" INT NOT NULL")?;
     }
     Ok(())
 }
 
+fn push_declaration(text: &mut String, table: usize) -> Result<(), AllocError> {
+    text.push_str("CREATE TABLE T")?;
+    push_number(text, table)?;
+    text.push_str(" (")?;
+    push_columns(text)?;
+    text.push_str(");\n")
+}
+
 /// Tables T00 and so on, each with the columns C00 and so on.
 pub fn schema_text(alloc: Global) -> Result<String, AllocError> {
     let mut text = String::new(alloc);
-    for i in 0..TABLES {
-        text.push_str("CREATE TABLE T")?;
-        push_number(&mut text, i)?;
-        text.push_str(" (")?;
-        push_columns(&mut text)?;
-        text.push_str(");\n")?;
+    for table in 0..TABLES {
+        push_declaration(&mut text, table)?;
     }
     Ok(text)
 }
@@ -64,11 +65,14 @@ fn push_lines(
     Ok(())
 }
 
-fn push_pair(text: &mut String, filter: usize, joined: usize) -> Result<(), AllocError> {
+fn push_columns_of_pair(text: &mut String, filter: usize, joined: usize) -> Result<(), AllocError> {
     text.push_str("pair ")?;
     push_name(text, "43", filter)?;
     text.push_str(" ")?;
-    push_name(text, "43", joined)?;
+    push_name(text, "43", joined)
+}
+
+fn push_lists(text: &mut String) -> Result<(), AllocError> {
     text.push_str("\nwhole 9*3 7*5 5*8 3*20 1*200\n")?;
     push_lines(text, 32, "frequent 1", " 5*2 3*4 1*9\n")?;
     text.push_str("rest 4*3 1*20\n")?;
@@ -77,6 +81,11 @@ fn push_pair(text: &mut String, filter: usize, joined: usize) -> Result<(), Allo
         text.push_str("node 7*2 5*4 1*30\n")?;
     }
     Ok(())
+}
+
+fn push_pair(text: &mut String, filter: usize, joined: usize) -> Result<(), AllocError> {
+    push_columns_of_pair(text, filter, joined)?;
+    push_lists(text)
 }
 
 // All pairs of columns, while so many bytes last.
