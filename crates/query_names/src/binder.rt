@@ -1,7 +1,7 @@
 //! What references to columns stand for.
 ghost use Rattle.std.specs.Prelude.{◌≡◌, ◌≤◌, ◌<◌, ◌+◌, IfOk, length, ◌==◌, count_by, option_map, slice_get};
 ghost use Rattle.sql_tokens.specs.Words.{IsLexemeOf};
-ghost use Rattle.query_names.specs.Scopes.{only, entry_named, in_scope, everything, column_of};
+ghost use Rattle.query_names.specs.Scopes.{only, entry_named, everything, column_of};
 ghost use Rattle.query_grammar.specs.Lexemes.{IsColumnOf};
 ghost use Rattle.query_names.specs.Binding.{schema_of, from_of, columns_in, Shows, resolved_by};
 

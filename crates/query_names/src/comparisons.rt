@@ -45,7 +45,9 @@ fn is_range(test: &TestText) -> bool
 impl<'a> Binder<'a> {
     /// Whether conditions are built: FROM has not too many entries, and no list of IN up to here is too long.
     pub(crate) fn builds(&self, held: &HeldOffences) -> bool
-        ensures { length (from_of self.now) ≤ 12 → held.now.list ≡ None → result ≡ true }
+        ensures within { length (from_of self.now) ≤ 12 → held.now.list ≡ None → result ≡ true }
+        ensures few { result ≡ true → length (from_of self.now) ≤ 12 }
+        ensures none { result ≡ true → held.now.list ≡ None }
     {
         self.entries.sources.len() <= MOST_ENTRIES && held.list.is_none()
     }

@@ -1,7 +1,7 @@
 //! The FROM entries of a query text.
 ghost use Rattle.std.specs.Prelude.{◌≡◌, [], ◌∷◌, ◌++◌, All, IfOk, IfErr, map};
 ghost use Rattle.std.specs.List.{flat_map};
-ghost use Rattle.sql_tokens.specs.Words.{IsLexemeOf, name_of};
+ghost use Rattle.sql_tokens.specs.Words.{IsLexemeOf};
 ghost use Rattle.query_names.specs.Names.{sources_of, alias_token, entry_of, source_offences, offences_behind};
 ghost use Rattle.query_grammar.specs.Lexemes.{IsSourceOf};
 ghost use Rattle.query_names.specs.Answers.{IsNameError};

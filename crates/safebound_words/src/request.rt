@@ -71,51 +71,33 @@ pub(crate) fn command_of<'a>(name: CommandName, line: &Line<'a>) -> Option<Comma
 {
     match name {
         CommandName::Run => {
-            let OverFiles {
-                schema,
-                query,
-                budget,
-                accuracy,
-                reduce,
-            } = over_files(line)?;
+            let files = over_files(line)?;
             Some(Command::Run {
-                schema,
-                query,
-                budget,
-                accuracy,
-                reduce,
+                schema: files.schema,
+                query: files.query,
+                budget: files.budget,
+                accuracy: files.accuracy,
+                reduce: files.reduce,
             })
         }
         CommandName::Plan => {
-            let OverFiles {
-                schema,
-                query,
-                budget,
-                accuracy,
-                reduce,
-            } = over_files(line)?;
+            let files = over_files(line)?;
             Some(Command::Plan {
-                schema,
-                query,
-                budget,
-                accuracy,
-                reduce,
+                schema: files.schema,
+                query: files.query,
+                budget: files.budget,
+                accuracy: files.accuracy,
+                reduce: files.reduce,
             })
         }
         CommandName::Audit => {
-            let OverFiles {
-                schema,
-                query,
-                budget,
-                accuracy,
-                reduce,
-            } = over_files(line)?;
+            let files = over_files(line)?;
             Some(Command::Audit {
-                schema,
-                query,
-                budget,
-                accuracy,
-                reduce,
+                schema: files.schema,
+                query: files.query,
+                budget: files.budget,
+                accuracy: files.accuracy,
+                reduce: files.reduce,
             })
         }
         CommandName::Demo => {

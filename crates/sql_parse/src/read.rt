@@ -26,10 +26,7 @@ fn read_lexemes(alloc: Global, text: &[u8]) -> Result<Seq<Lexeme>, QueryError>
     ensures bad { IfErr result (λ cause. IsLexRefusal text.now cause) }
 {
     match tokens(alloc, text) {
-        Ok(tokens) => {
-            let found = lexemes(alloc, text, tokens.as_slice())?;
-            Ok(found)
-        }
+        Ok(tokens) => Ok(lexemes(alloc, text, tokens.as_slice())?),
         Err(LexError::Bad { at }) => Err(QueryError::Syntax { at }),
         Err(LexError::NoMemory) => Err(QueryError::NoMemory),
     }

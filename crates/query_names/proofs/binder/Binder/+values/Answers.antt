@@ -60,7 +60,7 @@ add_value-returns-in_ok-push-in-And-clause-ok t c =
 pub add_value-returns-else-builds-clause-ok : goal.add_value-returns-else-builds-clause-ok
 add_value-returns-else-builds-clause-ok t c =
     and_looked c.args.self.now c.args.visible.now.scope c.in-And.members c.in-And.is c.as_slice.ensures c.in_ok-parts-in-And.ensures.ok
-    (λ few none. absurd (false≢true (sym c.if-builds.false ∙ c.builds.ensures few none)))
+    (λ few none. absurd (false≢true (sym c.if-builds.false ∙ c.builds.ensures.within few none)))
 
 pub add_value-returns-in_ok-push-in-Or-clause-ok : goal.add_value-returns-in_ok-push-in-Or-clause-ok
 add_value-returns-in_ok-push-in-Or-clause-ok t c =
@@ -69,7 +69,7 @@ add_value-returns-in_ok-push-in-Or-clause-ok t c =
 pub add_value-returns-else-builds-2-clause-ok : goal.add_value-returns-else-builds-2-clause-ok
 add_value-returns-else-builds-2-clause-ok t c =
     or_looked c.args.self.now c.args.visible.now.scope c.in-Or.members c.in-Or.is c.as_slice-in-Or.ensures c.in_ok-parts-in-Or.ensures.ok
-    (λ few none. absurd (false≢true (sym c.if-builds-2.false ∙ c.builds-in-Or.ensures few none)))
+    (λ few none. absurd (false≢true (sym c.if-builds-2.false ∙ c.builds-in-Or.ensures.within few none)))
 
 pub add_value-returns-after-pop-clause-ok : goal.add_value-returns-after-pop-clause-ok
 add_value-returns-after-pop-clause-ok t c =
