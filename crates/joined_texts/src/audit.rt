@@ -4,20 +4,27 @@ ghost use Rattle.std.specs.List.{AllByRecursion, IsDistinct};
 ghost use Rattle.outcomes.specs.Devices.{growth};
 ghost use Rattle.outcomes.specs.Writes.{Put, Wrote};
 ghost use Rattle.plans.specs.LeftDeep.{IsPlan};
-ghost use Rattle.printed_texts.specs.Plans.{audit_line, audit_lines, level_audits};
+ghost use Rattle.printed_texts.specs.Plans.{audit_line, audit_lines, level_audits, row_count};
 ghost use Rattle.joined_texts.specs.Printed.{level_counts};
 
 use base_io::{Buffer, Failed, Sink};
 use hash_join::Executed;
 use plans::Plan;
-use printed_texts::alias_at;
+use printed_texts::{alias_at, put_level_bound};
 use query_types::Source;
-
-const LEVEL: &[u8] = b"level ";
 
 const SPACE: &[u8] = b" ";
 
 const LINE_END: &[u8] = b"\n";
+
+// What stands behind a level's bound: the number of its rows.
+fn put_row_count<N: Sink>(rows: u32, buffer: &mut Buffer, sink: &mut N) -> Result<(), Failed>
+    ensures { Put (growth N.taken N.faults sink.old sink.new) buffer.old buffer.new (row_count rows) result }
+{
+    let mut digits = itoa::Buffer::new();
+    let rows = digits.format(rows).as_bytes();
+    buffer.put_parts(sink, &[SPACE, rows, LINE_END])
+}
 
 fn put_level<N: Sink>(
     k: u64,
@@ -29,26 +36,8 @@ fn put_level<N: Sink>(
 ) -> Result<(), Failed>
     ensures { Put (growth N.taken N.faults sink.old sink.new) buffer.old buffer.new (audit_line k alias.now bound rows) result }
 {
-    let mut place = itoa::Buffer::new();
-    let mut digits = itoa::Buffer::new();
-    let mut count = itoa::Buffer::new();
-    let place = place.format(k).as_bytes();
-    let bound = digits.format(bound).as_bytes();
-    let rows = count.format(rows).as_bytes();
-    buffer.put_parts(
-        sink,
-        &[
-            LEVEL,
-            place,
-            SPACE,
-            alias.as_bytes(),
-            SPACE,
-            bound,
-            SPACE,
-            rows,
-            LINE_END,
-        ],
-    )
+    put_level_bound(k, alias, bound, buffer, sink)?;
+    put_row_count(rows, buffer, sink)
 }
 
 // A line for each level, along the order.

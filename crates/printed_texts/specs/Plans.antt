@@ -7,9 +7,12 @@ use Rattle.query_types.specs.declared.types.Source.{Source}
 abbrev pub scan_line : List ℕ → ℕ → List ℕ
 scan_line alias bound = codes "scan " ++ (alias ++ (codes " " ++ (decimal bound ++ codes "\n")))
 
--- level K ALIAS BOUND
+-- level K ALIAS BOUND, and the line of it
+abbrev pub level_bound : ℕ → List ℕ → ℕ → List ℕ
+level_bound k alias bound = codes "level " ++ (decimal k ++ (codes " " ++ (alias ++ (codes " " ++ decimal bound))))
+
 abbrev pub level_line : ℕ → List ℕ → ℕ → List ℕ
-level_line k alias bound = codes "level " ++ (decimal k ++ (codes " " ++ (alias ++ (codes " " ++ (decimal bound ++ codes "\n")))))
+level_line k alias bound = level_bound k alias bound ++ codes "\n"
 
 -- a line for each entry and the bound of its scan
 abbrev pub scan_lines : List Source → List ℕ → List ℕ
@@ -32,10 +35,12 @@ level_lines k sources (entry ∷ order) (bound ∷ bounds) =
 abbrev pub plan_lines : List Source → Plan → List ℕ
 plan_lines sources plan = scan_lines sources plan.scans ++ level_lines 1 sources plan.order plan.levels
 
--- level K ALIAS BOUND ROWS
+-- level K ALIAS BOUND ROWS: what stands behind the bound, and the line
+abbrev pub row_count : ℕ → List ℕ
+row_count rows = codes " " ++ (decimal rows ++ codes "\n")
+
 abbrev pub audit_line : ℕ → List ℕ → ℕ → ℕ → List ℕ
-audit_line k alias bound rows =
-    codes "level " ++ (decimal k ++ (codes " " ++ (alias ++ (codes " " ++ (decimal bound ++ (codes " " ++ (decimal rows ++ codes "\n")))))))
+audit_line k alias bound rows = level_bound k alias bound ++ row_count rows
 
 -- a line for each entry of the order, the bound of its level and the number of its rows, the levels from the k-th on
 abbrev pub level_audits : ℕ → List Source → List ℕ → List ℕ → List ℕ → List ℕ

@@ -5,7 +5,7 @@
 //! name. Callers cite `plan_lines` and `audit_lines` (in `specs/Plans.antt`), `rows_lines` and `choice_text` (in
 //! `specs/Texts.antt` and `specs/Lines.antt`) and `fault_line` (in `specs/Faults.antt`). Each writing call has one
 //! clause, `Wrote`: it leaves a prefix of its text where the sink fails, as `write_line(status, names, notes)` does.
-//! `put_line` and `alias_at` are parts of which joined_texts makes the rows and audit texts.
+//! `put_line`, `alias_at` and `put_level_bound` are parts of which joined_texts makes the rows and audit texts.
 #![tactic(auto)]
 
 mod fault_lines;
@@ -14,5 +14,5 @@ mod plan;
 mod rows;
 
 pub use fault_lines::{Named, write_line};
-pub use plan::{alias_at, write_plan};
+pub use plan::{alias_at, put_level_bound, write_plan};
 pub use rows::{Line, put_line};

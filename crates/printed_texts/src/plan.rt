@@ -4,7 +4,7 @@ ghost use Rattle.std.specs.List.{AllByRecursion};
 ghost use Rattle.outcomes.specs.Devices.{growth};
 ghost use Rattle.outcomes.specs.Writes.{Put, Wrote};
 ghost use Rattle.plans.specs.LeftDeep.{IsPlan};
-ghost use Rattle.printed_texts.specs.Plans.{alias_of, level_line, level_lines, plan_lines, scan_line, scan_lines};
+ghost use Rattle.printed_texts.specs.Plans.{alias_of, level_bound, level_line, level_lines, plan_lines, scan_line, scan_lines};
 
 use base_io::{Buffer, Failed, Sink};
 use plans::Plan;
@@ -47,6 +47,22 @@ fn write_scans<N: Sink>(
     Ok(())
 }
 
+/// Writes what the line of a level begins with: its number, its entry's name in the query, and its bound in rows.
+pub fn put_level_bound<N: Sink>(
+    k: u64,
+    alias: &str,
+    bound: u64,
+    buffer: &mut Buffer,
+    sink: &mut N,
+) -> Result<(), Failed>
+    ensures { Put (growth N.taken N.faults sink.old sink.new) buffer.old buffer.new (level_bound k alias.now bound) result }
+{
+    let (mut place, mut digits) = (itoa::Buffer::new(), itoa::Buffer::new());
+    let place = place.format(k).as_bytes();
+    let bound = digits.format(bound).as_bytes();
+    buffer.put_parts(sink, &[LEVEL, place, SPACE, alias.as_bytes(), SPACE, bound])
+}
+
 fn write_level<N: Sink>(
     k: u64,
     alias: &str,
@@ -56,21 +72,8 @@ fn write_level<N: Sink>(
 ) -> Result<(), Failed>
     ensures { Put (growth N.taken N.faults sink.old sink.new) buffer.old buffer.new (level_line k alias.now bound) result }
 {
-    let (mut place, mut digits) = (itoa::Buffer::new(), itoa::Buffer::new());
-    let place = place.format(k).as_bytes();
-    let bound = digits.format(bound).as_bytes();
-    buffer.put_parts(
-        sink,
-        &[
-            LEVEL,
-            place,
-            SPACE,
-            alias.as_bytes(),
-            SPACE,
-            bound,
-            LINE_END,
-        ],
-    )
+    put_level_bound(k, alias, bound, buffer, sink)?;
+    buffer.put(sink, LINE_END)
 }
 
 /// The name in the query of the FROM entry with this number.
