@@ -1,5 +1,4 @@
-pub mod NumberFacts
-pub mod CatalogFacts
+pub mod NameFacts
 pub mod Walk
 pub mod ScopeFacts
 pub mod TestFacts

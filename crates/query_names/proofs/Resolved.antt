@@ -12,7 +12,8 @@ use Rattle.query_names.specs.declared.scope.Entry.{Entry}
 use Rattle.query_names.specs.declared.scope.EntryColumn.{EntryColumn}
 use Rattle.query_names.specs.declared.scope.Scope.{Scope}
 use Rattle.query_types.specs.declared.types.Source.{Source}
-use Rattle.query_names.specs.Names.{column_in, column_named, column_at, number_in, column_names, aliases}
+use Rattle.schema_types.specs.Names.{place_of}
+use Rattle.query_names.specs.Names.{column_in, column_named, column_at, column_names, aliases}
 use Rattle.query_names.specs.Scopes.{only, in_scope, numbered, is_in, entry_at, entry_named, column_alone, resolved, resolve}
 
 -- an entry of the query, by its number
@@ -59,7 +60,7 @@ column_stands schema from name entry found is here = at_table (slice_get schema.
   at_table : (table : Option Table) → slice_get schema.tables entry.table ≡ table
       → option_and_then (λ t. column_named entry.number t name) table ≡ Some found → Stands schema from found
   at_table None exists same = absurd cc
-  at_table (Some table) exists same = at_number table (number_in (column_names table) name) exists same
+  at_table (Some table) exists same = at_number table (place_of (column_names table) name) exists same
 
 -- ---- the entries in scope are entries of the query
 
@@ -107,7 +108,7 @@ only_stands schema from name (e ∷ rest) found all same = at (column_in schema 
 
 pub named_is : (from : List Source) (scope : Scope) (alias : List ℕ) (entry : Entry) → entry_named from scope alias ≡ Some entry → IsEntry from entry
 unfolding entry_named
-named_is from scope alias entry same = at (number_in (aliases from) alias) same where
+named_is from scope alias entry same = at (place_of (aliases from) alias) same where
   there : (n : ℕ) (source : Option Source) → slice_get from n ≡ source → option_map (λ s. record { number = n; table = s.table }) source ≡ Some entry → IsEntry from entry
   there n None is same = absurd cc
   there n (Some s) is same =

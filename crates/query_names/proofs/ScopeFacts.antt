@@ -15,7 +15,8 @@ use Rattle.query_names.specs.declared.scope.Visible.{Visible}
 use Rattle.query_names.specs.declared.scope.Entry.{Entry}
 use Rattle.query_names.specs.declared.scope.EntryColumn.{EntryColumn}
 use Rattle.query_types.specs.declared.types.Source.{Source}
-use Rattle.query_names.specs.Names.{column_in, column_named, column_at, number_in, column_names}
+use Rattle.schema_types.specs.Names.{place_of}
+use Rattle.query_names.specs.Names.{column_in, column_named, column_at, column_names}
 use Rattle.query_names.specs.Scopes.{only, in_scope, numbered}
 use Rattle.query_names.specs.Binding.{columns_in, schema_of, from_of, Shows}
 
@@ -51,7 +52,7 @@ abbrev found_at : ℕ → ℕ → Kind → EntryColumn
 found_at from number kind = record { from = from; column = number; kind = kind }
 
 column_named_alike : (a b : ℕ) (table : Table) (name : List ℕ) → is_some (column_named a table name) ≡ is_some (column_named b table name)
-column_named_alike a b table name = at (number_in (column_names table) name) where
+column_named_alike a b table name = at (place_of (column_names table) name) where
   there : (column : Option Column) (n : ℕ) → is_some (option_map (λ c. found_at a n c.kind) column) ≡ is_some (option_map (λ c. found_at b n c.kind) column)
   there None n = refl
   there (Some column) n = refl

@@ -1,7 +1,6 @@
 -- Tables, columns and FROM entries by name (SQL-92 5.2, 6.3). Equality of names is that of texts after folding.
-use Rattle.std.specs.Prelude.{ℕ, Bool, if◌then◌else◌, List, [], ◌∷◌, ◌++◌, map, Option, option_map, option_and_then, unwrap_or, slice_get, is_none, position}
-use Rattle.std.specs.List.{list_any, flat_map}
-use Rattle.std.specs.Str.{bytes_eq}
+use Rattle.std.specs.Prelude.{ℕ, Bool, if◌then◌else◌, List, [], ◌∷◌, ◌++◌, map, Option, option_map, option_and_then, unwrap_or, slice_get, is_none, is_some}
+use Rattle.std.specs.List.{flat_map}
 use Rattle.ll_grammars.specs.declared.lexeme.Lexeme.{Lexeme}
 use Rattle.sql_tokens.specs.Words.{name_of}
 use Rattle.query_grammar.specs.declared.tree.SourceText.{SourceText}
@@ -9,16 +8,13 @@ use Rattle.query_grammar.specs.declared.tree.PartText.{PartText}
 use Rattle.query_grammar.specs.declared.tree.QueryText.{QueryText}
 use Rattle.schema_types.specs.declared.types.Table.{Table}
 use Rattle.schema_types.specs.declared.types.Schema.{Schema}
+use Rattle.schema_types.specs.Names.{place_of}
 use Rattle.query_names.specs.declared.scope.Entry.{Entry}
 use Rattle.query_names.specs.declared.scope.EntryColumn.{EntryColumn}
 use Rattle.query_types.specs.declared.types.Source.{Source}
 
--- the number of a name in a list of names, counted from 0
-abbrev pub number_in : List (List ℕ) → List ℕ → Option ℕ
-number_in names name = position (bytes_eq name) names
-
 abbrev pub is_among : List (List ℕ) → List ℕ → Bool
-is_among names name = list_any (bytes_eq name) names
+is_among names name = is_some (place_of names name)
 
 abbrev pub table_names : Schema → List (List ℕ)
 table_names schema = map (λ table. table.name) schema.tables
@@ -32,7 +28,7 @@ column_at from table number =
     option_map (λ column. record { from = from; column = number; kind = column.kind }) (slice_get table.columns number)
 
 abbrev pub column_named : ℕ → Table → List ℕ → Option EntryColumn
-column_named from table name = option_and_then (column_at from table) (number_in (column_names table) name)
+column_named from table name = option_and_then (column_at from table) (place_of (column_names table) name)
 
 -- the column of this name in an entry's table, where there is one
 unfoldable pub column_in : Schema → List ℕ → Entry → Option EntryColumn
@@ -56,7 +52,7 @@ module _ (schema : Schema) (text : List ℕ) where
   alias_of source = name_of text (alias_token source)
 
   abbrev pub table_of : SourceText → Option ℕ
-  table_of source = number_in (table_names schema) (name_of text source.table)
+  table_of source = place_of (table_names schema) (name_of text source.table)
 
   abbrev pub entry_of : SourceText → Source
   entry_of source = record { table = unwrap_or (table_of source) 0; alias = alias_of source }

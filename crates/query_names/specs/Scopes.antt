@@ -15,7 +15,8 @@ use Rattle.query_names.specs.declared.scope.Entry.{Entry}
 use Rattle.query_names.specs.declared.scope.EntryColumn.{EntryColumn}
 use Rattle.query_names.specs.declared.scope.Scope.{Scope}
 use Rattle.query_types.specs.declared.types.Source.{Source}
-use Rattle.query_names.specs.Names.{number_in, column_in, aliases}
+use Rattle.schema_types.specs.Names.{place_of}
+use Rattle.query_names.specs.Names.{column_in, aliases}
 
 -- ---- what a reference stands for (SQL-92 6.4)
 
@@ -43,7 +44,7 @@ entry_at from scope number =
 
 -- the entry of this alias, where it is in scope
 unfoldable pub entry_named : List Source → Scope → List ℕ → Option Entry
-entry_named from scope alias = option_and_then (entry_at from scope) (number_in (aliases from) alias)
+entry_named from scope alias = option_and_then (entry_at from scope) (place_of (aliases from) alias)
 
 module _ (schema : Schema) (text : List ℕ) (from : List Source) (scope : Scope) where
   -- a column alone: of the one entry in scope whose table has it

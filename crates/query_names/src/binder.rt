@@ -52,7 +52,7 @@ impl<'a> Binder<'a> {
     pub fn entry_named(&self, scope: Scope, alias: &str) -> Option<Entry>
         ensures { result ≡ entry_named (from_of self.now) scope alias.now }
     {
-        let number = self.entries.aliases.get(alias)?;
+        let number = self.entries.aliases.get(alias)? as usize;
         if scope.first <= number && number < scope.end {
             let source = self.entries.sources.as_slice().get(number)?;
             Some(Entry {

@@ -1,19 +1,19 @@
 //! A schema's tables and columns by name.
 ghost use Rattle.std.specs.Prelude.{◌≡◌, IfOk, ◌<◌, ◌≤◌, length, map};
+ghost use Rattle.schema_types.specs.Names.{place_of};
 ghost use Rattle.schema_types.specs.Validity.{IsValid, IsValidTable};
-ghost use Rattle.query_names.specs.Names.{table_names, column_names, column_named, column_in, number_in};
+ghost use Rattle.query_names.specs.Names.{table_names, column_names, column_named, column_in};
 
-use crate::name_numbers::NameNumbers;
 use crate::scope::{Entry, EntryColumn};
 use base_io::{NoMemory, Seq};
-use schema_types::{Schema, Table};
+use schema_types::{NameList, Schema, Table};
 use std::alloc::Global;
 
 /// A table, with its columns by name.
 #[derive(Drop)]
 pub struct Listed<'a> {
     pub table: &'a Table,
-    pub columns: NameNumbers,
+    pub columns: NameList,
     ghost few: { length table.now.columns ≤ 64 },
     ghost named: { columns ≡ column_names table.now },
 }
@@ -22,7 +22,7 @@ pub struct Listed<'a> {
 #[derive(Drop)]
 pub struct Catalog<'a> {
     pub schema: &'a Schema,
-    names: NameNumbers,
+    names: NameList,
     tables: Seq<Listed<'a>>,
     ghost few: { length schema.now.tables ≤ 64 },
     ghost named: { names ≡ table_names schema.now },
@@ -34,9 +34,9 @@ impl<'a> Listed<'a> {
         requires { IsValidTable table.now }
         ensures { IfOk result (λ listed. listed.table.now ≡ table.now) }
     {
-        let mut columns = NameNumbers::new(alloc);
+        let mut columns = NameList::new(alloc);
         'all: for column in table.columns.as_slice() {
-            let _ = columns.add(alloc, column.name.as_str())?;
+            columns.push(alloc, column.name.as_str())?;
         }
         Ok(Listed { table, columns })
     }
@@ -46,24 +46,23 @@ impl<'a> Listed<'a> {
         ensures { result ≡ column_named from self.now.table.now name.now }
     {
         let number = self.columns.get(name)?;
-        let column = self.table.columns.as_slice().get(number)?;
+        let column = self.table.columns.as_slice().get(number as usize)?;
         Some(EntryColumn {
             from,
-            column: number as u32,
+            column: number,
             kind: column.kind,
         })
     }
 }
 
-fn table_numbers(alloc: Global, schema: &Schema) -> Result<NameNumbers, NoMemory>
-    requires { IsValid schema.now }
-    ensures { IfOk result (λ numbers. numbers ≡ table_names schema.now) }
+fn table_names(alloc: Global, schema: &Schema) -> Result<NameList, NoMemory>
+    ensures { IfOk result (λ names. names ≡ table_names schema.now) }
 {
-    let mut numbers = NameNumbers::new(alloc);
+    let mut names = NameList::new(alloc);
     'all: for table in schema.tables.as_slice() {
-        let _ = numbers.add(alloc, table.name.as_str())?;
+        names.push(alloc, table.name.as_str())?;
     }
-    Ok(numbers)
+    Ok(names)
 }
 
 fn all_listed<'a>(alloc: Global, schema: &'a Schema) -> Result<Seq<Listed<'a>>, NoMemory>
@@ -82,7 +81,7 @@ impl<'a> Catalog<'a> {
         requires { IsValid schema.now }
         ensures { IfOk result (λ catalog. catalog.schema.now ≡ schema.now) }
     {
-        let names = table_numbers(alloc, schema)?;
+        let names = table_names(alloc, schema)?;
         let tables = all_listed(alloc, schema)?;
         Ok(Catalog {
             schema,
@@ -99,10 +98,9 @@ impl<'a> Catalog<'a> {
 
     /// The number of the table of this name.
     pub fn table(&self, name: &str) -> Option<u32>
-        ensures { result ≡ number_in (table_names self.now.schema.now) name.now }
+        ensures { result ≡ place_of (table_names self.now.schema.now) name.now }
     {
-        let number = self.names.get(name)?;
-        Some(number as u32)
+        self.names.get(name)
     }
 
     /// The column of this name in an entry's table.

@@ -8,11 +8,11 @@ ghost use Rattle.query_names.specs.Answers.{IsNameError};
 
 use crate::QueryError;
 use crate::catalog::Catalog;
-use crate::name_numbers::NameNumbers;
 use base_io::{NoMemory, Seq};
 use ll_grammars::Lexeme;
 use query_grammar::{PartText, SourceText};
 use query_types::Source;
+use schema_types::NameList;
 use sql_tokens::name;
 use std::alloc::Global;
 
@@ -20,7 +20,7 @@ use std::alloc::Global;
 #[derive(Drop)]
 pub struct Entries {
     pub sources: Seq<Source>,
-    pub aliases: NameNumbers,
+    pub aliases: NameList,
     ghost named: { aliases ≡ map (λ source. source.alias) sources },
 }
 
@@ -57,7 +57,7 @@ fn entry(
     alloc: Global,
     catalog: &Catalog<'_>,
     text: &[u8],
-    aliases: &mut NameNumbers,
+    aliases: &mut NameList,
     source: &SourceText,
 ) -> Result<Source, QueryError>
     requires { IsSourceOf (IsLexemeOf text.now) source.now }
@@ -73,9 +73,10 @@ fn entry(
     };
     let token = alias_token(source);
     let alias = name(alloc, text, &token)?;
-    if !aliases.add(alloc, alias.as_str())? {
+    if aliases.get(alias.as_str()).is_some() {
         return Err(QueryError::Name { at: token.start });
     }
+    aliases.push(alloc, alias.as_str())?;
     Ok(Source { table, alias })
 }
 
@@ -92,7 +93,7 @@ pub fn read_entries(
     ensures err { IfErr result (IsNameError (offences_behind catalog.now.schema.now text.now [] sources.now)) }
 {
     let mut found = Seq::new(alloc);
-    let mut aliases = NameNumbers::new(alloc);
+    let mut aliases = NameList::new(alloc);
     'all: for source in sources {
         let one = entry(alloc, catalog, text, &mut aliases, source)?;
         found.push(one)?;

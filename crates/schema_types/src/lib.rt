@@ -3,7 +3,8 @@
 //! The first stage after the files are read: the tokens of a text (`sql_tokens`), the tables that they
 //! spell (`schema_grammar`), and then names, nullability and limits. Callers cite `IsSchemaOf` (in
 //! `specs/Texts.antt`), which says what each text is answered, and `IsValid` (in `specs/Validity.antt`),
-//! which says what holds of every schema that was read.
+//! which says what holds of every schema that was read. `NameList`, a list of names that finds each one's place, is
+//! there for the stages after this one too.
 #![tactic(auto)]
 
 mod answer;
@@ -25,6 +26,7 @@ mod types;
 
 pub use errors::{LimitKind, SchemaError};
 pub use laws::{one_answer, schemas_are_valid};
+pub use name_list::NameList;
 pub use read::read_schema;
 pub use sql_tokens::{LexError, Token, TokenKind, tokens};
 pub use types::{Column, Kind, Reference, Schema, Table};

@@ -1,10 +1,8 @@
 -- A query without offences against names and kinds is a query of the schema.
 use Rattle.std.proofs.Common.{◌≡◌, ℕ, suc, ◌+◌, ◌^◌, ◌<◌, ◌≤◌, false, List, [], ◌∷◌, ◌++◌, All, length, map, Option, Some, None, ap, subst, sym, ◌∙◌, refl, arith}
 use Rattle.std.specs.Prelude.{is_none, slice_get, unwrap_or}
-use Rattle.std.specs.Str.{bytes_eq}
 use Rattle.std.specs.List.{flat_map}
 use Rattle.std.proofs.lemmas.List.{length-map}
-use Rattle.std.proofs.lemmas.List.Quantifiers.{position-Some}
 use Rattle.std.proofs.lemmas.List.Elements.{All-nil, All-cons, All-append}
 use Rattle.ll_grammars.specs.declared.lexeme.Lexeme.{Lexeme}
 use Rattle.sql_tokens.specs.Words.{name_of}
@@ -26,6 +24,7 @@ use Rattle.query_names.specs.Names.{at, table_names, table_of, entry_of, alias_o
 use Rattle.query_names.specs.Scopes.{in_scope, everything, entry_named, resolve, head_of, conditions}
 use Rattle.query_names.specs.Offences.{name_offences, all_kind_offences, name_offences_in, kind_offences_in, out_offences, outs_offences}
 use Rattle.query_names.specs.Values.{reference_to, members_in, conjuncts, outs_from, outs_of_table, outs_of_entry, outs_of_found, outs_of, selected, query_of}
+use Rattle.schema_types.proofs.Places.{place_of_within}
 use Rattle.query_names.proofs.Resolved.{Stands, resolve_stands, IsEntry, AllEntries, in_scope_are, named_is}
 use Rattle.sql_parse.proofs.KindFacts.{none_left, none_right, not_at, without_offences, found_finds, condition_of}
 
@@ -35,7 +34,7 @@ module _ (schema : Schema) (text : List ℕ) where
   table_exists : (source : SourceText) (table : Option ℕ) → table ≡ table_of schema text source → is_none table ≡ false → unwrap_or table 0 < length schema.tables
   table_exists source None is known = absurd cc
   table_exists source (Some n) is known =
-      let within : n < length (table_names schema) = (position-Some (bytes_eq (name_of text source.table)) (table_names schema) n [] (sym is)).0 in
+      let within : n < length (table_names schema) = place_of_within (table_names schema) (name_of text source.table) n (sym is) in
       omega (arith, length-map schema.tables (λ (table : Table). table.name))
 
   sources_of_schema : (earlier : List (List ℕ)) (from : List SourceText) → offences_behind schema text earlier from ≡ [] → All (IsSourceOf schema) (map (entry_of schema text) from)

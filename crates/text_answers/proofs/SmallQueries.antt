@@ -9,6 +9,7 @@ use Rattle.query_grammar.specs.Readers.{read_name, read_other_name, read_new_nam
 use Rattle.sql_tokens.specs.Pieces.{closed, identifier, literal, symbol, piece, tokens_at}
 use Rattle.sql_tokens.specs.Words.{terminal_of, name_of, literal_of, number_of}
 use Rattle.query_names.specs.declared.errors.QueryError.TheVariants as error
+use Rattle.schema_types.specs.Names.{place_of}
 use Rattle.query_names.specs.Names.{column_in, entries, from_offences}
 use Rattle.query_names.specs.Scopes.{in_scope, entry_named, column_alone, resolve, conditions}
 use Rattle.query_names.specs.Offences.{name_offences, all_kind_offences}
@@ -57,11 +58,11 @@ unfolding query_answer nested_answer tree_of tokens_of chars is_utf8 utf8_valid_
 read_whole = refl
 
 conjuncts_whole : conjuncts one_column (codes "SELECT X FROM R WHERE X = 1") ones.from (x_where is_one) ≡ ones.conjuncts
-unfolding query_answer nested_answer tree_of tokens_of chars is_utf8 utf8_valid_len lib.Utf8.encode closed identifier literal symbol piece tokens_at terminal_of name_of literal_of number_of read_many read_tails nesting read_name read_other_name read_new_name read_dotted_name read_column read_number read_literal read_operand read_operator read_negation read_next_literal read_literals read_value_list read_predicate read_flat read_factor read_next_factor read_factors read_term read_next_term read_terms read_cond read_inside read_test read_within read_condition read_source read_join read_joins read_part read_next_part read_parts read_dotted_out read_out read_next_out read_listed_outs read_outs read_condition_behind_where read_filter read_query column_in entries from_offences in_scope entry_named column_alone resolve conditions name_offences all_kind_offences number_value number_offences conjuncts outs_of_entry query_of long_lists refusals bound
+unfolding query_answer nested_answer tree_of tokens_of chars is_utf8 utf8_valid_len lib.Utf8.encode closed identifier literal symbol piece tokens_at terminal_of name_of literal_of number_of read_many read_tails nesting read_name read_other_name read_new_name read_dotted_name read_column read_number read_literal read_operand read_operator read_negation read_next_literal read_literals read_value_list read_predicate read_flat read_factor read_next_factor read_factors read_term read_next_term read_terms read_cond read_inside read_test read_within read_condition read_source read_join read_joins read_part read_next_part read_parts read_dotted_out read_out read_next_out read_listed_outs read_outs read_condition_behind_where read_filter read_query place_of column_in entries from_offences in_scope entry_named column_alone resolve conditions name_offences all_kind_offences number_value number_offences conjuncts outs_of_entry query_of long_lists refusals bound
 conjuncts_whole = ap (λ (m : Meaning). m.members ++ []) (means_test one_column (codes "SELECT X FROM R WHERE X = 1") ones.from (record { first = 0; end = 1 }) is_one)
 
 bound_whole : bound one_column (codes "SELECT X FROM R WHERE X = 1") (x_where is_one) ≡ Ok ones
-unfolding query_answer nested_answer tree_of tokens_of chars is_utf8 utf8_valid_len lib.Utf8.encode closed identifier literal symbol piece tokens_at terminal_of name_of literal_of number_of read_many read_tails nesting read_name read_other_name read_new_name read_dotted_name read_column read_number read_literal read_operand read_operator read_negation read_next_literal read_literals read_value_list read_predicate read_flat read_factor read_next_factor read_factors read_term read_next_term read_terms read_cond read_inside read_test read_within read_condition read_source read_join read_joins read_part read_next_part read_parts read_dotted_out read_out read_next_out read_listed_outs read_outs read_condition_behind_where read_filter read_query column_in entries from_offences in_scope entry_named column_alone resolve conditions name_offences all_kind_offences number_value number_offences outs_of_entry query_of long_lists refusals bound
+unfolding query_answer nested_answer tree_of tokens_of chars is_utf8 utf8_valid_len lib.Utf8.encode closed identifier literal symbol piece tokens_at terminal_of name_of literal_of number_of read_many read_tails nesting read_name read_other_name read_new_name read_dotted_name read_column read_number read_literal read_operand read_operator read_negation read_next_literal read_literals read_value_list read_predicate read_flat read_factor read_next_factor read_factors read_term read_next_term read_terms read_cond read_inside read_test read_within read_condition read_source read_join read_joins read_part read_next_part read_parts read_dotted_out read_out read_next_out read_listed_outs read_outs read_condition_behind_where read_filter read_query place_of column_in entries from_offences in_scope entry_named column_alone resolve conditions name_offences all_kind_offences number_value number_offences outs_of_entry query_of long_lists refusals bound
 bound_whole = rw (tests_test is_one, conjuncts_whole) refl
 
 pub whole : query_answer one_column (codes "SELECT X FROM R WHERE X = 1") ≡ Ok ones
@@ -72,20 +73,20 @@ unfolding query_answer nested_answer tree_of tokens_of chars is_utf8 utf8_valid_
 read_other_kind = refl
 
 bound_other_kind : bound one_column (codes "SELECT X FROM R WHERE X = 'a'") (x_where is_a) ≡ Err (error.Kind 26)
-unfolding query_answer nested_answer tree_of tokens_of chars is_utf8 utf8_valid_len lib.Utf8.encode closed identifier literal symbol piece tokens_at terminal_of name_of literal_of number_of read_many read_tails nesting read_name read_other_name read_new_name read_dotted_name read_column read_number read_literal read_operand read_operator read_negation read_next_literal read_literals read_value_list read_predicate read_flat read_factor read_next_factor read_factors read_term read_next_term read_terms read_cond read_inside read_test read_within read_condition read_source read_join read_joins read_part read_next_part read_parts read_dotted_out read_out read_next_out read_listed_outs read_outs read_condition_behind_where read_filter read_query column_in entries from_offences in_scope entry_named column_alone resolve conditions name_offences all_kind_offences number_value number_offences conjuncts outs_of_entry query_of long_lists refusals bound
+unfolding query_answer nested_answer tree_of tokens_of chars is_utf8 utf8_valid_len lib.Utf8.encode closed identifier literal symbol piece tokens_at terminal_of name_of literal_of number_of read_many read_tails nesting read_name read_other_name read_new_name read_dotted_name read_column read_number read_literal read_operand read_operator read_negation read_next_literal read_literals read_value_list read_predicate read_flat read_factor read_next_factor read_factors read_term read_next_term read_terms read_cond read_inside read_test read_within read_condition read_source read_join read_joins read_part read_next_part read_parts read_dotted_out read_out read_next_out read_listed_outs read_outs read_condition_behind_where read_filter read_query place_of column_in entries from_offences in_scope entry_named column_alone resolve conditions name_offences all_kind_offences number_value number_offences conjuncts outs_of_entry query_of long_lists refusals bound
 bound_other_kind = rw (tests_test is_a) refl
 
 pub other_kind : query_answer one_column (codes "SELECT X FROM R WHERE X = 'a'") ≡ Err (error.Kind 26)
 other_kind = read_other_kind ∙ bound_other_kind
 
 pub number_first : query_answer one_column (codes "SELECT X FROM R WHERE X = 9223372036854775808 )") ≡ Err (error.Syntax 26)
-unfolding query_answer nested_answer tree_of tokens_of chars is_utf8 utf8_valid_len lib.Utf8.encode closed identifier literal symbol piece tokens_at terminal_of name_of literal_of number_of read_many read_tails nesting read_name read_other_name read_new_name read_dotted_name read_column read_number read_literal read_operand read_operator read_negation read_next_literal read_literals read_value_list read_predicate read_flat read_factor read_next_factor read_factors read_term read_next_term read_terms read_cond read_inside read_test read_within read_condition read_source read_join read_joins read_part read_next_part read_parts read_dotted_out read_out read_next_out read_listed_outs read_outs read_condition_behind_where read_filter read_query column_in entries from_offences in_scope entry_named column_alone resolve conditions name_offences all_kind_offences number_value number_offences conjuncts outs_of_entry query_of long_lists refusals bound
+unfolding query_answer nested_answer tree_of tokens_of chars is_utf8 utf8_valid_len lib.Utf8.encode closed identifier literal symbol piece tokens_at terminal_of name_of literal_of number_of read_many read_tails nesting read_name read_other_name read_new_name read_dotted_name read_column read_number read_literal read_operand read_operator read_negation read_next_literal read_literals read_value_list read_predicate read_flat read_factor read_next_factor read_factors read_term read_next_term read_terms read_cond read_inside read_test read_within read_condition read_source read_join read_joins read_part read_next_part read_parts read_dotted_out read_out read_next_out read_listed_outs read_outs read_condition_behind_where read_filter read_query place_of column_in entries from_offences in_scope entry_named column_alone resolve conditions name_offences all_kind_offences number_value number_offences conjuncts outs_of_entry query_of long_lists refusals bound
 number_first = refl
 
 pub from_first : query_answer one_column (codes "SELECT Y FROM R, R") ≡ Err (error.Name 17)
-unfolding query_answer nested_answer tree_of tokens_of chars is_utf8 utf8_valid_len lib.Utf8.encode closed identifier literal symbol piece tokens_at terminal_of name_of literal_of number_of read_many read_tails nesting read_name read_other_name read_new_name read_dotted_name read_column read_number read_literal read_operand read_operator read_negation read_next_literal read_literals read_value_list read_predicate read_flat read_factor read_next_factor read_factors read_term read_next_term read_terms read_cond read_inside read_test read_within read_condition read_source read_join read_joins read_part read_next_part read_parts read_dotted_out read_out read_next_out read_listed_outs read_outs read_condition_behind_where read_filter read_query column_in entries from_offences in_scope entry_named column_alone resolve conditions name_offences all_kind_offences number_value number_offences conjuncts outs_of_entry query_of long_lists refusals bound
+unfolding query_answer nested_answer tree_of tokens_of chars is_utf8 utf8_valid_len lib.Utf8.encode closed identifier literal symbol piece tokens_at terminal_of name_of literal_of number_of read_many read_tails nesting read_name read_other_name read_new_name read_dotted_name read_column read_number read_literal read_operand read_operator read_negation read_next_literal read_literals read_value_list read_predicate read_flat read_factor read_next_factor read_factors read_term read_next_term read_terms read_cond read_inside read_test read_within read_condition read_source read_join read_joins read_part read_next_part read_parts read_dotted_out read_out read_next_out read_listed_outs read_outs read_condition_behind_where read_filter read_query place_of column_in entries from_offences in_scope entry_named column_alone resolve conditions name_offences all_kind_offences number_value number_offences conjuncts outs_of_entry query_of long_lists refusals bound
 from_first = refl
 
 pub of_two_entries : query_answer one_column (codes "SELECT X FROM R, R S") ≡ Err (error.Name 7)
-unfolding query_answer nested_answer tree_of tokens_of chars is_utf8 utf8_valid_len lib.Utf8.encode closed identifier literal symbol piece tokens_at terminal_of name_of literal_of number_of read_many read_tails nesting read_name read_other_name read_new_name read_dotted_name read_column read_number read_literal read_operand read_operator read_negation read_next_literal read_literals read_value_list read_predicate read_flat read_factor read_next_factor read_factors read_term read_next_term read_terms read_cond read_inside read_test read_within read_condition read_source read_join read_joins read_part read_next_part read_parts read_dotted_out read_out read_next_out read_listed_outs read_outs read_condition_behind_where read_filter read_query column_in entries from_offences in_scope entry_named column_alone resolve conditions name_offences all_kind_offences number_value number_offences conjuncts outs_of_entry query_of long_lists refusals bound
+unfolding query_answer nested_answer tree_of tokens_of chars is_utf8 utf8_valid_len lib.Utf8.encode closed identifier literal symbol piece tokens_at terminal_of name_of literal_of number_of read_many read_tails nesting read_name read_other_name read_new_name read_dotted_name read_column read_number read_literal read_operand read_operator read_negation read_next_literal read_literals read_value_list read_predicate read_flat read_factor read_next_factor read_factors read_term read_next_term read_terms read_cond read_inside read_test read_within read_condition read_source read_join read_joins read_part read_next_part read_parts read_dotted_out read_out read_next_out read_listed_outs read_outs read_condition_behind_where read_filter read_query place_of column_in entries from_offences in_scope entry_named column_alone resolve conditions name_offences all_kind_offences number_value number_offences conjuncts outs_of_entry query_of long_lists refusals bound
 of_two_entries = refl
