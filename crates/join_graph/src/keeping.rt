@@ -24,7 +24,8 @@ pub fn joins_within(subset: EntrySet, edge: Edge) -> bool
     subset.has(edge.left.entry) && subset.has(edge.right.entry)
 }
 
-fn count_within(edges: &[Edge], subset: EntrySet) -> usize
+/// How many equalities are of two entries of a set. It takes no memory.
+pub fn count_within(edges: &[Edge], subset: EntrySet) -> usize
     ensures { result ≡ length (equalities_within subset edges.now) }
 {
     edges

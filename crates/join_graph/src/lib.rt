@@ -13,7 +13,7 @@ mod naming;
 mod parts;
 mod splitting;
 
-pub use keeping::{joins_within, kept, turns};
+pub use keeping::{count_within, joins_within, kept, turns};
 pub use laws::{
     conjuncts_stand_in_one_part, entries_are_apart_or_connected, examples, kept_equalities_are_one,
     kept_equalities_make_no_cycle, numbers_are_places, what_joins_entries,

@@ -32,4 +32,4 @@ pub use lexeme::Lexeme;
 pub use reader::Reader;
 pub use stop::Stop;
 pub use syntax_error::SyntaxError;
-pub use terminal::{Terminal, is_among};
+pub use terminal::{NAME, Terminal, is_among};

@@ -63,6 +63,15 @@ pub enum Terminal {
     Minus,
 }
 
+/// The terminals of names: KEY, NO, ACTION and CASCADE are words only in their places, and names elsewhere.
+pub const NAME: &[Terminal] = &[
+    Terminal::Name,
+    Terminal::Key,
+    Terminal::No,
+    Terminal::Action,
+    Terminal::Cascade,
+];
+
 impl Terminal {
     /// The terminal's number, which tells it from the others.
     pub fn code(self) -> u8

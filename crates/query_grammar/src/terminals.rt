@@ -1,14 +1,7 @@
 //! The terminals that a rule asks for or begins with.
 use ll_grammars::Terminal;
 
-/// KEY, NO, ACTION and CASCADE are names in a query.
-pub const NAME: &[Terminal] = &[
-    Terminal::Name,
-    Terminal::Key,
-    Terminal::No,
-    Terminal::Action,
-    Terminal::Cascade,
-];
+pub use ll_grammars::NAME;
 
 pub const NEW_NAME: &[Terminal] = &[
     Terminal::As,

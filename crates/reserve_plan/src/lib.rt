@@ -19,7 +19,7 @@ mod reserved;
 mod reserving;
 
 pub use reserved::Reserved;
-pub use reserving::reserve;
+pub use reserving::{empty_chains, reserve, row_buffers};
 
 /// Buffers that take more rows take fewer, too. It does nothing.
 pub fn less_needs_less_room()

@@ -1,14 +1,7 @@
 //! The sets of terminals at which the reader decides.
 use ll_grammars::Terminal;
 
-/// KEY, NO, ACTION and CASCADE are words only in their places, and names elsewhere.
-pub const NAME: &[Terminal] = &[
-    Terminal::Name,
-    Terminal::Key,
-    Terminal::No,
-    Terminal::Action,
-    Terminal::Cascade,
-];
+pub use ll_grammars::NAME;
 
 pub const NUMBER_TYPE: &[Terminal] = &[
     Terminal::Int,

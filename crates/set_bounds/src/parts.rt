@@ -1,5 +1,5 @@
 //! Whether the equalities of a set close no cycle, and into which parts they let it fall.
-ghost use Rattle.std.specs.Prelude.{◌≡◌, ◌<◌, ◌&&◌, ℕ, true, not, length, IfOk};
+ghost use Rattle.std.specs.Prelude.{◌≡◌, ◌<◌, ◌&&◌, ℕ, true, not, IfOk};
 ghost use Rattle.entry_sets.specs.Sets.{has_entry};
 ghost use Rattle.berge_tree.specs.Equalities.{ClosesNoCycle};
 ghost use Rattle.join_graph.specs.Kept.{equalities_within};
@@ -9,20 +9,11 @@ ghost use Rattle.set_bounds.specs.Parts.{FallsInto, crosses, some_cross};
 use base_io::NoMemory;
 use berge_tree::Edge;
 use entry_sets::EntrySet;
-use join_graph::{Parts, joins_within, kept};
+use join_graph::{Parts, count_within, joins_within, kept};
 use std::alloc::Global;
 
 // An entry joins the part in one round at least with the entry that it hangs on.
 const ROUNDS: u8 = 16;
-
-fn count_within(edges: &[Edge], subset: EntrySet) -> usize
-    ensures { result ≡ length (equalities_within subset edges.now) }
-{
-    edges
-        .iter()
-        .filter(|edge| joins_within(subset, **edge))
-        .count()
-}
 
 /// Whether the equalities of a set close no cycle: then all of them are kept.
 pub(crate) fn is_forest(alloc: Global, parts: &Parts, subset: EntrySet) -> Result<bool, NoMemory>
