@@ -218,23 +218,24 @@ member_added old o1 o2 o3 x number after entry column below rest is1 is2 after_i
 
 -- ---- the same, as the code has it
 
-pub class_written : (depth : ℕ) (columns : List Column) (start entry : ℕ) (above : Option ℕ) (i : ℕ) (d : Column) (old o1 o2 o3 : List Node) (x : Node) (number after here stop last : ℕ) (child sibling : Option ℕ) → HaveOthers columns → IsNext (is_at entry above) columns start (Some i)
+pub class_written : (depth : ℕ) (columns : List Column) (start entry : ℕ) (above : Option ℕ) (i : ℕ) (d : Column) (old o1 o2 o3 : List Node) (x : Node) (number after here stop last : ℕ) (written : Node) → HaveOthers columns → IsNext (is_at entry above) columns start (Some i)
     → o1 ≡ old ++ x ∷ [] → o2 ≡ o1 ++ nodes_of_some (length o1) (number + 1) (members_at depth columns 0 (get_or columns i d)) → after ≡ number + 1 + classes_in (members_at depth columns 0 (get_or columns i d))
-    → o3 ≡ o2 ++ nodes_of_classes (length o2) after (classes_at depth columns (i + 1) entry above) → here ≡ length old → stop ≡ length o2 → last ≡ length o3 → child ≡ link_where (here + 1) stop → sibling ≡ link_where stop last
-    → set o3 here (record { kind = kind.Class number; via = (get_or columns i d).place.column; first_child = child; next_sibling = sibling }) ≡ old ++ nodes_of_classes (length old) number (classes_at depth columns start entry above)
-class_written depth columns start entry above i d old o1 o2 o3 x number after here stop last child sibling others next is1 is2 after_is is3 here_is stop_is last_is child_is sibling_is =
-    rw (child_is, sibling_is, here_is, stop_is, last_is) (class_added depth columns start entry above i d old o1 o2 o3 x number after others next is1 is2 after_is is3)
+    → o3 ≡ o2 ++ nodes_of_classes (length o2) after (classes_at depth columns (i + 1) entry above) → here ≡ length old → stop ≡ length o2 → last ≡ length o3
+    → written ≡ record { kind = kind.Class number; via = (get_or columns i d).place.column; first_child = link_where (here + 1) stop; next_sibling = link_where stop last } → set o3 here written ≡ old ++ nodes_of_classes (length old) number (classes_at depth columns start entry above)
+class_written depth columns start entry above i d old o1 o2 o3 x number after here stop last written others next is1 is2 after_is is3 here_is stop_is last_is written_is =
+    rw (written_is, here_is, stop_is, last_is) (class_added depth columns start entry above i d old o1 o2 o3 x number after others next is1 is2 after_is is3)
 
-pub member_written : (depth : ℕ) (columns : List Column) (start : ℕ) (above : Column) (i : ℕ) (d : Column) (old o1 o2 o3 : List Node) (x : Node) (number after here stop last : ℕ) (child sibling : Option ℕ) → IsNext (is_other above) columns start (Some i)
+pub member_written : (depth : ℕ) (columns : List Column) (start : ℕ) (above : Column) (i : ℕ) (d : Column) (old o1 o2 o3 : List Node) (x : Node) (number after here stop last : ℕ) (written : Node) → IsNext (is_other above) columns start (Some i)
     → o1 ≡ old ++ x ∷ [] → o2 ≡ o1 ++ nodes_of_classes (length o1) number (walked depth columns (get_or columns i d).place.entry (Some (get_or columns i d).place.column))
     → after ≡ number + classes_below (walked depth columns (get_or columns i d).place.entry (Some (get_or columns i d).place.column)) → o3 ≡ o2 ++ nodes_of_some (length o2) after (members_at depth columns (i + 1) above)
-    → here ≡ length old → stop ≡ length o2 → last ≡ length o3 → child ≡ link_where (here + 1) stop → sibling ≡ link_where stop last
-    → set o3 here (record { kind = kind.Entry (get_or columns i d).place.entry; via = (get_or columns i d).place.column; first_child = child; next_sibling = sibling }) ≡ old ++ nodes_of_some (length old) number (members_at depth columns start above)
-member_written depth columns start above i d old o1 o2 o3 x number after here stop last child sibling next is1 is2 after_is is3 here_is stop_is last_is child_is sibling_is =
+    → here ≡ length old → stop ≡ length o2 → last ≡ length o3
+    → written ≡ record { kind = kind.Entry (get_or columns i d).place.entry; via = (get_or columns i d).place.column; first_child = link_where (here + 1) stop; next_sibling = link_where stop last } → set o3 here written ≡ old ++ nodes_of_some (length old) number (members_at depth columns start above)
+member_written depth columns start above i d old o1 o2 o3 x number after here stop last written next is1 is2 after_is is3 here_is stop_is last_is written_is =
     let c : Column = get_or columns i d in
     let below : Classes = walked depth columns c.place.entry (Some c.place.column) in
-    ap (λ (m : Node). set o3 here m) (ap (λ (l : Option ℕ). record { kind = kind.Entry c.place.entry; via = c.place.column; first_child = l; next_sibling = sibling }) (child_is ∙ ap (λ k. link_where (k + 1) stop) here_is ∙ ap (link_where (length old + 1)) stop_is)
-    ∙ ap (λ (l : Option ℕ). record { kind = kind.Entry c.place.entry; via = c.place.column; first_child = link_where (length old + 1) (length o2); next_sibling = l }) (sibling_is ∙ ap (λ k. link_where k last) stop_is ∙ ap (link_where (length o2)) last_is))
+    ap (λ (m : Node). set o3 here m) (written_is ∙ ap (λ k. record { kind = kind.Entry c.place.entry; via = c.place.column; first_child = link_where (k + 1) stop; next_sibling = link_where stop last }) here_is
+    ∙ ap (λ k. record { kind = kind.Entry c.place.entry; via = c.place.column; first_child = link_where (length old + 1) k; next_sibling = link_where k last }) stop_is
+    ∙ ap (λ k. record { kind = kind.Entry c.place.entry; via = c.place.column; first_child = link_where (length old + 1) (length o2); next_sibling = link_where (length o2) k }) last_is)
     ∙ ap (λ k. set o3 k (record { kind = kind.Entry c.place.entry; via = c.place.column; first_child = link_where (length old + 1) (length o2); next_sibling = link_where (length o2) (length o3) })) here_is
     ∙ member_added old o1 o2 o3 x number after c.place.entry c.place.column below (members_at depth columns (i + 1) above) is1 is2 after_is is3
     ∙ ap (λ (ms : Option Members). old ++ nodes_of_some (length old) number ms) (sym (next_member depth columns start above i d next))

@@ -72,6 +72,24 @@ fn link(at: usize, end: usize) -> Option<u32>
     if at < end { Some(at as u32) } else { None }
 }
 
+// A node with its links, where it stands at a place, its children end at one and its siblings at another.
+fn linked(node: Node, here: usize, end: usize, last: usize) -> Node
+    requires here { here + 1 < 2 ^ 32 }
+    requires end { end < 2 ^ 32 }
+    ensures { result ≡ record {
+        kind = node.kind;
+        via = node.via;
+        first_child = link_where (here + 1) end;
+        next_sibling = link_where end last;
+    } }
+{
+    Node {
+        first_child: link(here + 1, end),
+        next_sibling: link(end, last),
+        ..node
+    }
+}
+
 // Adds the classes of those columns of an entry that stand from a place on.
 #[cycle(walk)]
 fn add_classes(
@@ -94,7 +112,7 @@ fn add_classes(
         return Ok(());
     };
     let here = walk.nodes.len();
-    let mut node = Node {
+    let node = Node {
         kind: NodeKind::Class(walk.classes),
         via: columns[i].place.column,
         first_child: None,
@@ -105,9 +123,7 @@ fn add_classes(
     add_members(walk, columns, 0, columns[i], depth)?;
     let end = walk.nodes.len();
     add_classes(walk, columns, i + 1, entry, above, depth)?;
-    node.first_child = link(here + 1, end);
-    node.next_sibling = link(end, walk.nodes.len());
-    walk.nodes[here] = node;
+    walk.nodes[here] = linked(node, here, end, walk.nodes.len());
     Ok(())
 }
 
@@ -132,7 +148,7 @@ fn add_members(
     };
     let here = walk.nodes.len();
     let place = columns[i].place;
-    let mut node = Node {
+    let node = Node {
         kind: NodeKind::Entry(place.entry),
         via: place.column,
         first_child: None,
@@ -142,9 +158,7 @@ fn add_members(
     add_below(walk, columns, place.entry, Some(place.column), depth)?;
     let end = walk.nodes.len();
     add_members(walk, columns, i + 1, above, depth)?;
-    node.first_child = link(here + 1, end);
-    node.next_sibling = link(end, walk.nodes.len());
-    walk.nodes[here] = node;
+    walk.nodes[here] = linked(node, here, end, walk.nodes.len());
     Ok(())
 }
 

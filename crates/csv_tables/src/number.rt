@@ -1,19 +1,17 @@
 //! The number that a field spells.
-ghost use Rattle.std.specs.Prelude.{◌≡◌, ◌≤◌, ◌^◌, false, length, option_map, true};
+ghost use Rattle.std.specs.Prelude.{◌≡◌, ◌<◌, ◌≤◌, ◌^◌, false, length, option_map, true};
 ghost use Rattle.csv_tables.specs.Numbers.{greatest, number_of as spelled, signed, size_of as spelled_size};
 
 // So many digits spell a number below 10^18, so no step has to look for one that is too large.
 const SHORT: usize = 18;
 
-// The number that a few digits spell, where they are digits and spell at most so much.
+// The number that one to eighteen digits spell, where they are digits and spell at most so much.
 #[tactic(auto, using(crate::proofs::NumberFacts::short_steps))]
 fn short_size(digits: &[u8], most: u64) -> Option<u64>
-    requires { length digits.now ≤ 18 }
+    requires some { 0 < length digits.now }
+    requires few { length digits.now ≤ 18 }
     ensures { result ≡ spelled_size most digits.now }
 {
-    if digits.is_empty() {
-        return None;
-    }
     let mut size: u64 = 0;
     'digits: for digit in digits {
         if !digit.is_ascii_digit() {
@@ -27,14 +25,12 @@ fn short_size(digits: &[u8], most: u64) -> Option<u64>
     Some(size)
 }
 
-// The number that any digits spell, where they are digits and spell at most so much.
+// The number that one or more digits spell, where they are digits and spell at most so much.
 fn long_size(digits: &[u8], most: u64) -> Option<u64>
-    requires { most ≤ 2 ^ 63 }
+    requires some { 0 < length digits.now }
+    requires most { most ≤ 2 ^ 63 }
     ensures { result ≡ spelled_size most digits.now }
 {
-    if digits.is_empty() {
-        return None;
-    }
     let mut size: u64 = 0;
     'digits: for digit in digits {
         if !digit.is_ascii_digit() {
@@ -54,6 +50,9 @@ fn size_of(digits: &[u8], most: u64) -> Option<u64>
     requires { most ≤ 2 ^ 63 }
     ensures { result ≡ spelled_size most digits.now }
 {
+    if digits.is_empty() {
+        return None;
+    }
     if digits.len() <= SHORT {
         short_size(digits, most)
     } else {

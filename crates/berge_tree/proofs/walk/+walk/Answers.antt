@@ -28,21 +28,17 @@ add_classes-add_classes-requires t c =
       (c.requires.others, (omega (arith, c.requires.counted, c.in_ok-push.ensures.len, more, few, c.in_ok-add_members.ensures.classes), omega (arith, c.in_ok-push.ensures.len, more, fits))),
     )
 
-pub add_classes-link-node-requires : goal.add_classes-link-node-requires
-add_classes-link-node-requires t c =
-    omega (arith, c.len-here.ensures, class_fits c.args.depth c.args.columns.now c.args.from c.args.entry c.args.above c.in-Some.i no_column (length c.args.walk.now.nodes.items) c.requires.others c.in-Some.ensures c.requires.fits)
-
-pub add_classes-link-node-requires-2 : goal.add_classes-link-node-requires-2
-add_classes-link-node-requires-2 t c =
+pub add_classes-linked-requires : goal.add_classes-linked-requires
+add_classes-linked-requires t c =
     let fits = class_fits c.args.depth c.args.columns.now c.args.from c.args.entry c.args.above c.in-Some.i no_column (length c.args.walk.now.nodes.items) c.requires.others c.in-Some.ensures c.requires.fits in
     let more = length-some_added c.push.new.self.items c.add_members.new.walk.nodes.items (length c.push.new.self.items) (c.args.walk.now.classes + 1) (members_at c.args.depth c.args.columns.now 0 (get_or c.args.columns.now c.in-Some.i no_column)) c.in_ok-add_members.ensures.nodes in
-    omega (arith, c.len-end.ensures, c.in_ok-push.ensures.len, more, fits)
+    record { here = omega (arith, c.len-here.ensures, fits); end = omega (arith, c.len-end.ensures, c.in_ok-push.ensures.len, more, fits) }
 
 pub add_classes-returns-clause-nodes : goal.add_classes-returns-clause-nodes
 add_classes-returns-clause-nodes t c =
     class_written c.args.depth c.args.columns.now c.args.from c.args.entry c.args.above c.in-Some.i no_column c.args.walk.now.nodes.items c.push.new.self.items c.add_members.new.walk.nodes.items c.add_classes.new.walk.nodes.items _ c.args.walk.now.classes c.add_members.new.walk.classes
-    c.len-here.result c.len-end.result c.len.result c.link-node.result c.link-node-2.result c.requires.others c.in-Some.ensures c.in_ok-push.ensures.items c.in_ok-add_members.ensures.nodes c.in_ok-add_members.ensures.classes c.in_ok-add_classes.ensures.nodes
-    (omega (arith, c.len-here.ensures)) (omega (arith, c.len-end.ensures)) (omega (arith, c.len.ensures)) c.link-node.ensures c.link-node-2.ensures
+    c.len-here.result c.len-end.result c.len.result _ c.requires.others c.in-Some.ensures c.in_ok-push.ensures.items c.in_ok-add_members.ensures.nodes c.in_ok-add_members.ensures.classes c.in_ok-add_classes.ensures.nodes
+    (omega (arith, c.len-here.ensures)) (omega (arith, c.len-end.ensures)) (omega (arith, c.len.ensures)) c.linked.ensures
 
 pub add_classes-returns-clause-classes : goal.add_classes-returns-clause-classes
 add_classes-returns-clause-classes t c =
@@ -58,15 +54,15 @@ add_members-add_members-requires t c =
       (c.requires.others, (omega (arith, c.requires.counted, c.in_ok-push.ensures.len, more, few, c.in_ok-add_below.ensures.classes), omega (arith, c.in_ok-push.ensures.len, more, fits))),
     )
 
-pub add_members-link-node-requires-2 : goal.add_members-link-node-requires-2
-add_members-link-node-requires-2 t c =
+pub add_members-linked-requires : goal.add_members-linked-requires
+add_members-linked-requires t c =
     let column : Column = get_or c.args.columns.now c.in-Some.i no_column in
     let fits = member_fits c.args.depth c.args.columns.now c.args.from c.args.above c.in-Some.i no_column (length c.args.walk.now.nodes.items) c.in-Some.ensures c.requires.fits in
     let more = length-added c.push.new.self.items c.add_below.new.walk.nodes.items (length c.push.new.self.items) c.args.walk.now.classes (walked c.args.depth c.args.columns.now column.place.entry (Some column.place.column)) c.in_ok-add_below.ensures.nodes in
-    omega (arith, c.len-end.ensures, c.in_ok-push.ensures.len, more, fits)
+    record { here = omega (arith, c.len-here.ensures, fits); end = omega (arith, c.len-end.ensures, c.in_ok-push.ensures.len, more, fits) }
 
 pub add_members-returns-clause-nodes : goal.add_members-returns-clause-nodes
 add_members-returns-clause-nodes t c =
     member_written c.args.depth c.args.columns.now c.args.from c.args.above c.in-Some.i no_column c.args.walk.now.nodes.items c.push.new.self.items c.add_below.new.walk.nodes.items c.add_members.new.walk.nodes.items _ c.args.walk.now.classes c.add_below.new.walk.classes
-    c.len-here.result c.len-end.result c.len.result c.link-node.result c.link-node-2.result c.in-Some.ensures c.in_ok-push.ensures.items c.in_ok-add_below.ensures.nodes c.in_ok-add_below.ensures.classes c.in_ok-add_members.ensures.nodes
-    (omega (arith, c.len-here.ensures)) (omega (arith, c.len-end.ensures)) (omega (arith, c.len.ensures)) c.link-node.ensures c.link-node-2.ensures
+    c.len-here.result c.len-end.result c.len.result _ c.in-Some.ensures c.in_ok-push.ensures.items c.in_ok-add_below.ensures.nodes c.in_ok-add_below.ensures.classes c.in_ok-add_members.ensures.nodes
+    (omega (arith, c.len-here.ensures)) (omega (arith, c.len-end.ensures)) (omega (arith, c.len.ensures)) c.linked.ensures
