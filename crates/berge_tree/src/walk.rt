@@ -77,10 +77,10 @@ fn linked(node: Node, here: usize, end: usize, last: usize) -> Node
     requires here { here + 1 < 2 ^ 32 }
     requires end { end < 2 ^ 32 }
     ensures { result ≡ record {
-        kind = node.kind;
-        via = node.via;
-        first_child = link_where (here + 1) end;
-        next_sibling = link_where end last;
+      kind = node.kind;
+      via = node.via;
+      first_child = link_where (here + 1) end;
+      next_sibling = link_where end last;
     } }
 {
     Node {

@@ -1,7 +1,6 @@
 //! The terminals that a rule asks for or begins with.
-use ll_grammars::Terminal;
-
 pub use ll_grammars::NAME;
+use ll_grammars::Terminal;
 
 pub const NEW_NAME: &[Terminal] = &[
     Terminal::As,

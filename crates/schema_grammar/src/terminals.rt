@@ -1,7 +1,6 @@
 //! The sets of terminals at which the reader decides.
-use ll_grammars::Terminal;
-
 pub use ll_grammars::NAME;
+use ll_grammars::Terminal;
 
 pub const NUMBER_TYPE: &[Terminal] = &[
     Terminal::Int,
