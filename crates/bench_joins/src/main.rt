@@ -17,7 +17,7 @@ use hash_join::{Executed, execute};
 use query_types::{Op, Query};
 use reserve_plan::{Reserved, reserve};
 use std::alloc::Global;
-use std::rt::Runtime;
+use std::rt::Clock;
 use std::time::Instant;
 use std::{env, io};
 use tables::{Sizes, database, query};
@@ -67,8 +67,8 @@ fn reserved_for(alloc: Global, sizes: Sizes) -> Result<Reserved, NoMemory>
 }
 
 // One execution, without the reservation before it.
-fn execution<R: Runtime>(
-    rt: &R,
+fn execution(
+    rt: &impl Clock,
     reserved: Reserved,
     sizes: Sizes,
     values: Option<Op>,
@@ -90,8 +90,8 @@ fn execution<R: Runtime>(
     Ok(Joined { nanos, rows, sum })
 }
 
-fn timed<R: Runtime>(
-    rt: &R,
+fn timed(
+    rt: &impl Clock,
     alloc: Global,
     sizes: Sizes,
     values: Option<Op>,

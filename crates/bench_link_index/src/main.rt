@@ -9,7 +9,7 @@ ghost use Rattle.std.specs.Prelude.{◌≡◌, ◌<◌, ◌≤◌, length, vec_l
 use base_io::NoMemory;
 use link_index::Chains;
 use std::alloc::{AllocError, Global};
-use std::rt::Runtime;
+use std::rt::Clock;
 use std::time::Instant;
 use std::{env, io};
 
@@ -74,7 +74,7 @@ fn follow_each(chains: &Chains, keys: &[u64]) -> u64
     sum
 }
 
-fn timed_round<R: Runtime>(rt: &R, chains: &mut Chains, keys: &[u64]) -> io::Result<Round>
+fn timed_round(rt: &impl Clock, chains: &mut Chains, keys: &[u64]) -> io::Result<Round>
     requires few { length keys.now ≤ 4000000 }
     requires room { length keys.now ≤ chains.old.room }
     requires bucket { 1 ≤ chains.old.buckets }
@@ -99,7 +99,7 @@ fn timed_round<R: Runtime>(rt: &R, chains: &mut Chains, keys: &[u64]) -> io::Res
     })
 }
 
-fn measure<R: Runtime>(rt: &R, alloc: Global, count: u64, step: u64) -> io::Result<Round>
+fn measure(rt: &impl Clock, alloc: Global, count: u64, step: u64) -> io::Result<Round>
     requires some { 1 ≤ count }
     requires few { count ≤ 4000000 }
 {

@@ -15,7 +15,7 @@ use limits::MOST_TEXT;
 use schema_types::{Schema, SchemaError, read_schema};
 use sql_parse::{QueryError, read_query};
 use std::alloc::Global;
-use std::rt::Runtime;
+use std::rt::Clock;
 use std::time::Instant;
 use std::{env, io};
 use texts::{SHAPES, Shape, text_of};
@@ -50,7 +50,7 @@ fn read(alloc: Global, schema: &Schema, text: &[u8]) -> Answer
 }
 
 // The least nanoseconds of a reading.
-fn measure<R: Runtime>(rt: &R, alloc: Global, schema: &Schema, text: &[u8]) -> io::Result<u128>
+fn measure(rt: &impl Clock, alloc: Global, schema: &Schema, text: &[u8]) -> io::Result<u128>
     requires valid { IsValid schema.now }
     requires small { length text.now ≤ most_text }
 {

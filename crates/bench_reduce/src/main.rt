@@ -19,7 +19,7 @@ use reducing::{Reduced, timed};
 use schema_types::read_schema;
 use sql_parse::read_query;
 use std::alloc::Global;
-use std::rt::Runtime;
+use std::rt::Clock;
 use std::{env, io};
 use table_files::read_tables;
 use tables::{CHAIN, CYCLE, SCHEMA, chain, cycle};
@@ -27,8 +27,8 @@ use tables::{CHAIN, CYCLE, SCHEMA, chain, cycle};
 const ROUNDS: u32 = 3;
 
 // The least time of a reduction of the scans of a query.
-fn least_of<R: Runtime>(
-    rt: &R,
+fn least_of(
+    rt: &impl Clock,
     alloc: Global,
     text: &str,
     store: &mut MemStore,

@@ -15,7 +15,7 @@ use reduced_planning::scan_entries;
 use reduced_scans::reduce_scans;
 use row_buf::RowBuf;
 use std::alloc::Global;
-use std::rt::Runtime;
+use std::rt::Clock;
 use std::time::Instant;
 
 /// How long scans and reduction took, in nanoseconds, how many rows stay, and the sum of their numbers.
@@ -48,8 +48,8 @@ fn summed(nanos: u128, lists: &[RowBuf<u32>]) -> Reduced {
 }
 
 /// One reduction of the scans of a query.
-pub(crate) fn timed<R: Runtime>(
-    rt: &R,
+pub(crate) fn timed(
+    rt: &impl Clock,
     alloc: Global,
     query: &Query,
     db: &Database,

@@ -17,7 +17,7 @@ use files::{Source, file_of};
 use limits::MOST_FILE;
 use schema_types::{SchemaError, Table, read_schema};
 use std::alloc::Global;
-use std::rt::Runtime;
+use std::rt::Clock;
 use std::time::Instant;
 use std::{env, io};
 
@@ -60,7 +60,7 @@ fn sum_of(columns: &[Seq<u64>]) -> u64 {
 }
 
 // One reading into a new pool.
-fn read_once<R: Runtime>(rt: &R, alloc: Global, table: &Table, bytes: &[u8]) -> io::Result<Measure>
+fn read_once(rt: &impl Clock, alloc: Global, table: &Table, bytes: &[u8]) -> io::Result<Measure>
     requires valid { IsValidTable table.now }
     requires few { length bytes.now ≤ most_file }
 {
@@ -77,8 +77,8 @@ fn read_once<R: Runtime>(rt: &R, alloc: Global, table: &Table, bytes: &[u8]) -> 
 }
 
 // Several readings. A longer file than a table may have is refused.
-fn read_often<R: Runtime>(
-    rt: &R,
+fn read_often(
+    rt: &impl Clock,
     alloc: Global,
     table: &Table,
     bytes: &[u8],

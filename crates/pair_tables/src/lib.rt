@@ -1,12 +1,13 @@
 //! Tables of a filter column and a joined column, for tests and measurements of statistics.
 //!
-//! What comes in are cells, a pool and the filter column's kind; what goes out is a table, of whose columns 0 and 1 callers cite
-//! `HasColumn` of column_stats.
+//! What comes in are cells, a pool and the filter column's kind; what goes out is a table (`table_of`, in `specs/Tables.antt`), of whose
+//! columns 0 and 1 callers cite `HasColumn` of column_stats.
 #![tactic(auto)]
 
-ghost use Rattle.std.specs.Prelude.{All, IfOk, IsTrue};
+ghost use Rattle.std.specs.Prelude.{◌≡◌, ◌↔◌, All, IfOk, IsTrue};
 ghost use Rattle.csv_tables.specs.Cells.{IsCell};
 ghost use Rattle.column_stats.specs.Pairs.{HasColumn};
+ghost use Rattle.pair_tables.specs.Tables.{table_of};
 
 use base_io::{NoMemory, Seq};
 use csv_tables::{Cells, Pool};
@@ -16,7 +17,7 @@ use std::alloc::Global;
 
 /// Whether each is a cell of the kind.
 pub fn are_cells(pool: &Pool, kind: Kind, cells: &[u64]) -> bool
-    ensures { IsTrue result → All (IsCell pool.now kind) cells.now }
+    ensures { IsTrue result ↔ All (IsCell pool.now kind) cells.now }
 {
     let texts = pool.len() as u64;
     match kind {
@@ -34,6 +35,7 @@ pub fn table_of_pair(
     filter: &[u64],
     joined: &[u64],
 ) -> Result<Cells, NoMemory>
+    ensures table { IfOk result (λ cells. cells ≡ table_of kind filter.now joined.now) }
     ensures filter { IfOk result (λ cells. HasColumn pool.now cells 0) }
     ensures joined { IfOk result (λ cells. HasColumn pool.now cells 1) }
 {
