@@ -150,14 +150,12 @@ fn answers(alloc: Global, tables: &str, texts: &str) -> Result<String, AllocErro
     Ok(out)
 }
 
-// A text in three parts, the middle one written several times.
-fn repeated(alloc: Global, parts: [&str; 3], count: usize) -> Result<String, AllocError> {
-    let [front, part, back] = parts;
+// A text, and behind it another one several times.
+fn repeated(alloc: Global, front: &str, part: &str, count: usize) -> Result<String, AllocError> {
     let mut out = String::from_str(alloc, front)?;
     for _ in 0..count {
         out.push_str(part)?;
     }
-    out.push_str(back)?;
     Ok(out)
 }
 
@@ -231,28 +229,35 @@ Name 7
     Ok(())
 }
 
-// The answer to a text in three parts, the middle one written several times.
-fn answer_to(alloc: Global, parts: [&str; 3], count: usize) -> Result<String, AllocError> {
-    let text = repeated(alloc, parts, count)?;
+// The answer to a text with one part of it written several times.
+fn answer_to(
+    alloc: Global,
+    front: &str,
+    part: &str,
+    count: usize,
+    back: &str,
+) -> Result<String, AllocError> {
+    let mut text = repeated(alloc, front, part, count)?;
+    text.push_str(back)?;
     answers(alloc, R_AND_S, text.as_str())
 }
 
 #[test]
 fn limits_are_met(rt: HostRuntime) -> Result<(), Fail> {
     let alloc = rt.alloc();
-    let deep = answer_to(alloc, ["SELECT X FROM R WHERE ", "(", ""], 65)?;
+    let deep = answer_to(alloc, "SELECT X FROM R WHERE ", "(", 65, "")?;
     assert_eq!(rt; deep.as_str(), "Nesting 65\n");
-    let parts = ["SELECT R.X FROM R JOIN S ON 1=1", " AND 1=1", " WHERE 1=1"];
-    let joined = repeated(alloc, parts, 200)?;
-    let few = answer_to(alloc, [joined.as_str(), " AND 2=2", ""], 54)?;
+    let mut joined = repeated(alloc, "SELECT R.X FROM R JOIN S ON 1=1", " AND 1=1", 200)?;
+    joined.push_str(" WHERE 1=1")?;
+    let few = answer_to(alloc, joined.as_str(), " AND 2=2", 54, "")?;
     assert_eq!(rt; few.as_str(), "many\n");
-    let many = answer_to(alloc, [joined.as_str(), " AND 2=2", ""], 55)?;
+    let many = answer_to(alloc, joined.as_str(), " AND 2=2", 55, "")?;
     assert_eq!(rt; many.as_str(), "Conjuncts 257\n");
-    let list = answer_to(alloc, ["SELECT X FROM R WHERE X IN (1", ",1", ")"], 1000)?;
+    let list = answer_to(alloc, "SELECT X FROM R WHERE X IN (1", ",1", 1000, ")")?;
     assert_eq!(rt; list.as_str(), "InValues 1001\n");
-    let few = answer_to(alloc, ["SELECT X", ", R.*", " FROM R"], 1023)?;
+    let few = answer_to(alloc, "SELECT X", ", R.*", 1023, " FROM R")?;
     assert_eq!(rt; few.as_str(), "many\n");
-    let many = answer_to(alloc, ["SELECT X", ", R.*", " FROM R"], 1024)?;
+    let many = answer_to(alloc, "SELECT X", ", R.*", 1024, " FROM R")?;
     assert_eq!(rt; many.as_str(), "Outputs 1025\n");
     Ok(())
 }
