@@ -1,6 +1,8 @@
 // The plain side of bench/bushy-plan: the best join tree of twelve entries, by the same two tables over sets and the
 // same splits, in safe Rust. Prints what was chosen, and the least nanoseconds of 10 choices.
-use std::time::Instant;
+mod twelve_entries;
+
+use twelve_entries::{all_bounds, least_time};
 
 const COUNT: usize = 12;
 const ROUNDS: u32 = 10;
@@ -55,21 +57,13 @@ fn choose(bounds: &[u128]) -> (u128, Vec<Join>) {
 }
 
 fn main() {
-    for (name, step, limit) in [("equal", 0, 1), ("ascending", 1, 1_000_000), ("mixed", 2_654_435_761, 1_000_003)] {
-        let bounds: Vec<u128> = (0..4096u64).map(|set| (set.wrapping_mul(step) % limit) as u128).collect();
+    for (name, bounds) in all_bounds() {
         let (cost, joins) = choose(&bounds);
         print!("{name} {cost}");
         for (left, right, bound) in joins {
             print!(" {left} {right} {bound}");
         }
         println!();
-        let mut least = u128::MAX;
-        for _ in 0..ROUNDS {
-            let start = Instant::now();
-            let plan = choose(std::hint::black_box(&bounds));
-            std::hint::black_box(plan);
-            least = least.min(start.elapsed().as_nanos());
-        }
-        eprintln!("{least}");
+        eprintln!("{}", least_time(ROUNDS, &bounds, choose));
     }
 }

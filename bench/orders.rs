@@ -1,6 +1,8 @@
 // The plain side of bench/orders: the best order of twelve entries, by the same two tables over the sets of
 // entries that are left, in safe Rust. Prints what was chosen, and the least nanoseconds of 50 choices.
-use std::time::Instant;
+mod twelve_entries;
+
+use twelve_entries::{all_bounds, least_time};
 
 const COUNT: u32 = 12;
 const ROUNDS: u32 = 50;
@@ -40,17 +42,9 @@ fn choose(bounds: &[u128]) -> (Vec<u8>, Vec<u64>) {
 }
 
 fn main() {
-    for (name, step, limit) in [("equal", 0, 1), ("ascending", 1, 1_000_000), ("mixed", 2_654_435_761, 1_000_003)] {
-        let bounds: Vec<u128> = (0..4096u64).map(|set| (set.wrapping_mul(step) % limit) as u128).collect();
+    for (name, bounds) in all_bounds() {
         let (order, levels) = choose(&bounds);
         println!("{name} {order:?} {levels:?}");
-        let mut least = u128::MAX;
-        for _ in 0..ROUNDS {
-            let start = Instant::now();
-            let plan = choose(std::hint::black_box(&bounds));
-            std::hint::black_box(plan);
-            least = least.min(start.elapsed().as_nanos());
-        }
-        eprintln!("{least}");
+        eprintln!("{}", least_time(ROUNDS, &bounds, choose));
     }
 }
