@@ -39,7 +39,6 @@ bench: build
 	@cd crates/bench_joins && rt run -- time > build.log 2>&1 || { cat build.log; exit 1; }
 	@cd crates/bench_stats && rt run -- time > build.log 2>&1 || { cat build.log; exit 1; }
 	@cd crates/bench_stats_file && rt run -- time > build.log 2>&1 || { cat build.log; exit 1; }
-	@cd crates/bench_gather && rt run -- time > build.log 2>&1 || { cat build.log; exit 1; }
 	@cd crates/bench_reduce && rt run -- time > build.log 2>&1 || { cat build.log; exit 1; }
 	bench/one-table
 	bench/degrees

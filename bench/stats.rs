@@ -103,7 +103,6 @@ struct FilterColumn<'a> {
     cells: &'a [u64],
     places: Vec<u32>,
     groups: Vec<Group>,
-    cuts: Vec<u64>,
     starts: Vec<u32>,
 }
 
@@ -150,7 +149,9 @@ impl<'a> FilterColumn<'a> {
         }
         groups.sort_unstable_by_key(|group| (u32::MAX - group.count, group.first));
         let n = places.len();
-        let cuts = if n == 0 { Vec::new() } else { (0..32).map(|i| cells[places[n * i / 32] as usize]).collect() };
+        // They are made on both sides, and no list here asks for them.
+        let cuts: Vec<u64> = if n == 0 { Vec::new() } else { (0..32).map(|i| cells[places[n * i / 32] as usize]).collect() };
+        std::hint::black_box(&cuts);
         let starts = (0..33)
             .map(|leaf| match leaf {
                 0 => 0,
@@ -162,7 +163,7 @@ impl<'a> FilterColumn<'a> {
                 }
             })
             .collect();
-        FilterColumn { cells, places, groups, cuts, starts }
+        FilterColumn { cells, places, groups, starts }
     }
 
     fn keys_at(&self, joined: &[u64], from: u32, to: u32) -> Vec<u64> {
@@ -216,10 +217,6 @@ impl<'a> FilterColumn<'a> {
         let size = [1, 2, 4, 8, 16].iter().copied().find(|size| low / size == high / size).unwrap_or(32);
         self.list_of_node(joined, size, low, accuracy)
     }
-
-    fn leaf_of_int(&self, value: i64) -> usize {
-        self.cuts.iter().rposition(|cut| *cut as i64 <= value).unwrap_or(0)
-    }
 }
 
 /// All lists of a pair of columns.
@@ -258,42 +255,6 @@ fn unequal(bits: u64) -> u64 {
     (bits & 0xffff_ffff) >> (32 - (bits >> 58) % 22)
 }
 
-/// The columns of the shop that the lists of its query are made of.
-struct Shop {
-    product: [Vec<u64>; 2],
-    item: [Vec<u64>; 2],
-    orders: [Vec<u64>; 3],
-    customer: [Vec<u64>; 2],
-}
-
-fn shop(number: u64) -> Shop {
-    let column = |rows: u64, cell: &dyn Fn(u64) -> u64| (0..rows).map(cell).collect::<Vec<u64>>();
-    Shop {
-        product: [column(20_000, &|i| i), column(20_000, &|i| i % 4)],
-        item: [
-            column(400_000, &|i| (3 * i + number) % 200_000),
-            column(400_000, &|i| if i % 2 == 0 { i / 2 % 10 } else { i / 2 % 20_000 }),
-        ],
-        orders: [column(200_000, &|i| i), column(200_000, &|i| (7 * i + number) % 50_000), column(200_000, &|i| i % 100)],
-        customer: [column(50_000, &|i| i), column(50_000, &|i| (i + number) % 10)],
-    }
-}
-
-/// The lists of the shop's query: all rows of each joined column, and what the conditions ask for.
-fn shop_lists(shop: &Shop) -> usize {
-    let mut runs = 0;
-    let kinds = FilterColumn::new(&Kind::Int, &shop.product[1]);
-    runs += whole_list(&shop.product[0], 1).len() + kinds.list_of_value(&shop.product[0], 0, 1).len();
-    runs += whole_list(&shop.item[0], 1).len() + whole_list(&shop.item[1], 1).len();
-    let days = FilterColumn::new(&Kind::Int, &shop.orders[2]);
-    let (low, high) = (days.leaf_of_int(25), days.leaf_of_int(49));
-    for joined in &shop.orders[..2] {
-        runs += whole_list(joined, 1).len() + days.list_of_range(joined, low, high, 1).len();
-    }
-    let regions = FilterColumn::new(&Kind::Int, &shop.customer[1]);
-    runs + whole_list(&shop.customer[0], 1).len() + regions.list_of_value(&shop.customer[0], 3, 1).len()
-}
-
 fn measured(name: &str, call: impl Fn() -> usize) {
     let mut least = u128::MAX;
     let mut runs = 0;
@@ -325,6 +286,4 @@ fn main() {
         measured(&format!("{name}-gather"), || gather(&kind, &filter, &joined, 1));
         measured(&format!("{name}-demand"), || on_demand(&kind, &filter, &joined, 1));
     }
-    let shop = shop(7);
-    measured("shop", || shop_lists(&shop));
 }

@@ -35,6 +35,3 @@ pub use seq::Seq;
 pub use sink::Sink;
 pub use store::Store;
 pub use write::{write_all, write_parts};
-
-#[cfg(test)]
-mod tests;

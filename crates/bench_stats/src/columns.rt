@@ -1,6 +1,4 @@
-//! The columns of bench/stats.rs: those of three kinds, and those of a shop.
-ghost use Rattle.std.specs.Prelude.{◌≤◌};
-
+//! The columns of bench/stats.rs.
 use base_io::NoMemory;
 use csv_tables::Pool;
 use std::alloc::Global;
@@ -83,70 +81,4 @@ pub fn texts(alloc: Global) -> Result<Pool, NoMemory> {
         }
     }
     Ok(pool)
-}
-
-/// The columns of the shop that the lists of its query are made of.
-#[derive(Drop)]
-pub struct Shop {
-    pub product: Pair,
-    pub items: Pair,
-    pub days: Pair,
-    pub customers_of_orders: Vec<u64>,
-    pub customer: Pair,
-}
-
-fn column<F: Fn(u64) -> u64>(alloc: Global, rows: u64, cell: F) -> Result<Vec<u64>, NoMemory>
-    requires { F.IsAlwaysCallable cell }
-{
-    let mut cells = Vec::new(alloc);
-    for i in 0..rows {
-        cells.push(cell(i))?;
-    }
-    Ok(cells)
-}
-
-/// The shop with every table `scale` hundredths as large as it is. For the items `filter` is the order and `joined` the product.
-pub fn shop_columns(alloc: Global, scale: u64) -> Result<Shop, NoMemory>
-    requires { scale ≤ 100 }
-{
-    let product = Pair {
-        filter: column(alloc, 200 * scale, |i| i % 4)?,
-        joined: column(alloc, 200 * scale, |i| i)?,
-    };
-    let items = Pair {
-        filter: column(
-            alloc,
-            4000 * scale,
-            |i| i.wrapping_mul(3).wrapping_add(7) % 200_000,
-        )?,
-        joined: column(
-            alloc,
-            4000 * scale,
-            |i| if i % 2 == 0 {
-                i / 2 % 10
-            } else {
-                i / 2 % 20_000
-            },
-        )?,
-    };
-    let days = Pair {
-        filter: column(alloc, 2000 * scale, |i| i % 100)?,
-        joined: column(alloc, 2000 * scale, |i| i)?,
-    };
-    let customers_of_orders = column(
-        alloc,
-        2000 * scale,
-        |i| i.wrapping_mul(7).wrapping_add(7) % 50_000,
-    )?;
-    let customer = Pair {
-        filter: column(alloc, 500 * scale, |i| i.wrapping_add(7) % 10)?,
-        joined: column(alloc, 500 * scale, |i| i)?,
-    };
-    Ok(Shop {
-        product,
-        items,
-        days,
-        customers_of_orders,
-        customer,
-    })
 }

@@ -19,6 +19,3 @@ mod texts;
 
 pub use laws::{examples, files_are_read_back, files_by_name};
 pub use store::demo_store;
-
-#[cfg(test)]
-mod tests;

@@ -11,6 +11,3 @@ mod laws;
 pub use entry_set::EntrySet;
 pub use iter::Entries;
 pub use laws::{a_set_has_its_entries, examples};
-
-#[cfg(test)]
-mod tests;

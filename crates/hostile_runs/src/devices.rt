@@ -41,10 +41,11 @@ const SOUND: Failing = Failing {
     notes: 0,
 };
 
-// What a run answered and wrote.
+// What a run answered and wrote, and how often it called the store.
 #[derive(Debug, Drop)]
 struct Ran {
     code: u8,
+    calls: u64,
     notes: Vec<u8>,
     out: Vec<u8>,
 }
@@ -80,11 +81,13 @@ fn code<S: Store, O: Sink, N: Sink>(
 fn what_was_written(
     alloc: Global,
     code: u8,
+    calls: u64,
     out: &MemSink,
     notes: &MemSink,
 ) -> Result<Ran, NoMemory> {
     Ok(Ran {
         code,
+        calls,
         notes: Vec::from_slice(alloc, notes.written())?,
         out: Vec::from_slice(alloc, out.written())?,
     })
@@ -95,7 +98,7 @@ fn run_whole(alloc: Global, failing: Failing) -> Result<Ran, NoMemory> {
     let mut out = sink(alloc, failing.out)?;
     let mut notes = sink(alloc, failing.notes)?;
     let code = code(alloc, &mut store, &mut out, &mut notes);
-    what_was_written(alloc, code, &out, &notes)
+    what_was_written(alloc, code, store.calls, &out, &notes)
 }
 
 // A run over devices that hand on one byte a call.
@@ -104,7 +107,7 @@ fn run_slowly(alloc: Global, failing: Failing) -> Result<Ran, NoMemory> {
     let mut out = SlowSink::new(sink(alloc, failing.out)?, 1);
     let mut notes = SlowSink::new(sink(alloc, failing.notes)?, 1);
     let code = code(alloc, &mut store, &mut out, &mut notes);
-    what_was_written(alloc, code, &out.inner, &notes.inner)
+    what_was_written(alloc, code, store.inner.calls, &out.inner, &notes.inner)
 }
 
 fn run(alloc: Global, slowly: bool, failing: Failing) -> Result<Ran, NoMemory> {
@@ -141,6 +144,16 @@ fn read_answers(alloc: Global, slowly: bool) -> Result<Vec<u8>, NoMemory> {
         }
     }
     Ok(told)
+}
+
+// A file takes a call for each transfer, and one that finds its end. The four files have 148 bytes.
+#[test]
+fn each_file_is_read_once(rt: HostRuntime) -> Result<(), Fail> {
+    for (slowly, calls) in [(false, 8), (true, 152)] {
+        let ran = run(rt.alloc(), slowly, SOUND)?;
+        assert_eq!(rt; ran.calls, calls, "slowly: {slowly}");
+    }
+    Ok(())
 }
 
 #[test]

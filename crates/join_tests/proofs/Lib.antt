@@ -1,3 +1,1 @@
-mod Fitting
-mod TwoTables
 mod TreeNodes

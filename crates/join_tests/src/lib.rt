@@ -1,17 +1,12 @@
-//! Tests of meaning, planning and joining: what a query means, bounds and plans, levels, join trees, rows and audits of small tables.
+//! Tests of calls that the program doesn't make: the choices that a query means, the bounds of all sets, and join trees with their rows. All
+//! are over three tables that are joined in a triangle.
 //!
 //! They stand apart from what they test, so that no crate below is proved a second time for its tests.
 #![tactic(auto)]
 
 #[cfg(test)]
-mod joins;
-#[cfg(test)]
-mod meaning;
-#[cfg(test)]
-mod planned;
-#[cfg(test)]
-mod texts;
+mod bounds;
 #[cfg(test)]
 mod trees;
 #[cfg(test)]
-mod two_tables;
+mod triangle;

@@ -9,7 +9,7 @@ ghost use Rattle.planned_joins.specs.PlansOf.{HaveFewRows};
 ghost use Rattle.tree_rows.specs.Nodes.{node_at};
 ghost use Rattle.join_tests.specs.Examples.{HasNodes};
 
-use crate::{meaning, two_tables};
+use crate::triangle::{database, query};
 use base_io::NoMemory;
 use bushy_join::execute_bushy;
 use bushy_plan::BushyError;
@@ -80,18 +80,18 @@ fn join(left: u8, right: u8, bound: u64) -> Join {
     Join { left, right, bound }
 }
 
-fn triangle(alloc: Global) -> Result<JoinedTree, Failed>
+fn best_tree(alloc: Global) -> Result<JoinedTree, Failed>
     ensures { IfOk result (λ joined. HasNodes 3 joined.done) }
 {
-    let query = meaning::query(alloc)?;
-    let db = meaning::database(alloc)?;
+    let query = query(alloc)?;
+    let db = database(alloc)?;
     joined(alloc, &query, &db)
 }
 
 #[test]
 fn a_triangle_is_joined_by_its_best_tree(rt: HostRuntime) -> Result<(), Failed> {
     let alloc = rt.alloc();
-    let JoinedTree { plan, done } = triangle(alloc)?;
+    let JoinedTree { plan, done } = best_tree(alloc)?;
     assert_eq!(rt; plan.scans.as_slice(), [3, 3, 3].as_slice());
     assert_eq!(rt;
         plan.joins.as_slice(),
@@ -108,31 +108,6 @@ fn a_triangle_is_joined_by_its_best_tree(rt: HostRuntime) -> Result<(), Failed> 
     assert_eq!(rt;
         rows_of(alloc, &done, 4, 3)?.as_slice(),
         [0, 0, 0, 0, 1, 1, 1, 0, 2, 2, 2, 0].as_slice()
-    );
-    Ok(())
-}
-
-fn pair(alloc: Global) -> Result<JoinedTree, Failed>
-    ensures { IfOk result (λ joined. HasNodes 2 joined.done) }
-{
-    let query = two_tables::query(alloc)?;
-    let db = two_tables::database(alloc)?;
-    joined(alloc, &query, &db)
-}
-
-#[test]
-fn a_pair_is_joined_by_its_only_tree(rt: HostRuntime) -> Result<(), Failed> {
-    let alloc = rt.alloc();
-    let JoinedTree { plan, done } = pair(alloc)?;
-    assert_eq!(rt; plan.scans.as_slice(), [6, 5].as_slice());
-    assert_eq!(rt; plan.joins.as_slice(), [join(0, 1, 12)].as_slice());
-    assert_eq!(rt;
-        rows_of(alloc, &done, 1, 2)?.as_slice(),
-        [9, 0, 9, 1, 9, 2, 9, 3, 9, 4].as_slice()
-    );
-    assert_eq!(rt;
-        rows_of(alloc, &done, 2, 2)?.as_slice(),
-        [0, 0, 0, 1, 1, 0, 1, 1, 2, 0, 2, 1].as_slice()
     );
     Ok(())
 }

@@ -1,16 +1,14 @@
-//! What tests of orders and of join trees share.
+//! What is asked, and why nothing is chosen.
 ghost use Rattle.std.specs.Prelude.{◌≡◌, ◌^◌, ◌≤◌};
 ghost use Rattle.limits.specs.Profile.{most_entries};
 
 use bushy_plan::BushyError;
-use order_search::PlanError;
 use std::alloc::{AllocError, AllocFailed};
 
 #[derive(Debug, Drop)]
 pub enum Fail {
     // The test asks for what a choice has no answer to, or memory is wanting.
     Unfit,
-    NoOrder(PlanError),
     NoTree(BushyError),
 }
 
@@ -23,12 +21,6 @@ impl From<AllocError> for Fail {
 impl<T: Drop> From<AllocFailed<T>> for Fail {
     fn from(_: AllocFailed<T>) -> Self {
         Fail::Unfit
-    }
-}
-
-impl From<PlanError> for Fail {
-    fn from(error: PlanError) -> Self {
-        Fail::NoOrder(error)
     }
 }
 

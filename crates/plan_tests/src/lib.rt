@@ -1,11 +1,10 @@
-//! Tests of order_search and bushy_plan: the best order and the best join tree over given bounds.
+//! Tests of bushy_plan: the best join tree over given bounds. Orders over given bounds are worked examples of order_search, and bench_orders
+//! writes those of twelve entries.
 //!
-//! They stand above both, so that neither is proved a second time for its tests.
+//! They stand above it, so that it is not proved a second time for its tests.
 #![tactic(auto)]
 
 #[cfg(test)]
 mod choosing;
-#[cfg(test)]
-mod orders;
 #[cfg(test)]
 mod trees;

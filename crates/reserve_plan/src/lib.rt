@@ -36,6 +36,3 @@ pub fn examples()
     ensures row { two_entries.row ≡ 2 }
     ensures keys { two_entries.keys ≡ 6 }
 {}
-
-#[cfg(test)]
-mod tests;

@@ -35,28 +35,3 @@ impl<W: Write> Sink for StreamSink<W> {
         }
     }
 }
-
-#[cfg(test)]
-mod tests {
-    use super::*;
-    use base_io::write_all;
-    use std::test::Fail;
-    use std::{env, fs};
-
-    // A real stream takes a text whole; one that takes nothing fails, and the failure is counted.
-    #[test]
-    fn real_streams_take_texts_and_failures_are_counted(rt: HostRuntime) -> Result<(), Fail> {
-        let alloc = rt.alloc();
-        let path = env::temp_dir(&rt)?.join(alloc, "safebound-stream-sink-test")?;
-        let mut sink = StreamSink::new(fs::create(&rt, path.as_str())?);
-        write_all(&mut sink, b"scan R 6\n")?;
-        assert_eq!(rt; sink.faults, 0);
-        let written = fs::read(&rt, path.as_str())?;
-        assert_eq!(rt; written.as_slice(), b"scan R 6\n".as_slice());
-        fs::remove_file(&rt, path.as_str())?;
-        let mut full = StreamSink::new(fs::create(&rt, "/dev/full")?);
-        assert!(rt; write_all(&mut full, b"scan R 6\n").is_err());
-        assert_eq!(rt; full.faults, 1);
-        Ok(())
-    }
-}

@@ -23,6 +23,3 @@ pub use command::{Command, WordsError};
 pub use laws::{one_command, one_reading};
 pub use table::{CommandName, FlagName, OptionName};
 pub use words::read_words;
-
-#[cfg(test)]
-mod tests;

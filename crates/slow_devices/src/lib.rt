@@ -10,6 +10,3 @@ mod slow_store;
 
 pub use slow_sink::SlowSink;
 pub use slow_store::SlowStore;
-
-#[cfg(test)]
-mod tests;

@@ -1,0 +1,1 @@
+SELECT S.*, T AS U, Y Z FROM R AS A JOIN S ON A.X = S.X WHERE 2 >= Y AND NOT (NOT T <> 'b')

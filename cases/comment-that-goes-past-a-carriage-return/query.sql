@@ -1,0 +1,2 @@
+select v from n where V=-- c'no'
+'it''s'

@@ -1,0 +1,1 @@
+SELECT R.A, S.B FROM R, S WHERE R.A = S.A AND R.A = S.A AND (R.A = S.A OR R.B = S.B) AND NOT R.B = S.B AND S.A = 7 AND R.A = R.B AND 1 = 1 AND R.B < S.B

@@ -1,0 +1,1 @@
+SELECT R.A, R.B, S.A, S.B FROM R, S WHERE R.A = S.A AND R.B = S.B

@@ -1,0 +1,1 @@
+SELECT S.X FROM S, T WHERE S.Y = T.Y

@@ -1,0 +1,1 @@
+SELECT A.N FROM S AS A, R, S AS B

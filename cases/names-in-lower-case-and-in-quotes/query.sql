@@ -1,0 +1,1 @@
+select Key total_1, "order" FROM r

@@ -1,0 +1,1 @@
+SELECT X FROM R WHERE X = 1 AND (X = 2 OR X = 3) OR X = 2

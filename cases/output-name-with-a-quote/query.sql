@@ -1,0 +1,1 @@
+SELECT X AS "a""b", X FROM R WHERE X >= 3

@@ -1,0 +1,1 @@
+SELECT R.X FROM R, S, T WHERE R.X = S.X AND S.Y = T.Y

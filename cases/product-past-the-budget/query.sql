@@ -1,0 +1,1 @@
+SELECT A.X FROM R AS A, R AS B

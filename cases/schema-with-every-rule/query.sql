@@ -1,0 +1,1 @@
+SELECT x, "a""b", KEY, NO, S.ACTION FROM R, S WHERE S.ACTION = R.x

@@ -1,0 +1,1 @@
+SELECT X FROM T WHERE X < 'b'

@@ -1,0 +1,1 @@
+SELECT X FROM R WHERE 1 = 1 AND 'a' = 2

@@ -1,0 +1,1 @@
+SELECT X FROM R WHERE X = 7 OR X = 8

@@ -1,0 +1,1 @@
+SELECT X FROM R WHERE 'a' < X OR Y = 1

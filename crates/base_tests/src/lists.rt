@@ -1,0 +1,80 @@
+//! Lists, names, sets, degree lists and pieces.
+use base_io::{Boxed, Name, NoMemory, Seq};
+use counted_sets::{Use, reduce};
+use degree_lists::falling;
+use entry_sets::EntrySet;
+use piece_compress::{compress, pieces_at_most};
+use piece_math::Pieces;
+use std::alloc::Global;
+use std::test::Fail;
+
+#[test]
+fn lists_and_names(rt: HostRuntime) -> Result<(), Fail> {
+    let mut items = Seq::from_vec(Vec::from_slice(rt.alloc(), b"ab")?);
+    items.push(99)?;
+    assert_eq!(rt; items.replace(0, 120), 97);
+    assert_eq!(rt; items.pop(), Some(99));
+    assert_eq!(rt; items.as_slice(), b"xb".as_slice());
+    assert_eq!(rt; Boxed::new(rt.alloc(), 7_u8)?.into_inner(), 7);
+    assert_eq!(rt; Name::from_str(rt.alloc(), "r.csv")?.as_str(), "r.csv");
+    Ok(())
+}
+
+#[test]
+fn sets_gain_and_lose_entries(rt: HostRuntime) {
+    let set = EntrySet::empty().with(3).with(15).with(3).without(15);
+    assert_eq!(rt; set.bits(), 8);
+    let mut entries = EntrySet::from_bits(0b1000_0000_0000_0101).entries();
+    for entry in [Some(0), Some(2), Some(15), None] {
+        assert_eq!(rt; entries.next(), entry);
+    }
+}
+
+// The degree list of these keys, and the first and the second number of its compression.
+fn degrees(alloc: Global) -> Result<Seq<u64>, NoMemory> {
+    falling(alloc, &[8, 8, 8, 8, 8, 2, 2, 2, 5])
+}
+
+fn compressed(alloc: Global) -> Result<Pieces, NoMemory> {
+    compress(alloc, &[5, 3, 1], 1)
+}
+
+#[test]
+fn counts_fall(rt: HostRuntime) -> Result<(), Fail> {
+    assert_eq!(rt; degrees(rt.alloc())?.as_slice(), [5, 3, 1].as_slice());
+    let pieces = compressed(rt.alloc())?;
+    assert_eq!(rt; (pieces.total(), pieces.pieces().len()), (9, 2));
+    assert_eq!(rt; pieces_at_most(5, 1), 4);
+    Ok(())
+}
+
+// The totals of the greater of 3, 1 and 2, 2, 1 by rank, of their sum and of their product.
+fn totals(alloc: Global) -> Result<[u128; 3], NoMemory> {
+    let short = Pieces::from_list(alloc, &[3, 1])?;
+    let long = Pieces::from_list(alloc, &[2, 2, 1])?;
+    let greater = short.greater(&long)?.total();
+    let sum = short.sum(&long)?.total();
+    Ok([greater, sum, short.product(&long)?.total()])
+}
+
+#[test]
+fn lists_are_combined_by_rank(rt: HostRuntime) -> Result<(), Fail> {
+    assert_eq!(rt; totals(rt.alloc())?, [6, 9, 8]);
+    Ok(())
+}
+
+fn item(item: u32, gives: u32, needs: u32) -> Use {
+    Use { item, gives, needs }
+}
+
+// Item 1 needs what nobody gives, item 0 what item 1 gives; item 2 gives for itself, and item 3 needs nothing.
+fn marks(alloc: Global) -> Result<Vec<bool>, NoMemory> {
+    reduce(alloc, 4, 4, &[item(0, 0, 1), item(1, 1, 2), item(2, 3, 3)])
+}
+
+#[test]
+fn items_go_one_after_another(rt: HostRuntime) -> Result<(), Fail> {
+    let marks = marks(rt.alloc())?;
+    assert!(rt; marks.as_slice() == [false, false, true, true].as_slice());
+    Ok(())
+}

@@ -1,0 +1,68 @@
+//! Row buffers, chains, linked rows and what is reserved.
+use base_io::NoMemory;
+use link_index::{Chains, Link, RowForest};
+use reserve_plan::reserve;
+use row_buf::RowBuf;
+use std::alloc::Global;
+use std::test::Fail;
+
+#[test]
+fn reserved_rows_are_pushed(rt: HostRuntime) -> Result<(), Fail> {
+    let mut rows = RowBuf::new(rt.alloc());
+    rows.reserve(2)?;
+    rows.push(5);
+    rows.push(7);
+    assert!(rt; !rows.has_spare());
+    rows.set(0, 6);
+    assert_eq!(rt; rows.as_slice(), [6, 7].as_slice());
+    rows.clear();
+    rows.fill(1, 9);
+    rows.extend(&[4]);
+    assert_eq!(rt; rows.as_slice(), [9, 4].as_slice());
+    Ok(())
+}
+
+// The first place of 7, and those behind it, among 7, 9, 7, 7, and among 8, 7, which are loaded in their place.
+fn places_of_seven(alloc: Global) -> Result<[Option<u32>; 4], NoMemory> {
+    let mut chains = Chains::new(alloc);
+    chains.reserve(4, 3)?;
+    chains.load(&[7, 9, 7, 7]);
+    let (first, next) = (chains.first(7), chains.after(0, 7));
+    chains.load(&[8, 7]);
+    Ok([first, next, chains.first(7), chains.after(1, 7)])
+}
+
+#[test]
+fn chains_ascend(rt: HostRuntime) -> Result<(), Fail> {
+    assert_eq!(rt; places_of_seven(rt.alloc())?, [Some(0), Some(2), Some(1), None]);
+    Ok(())
+}
+
+// The rows of the second link of the second level.
+fn linked(alloc: Global) -> Result<[u32; 2], NoMemory> {
+    let mut forest = RowForest::reserve(alloc, &[1, 2])?;
+    forest.add(0, Link { parent: 0, row: 5 });
+    forest.add(1, Link { parent: 0, row: 3 });
+    forest.add(1, Link { parent: 0, row: 8 });
+    let mut rows = [0, 0];
+    forest.rows_of(1, 1, &mut rows);
+    Ok(rows)
+}
+
+#[test]
+fn a_row_leads_to_those_above_it(rt: HostRuntime) -> Result<(), Fail> {
+    assert_eq!(rt; linked(rt.alloc())?, [5, 8]);
+    Ok(())
+}
+
+// How many scans and chains stand ready for two entries.
+fn reserved(alloc: Global) -> Result<(usize, usize), NoMemory> {
+    let reserved = reserve(alloc, &[1, 0], &[6, 0], &[0, 12])?;
+    Ok((reserved.scans.len(), reserved.chains.len()))
+}
+
+#[test]
+fn two_entries_are_reserved(rt: HostRuntime) -> Result<(), Fail> {
+    assert_eq!(rt; reserved(rt.alloc())?, (2, 1));
+    Ok(())
+}

@@ -1,5 +1,0 @@
-use Rattle.level_bounds.proofs.CellKeys.{characters_differ}
-use Rattle.filter_tests.proofs.asked.ask.Goals as goal
-
-pub returns-clause-texts : goal.returns-clause-texts
-returns-clause-texts c = characters_differ c.in_ok-db.db.pool c.in_ok-db.ensures.texts c.in_ok-db.ensures.different

@@ -1,0 +1,17 @@
+use Rattle.std.proofs.Common.{◌≡◌, sym, subst}
+use Rattle.csv_tables.specs.declared.types.Database.{Database}
+use Rattle.query_types.specs.declared.types.Query.{Query}
+use Rattle.sql_meaning.specs.Databases.{IsDatabaseOf}
+use Rattle.sql_meaning.specs.Examples.{triangle, triangle_tables}
+use Rattle.sql_meaning.proofs.Worked.{triangle_fits}
+use Rattle.join_tests.proofs.bounds.bounds.Goals as goal
+
+fits_still : (query : Query) (db : Database) → query ≡ triangle → db ≡ triangle_tables → IsDatabaseOf query db
+fits_still query db same like =
+    subst (λ (q : Query). IsDatabaseOf q db) (sym same) (subst (λ (d : Database). IsDatabaseOf triangle d) (sym like) triangle_fits)
+
+pub scan_bounds-requires-clause-database : goal.scan_bounds-requires-clause-database
+scan_bounds-requires-clause-database c = fits_still c.in_ok-query.query c.in_ok-db.db c.in_ok-query.ensures c.in_ok-db.ensures
+
+pub subset_bounds-requires-clause-database : goal.subset_bounds-requires-clause-database
+subset_bounds-requires-clause-database c = fits_still c.in_ok-query.query c.in_ok-db.db c.in_ok-query.ensures c.in_ok-db.ensures

@@ -1,0 +1,51 @@
+//! What one text is answered.
+ghost use Rattle.stats_file.specs.Rules.{KeepsRules};
+
+use base_io::{MemSink, Seq};
+use limits::{MOST_FILE, MOST_TEXT};
+use schema_types::{Schema, read_schema};
+use stats_file::{StatsError, StatsFile, write_stats};
+use stats_reading::read_stats;
+use std::alloc::Global;
+
+/// What a text over a schema is answered.
+#[derive(Clone, Copy, Debug)]
+pub enum Verdict {
+    Read,
+    Changed,
+    Syntax(u32),
+    Rule(u32),
+    Other,
+}
+
+// Whether a file is written as these bytes.
+fn is_written(alloc: Global, file: &StatsFile, schema: &Schema, bytes: &[u8]) -> bool
+    requires { KeepsRules schema.now file.now }
+{
+    let Ok(mut sink) = MemSink::new(alloc, 100_000, Seq::new(alloc)) else {
+        return false;
+    };
+    write_stats(file, schema, &mut sink).is_ok() && sink.written() == bytes
+}
+
+/// The answer to a text over a schema, or `Other` where there is none.
+pub fn answer(alloc: Global, schema: &str, bytes: &[u8]) -> Verdict {
+    if bytes.len() > MOST_FILE as usize || schema.len() > MOST_TEXT as usize {
+        return Verdict::Other;
+    }
+    let Ok(schema) = read_schema(alloc, schema.as_bytes()) else {
+        return Verdict::Other;
+    };
+    match read_stats(alloc, &schema, bytes) {
+        Ok(file) => {
+            if is_written(alloc, &file, &schema, bytes) {
+                Verdict::Read
+            } else {
+                Verdict::Changed
+            }
+        }
+        Err(StatsError::Syntax { line }) => Verdict::Syntax(line),
+        Err(StatsError::Rule { line }) => Verdict::Rule(line),
+        Err(StatsError::NoMemory) => Verdict::Other,
+    }
+}
