@@ -5,6 +5,7 @@ use degree_lists::falling;
 use entry_sets::EntrySet;
 use piece_compress::{compress, pieces_at_most};
 use piece_math::Pieces;
+use row_buf::RowBuf;
 use std::alloc::Global;
 use std::test::Fail;
 
@@ -68,7 +69,7 @@ fn item(item: u32, gives: u32, needs: u32) -> Use {
 }
 
 // Item 1 needs what nobody gives, item 0 what item 1 gives; item 2 gives for itself, and item 3 needs nothing.
-fn marks(alloc: Global) -> Result<Vec<bool>, NoMemory> {
+fn marks(alloc: Global) -> Result<RowBuf<bool>, NoMemory> {
     reduce(alloc, 4, 4, &[item(0, 0, 1), item(1, 1, 2), item(2, 3, 3)])
 }
 
