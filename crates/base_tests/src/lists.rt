@@ -13,6 +13,7 @@ use std::test::Fail;
 fn lists_and_names(rt: HostRuntime) -> Result<(), Fail> {
     let mut items = Seq::from_vec(Vec::from_slice(rt.alloc(), b"ab")?);
     items.push(99)?;
+    assert_eq!(rt; items.len(), 3);
     assert_eq!(rt; items.replace(0, 120), 97);
     assert_eq!(rt; items.pop(), Some(99));
     assert_eq!(rt; items.as_slice(), b"xb".as_slice());
@@ -31,11 +32,12 @@ fn sets_gain_and_lose_entries(rt: HostRuntime) {
     }
 }
 
-// The degree list of these keys, and the first and the second number of its compression.
+// Five equal keys, three and one.
 fn degrees(alloc: Global) -> Result<Seq<u64>, NoMemory> {
     falling(alloc, &[8, 8, 8, 8, 8, 2, 2, 2, 5])
 }
 
+// Their degree list, with accuracy 1: 5 and 4.
 fn compressed(alloc: Global) -> Result<Pieces, NoMemory> {
     compress(alloc, &[5, 3, 1], 1)
 }

@@ -5,7 +5,7 @@
 //! nanoseconds of each, the least of three.
 #![tactic(auto)]
 
-ghost use Rattle.std.specs.Prelude.{◌≡◌, ◌<◌, ◌≤◌, ◌^◌, length, IfOk};
+ghost use Rattle.std.specs.Prelude.{◌≡◌, ◌<◌, ◌^◌, length, IfOk};
 ghost use Rattle.column_stats.specs.Pairs.{HasColumn};
 
 mod columns;

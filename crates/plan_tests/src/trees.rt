@@ -20,6 +20,7 @@ fn chosen(alloc: Global, count: usize, bounds: Vec<u128>, budget: u64) -> Result
 }
 
 // Entries, a bound for each of their sets, a budget, and the joins of the best tree with its cost.
+#[derive(Clone, Copy)]
 struct Choice<'a> {
     count: usize,
     bounds: &'a [u128],
@@ -101,14 +102,14 @@ fn the_best_trees(rt: HostRuntime) -> Result<(), Fail> {
     Ok(())
 }
 
-// Why nothing is chosen among three entries or two.
-fn refusal(alloc: Global, count: usize, last: u128) -> Result<Option<BushyError>, Fail> {
-    let bounds: &[u128] = if count == 2 {
-        &[1, 2, 2]
-    } else {
-        &[1, 2, 2, 3, 2, 3, 3]
-    };
-    let mut bounds = Vec::from_slice(alloc, bounds)?;
+// Why nothing is chosen over these bounds and a last one, within six rows.
+fn refusal(
+    alloc: Global,
+    count: usize,
+    front: &[u128],
+    last: u128,
+) -> Result<Option<BushyError>, Fail> {
+    let mut bounds = Vec::from_slice(alloc, front)?;
     bounds.push(last)?;
     match chosen(alloc, count, bounds, 6) {
         Err(Fail::NoTree(error)) => Ok(Some(error)),
@@ -119,11 +120,9 @@ fn refusal(alloc: Global, count: usize, last: u128) -> Result<Option<BushyError>
 #[test]
 fn no_tree_within_the_budget_or_128_bits(rt: HostRuntime) -> Result<(), Fail> {
     let top = u128::MAX;
-    for (count, last, error) in [
-        (3, top, BushyError::PastBits),
-        (2, top - 1, BushyError::Budget { least: top - 1 }),
-    ] {
-        assert_eq!(rt; refusal(rt.alloc(), count, last)?, Some(error));
-    }
+    let past = refusal(rt.alloc(), 3, &[1, 2, 2, 3, 2, 3, 3], top)?;
+    assert_eq!(rt; past, Some(BushyError::PastBits));
+    let dear = refusal(rt.alloc(), 2, &[1, 2, 2], top - 1)?;
+    assert_eq!(rt; dear, Some(BushyError::Budget { least: top - 1 }));
     Ok(())
 }
