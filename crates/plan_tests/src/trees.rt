@@ -31,10 +31,7 @@ struct Choice<'a> {
 
 fn are(joins: &[Join], wanted: &[(u8, u8, u64)]) -> bool {
     joins.len() == wanted.len()
-        && joins
-            .iter()
-            .zip(wanted)
-            .all(|(join, want)| (join.left, join.right, join.bound) == *want)
+        && joins.iter().zip(wanted).all(|(join, want)| (join.left, join.right, join.bound) == *want)
 }
 
 fn is_chosen(alloc: Global, choice: &Choice<'_>) -> Result<bool, Fail> {
@@ -73,8 +70,8 @@ const CHOICES: [Choice<'static>; 5] = [
     Choice {
         count: 5,
         bounds: &[
-            1, 5, 4, 10, 4, 10, 16, 19, 4, 10, 16, 19, 16, 19, 64, 28, 4, 10, 16, 19, 16, 19, 64, 28,
-            16, 19, 64, 28, 64, 28, 256, 1,
+            1, 5, 4, 10, 4, 10, 16, 19, 4, 10, 16, 19, 16, 19, 64, 28, 4, 10, 16, 19, 16, 19, 64,
+            28, 16, 19, 64, 28, 64, 28, 256, 1,
         ],
         budget: 19,
         joins: &[(0, 1, 10), (5, 2, 19), (3, 4, 16), (6, 7, 1)],
@@ -85,8 +82,8 @@ const CHOICES: [Choice<'static>; 5] = [
     Choice {
         count: 5,
         bounds: &[
-            1, 1, 3, 3, 1, 1, 2, 3, 2, 3, 3, 2, 2, 1, 2, 3, 2, 3, 3, 2, 1, 3, 3, 1, 2, 1, 2, 3, 3, 3,
-            1, 3,
+            1, 1, 3, 3, 1, 1, 2, 3, 2, 3, 3, 2, 2, 1, 2, 3, 2, 3, 3, 2, 1, 3, 3, 1, 2, 1, 2, 3, 3,
+            3, 1, 3,
         ],
         budget: 3,
         joins: &[(2, 4, 1), (5, 3, 3), (1, 6, 1), (0, 7, 3)],
