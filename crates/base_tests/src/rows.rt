@@ -35,7 +35,10 @@ fn places_of_seven(alloc: Global) -> Result<[Option<u32>; 4], NoMemory> {
 
 #[test]
 fn chains_ascend(rt: HostRuntime) -> Result<(), Fail> {
-    assert_eq!(rt; places_of_seven(rt.alloc())?, [Some(0), Some(2), Some(1), None]);
+    assert_eq!(rt;
+        places_of_seven(rt.alloc())?,
+        [Some(0), Some(2), Some(1), None]
+    );
     Ok(())
 }
 
