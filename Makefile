@@ -8,7 +8,7 @@ EXAMPLE := trips
 WORDS := run schema.sql query.sql
 FILES := $(wildcard examples/$(EXAMPLE)/*.sql examples/$(EXAMPLE)/*.csv)
 
-.PHONY: run build test bench memory limits clean
+.PHONY: run build test edits bench memory limits clean
 
 # The program over an example at once: compiled with its checks, and nothing proved.
 run:
@@ -21,9 +21,13 @@ build:
 	@cd crates/safebound_cli && { rt run > build.log 2>&1; grep -q '^error usage$$' build.log || { cat build.log; exit 1; }; }
 	@echo "$(PROGRAM)"
 
-# Everything: each proof that this machine hasn't kept, the edits that must fail, the tests, the stored runs, random ones.
+# Everything: each proof that this machine hasn't kept, the gate's own edits, the tests, the stored runs, random ones.
 test:
 	.ci/run
+
+# Every wrong body that a contract must refuse, those on the shelf too; or those of some crates: make edits CRATES="plans set_bounds".
+edits:
+	tools/edits $(CRATES)
 
 bench: build
 	@cd crates/bench_degrees && rt run -- time > build.log 2>&1 || { cat build.log; exit 1; }
