@@ -34,7 +34,6 @@ bench: build
 	@cd crates/bench_link_index && rt run -- time > build.log 2>&1 || { cat build.log; exit 1; }
 	@cd crates/bench_tables && rt run -- time > build.log 2>&1 || { cat build.log; exit 1; }
 	@cd crates/bench_orders && rt run -- time > build.log 2>&1 || { cat build.log; exit 1; }
-	@cd crates/bench_queries && rt run -- time > build.log 2>&1 || { cat build.log; exit 1; }
 	@cd crates/bench_fold && rt run -- time > build.log 2>&1 || { cat build.log; exit 1; }
 	@cd crates/bench_joins && rt run -- time > build.log 2>&1 || { cat build.log; exit 1; }
 	@cd crates/bench_stats && rt run -- time > build.log 2>&1 || { cat build.log; exit 1; }

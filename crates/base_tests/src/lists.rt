@@ -5,6 +5,7 @@ use degree_lists::falling;
 use entry_sets::EntrySet;
 use piece_compress::{compress, pieces_at_most};
 use piece_math::Pieces;
+use row_buf::RowBuf;
 use std::alloc::Global;
 use std::test::Fail;
 
@@ -12,6 +13,7 @@ use std::test::Fail;
 fn lists_and_names(rt: HostRuntime) -> Result<(), Fail> {
     let mut items = Seq::from_vec(Vec::from_slice(rt.alloc(), b"ab")?);
     items.push(99)?;
+    assert_eq!(rt; items.len(), 3);
     assert_eq!(rt; items.replace(0, 120), 97);
     assert_eq!(rt; items.pop(), Some(99));
     assert_eq!(rt; items.as_slice(), b"xb".as_slice());
@@ -30,11 +32,12 @@ fn sets_gain_and_lose_entries(rt: HostRuntime) {
     }
 }
 
-// The degree list of these keys, and the first and the second number of its compression.
+// Five equal keys, three and one.
 fn degrees(alloc: Global) -> Result<Seq<u64>, NoMemory> {
     falling(alloc, &[8, 8, 8, 8, 8, 2, 2, 2, 5])
 }
 
+// Their degree list, with accuracy 1: 5 and 4.
 fn compressed(alloc: Global) -> Result<Pieces, NoMemory> {
     compress(alloc, &[5, 3, 1], 1)
 }
@@ -68,7 +71,7 @@ fn item(item: u32, gives: u32, needs: u32) -> Use {
 }
 
 // Item 1 needs what nobody gives, item 0 what item 1 gives; item 2 gives for itself, and item 3 needs nothing.
-fn marks(alloc: Global) -> Result<Vec<bool>, NoMemory> {
+fn marks(alloc: Global) -> Result<RowBuf<bool>, NoMemory> {
     reduce(alloc, 4, 4, &[item(0, 0, 1), item(1, 1, 2), item(2, 3, 3)])
 }
 

@@ -12,9 +12,10 @@ fn reserved_rows_are_pushed(rt: HostRuntime) -> Result<(), Fail> {
     rows.reserve(2)?;
     rows.push(5);
     rows.push(7);
+    assert_eq!(rt; rows.as_slice(), [5, 7].as_slice());
     assert!(rt; !rows.has_spare());
     rows.set(0, 6);
-    assert_eq!(rt; rows.as_slice(), [6, 7].as_slice());
+    assert_eq!(rt; rows.get(0), 6);
     rows.clear();
     rows.fill(1, 9);
     rows.extend(&[4]);
@@ -34,7 +35,10 @@ fn places_of_seven(alloc: Global) -> Result<[Option<u32>; 4], NoMemory> {
 
 #[test]
 fn chains_ascend(rt: HostRuntime) -> Result<(), Fail> {
-    assert_eq!(rt; places_of_seven(rt.alloc())?, [Some(0), Some(2), Some(1), None]);
+    assert_eq!(rt;
+        places_of_seven(rt.alloc())?,
+        [Some(0), Some(2), Some(1), None]
+    );
     Ok(())
 }
 

@@ -17,7 +17,7 @@ pub struct Query {
 }
 
 /// How the entries of a query are joined.
-#[derive(Clone, Copy, Debug)]
+#[derive(Clone, Copy)]
 pub enum Shape {
     /// Each entry by a column of its own with the next one.
     Chain,

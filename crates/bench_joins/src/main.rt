@@ -29,7 +29,7 @@ fn out_of_memory(_: NoMemory) -> io::Error {
 }
 
 // The least time of an execution, in nanoseconds, the rows of the join and the sum of their row numbers.
-#[derive(Clone, Copy, Debug)]
+#[derive(Clone, Copy)]
 struct Joined {
     nanos: u128,
     rows: u32,
@@ -109,21 +109,20 @@ fn timed(
     execution(rt, reserved, sizes, values, query, db)
 }
 
-// Joins two tables of these sizes, and writes what came. The right one has each key so many times, so the join has at most so many rows for
-// each row of the left one.
-fn show(
-    rt: &HostRuntime,
-    name: &str,
+// The least time of several executions. The right table has each key so many times, so the join has at most so many rows for each row of the
+// left one.
+fn least_of(
+    rt: &impl Clock,
+    alloc: Global,
     sizes: Sizes,
     values: Option<Op>,
     rounds: u32,
-) -> io::Result<()>
+) -> io::Result<Joined>
     requires some { 0 < sizes.times }
     requires left { sizes.left ≤ 4000000 }
     requires right { sizes.right ≤ 4000000 }
     requires joined { sizes.times * sizes.left ≤ 20000000 }
 {
-    let alloc = rt.alloc();
     let db = database(alloc, sizes).map_err(out_of_memory)?;
     let query = query(alloc, values).map_err(out_of_memory)?;
     let mut least = timed(rt, alloc, sizes, values, &query, &db)?;
@@ -133,33 +132,60 @@ fn show(
             least = next;
         }
     }
-    println!(rt; "{name} {} {}", least.rows, least.sum)?;
+    Ok(least)
+}
+
+// Two tables: their rows, how often the right one has each key, and how their values are compared.
+#[derive(Clone, Copy)]
+struct Case<'a>(&'a str, u32, u32, u32, Option<Op>);
+
+const SMALL: [Case<'static>; 3] = [
+    Case("equal", 10, 10, 2, None),
+    Case("different", 10, 10, 2, Some(Op::Ne)),
+    Case("both", 2_000, 2_000, 100, Some(Op::Eq)),
+];
+
+const LARGE: [Case<'static>; 8] = [
+    Case("orders", 50_000, 200_000, 4, None),
+    Case("items", 200_000, 400_000, 2, None),
+    Case("products", 400_000, 20_000, 1, None),
+    Case("unique", 1_000_000, 1_000_000, 1, None),
+    Case("heavy", 10_000, 10_000, 1_000, None),
+    Case("unique-tested", 1_000_000, 1_000_000, 1, Some(Op::Ne)),
+    Case("heavy-tested", 10_000, 10_000, 1_000, Some(Op::Ne)),
+    Case("heavy-both", 10_000, 10_000, 1_000, Some(Op::Eq)),
+];
+
+// Tables that are larger than a plan may be are refused.
+fn measured(rt: &impl Clock, alloc: Global, case: Case<'_>, rounds: u32) -> io::Result<Joined> {
+    let Case(_, left, right, times, values) = case;
+    let most = u64::from(times) * u64::from(left);
+    if times == 0 || left > 4_000_000 || right > 4_000_000 || most > 20_000_000 {
+        return Err(io::Error::from(io::ErrorKind::InvalidInput));
+    }
+    least_of(rt, alloc, Sizes { left, right, times }, values, rounds)
+}
+
+fn show(rt: &HostRuntime, case: Case<'_>, rounds: u32) -> io::Result<()> {
+    let name = case.0;
+    let Joined { nanos, rows, sum } = measured(rt, rt.alloc(), case, rounds)?;
+    println!(rt; "{name} {rows} {sum}")?;
     if rounds > 1 {
-        eprintln!(rt; "{}", least.nanos)?;
+        eprintln!(rt; "{nanos}")?;
     }
     Ok(())
 }
 
-fn pair(left: u32, right: u32, times: u32) -> Sizes
-    ensures { result ≡ record { left = left; right = right; times = times } }
-{
-    Sizes { left, right, times }
+fn show_all(rt: &HostRuntime, cases: &[Case<'_>], rounds: u32) -> io::Result<()> {
+    for case in cases {
+        show(rt, *case, rounds)?;
+    }
+    Ok(())
 }
 
 fn main(rt: HostRuntime) -> io::Result<()> {
     if env::args(&rt)?.count() <= 1 {
-        show(&rt, "equal", pair(10, 10, 2), None, 1)?;
-        show(&rt, "different", pair(10, 10, 2), Some(Op::Ne), 1)?;
-        return show(&rt, "both", pair(2_000, 2_000, 100), Some(Op::Eq), 1);
+        return show_all(&rt, &SMALL, 1);
     }
-    let unique = pair(1_000_000, 1_000_000, 1);
-    let heavy = pair(10_000, 10_000, 1_000);
-    show(&rt, "orders", pair(50_000, 200_000, 4), None, ROUNDS)?;
-    show(&rt, "items", pair(200_000, 400_000, 2), None, ROUNDS)?;
-    show(&rt, "products", pair(400_000, 20_000, 1), None, ROUNDS)?;
-    show(&rt, "unique", unique, None, ROUNDS)?;
-    show(&rt, "heavy", heavy, None, ROUNDS)?;
-    show(&rt, "unique-tested", unique, Some(Op::Ne), ROUNDS)?;
-    show(&rt, "heavy-tested", heavy, Some(Op::Ne), ROUNDS)?;
-    show(&rt, "heavy-both", heavy, Some(Op::Eq), ROUNDS)
+    show_all(&rt, &LARGE, ROUNDS)
 }

@@ -16,7 +16,7 @@ use std::{env, io};
 const ROUNDS: u32 = 5;
 
 // The least time of each kind of call, in nanoseconds, and what the calls gave.
-#[derive(Clone, Copy, Debug)]
+#[derive(Clone, Copy)]
 struct Round {
     load: u128,
     first: u128,
@@ -114,18 +114,23 @@ fn measure(rt: &impl Clock, alloc: Global, count: u64, step: u64) -> io::Result<
     Ok(least)
 }
 
+fn write_round(rt: &HostRuntime, name: &str, round: Round, is_timed: bool) -> io::Result<()> {
+    println!(rt; "{name} {} {}", round.firsts, round.afters)?;
+    if is_timed {
+        eprintln!(rt;
+            "load {} first {} after {}",
+            round.load, round.first, round.after
+        )?;
+    }
+    Ok(())
+}
+
 fn main(rt: HostRuntime) -> io::Result<()> {
     let is_timed = env::args(&rt)?.count() > 1;
     let count: u64 = if is_timed { 4_000_000 } else { 1_000 };
     for (name, step) in [("ascending", 1), ("multiples", 65_536), ("equal", 0)] {
         let round = measure(&rt, rt.alloc(), count, step)?;
-        println!(rt; "{name} {} {}", round.firsts, round.afters)?;
-        if is_timed {
-            eprintln!(rt;
-                "load {} first {} after {}",
-                round.load, round.first, round.after
-            )?;
-        }
+        write_round(&rt, name, round, is_timed)?;
     }
     Ok(())
 }

@@ -15,7 +15,7 @@ use std::time::Instant;
 use std::{env, io};
 
 // What is chosen.
-#[derive(Clone, Copy, Debug)]
+#[derive(Clone, Copy)]
 enum Wanted {
     Order,
     Tree,

@@ -28,6 +28,10 @@ pub fn write(rt: &HostRuntime, name: &str, bounds: &Seq<u128>, scans: &Seq<u64>)
     requires bounds { length bounds.now ≡ 4096 }
 {
     let plan = chosen(rt.alloc(), bounds, scans)?;
+    write_plan(rt, name, &plan)
+}
+
+fn write_plan(rt: &HostRuntime, name: &str, plan: &Plan) -> io::Result<()> {
     let order = plan.order.as_slice();
     let levels = plan.levels.as_slice();
     println!(rt; "{name} {order:?} {levels:?}")

@@ -7,7 +7,7 @@ use std::alloc::AllocError;
 use std::io;
 
 /// Nothing was measured.
-#[derive(Clone, Copy, Debug)]
+#[derive(Clone, Copy)]
 pub(crate) struct Failed;
 
 impl From<NoMemory> for Failed {

@@ -19,7 +19,7 @@ use std::rt::Clock;
 use std::time::Instant;
 
 /// How long scans and reduction took, in nanoseconds, how many rows stay, and the sum of their numbers.
-#[derive(Clone, Copy, Debug)]
+#[derive(Clone, Copy)]
 pub(crate) struct Reduced {
     pub nanos: u128,
     pub rows: u64,

@@ -4,7 +4,7 @@ use csv_tables::Pool;
 use std::alloc::Global;
 
 /// What a filter column has: ten numbers, numbers that are all different, or a thousand texts.
-#[derive(Clone, Copy, Debug)]
+#[derive(Clone, Copy)]
 pub enum Filter {
     Ten,
     Different,
@@ -31,7 +31,7 @@ impl Filter {
 }
 
 // Random bits.
-#[derive(Clone, Copy, Debug)]
+#[derive(Clone, Copy)]
 struct Random {
     state: u64,
 }

@@ -5,7 +5,7 @@
 //! nanoseconds of each, the least of three.
 #![tactic(auto)]
 
-ghost use Rattle.std.specs.Prelude.{◌≡◌, ◌<◌, ◌≤◌, ◌^◌, length, IfOk};
+ghost use Rattle.std.specs.Prelude.{◌≡◌, ◌<◌, ◌^◌, length, IfOk};
 ghost use Rattle.column_stats.specs.Pairs.{HasColumn};
 
 mod columns;
@@ -74,7 +74,7 @@ fn on_demand(alloc: Global, pool: &Pool, kind: Kind, pair: &Pair) -> Result<u64,
 }
 
 // How often each is measured.
-#[derive(Clone, Copy, Debug)]
+#[derive(Clone, Copy)]
 struct Plan {
     is_timed: bool,
     rounds: u32,

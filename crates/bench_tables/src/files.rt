@@ -3,7 +3,7 @@ use limits::MOST_ROWS;
 use std::alloc::{AllocError, Global};
 
 /// What a file is of: eight columns of numbers, or four of texts of which every second was there before.
-#[derive(Clone, Copy, Debug)]
+#[derive(Clone, Copy)]
 pub enum Source {
     Numbers,
     Texts,
@@ -26,7 +26,7 @@ impl Source {
 }
 
 // Bits in an order that repeats nothing soon, and how many texts there were.
-#[derive(Clone, Copy, Debug)]
+#[derive(Clone, Copy)]
 struct State {
     bits: u64,
     texts: u64,

@@ -22,7 +22,7 @@ use std::time::Instant;
 use std::{env, io};
 
 // What was read of a file, and the least time of a reading so far.
-#[derive(Clone, Copy, Debug)]
+#[derive(Clone, Copy)]
 struct Measure {
     rows: u32,
     texts: usize,
@@ -98,7 +98,7 @@ fn read_often(
 }
 
 // How long the files are and how often each is read.
-#[derive(Clone, Copy, Debug)]
+#[derive(Clone, Copy)]
 struct Plan {
     is_timed: bool,
     bytes: usize,
@@ -118,6 +118,14 @@ const TIMED: Plan = Plan {
     rounds: 5,
 };
 
+fn write_measure(rt: &HostRuntime, name: &str, measure: Measure) -> io::Result<()> {
+    let millis = measure.nanos / 1_000_000;
+    println!(rt;
+        "{name} {} {} {} {millis}",
+        measure.rows, measure.texts, measure.sum
+    )
+}
+
 fn measure_file(rt: &HostRuntime, plan: Plan, source: Source, schema: &[u8]) -> io::Result<()>
     requires { length schema.now ≤ most_text }
 {
@@ -129,12 +137,7 @@ fn measure_file(rt: &HostRuntime, plan: Plan, source: Source, schema: &[u8]) -> 
     let file = file_of(alloc, source, plan.bytes)?;
     let found = read_often(rt, alloc, table, file.as_bytes(), plan.rounds)?;
     if plan.is_timed {
-        let name = source.name();
-        let millis = found.nanos / 1_000_000;
-        println!(rt;
-            "{name} {} {} {} {millis}",
-            found.rows, found.texts, found.sum
-        )?;
+        write_measure(rt, source.name(), found)?;
     }
     Ok(())
 }

@@ -1,9 +1,7 @@
-//! The tests of column_stats and of the lists on demand of cond_stats, each call with ample memory. What the calls answer is proved there.
+//! The tests of column_stats, each call with ample memory. What the calls answer is proved there.
 //! Beside them stand lists that the definitions compute.
 #![tactic(auto)]
 
 pub mod examples;
-#[cfg(test)]
-mod lists;
 #[cfg(test)]
 mod tests;

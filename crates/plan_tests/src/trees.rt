@@ -20,6 +20,7 @@ fn chosen(alloc: Global, count: usize, bounds: Vec<u128>, budget: u64) -> Result
 }
 
 // Entries, a bound for each of their sets, a budget, and the joins of the best tree with its cost.
+#[derive(Clone, Copy)]
 struct Choice<'a> {
     count: usize,
     bounds: &'a [u128],
@@ -30,10 +31,7 @@ struct Choice<'a> {
 
 fn are(joins: &[Join], wanted: &[(u8, u8, u64)]) -> bool {
     joins.len() == wanted.len()
-        && joins
-            .iter()
-            .zip(wanted)
-            .all(|(join, want)| (join.left, join.right, join.bound) == *want)
+        && joins.iter().zip(wanted).all(|(join, want)| (join.left, join.right, join.bound) == *want)
 }
 
 fn is_chosen(alloc: Global, choice: &Choice<'_>) -> Result<bool, Fail> {
@@ -72,8 +70,8 @@ const CHOICES: [Choice<'static>; 5] = [
     Choice {
         count: 5,
         bounds: &[
-            1, 5, 4, 10, 4, 10, 16, 19, 4, 10, 16, 19, 16, 19, 64, 28, 4, 10, 16, 19, 16, 19, 64, 28,
-            16, 19, 64, 28, 64, 28, 256, 1,
+            1, 5, 4, 10, 4, 10, 16, 19, 4, 10, 16, 19, 16, 19, 64, 28, 4, 10, 16, 19, 16, 19, 64,
+            28, 16, 19, 64, 28, 64, 28, 256, 1,
         ],
         budget: 19,
         joins: &[(0, 1, 10), (5, 2, 19), (3, 4, 16), (6, 7, 1)],
@@ -84,8 +82,8 @@ const CHOICES: [Choice<'static>; 5] = [
     Choice {
         count: 5,
         bounds: &[
-            1, 1, 3, 3, 1, 1, 2, 3, 2, 3, 3, 2, 2, 1, 2, 3, 2, 3, 3, 2, 1, 3, 3, 1, 2, 1, 2, 3, 3, 3,
-            1, 3,
+            1, 1, 3, 3, 1, 1, 2, 3, 2, 3, 3, 2, 2, 1, 2, 3, 2, 3, 3, 2, 1, 3, 3, 1, 2, 1, 2, 3, 3,
+            3, 1, 3,
         ],
         budget: 3,
         joins: &[(2, 4, 1), (5, 3, 3), (1, 6, 1), (0, 7, 3)],
@@ -101,14 +99,14 @@ fn the_best_trees(rt: HostRuntime) -> Result<(), Fail> {
     Ok(())
 }
 
-// Why nothing is chosen among three entries or two.
-fn refusal(alloc: Global, count: usize, last: u128) -> Result<Option<BushyError>, Fail> {
-    let bounds: &[u128] = if count == 2 {
-        &[1, 2, 2]
-    } else {
-        &[1, 2, 2, 3, 2, 3, 3]
-    };
-    let mut bounds = Vec::from_slice(alloc, bounds)?;
+// Why nothing is chosen over these bounds and a last one, within six rows.
+fn refusal(
+    alloc: Global,
+    count: usize,
+    front: &[u128],
+    last: u128,
+) -> Result<Option<BushyError>, Fail> {
+    let mut bounds = Vec::from_slice(alloc, front)?;
     bounds.push(last)?;
     match chosen(alloc, count, bounds, 6) {
         Err(Fail::NoTree(error)) => Ok(Some(error)),
@@ -119,11 +117,9 @@ fn refusal(alloc: Global, count: usize, last: u128) -> Result<Option<BushyError>
 #[test]
 fn no_tree_within_the_budget_or_128_bits(rt: HostRuntime) -> Result<(), Fail> {
     let top = u128::MAX;
-    for (count, last, error) in [
-        (3, top, BushyError::PastBits),
-        (2, top - 1, BushyError::Budget { least: top - 1 }),
-    ] {
-        assert_eq!(rt; refusal(rt.alloc(), count, last)?, Some(error));
-    }
+    let past = refusal(rt.alloc(), 3, &[1, 2, 2, 3, 2, 3, 3], top)?;
+    assert_eq!(rt; past, Some(BushyError::PastBits));
+    let dear = refusal(rt.alloc(), 2, &[1, 2, 2], top - 1)?;
+    assert_eq!(rt; dear, Some(BushyError::Budget { least: top - 1 }));
     Ok(())
 }

@@ -5,9 +5,9 @@
 //! the file that was read is written as the same bytes again, else `Changed`, or what it is refused for with the number of its line.
 #![tactic(auto)]
 
-mod answer;
+mod answering;
 
-use answer::answer;
+use answering::answer;
 use std::alloc::AllocError;
 use std::io;
 
@@ -71,7 +71,8 @@ fn main(rt: HostRuntime) -> io::Result<()> {
         head: String::new(rt.alloc()),
     };
     for line in rt.lines(rt.alloc()) {
-        take(&rt, &mut asked, line?.as_str())?;
+        let line = line?;
+        take(&rt, &mut asked, line.as_str())?;
     }
     Ok(())
 }

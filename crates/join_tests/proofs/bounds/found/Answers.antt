@@ -4,7 +4,7 @@ use Rattle.query_types.specs.declared.types.Query.{Query}
 use Rattle.sql_meaning.specs.Databases.{IsDatabaseOf}
 use Rattle.sql_meaning.specs.Examples.{triangle, triangle_tables}
 use Rattle.sql_meaning.proofs.Worked.{triangle_fits}
-use Rattle.join_tests.proofs.bounds.bounds.Goals as goal
+use Rattle.join_tests.proofs.bounds.found.Goals as goal
 
 fits_still : (query : Query) (db : Database) → query ≡ triangle → db ≡ triangle_tables → IsDatabaseOf query db
 fits_still query db same like =

@@ -1,5 +1,0 @@
-//! Tests of files of statistics.
-#![tactic(auto)]
-
-#[cfg(test)]
-mod tests;
