@@ -82,7 +82,7 @@ def near_files(file, folder):
     for other in names:
         if other.casefold().startswith(name.casefold() + "."):
             return f"{plain(other)} is there: unpack it, or rename it, to {plain(name)}."
-    other = nearest(name, names)
+    other = nearest(name, names, 0.75)
     if other:
         return f"{plain(other)} is there. Is it that one?"
     ending = os.path.splitext(name)[1]
