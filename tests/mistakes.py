@@ -79,7 +79,7 @@ TWICE = [
     query("SELECT * FROM BOOK, §BOOK", "name", "BOOK is the name of two entries", "BOOK A, BOOK B"),
 ]
 COMMAS = [
-    query("SELECT R.NAME B§.TITLE FROM READER R, BOOK B", "syntax", ". can't stand here", "Is a comma missing before B?", "Here may stand"),
+    query("SELECT R.NAME B§.TITLE FROM READER R, BOOK B", "syntax", "A point can't stand here behind B", "Is a comma missing before B?", "Here may stand"),
     query("SELECT R.NAME FROM READER R §LOAN L", "syntax", "LOAN can't stand here behind R", "Is a comma missing before LOAN?", "Here may stand", "WHERE"),
     query("SELECT ID TITLE §PRICE FROM BOOK", "syntax", "Is a comma missing before PRICE?"),
     query("SELECT ID, TITLE, §FROM BOOK", "syntax", "comma too many"),

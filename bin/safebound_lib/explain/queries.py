@@ -1,7 +1,7 @@
 """`error query CAUSE AT`: what is wrong with a query text at that place."""
 from . import read
-from .query_advice import advice
-from .texts import bad_character, may_stand, no_text, place_of, stands
+from .query_advice import CERTAIN, GUESSES
+from .texts import advised, bad_character, no_text, place_of
 from ..near import hint, listed, nearest
 from ..query import Literal, Reference, meant, visible
 from ..spot import plain, spot
@@ -28,7 +28,7 @@ def syntax(query, schema, at):
     literal = next((o for test in query.tests for o in test.operands if isinstance(o, Literal) and o.token.start == at), None)
     if literal and not literal.fits:
         return [f"A number is from {LEAST_NUMBER:,} to {MOST_NUMBER:,} (64 bits), and this one isn't."]
-    return [stands(place), advice(place), may_stand(place)]
+    return advised(place, CERTAIN, GUESSES)
 
 
 def name(query, schema, at):
@@ -57,7 +57,8 @@ def case(token, names):
 
 def twice(entry):
     table = plain(entry.table.name)
-    return f"{plain(entry.name)} is the name of two entries. Give one another alias, as FROM {table} A, {table} B, and write its columns with it."
+    how = "Give this one another alias" if entry.alias else f"Give each an alias, as FROM {table} A, {table} B"
+    return f"{plain(entry.name)} is the name of two entries. {how}, and write its columns with it."
 
 
 def columns(table):

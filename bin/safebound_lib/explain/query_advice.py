@@ -42,11 +42,6 @@ WORDS = {
 }
 
 
-def advice(place):
-    """What to do about the place where the grammar goes wrong: the first piece of advice that fits."""
-    return next((said for rule in RULES for said in [rule(place)] if said), "")
-
-
 def swapped(place):
     if place.at == 0 and place.word() == "CREATE":
         return "This looks like a schema: the command takes SCHEMA first and then QUERY."
@@ -163,4 +158,5 @@ def no_condition(place):
     return None
 
 
-RULES = (swapped, second_query, subquery, call, dated, decimal, alias_word, by_word, doubled, comma_too_many, arithmetic, star, reserved, no_condition, misspelled, comma_missing)
+CERTAIN = (swapped, second_query, subquery, call, dated, decimal, alias_word, by_word, doubled, arithmetic, star)
+GUESSES = (comma_too_many, reserved, no_condition, misspelled, comma_missing)

@@ -31,17 +31,14 @@ def where(file, run):
     found = [f"It was looked for in {plain(os.path.abspath(folder)) if working() else 'a working folder that is gone'}."]
     if is_table:
         found.append("A table's file has the table's name in lower case and .csv, and lies in the folder where the command runs.")
-    elsewhere = folder_with(file, run, is_table)
-    near = near_files(file, folder)
+    elsewhere = folder_with(file, run, is_table) or near_file(file, folder)
     if elsewhere:
-        found.append(elsewhere)
-    elif near:
-        found.append(near)
-    elif run.folder:
+        return found + [elsewhere]
+    if run.folder:
         found.append("With --data every file is looked up in that folder, the schema and the query too.")
     elif is_table:
         found.append("Where the tables lie elsewhere, give their folder: --data DIR.")
-    return found
+    return found + [alike(file, folder)]
 
 
 def working():
@@ -69,22 +66,29 @@ def folder_with(file, run, is_table):
     return ""
 
 
-def near_files(file, folder):
-    """A sentence on files with a name near this one."""
+def names_in(folder):
     try:
-        names = sorted(os.listdir(folder))
+        return sorted(os.listdir(folder))
     except OSError:
+        return []
+
+
+def near_file(file, folder):
+    """A sentence on a file there with a name near this one."""
+    if not os.path.isdir(folder):
         return f"There is no folder {plain(folder)}."
-    name = os.path.basename(file)
+    name, names = os.path.basename(file), names_in(folder)
     for other in names:
         if other.casefold() == name.casefold():
             return f"{plain(other)} is there: upper and lower case count. Rename it to {plain(name)}."
-    for other in names:
         if other.casefold().startswith(name.casefold() + "."):
             return f"{plain(other)} is there: unpack it, or rename it, to {plain(name)}."
     other = nearest(name, names, 0.75)
-    if other:
-        return f"{plain(other)} is there. Is it that one?"
-    ending = os.path.splitext(name)[1]
-    alike = [plain(n) for n in names if os.path.splitext(n)[1].casefold() == ending.casefold()]
-    return f"Files of that kind there: {listed(alike)}." if alike else ""
+    return f"{plain(other)} is there. Is it that one?" if other else ""
+
+
+def alike(file, folder):
+    """The files there with the same ending."""
+    ending = os.path.splitext(file)[1].casefold()
+    found = [plain(name) for name in names_in(folder) if os.path.splitext(name)[1].casefold() == ending]
+    return f"Files of that kind there: {listed(found)}." if found else ""

@@ -25,11 +25,6 @@ NOT_PART = {
 STATEMENTS = ("INSERT", "DROP", "ALTER", "UPDATE", "DELETE", "SET", "USE", "GRANT", "BEGIN", "COMMIT", "PRAGMA", "COPY")
 
 
-def advice(place):
-    """What to do about the place where the grammar goes wrong: the first piece of advice that fits."""
-    return next((said for rule in RULES for said in [rule(place)] if said), "")
-
-
 def swapped(place):
     if place.at == 0 and place.word() in ("SELECT", "WITH"):
         return "This looks like a query: the command takes SCHEMA first and then QUERY."
@@ -97,4 +92,5 @@ def qualified(place):
     return None
 
 
-RULES = (swapped, statement, no_length, no_type, not_part, qualified, comma, reserved)
+CERTAIN = (swapped, statement, no_length, no_type, not_part, qualified)
+GUESSES = (comma, reserved)

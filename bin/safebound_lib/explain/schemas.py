@@ -1,7 +1,7 @@
 """`error schema CAUSE AT`: what is wrong with a schema text at that place."""
 from . import read
-from .schema_advice import advice
-from .texts import bad_character, may_stand, no_text, place_of, stands
+from .schema_advice import CERTAIN, GUESSES
+from .texts import advised, bad_character, no_text, place_of
 from ..near import hint, listed
 from ..spot import plain, spot
 from ..tokens import tokens_of
@@ -18,7 +18,7 @@ def syntax(schema, at):
     place = place_of(schema, at)
     if place.token().kind == "bad":
         return [bad_character(place.token())]
-    return [stands(place), advice(place), may_stand(place)]
+    return advised(place, CERTAIN, GUESSES)
 
 
 def nullable(schema, at):

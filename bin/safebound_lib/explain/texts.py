@@ -90,15 +90,35 @@ def bad_name(source):
     return 'This name isn\'t closed: a " is missing behind it, on the same line.'
 
 
+SPOKEN = {",": "a comma", ".": "a point", ";": "a semicolon"}
+
+
+def spoken(source):
+    """A token in a sentence."""
+    return SPOKEN.get(source, plain(source)[:40])
+
+
 def stands(place):
     """What was read at the place, behind what."""
     token, before = place.token(), place.token(-1)
-    behind = f" behind {plain(before.source)}" if before.source else ""
+    behind = f" behind {spoken(before.source)}" if before.source else ""
     if token.kind == "end":
         return f"The text ends here{behind}." if behind else "The text holds nothing."
-    return f"{plain(token.source)[:40]} can't stand here{behind}."
+    said = spoken(token.source)
+    return f"{said[0].upper()}{said[1:]} can't stand here{behind}." if token.source in SPOKEN else f"{said} can't stand here{behind}."
 
 
 def may_stand(place):
-    tested = list(dict.fromkeys(what for group in place.tested for what in group.split(" or ")))
+    tested = list(dict.fromkeys(spoken(what) for group in place.tested for what in group.split(" or ")))
     return f"Here may stand {listed(tested, 'or', 16)}." if tested else ""
+
+
+def first_said(rules, place):
+    """The first piece of advice that fits."""
+    return next((said for rule in rules for said in [rule(place)] if said), "")
+
+
+def advised(place, certain, guesses):
+    """What was read, and what to do: where that is a guess, also what may stand there."""
+    said = first_said(certain, place)
+    return [stands(place), said] if said else [stands(place), first_said(guesses, place), may_stand(place)]
