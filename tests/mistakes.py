@@ -262,7 +262,8 @@ NO_COMMAND = [
 ]
 OPTIONS = [
     usage("run schema.sql query.sql --budjet 5", "no option --budjet", "Did you mean --budget?"),
-    usage("run schema.sql query.sql -b 5", "no option -b", "--budget N, --accuracy K and --reduce"),
+    usage("run schema.sql query.sql --dta x", "no option --dta", "Did you mean --data?"),
+    usage("run schema.sql query.sql -b 5", "no option -b", "--budget N, --accuracy K, --reduce"),
     usage("run schema.sql query.sql --budget 1e6", "has the value 1e6", "from 1 to 20,000,000", "Write 1000000"),
     usage("run schema.sql query.sql --budget=1,000,000", "has the value 1,000,000", "digits alone", "Write 1000000"),
     usage("run schema.sql query.sql --budget 0", "has the value 0", "from 1 to 20,000,000"),

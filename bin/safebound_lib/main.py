@@ -18,7 +18,7 @@ def main(words):
             return show_version()
         refuse_strange(line)
         if DATA.word in line.own:
-            enter(line.own[DATA.word])
+            enter(line)
         if line.command in BY_WORD and BY_WORD[line.command].is_own:
             return own_command(line)
         return run_program(line)
@@ -35,8 +35,11 @@ def refuse_strange(line):
             raise Misused(f"{line.command} has no option {word}; `safebound help {line.command}` lists those that it has")
 
 
-def enter(folder):
+def enter(line):
+    """Goes into the folder of `--data`."""
+    folder = line.own[DATA.word]
     try:
+        line.before = os.getcwd()
         os.chdir(folder)
     except OSError as fault:
         raise Misused(f"{DATA.word} {folder}: {fault.strerror}") from None
@@ -59,7 +62,7 @@ def explain(path, line, status, notes):
     """What stands below the line of a fault; below a plan only that entries aren't connected."""
     from .explain import Run, explained, not_connected
     from .faults import fault_of
-    run = Run(line.words, path, line.own.get(DATA.word))
+    run = Run(line.words, path, line.before)
     fault = fault_of(notes) if status else None
     program.say(explained(fault, run) if fault else not_connected(run) if status == 0 else "")
 

@@ -10,7 +10,7 @@ from .near import listed
 from .plans import option_of, read_audit, read_plan
 from .query import read_query
 from .schema import read_schema
-from .table import BUDGET, DATA, OUTPUT, SHELLS
+from .table import BUDGET, OUTPUT, SHELLS
 from .words import Misused, places as places_of
 
 PARTS_OF_EXAMPLE = (".sql", ".csv")
@@ -50,7 +50,7 @@ def check(path, line):
     if is_right:
         program.write(1, found_right(files))
         return 0
-    return tell(notes, fault, Run(["plan", "--", *files], path, line.own.get(DATA.word)), dict(zip(absolute, files)), status)
+    return tell(notes, fault, Run(["plan", "--", *files], path, line.before), dict(zip(absolute, files)), status)
 
 
 def tell(notes, fault, run, names, status):
@@ -78,7 +78,7 @@ def picture(path, line):
     from .picture import draw
     words = ["audit", *line.words[1:]]
     status, out, notes = program.answer(path, words)
-    run = Run(words, path, line.own.get(DATA.word))
+    run = Run(words, path, line.before)
     if status:
         return tell(notes, fault_of(notes), run, {}, status)
     plan = read_plan(notes.decode())

@@ -10,9 +10,10 @@ class Misused(Exception):
 
 @dataclass
 class Line:
-    """The words that are left for the program, and the own options, by word."""
+    """The words that are left for the program, the own options by word, and the folder that `--data` left."""
     words: list = field(default_factory=list)
     own: dict = field(default_factory=dict)
+    before: str = None
 
     @property
     def command(self):

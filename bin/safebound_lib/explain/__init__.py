@@ -10,10 +10,10 @@ PARTS = {"usage": "usage", "read": "reads", "schema": "schemas", "query": "queri
 
 
 class Run:
-    """A run that ended: the program (nothing where there is none at hand), its words, and where its files lie."""
+    """A run that ended: its words, the program (nothing where there is none at hand), and where `--data` was given, the folder that was left."""
 
-    def __init__(self, words, program=None, folder=None):
-        self.words, self.program, self.folder = words, program, folder
+    def __init__(self, words, program=None, before=None):
+        self.words, self.program, self.before = words, program, before
         self.command = words[0] if words else ""
         found = places(words[1:])
         self.schema_file, self.query_file = (found + ["", ""])[:2] if self.command != "demo" else ("schema.sql", "query.sql")

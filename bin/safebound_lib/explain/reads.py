@@ -34,7 +34,7 @@ def where(file, run):
     elsewhere = folder_with(file, run, is_table) or near_file(file, folder)
     if elsewhere:
         return found + [elsewhere]
-    if run.folder:
+    if run.before:
         found.append("With --data every file is looked up in that folder, the schema and the query too.")
     elif is_table:
         found.append("Where the tables lie elsewhere, give their folder: --data DIR.")
@@ -50,8 +50,8 @@ def working():
 
 def folder_with(file, run, is_table):
     """A sentence on a folder near by that has the file."""
-    if run.folder and os.path.exists(os.path.join(run.folder, file)):
-        return f"It is in the folder that you are in. With --data every file is looked up in that folder: write {plain(os.path.join(run.folder, file))}."
+    if run.before and os.path.exists(os.path.join(run.before, file)):
+        return f"With --data every file is looked up in that folder, the schema and the query too. To take the one where you are, write {plain(os.path.join(run.before, file))}."
     beside = [os.path.dirname(f) for f in (run.schema_file, run.query_file) if os.path.dirname(f)] if is_table else []
     try:
         below = sorted(entry.name for entry in os.scandir(".") if entry.is_dir() and not entry.name.startswith("."))

@@ -19,7 +19,7 @@ def explain(fault, run):
 
 
 def overview():
-    commands = "".join(f"\n    safebound {c.word:<10} {c.help}" for c in COMMANDS)
+    commands = "".join(f"\n    safebound {' '.join([c.word, *c.places]):<22} {c.help}" for c in COMMANDS)
     return [f"The commands are:{commands}", "`safebound help COMMAND` says more, with examples."]
 
 
@@ -44,7 +44,7 @@ def first_wrong(command, words):
             found.append(word)
             continue
         if head not in options:
-            return unknown(command, head, options)
+            return unknown(command, head)
         wrong = wrong_option(options[head], head in seen, value if equals else left.pop(0) if options[head].value and left else None)
         if wrong:
             return wrong
@@ -52,11 +52,11 @@ def first_wrong(command, words):
     return wrong_places(command, found)
 
 
-def unknown(command, word, options):
+def unknown(command, word):
+    may = f"Its options are {listed(o.spelled for o in command.options)}."
     if word in {o.word for c in COMMANDS for o in c.options}:
-        return f"{command.word} has no option {plain(word)}{': it has ' + listed(options) if options else ' and no other'}."
-    may = f"Its options are {listed(o.spelled for o in options.values())}." if options else f"{command.word} has no options."
-    return f"There is no option {plain(word)}.{hint(word, options)} {may} A file whose name begins with - stands behind the word --."
+        return f"{command.word} has no option {plain(word)}. {may}"
+    return f"There is no option {plain(word)}.{hint(word, [o.word for o in command.options])} {may} A file whose name begins with - stands behind the word --."
 
 
 def wrong_option(option, is_again, value):
