@@ -115,6 +115,18 @@ JOINS = [
     query("SELECT * FROM BOOK B JOIN LOAN L §USING (ID)", "syntax", "USING isn't part", "ON B.X = A.X"),
     query("SELECT * FROM BOOK B JOIN LOAN L§", "syntax", "The text ends here", "JOIN B ON B.X = A.X"),
 ]
+WORDS = [
+    query("SELECT * §FORM BOOK", "syntax", "Did you mean FROM?"),
+    query("SELECT TITLE FORM §BOOK", "syntax", "FORM was read as a name", "Did you mean FROM?"),
+    query("SELECT TITLE FROM BOOK WHRE §PRICE > 1", "syntax", "WHRE was read as a name", "Did you mean WHERE?"),
+    query("SELECT TOP §10 TITLE FROM BOOK", "syntax", "TOP was read as a name", "head"),
+    query("SELECT §ORDER FROM BOOK", "syntax", "ORDER is a reserved word"),
+    query("SELECT TITLE FROM LIBRARY§.BOOK", "syntax", "A table has one name"),
+    query("SELECT TITLE FROM BOOK WHERE GENRE = 1 OR 2§", "syntax", "The text ends here", "whole comparison", "IN (1, 2)"),
+    query("SELECT TITLE FROM BOOK WHERE PRICE > 5§,000", "syntax", "digits alone: 5000"),
+    query("SELECT TITLE FROM BOOK WHERE TITLE = 'Peer'Gynt§'", "syntax", "isn't closed", "written twice"),
+    query("SELECT TITLE FROM BOOK WHERE TITLE = gr§øde", "syntax", "other letters than A to Z", "gr\u00f8de"),
+]
 PREDICATES = [
     query("SELECT TITLE FROM BOOK WHERE TITLE §LIKE 'S%'", "syntax", "LIKE isn't part", ">="),
     query("SELECT TITLE FROM BOOK WHERE TITLE NOT §LIKE 'S%'", "syntax", "LIKE isn't part"),
@@ -181,6 +193,8 @@ STATEMENTS = [
     schema("CREATE TABLE BOOK (ID INTEGER NOT NULL)\n§CREATE TABLE LOAN (BOOK INTEGER NOT NULL)", "syntax", "A ; is missing"),
     schema("§INSERT INTO BOOK VALUES (1)", "syntax", "CREATE TABLE alone"),
     schema("CREATE TABLE BOOK (ID INTEGER NOT NULL §TITLE VARCHAR(5) NOT NULL)", "syntax", "Is a comma missing before TITLE?"),
+    schema("CREATE TABLE BOOK (ID INTEGER PRIMARY KEY §AUTOINCREMENT)", "syntax", "AUTOINCREMENT isn't part"),
+    schema("CREATE TABLE BOOK (ID INTEGER PRIMARY KEY, INDEX§(ID))", "syntax", "INDEX isn't part"),
     schema("CREATE TABLE BOOK (ID INTEGER NOT NULL,§)", "syntax", "comma too many"),
     schema("CREATE TABLE §ORDER (ID INTEGER NOT NULL)", "syntax", "ORDER is a reserved word", '"ORDER"'),
     schema("§", "syntax", "The text holds nothing", "CREATE"),
@@ -307,7 +321,7 @@ LIMITS = [
 ]
 KINDS = [
     ("a column that isn't there", COLUMNS), ("a column that several entries have", SEVERAL), ("a table that isn't there", TABLES), ("an alias or a table twice", TWICE),
-    ("a missing comma", COMMAS), ("two queries in one text", QUERIES), ("functions", FUNCTIONS), ("clauses that aren't part", CLAUSES), ("joins that aren't part", JOINS),
+    ("a missing comma", COMMAS), ("two queries in one text", QUERIES), ("functions", FUNCTIONS), ("clauses that aren't part", CLAUSES), ("joins that aren't part", JOINS), ("words that are spelled or placed wrong", WORDS),
     ("predicates that aren't part", PREDICATES), ("signs that aren't part", SIGNS), ("arithmetic", ARITHMETIC), ("double quotes for a text", QUOTES), ("decimals", DECIMALS),
     ("dates", DATES), ("a text beside a number", SIDES), ("a number past 64 bits", LARGE), ("types that aren't there", TYPES), ("statements that aren't part", STATEMENTS),
     ("a column without NOT NULL", NULLABLE), ("names of a schema", LISTS), ("schema and query swapped", SWAPPED), ("a field that is no number", CELLS),

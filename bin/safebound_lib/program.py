@@ -94,7 +94,8 @@ def run_and_read(path, words):
 def end_as(status):
     """The status as it is; a program that a signal ended is followed by that signal."""
     if status < 0:
-        signal.signal(-status, signal.SIG_DFL)
+        if -status not in (signal.SIGKILL, signal.SIGSTOP):
+            signal.signal(-status, signal.SIG_DFL)
         os.kill(os.getpid(), -status)
     return status
 

@@ -16,6 +16,8 @@ def width(text):
 def spot(file, data, at, length=1):
     """`FILE, line L, column C`, the line and a mark below the place; columns are characters, counted from 1."""
     at = min(at, len(data))
+    while data[at:at + 1] >= b"\xc0" and b"\x80" <= data[at + length:at + length + 1] < b"\xc0":
+        length += 1
     start = data.rfind(b"\n", 0, at) + 1
     end = data.find(b"\n", at)
     line = data[start:len(data) if end < 0 else end].rstrip(b"\r")

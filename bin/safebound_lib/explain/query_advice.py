@@ -84,14 +84,41 @@ def decimal(place):
 
 def alias_word(place):
     """A word that was read as an alias or a name, and was meant as something else."""
-    before = place.token(-1)
-    if before.word in AS_ALIAS and place.token(-2).is_name:
-        return f"{before.word} was read as an alias of {plain(place.token(-2).source)}. {WORDS.get(before.word, before.word + ' is not part of the language.')}"
+    before, earlier = place.token(-1), place.token(-2)
+    if before.word in AS_ALIAS and not place.token().is_one(".", ","):
+        read_as = f"an alias of {plain(earlier.source)}" if earlier.is_name else "a name"
+        return f"{before.word} was read as {read_as}. {WORDS.get(before.word, before.word + ' is not part of the language.')}"
     return None
 
 
 def by_word(place):
+    """A word of SQL that isn't part of the language. ORDER and GROUP without BY are meant as names."""
+    if place.word() in ("ORDER", "GROUP") and place.word(1) != "BY":
+        return None
     return WORDS.get(place.word())
+
+
+def grouped(place):
+    """A comma within a number: `5,000`."""
+    if place.token().is_one(",") and place.token(-1).kind == "number" and place.token(1).kind == "number" and "AND" in place.tested:
+        return f"A number is written in digits alone: {place.token(-1).source}{place.token(1).source}."
+    return None
+
+
+def half_a_comparison(place):
+    """`X = 'A' OR 'B'`, and an operand in parentheses."""
+    if place.word(-2) in ("OR", "AND") and "=" in str(place.tested) and place.token(-1).kind in ("text", "number"):
+        return f"Each side of {place.word(-2)} is a whole comparison, as X = 1 {place.word(-2)} X = 2. Several values of one column can stand in a list: X IN (1, 2)."
+    if place.token().is_one("(") and place.token(-1).is_one("=", "<>", "<", "<=", ">", ">="):
+        return "What is compared is a column or a literal, without parentheses."
+    return None
+
+
+def qualified(place):
+    """A name of a schema or a database before a table's."""
+    if place.token().is_one(".") and "an alias" in place.tested and place.token(-2).is_one("FROM", "JOIN", ","):
+        return "A table has one name: there are no names of schemas or databases before it."
+    return None
 
 
 def doubled(place):
@@ -158,5 +185,5 @@ def no_condition(place):
     return None
 
 
-CERTAIN = (swapped, second_query, subquery, call, dated, decimal, alias_word, by_word, doubled, arithmetic, star)
+CERTAIN = (swapped, second_query, subquery, call, dated, decimal, alias_word, by_word, doubled, grouped, half_a_comparison, qualified, arithmetic, star)
 GUESSES = (comma_too_many, reserved, no_condition, misspelled, comma_missing)

@@ -56,6 +56,12 @@ def no_type(place):
     return f"{called}{f'Did you mean {near}? ' if near else ''}{TYPES} {instead}".strip()
 
 
+def index(place):
+    if place.word(-1) in ("INDEX", "KEY", "FULLTEXT") and place.token().is_one("(") and "VARCHAR" in place.tested:
+        return f"{place.word(-1)} isn't part of the language: leave it out. A key is PRIMARY KEY (X) or UNIQUE (X)."
+    return None
+
+
 def no_length(place):
     if place.word(-1) in ("VARCHAR", "VARYING"):
         return "A text has its length: VARCHAR(n), of at most n characters."
@@ -92,5 +98,5 @@ def qualified(place):
     return None
 
 
-CERTAIN = (swapped, statement, no_length, no_type, not_part, qualified)
+CERTAIN = (swapped, statement, index, no_length, no_type, not_part, qualified)
 GUESSES = (comma, reserved)
