@@ -35,11 +35,12 @@ def read(file):
 
 
 def explained(fault, run):
-    """The explanation of a fault, ended by a line end. A file that has gone since, or is another by now, is none to speak of."""
+    """The explanation of a fault, ended by a line end."""
     part = importlib.import_module(f".{PARTS[fault['kind']]}", __name__)
     try:
         return laid_out(part.explain(fault, run))
-    except (OSError, StopIteration, IndexError, RecursionError):
+    except Exception:
+        # A file may have changed since. Whatever goes wrong here, the line and the exit status stay as they are.
         return ""
 
 
@@ -55,5 +56,6 @@ def not_connected(run):
     from .budgets import not_connected as said
     try:
         return "" if run.command not in ("run", "plan", "audit") else laid_out([said(run)])
-    except (OSError, RecursionError):
+    except Exception:
+        # As above.
         return ""
