@@ -83,6 +83,7 @@ class Query:
     conditions: list = field(default_factory=list)
     references: list = field(default_factory=list)
     tests: list = field(default_factory=list)
+    literals: list = field(default_factory=list)
     wrong: int = None
     tested: tuple = ()
 
@@ -196,7 +197,8 @@ class QueryReader(Reader):
     def literal(self):
         sign = self.maybe("+", "-")
         if self.has_kind("number", "a number") or not sign and self.has_kind("text", "a text in single quotes"):
-            return Literal([sign, self.next()] if sign else [self.next()])
+            self.query.literals.append(Literal([sign, self.next()] if sign else [self.next()]))
+            return self.query.literals[-1]
         return self.wrong()
 
 

@@ -25,7 +25,7 @@ def syntax(query, schema, at):
     place = place_of(query, at)
     if place.token().kind == "bad":
         return [bad_character(place.token())]
-    literal = next((o for test in query.tests for o in test.operands if isinstance(o, Literal) and o.token.start == at), None)
+    literal = next((o for o in query.literals if o.token.start == at), None)
     if literal and not literal.fits:
         return [f"A number is from {LEAST_NUMBER:,} to {MOST_NUMBER:,} (64 bits), and this one isn't."]
     return advised(place, CERTAIN, GUESSES)
