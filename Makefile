@@ -1,25 +1,53 @@
 PROGRAM := crates/safebound_cli/out/safebound_cli
 
-# How long `make build` takes from nothing, on four processors.
-BUILD_TAKES := long the first time: it proves every crate
+# Where `make install` puts the program, the command, its man page and its completion.
+PREFIX ?= /usr/local
+LAID := $(DESTDIR)$(PREFIX)
 
-# What `make run` runs: a folder of examples/, and the command line.
+# What `make run` runs: a folder of yours (DATA) or one of examples/, and the command line.
 EXAMPLE := trips
+DATA := examples/$(EXAMPLE)
 WORDS := run schema.sql query.sql
-FILES := $(wildcard examples/$(EXAMPLE)/*.sql examples/$(EXAMPLE)/*.csv)
 
-.PHONY: run build test edits bench memory limits clean
+.PHONY: help run build install test edits bench memory limits clean
 
-# The program over an example at once: compiled with its checks, and nothing proved.
+## make run       runs a query over examples/trips, or over a folder of yours: make run DATA=FOLDER
+##                (2 seconds with the proved program; a minute without it, and then nothing is proved)
+## make build     proves and builds the program (long the first time; it says how long is left)
+## make install   puts program, command, man page and completion below PREFIX, /usr/local (2 seconds)
+## make test      the gate: every proof, the gate's own edits, every test (about an hour from nothing; it says how far it is)
+## make edits     every wrong body that a contract must refuse (an hour and more); make edits CRATES="plans set_bounds" some of them
+## make bench     measures beside plain Rust and databases (minutes, once built)
+## make memory    runs with each request for memory refused in turn (minutes)
+## make limits    runs at the limits of tables, texts and the budget (minutes)
+## make clean     removes what was built
+
+# The targets with their times: the lines of this file that begin with two #.
+help:
+	@sed -n 's/^## //p' Makefile
+
+# The proved program where `make build` left it, else one that is compiled now.
 run:
-	@cd crates/safebound_cli && rt try $(foreach f,$(FILES),--data $(notdir $f)=../../$f) -- $(WORDS)
-	@echo "Nothing of this run is proved. The proved program: make build ($(BUILD_TAKES))"
+	@tools/run "$(DATA)" $(WORDS)
 
-# The program alone, proved. It is run without words, which it answers with its usage line.
+# The program alone, proved.
 build:
-	@echo "proving and building the program ($(BUILD_TAKES))"
-	@cd crates/safebound_cli && { rt run > build.log 2>&1; grep -q '^error usage$$' build.log || { cat build.log; exit 1; }; }
-	@echo "$(PROGRAM)"
+	@tools/build
+
+install:
+	@test -f $(PROGRAM) || { echo "no program $(PROGRAM): make build"; exit 1; }
+	@install -d $(LAID)/bin $(LAID)/lib/safebound/safebound_lib/explain $(LAID)/share/safebound/trips $(LAID)/share/man/man1 \
+	    $(LAID)/share/bash-completion/completions $(LAID)/share/zsh/site-functions
+	@install -m 755 $(PROGRAM) $(LAID)/bin/safebound_cli
+	@install -m 755 bin/safebound $(LAID)/bin/safebound
+	@install -m 644 bin/safebound_lib/*.py $(LAID)/lib/safebound/safebound_lib
+	@install -m 644 bin/safebound_lib/explain/*.py $(LAID)/lib/safebound/safebound_lib/explain
+	@install -m 644 docs/ERRORS.md $(LAID)/share/safebound
+	@install -m 644 examples/trips/*.sql examples/trips/*.csv $(LAID)/share/safebound/trips
+	@bin/safebound help man > $(LAID)/share/man/man1/safebound.1
+	@bin/safebound completion bash > $(LAID)/share/bash-completion/completions/safebound
+	@bin/safebound completion zsh > $(LAID)/share/zsh/site-functions/_safebound
+	@echo "$(LAID)/bin/safebound"
 
 # Everything: each proof that this machine hasn't kept, the gate's own edits, the tests, the stored runs, random ones.
 test:

@@ -1,0 +1,61 @@
+"""What stands below the line of a fault: what is wrong, where, and what to do."""
+import importlib
+import shutil
+import textwrap
+
+from ..words import places
+
+PARTS = {"usage": "usage", "read": "reads", "schema": "schemas", "query": "queries", "table": "tables", "limit": "limits",
+         "budget": "budgets", "past-bits": "budgets", "write": "streams", "memory": "streams"}
+
+
+class Run:
+    """A run that ended: its words, the program (nothing where there is none at hand), and where `--data` was given, the folder that was left."""
+
+    def __init__(self, words, program=None, before=None):
+        self.words, self.program, self.before = words, program, before
+        self.command = words[0] if words else ""
+        found = places(words[1:])
+        self.schema_file, self.query_file = (found + ["", ""])[:2] if self.command != "demo" else ("schema.sql", "query.sql")
+
+    @property
+    def schema(self):
+        from ..schema import read_schema
+        return read_schema(read(self.schema_file))
+
+    @property
+    def query(self):
+        from ..query import read_query
+        return read_query(read(self.query_file))
+
+
+def read(file):
+    with open(file, "rb") as f:
+        return f.read()
+
+
+def explained(fault, run):
+    """The explanation of a fault, ended by a line end."""
+    part = importlib.import_module(f".{PARTS[fault['kind']]}", __name__)
+    try:
+        return laid_out(part.explain(fault, run))
+    except Exception:
+        # A file may have changed since. Whatever goes wrong here, the line and the exit status stay as they are.
+        return ""
+
+
+def laid_out(blocks):
+    """Sentences are wrapped; what has line ends of its own stays as it is."""
+    width = max(40, min(shutil.get_terminal_size((80, 24)).columns, 100)) - 1
+    fill = lambda block: block if "\n" in block else "\n".join(textwrap.wrap(block, width, break_long_words=False, break_on_hyphens=False))
+    return "".join(fill(block) + "\n" for block in blocks if block)
+
+
+def not_connected(run):
+    """Below a plan: a sentence where no equality connects all entries, since its bound is then their product."""
+    from .budgets import not_connected as said
+    try:
+        return "" if run.command not in ("run", "plan", "audit") else laid_out([said(run)])
+    except Exception:
+        # As above.
+        return ""

@@ -1,0 +1,117 @@
+"""`error budget LEAST` and `error past-bits`: what makes the bound large, and what would lower it."""
+import subprocess
+
+from ..near import listed
+from ..plans import option_of, read_plan
+from ..program import answer
+from ..query import groups
+from ..table import ACCURACY, BUDGET, MOST_BUDGET, REDUCE, USUAL_BUDGET
+from ..faults import fault_of
+
+SECONDS = 60
+CLOSER = "8"
+
+
+def explain(fault, run):
+    budget = int(option_of(run.words, BUDGET.word) or USUAL_BUDGET)
+    least = fault.get("least")
+    if least is None:
+        first = "In every order some level has a bound of 2^128 - 1 rows or more. No budget helps."
+    elif least > MOST_BUDGET:
+        first = f"The best order has a level whose bound is {least:,} rows. No --budget goes that far: the most is {MOST_BUDGET:,}."
+    else:
+        first = f"The best order has a level whose bound is {least:,} rows, and the budget is {budget:,}. The least budget is --budget {least}."
+    apart = not_connected(run)
+    return [first, at_fault(run, least, budget), apart, *tried(run, budget, apart)]
+
+
+def not_connected(run):
+    """A sentence where no equality connects all entries: that is mostly a condition that was forgotten."""
+    query = run.query
+    found = groups(query, run.schema)
+    if len(found) < 2:
+        return ""
+    named = [listed(query.entries[i].name for i in group) for group in found]
+    parts = "; ".join(named)
+    return (f"These entries aren't connected: {parts}. No condition of the form A.X = B.Y leads from one of these groups to another, so each row of one meets "
+            f"each row of the others. Is a condition forgotten?")
+
+
+def with_words(run, words):
+    """What `plan` says with further words: its levels, or the least budget, or nothing."""
+    if run.program is None or run.command == "demo":
+        return None
+    keep = planned_words(run.words)
+    try:
+        status, _, notes = answer(run.program, [*keep[:1], *words, *keep[1:]], seconds=SECONDS)
+    except subprocess.TimeoutExpired:
+        return None
+    if status == 0:
+        return read_plan(notes.decode("utf-8", "replace"))
+    fault = fault_of(notes)
+    return fault["least"] if fault and fault["kind"] == "budget" else None
+
+
+def planned_words(words):
+    """The words as a plan of the same texts, without the options that are tried."""
+    found, left = ["plan"], list(words[1:])
+    while left:
+        word = left.pop(0)
+        if word == "--":
+            return found + [word, *left]
+        if word in (BUDGET.word, ACCURACY.word):
+            del left[:1]
+        elif word != REDUCE.word and not word.startswith((BUDGET.word + "=", ACCURACY.word + "=")):
+            found.append(word)
+    return found
+
+
+def at_fault(run, least, budget):
+    """Which level is past the budget, where the least budget shows the plan."""
+    if least is None or least > MOST_BUDGET:
+        return ""
+    plan = with_words(run, given(run, least))
+    if plan is None or isinstance(plan, int):
+        return ""
+    past = [(number + 1, alias, bound) for number, (alias, bound) in enumerate(plan.levels) if bound > budget]
+    if not past:
+        return ""
+    order = listed((alias for alias, _ in plan.levels), "and then")
+    said = listed(f"level {number} ({alias}), of {bound:,} rows" for number, alias, bound in past)
+    return f"That order is {order}. Past the budget: {said}."
+
+
+def given(run, budget, accuracy=None, reduce=False):
+    """The options of the run, with these in their place."""
+    kept = accuracy or option_of(run.words, ACCURACY.word)
+    words = [BUDGET.word, str(budget)] + ([ACCURACY.word, kept] if kept else [])
+    return words + ([REDUCE.word] if reduce or has_reduce(run) else [])
+
+
+def has_reduce(run):
+    before = run.words[:run.words.index("--")] if "--" in run.words else run.words
+    return REDUCE.word in before
+
+
+def tried(run, budget, apart):
+    """What the other options come to, and what else there is to do."""
+    is_close = int(option_of(run.words, ACCURACY.word) or 1) >= int(CLOSER)
+    ways = []
+    if not has_reduce(run):
+        ways.append((f"With {REDUCE.word}", dict(reduce=True)))
+    if not is_close:
+        ways.append((f"With {ACCURACY.word} {CLOSER}", dict(accuracy=CLOSER)))
+    if len(ways) == 2:
+        ways.append(("With both", dict(reduce=True, accuracy=CLOSER)))
+    found = [f"    {name} {said_of(with_words(run, given(run, budget, **how)), budget)}" for name, how in ways]
+    found = [line for line in found if not line.endswith(" None")]
+    rest = "" if apart else "A condition on a column of one entry lowers bounds most: = or a range."
+    return (["What other options come to:\n" + "\n".join(found)] if found else []) + [rest]
+
+
+def said_of(found, budget):
+    if found is None:
+        return None
+    if isinstance(found, int):
+        return f"the least budget is {found:,}."
+    return f"it fits: no level has a bound of more than {max(bound for _, bound in found.levels):,} rows."

@@ -1,0 +1,145 @@
+"""`error query CAUSE AT`: what is wrong with a query text at that place."""
+from . import read
+from .query_advice import CERTAIN, GUESSES
+from .texts import advised, bad_character, no_text, place_of
+from ..near import hint, listed, nearest
+from ..query import Literal, Reference, meant, visible
+from ..spot import plain, spot
+from ..tokens import LEAST_NUMBER, MOST_NUMBER
+
+
+def explain(fault, run):
+    data, query, at = read(run.query_file), run.query, fault["at"]
+    says = {"syntax": syntax, "name": name, "kind": kind}[fault["cause"]]
+    return no_text(run.query_file, data, at) or [spot(run.query_file, data, at, length(query, at)), *says(query, run.schema, at)]
+
+
+def length(query, at):
+    """How many bytes are marked: the token there, or the whole reference that begins with it."""
+    reference = next((r for r in query.references if r.token.start == at), None)
+    token = next((t for t in query.tokens if t.start == at and t.kind != "bad"), None)
+    return max(reference.end - at if reference else token.end - at if token else 1, 1)
+
+
+def syntax(query, schema, at):
+    place = place_of(query, at)
+    if place.token().kind == "bad":
+        return [bad_character(place.token())]
+    literal = next((o for o in query.literals if o.token.start == at), None)
+    if literal and not literal.fits:
+        return [f"A number is from {LEAST_NUMBER:,} to {MOST_NUMBER:,} (64 bits), and this one isn't."]
+    return advised(place, CERTAIN, GUESSES)
+
+
+def name(query, schema, at):
+    """A table or an alias of FROM first, since those are looked at first, and then a reference."""
+    for number, entry in enumerate(query.entries):
+        earlier = [e.name for e in query.entries[:number]]
+        if entry.table.start == at and schema.table(entry.table.name) is None:
+            return [unknown_table(entry.table, schema)]
+        if (entry.alias or entry.table).start == at and entry.name in earlier:
+            return [twice(entry)]
+    reference = next(r for r in query.references if r.token.start == at)
+    return unknown_entry(query, reference, schema) if reference.entry else unknown_column(query, reference, schema)
+
+
+def unknown_table(token, schema):
+    tables = [table.name for table in schema.tables]
+    return f"The schema has no table {plain(token.name)}. Its tables are {listed(tables)}.{hint(token.name, tables)}{case(token, tables)}"
+
+
+def case(token, names):
+    """Where a name in double quotes is there but for its case."""
+    if token.kind == "quoted" and token.name.upper() in names:
+        return f" A name in double quotes keeps its case: write {token.name.upper()} without quotes."
+    return ""
+
+
+def twice(entry):
+    table = plain(entry.table.name)
+    how = "Give this one another alias" if entry.alias else f"Give each an alias, as FROM {table} A, {table} B"
+    return f"{plain(entry.name)} is the name of two entries. {how}, and write its columns with it."
+
+
+def columns(table):
+    return [column.name for column in table.columns]
+
+
+def unknown_entry(query, reference, schema):
+    """`entry.column`, of which one of the two isn't there."""
+    wanted, scope = reference.entry.name, [query.entries[i] for i in reference.scope]
+    entry = next((e for e in scope if e.name == wanted), None)
+    if entry is None:
+        return [no_entry(query, reference, scope)]
+    table = schema.table(entry.table.name)
+    called = plain(entry.name) + (f" (table {plain(table.name)})" if entry.alias else "")
+    missing = reference.column
+    return [f"{called} has no column {plain(missing.name)}. Its columns are {listed(columns(table))}.{hint(missing.name, columns(table))}{case(missing, columns(table))}"]
+
+
+def no_entry(query, reference, scope):
+    wanted, names = reference.entry.name, [entry.name for entry in scope]
+    if any(entry.name == wanted for entry in query.entries):
+        return f"{plain(wanted)} can't be named in this ON: there only the entries of its own JOIN, up to the one just joined, may stand: {listed(names)}. Put the condition into WHERE."
+    renamed = next((entry for entry in scope if entry.table.name == wanted), None)
+    if renamed:
+        return f"The table {plain(wanted)} has the alias {plain(renamed.name)} here, and goes by that alone: write {plain(renamed.name)}.{plain(reference.column.source) if reference.column else '*'}."
+    return f"There is no entry {plain(wanted)} in FROM. There are {listed(names)}.{hint(wanted, names)}"
+
+
+def unknown_column(query, reference, schema):
+    """A column without an entry: several entries have it, or none has."""
+    token, found = reference.column, visible(query, reference, schema)
+    if found:
+        having = [f"{plain(entry.name)} (table {plain(table.name)})" if entry.alias else plain(entry.name) for entry, table, _ in found]
+        return [f"{plain(token.name)} is a column of {listed(having)}. Write it with one of them, as {plain(found[0][0].name)}.{plain(token.source)}."]
+    tables = {query.entries[i].name: schema.table(query.entries[i].table.name) for i in reference.scope}
+    if token.kind == "quoted":
+        return quoted(token, tables)
+    every = [f"{entry}.{column}" for entry, table in tables.items() for column in columns(table)]
+    near = nearest(token.name, {name.split(".", 1)[1] for name in every})
+    near = next((name for name in every if name.split(".", 1)[1] == near), None)
+    each = "".join(f"\n    {plain(entry)}: {listed(map(plain, columns(table)))}" for entry, table in tables.items())
+    as_text = f" A text takes single quotes: '{plain(token.source)}'." if is_compared(query, reference) and not near else ""
+    return [f"No entry has a column {plain(token.name)}." + (f" Did you mean {near}?" if near else "") + as_text, f"The columns are:{each}"]
+
+
+def is_compared(query, reference):
+    """Whether it stands on the right of a comparison, where a text may have been meant."""
+    return any(reference in test.operands[1:] for test in query.tests)
+
+
+def quoted(token, tables):
+    """A name in double quotes that no entry has: mostly a text was meant."""
+    names = {column for table in tables.values() for column in columns(table)}
+    if token.name.upper() in names:
+        return ["No entry has a column of that name." + case(token, names)]
+    text = plain(token.name).replace("'", "''")
+    return [f'In double quotes stands a name, and no column is called {plain(token.source)}. A text takes single quotes: \'{text}\'.']
+
+
+def kind(query, schema, at):
+    test = next(t for t in query.tests if any(o.token.start == at for o in t.operands[1:]))
+    left, other = test.operands[0], next(o for o in test.operands[1:] if o.token.start == at)
+    return [f"Both sides of a comparison are numbers or both are texts. {side(query, left, schema)} and {side(query, other, schema)}.", *mended(query, left, other, schema)]
+
+
+def side(query, operand, schema):
+    if isinstance(operand, Literal):
+        shown = "".join(plain(token.source) for token in operand.tokens)
+        return f"{shown} is a number" if operand.is_number else f"{shown} is a text"
+    entry, _, column = meant(query, operand, schema)
+    return f"{plain(entry.name)}.{plain(column.name)} is {column.type}"
+
+
+def mended(query, left, other, schema):
+    """How the literal of the two is written as the other one's kind."""
+    literal, beside = (other, left) if isinstance(other, Literal) else (left, other)
+    if not isinstance(literal, Literal) or not isinstance(beside, Reference):
+        return []
+    source = literal.tokens[-1].source
+    if literal.is_number:
+        return [f"As a text it is written '{source}'."]
+    if source[1:-1].isascii() and source[1:-1].isdigit():
+        return [f"As a number it is written {source[1:-1]}, without quotes."]
+    return []

@@ -1,0 +1,88 @@
+"""`error schema CAUSE AT`: what is wrong with a schema text at that place."""
+from . import read
+from .schema_advice import CERTAIN, GUESSES
+from .texts import advised, bad_character, no_text, place_of
+from ..near import hint, listed
+from ..spot import plain, spot
+from ..tokens import tokens_of
+
+
+def explain(fault, run):
+    data, schema, at = read(run.schema_file), run.schema, fault["at"]
+    token = next((t for t in tokens_of(data) if t.start == at and t.kind != "bad"), None)
+    says = {"syntax": syntax, "name": name, "nullable": nullable}[fault["cause"]]
+    return no_text(run.schema_file, data, at) or [spot(run.schema_file, data, at, token.end - at if token else 1), *says(schema, at)]
+
+
+def syntax(schema, at):
+    place = place_of(schema, at)
+    if place.token().kind == "bad":
+        return [bad_character(place.token())]
+    return advised(place, CERTAIN, GUESSES)
+
+
+def nullable(schema, at):
+    table, column = next((t, c) for t in schema.tables for c in t.columns if c.token.start == at)
+    return [f"The column {plain(column.name)} of {plain(table.name)} may be null, and tables have no nulls. "
+            f"Add NOT NULL behind its type: {plain(column.token.source)} {column.type} NOT NULL. A column of the primary key needs none."]
+
+
+def name(schema, at):
+    for table in schema.tables:
+        said = of_table(schema, table, at) or next((s for c in table.columns for s in [of_column(table, c, at)] if s), None) or of_keys(table, at) or of_references(schema, table, at)
+        if said:
+            return [said]
+    return []
+
+
+def of_table(schema, table, at):
+    if table.token.start != at:
+        return None
+    if not all(c.isascii() and (c.isalnum() or c == "_") for c in table.name):
+        return f"{plain(table.token.source)} can't be a table's name, since its file is called after it: it has letters from A to Z, digits and _ alone."
+    return f"There is a table {plain(table.name)} before this one. Give one of the two another name."
+
+
+def of_column(table, column, at):
+    if column.token.start == at:
+        return f"{plain(table.name)} has a column {plain(column.name)} before this one (upper and lower case count as one). Give one of the two another name."
+    return None
+
+
+def of_keys(table, at):
+    second = next((word for word, _ in table.primary[1:] if word.start == at), None)
+    if second:
+        return f"{plain(table.name)} has two primary keys. A key of several columns is one rule, PRIMARY KEY (A, B); a further key is UNIQUE."
+    lists = table.keys + [reference.of for reference in table.references]
+    return next((said for tokens in lists for said in [of_list(table, tokens, at)] if said), None)
+
+
+def of_list(table, tokens, at):
+    """A list of columns: a name in it that the table doesn't have, or that stands in it twice."""
+    token = next((t for t in tokens if t.start == at), None)
+    if token is None:
+        return None
+    names = [column.name for column in table.columns]
+    if token.name in names:
+        return f"{plain(token.name)} stands twice in this list." if any(t.name == token.name and t.start < at for t in tokens) else None
+    return f"{plain(table.name)} has no column {plain(token.name)}. Its columns are {listed(names)}.{hint(token.name, names)}"
+
+
+def of_references(schema, table, at):
+    for reference in table.references:
+        target = schema.table(reference.target.name)
+        if target and any(token.start == at for token in reference.columns):
+            return of_list(target, reference.columns, at)
+        if reference.target.start == at:
+            return of_target(schema, reference, target)
+    return None
+
+
+def of_target(schema, reference, target):
+    names = [table.name for table in schema.tables]
+    if target is None:
+        return f"The schema has no table {plain(reference.target.name)}. Its tables are {listed(names)}.{hint(reference.target.name, names)}"
+    if not reference.columns and not target.primary:
+        return f"{plain(target.name)} has no primary key to refer to. Name the columns, as REFERENCES {plain(target.name)} (X), or leave the reference out: rows aren't checked against it."
+    count = len(reference.columns or target.primary[0][1])
+    return f"The reference has {len(reference.of)} columns, and leads to {count} of {plain(target.name)}. Both sides have equally many."

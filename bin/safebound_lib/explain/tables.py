@@ -1,0 +1,119 @@
+"""`error table FILE CAUSE ..`: what is wrong with a table file, at which record and which value."""
+import re
+
+from . import read
+from .texts import how_to_convert
+from ..near import listed, nearest
+from ..records import chosen, column_place, records, same
+from ..spot import plain, spot
+from ..tokens import LEAST_NUMBER, MOST_NUMBER, number_of
+
+SEPARATORS = {";": "semicolons", "\t": "tabs", "|": "bars"}
+MOST_OF_VALUE = 60
+
+
+def explain(fault, run):
+    schema = run.schema
+    table = next(t for t in schema.tables if t.file == fault["file"])
+    says = {"utf8": utf8, "header": header, "width": width, "field": field, "key": key}[fault["cause"]]
+    return says(table, fault, read(table.file))
+
+
+def quoted(value):
+    """A value as it stands in the file, between marks."""
+    return f"`{plain(value[:MOST_OF_VALUE])}{'...' if len(value) > MOST_OF_VALUE else ''}`"
+
+
+def at_record(fault, line):
+    return f"{fault['file']}, line {line}, record {fault['record']}"
+
+
+def utf8(table, fault, data):
+    at = fault["at"]
+    byte = f"The byte 0x{data[at]:02X} here is no UTF-8." if at < len(data) else "The file ends within a character."
+    return [spot(fault["file"], data, at), f"{byte} {how_to_convert(data, fault['file'])}"]
+
+
+def header(table, fault, data):
+    found = next((fields for _, fields in records(data)), None)
+    wanted = [column.name for column in table.columns]
+    if found is None:
+        return [f"{table.file} holds nothing. Its first line names the columns: {','.join(map(plain, wanted))}"]
+    column = fault["column"]
+    count = sum(same(name) == same(column) for name in found)
+    first = f"The header of {table.file} names {plain(column)} {count} times; each declared column stands there once." if count else \
+        f"The header of {table.file}, its first line, has no column {plain(column)}."
+    shown = f"\n    found:    {plain(','.join(found)[:200])}\n    expected: {plain(','.join(wanted))}"
+    return [first + shown, "Columns may come in any order, and further ones are passed over.", why_no_header(found, wanted, column, count)]
+
+
+def why_no_header(found, wanted, column, count):
+    """What the header that was found looks like."""
+    separator = next((s for s in SEPARATORS if len(found) == 1 and s in found[0]), None)
+    if separator:
+        return f"The file looks separated by {SEPARATORS[separator]}. Write it with commas, as spreadsheets do on export as CSV."
+    if count:
+        return ""
+    if any(re.fullmatch(r"[+-]?[0-9]+", name) for name in found) or not any(same(name) in map(same, wanted) for name in found) and len(found) == len(wanted) > 1 and not any(nearest(w, found) for w in wanted):
+        return f"The first line looks like a row. Put the names above it: {plain(','.join(wanted))}"
+    padded = next((name for name in found if name != name.strip() and same(name.strip()) == same(column)), None)
+    if padded:
+        return f"Blanks count: {quoted(padded)} has some at its ends."
+    near = nearest(column, found)
+    return f"Is it {quoted(near)}? Give it the column's name." if near else ""
+
+
+def width(table, fault, data):
+    (_, head), (line, fields) = chosen(data, 0, fault["record"])
+    first = f"{at_record(fault, line)}: this record has {fault['found']} fields, and the header has {len(head)}."
+    shown = f"\n    header: {plain(','.join(head)[:200])}\n    record: {' | '.join(plain(f[:MOST_OF_VALUE]) for f in fields[:20])}"
+    if len(fields) > len(head):
+        return [first + shown, 'An unquoted comma is often the cause: a value with a comma stands in double quotes, as "Paris, capital".']
+    separator = next((s for s in SEPARATORS if s in "".join(fields)), None)
+    looks = f"The record looks separated by {SEPARATORS[separator]}." if separator else "A field is missing, or a line is cut. An empty field keeps its comma."
+    return [first + shown, looks]
+
+
+def field(table, fault, data):
+    (_, head), (line, fields) = chosen(data, 0, fault["record"])
+    column = next(c for c in table.columns if c.name == fault["column"])
+    value = fields[column_place(head, column.name)]
+    first = f"{at_record(fault, line)}, column {plain(column.name)}: here stands {quoted(value) if value else 'nothing'}, and the column is {column.type}."
+    return [first, number_expected(value) if column.is_number else text_expected(value, column.length)]
+
+
+def number_expected(value):
+    """What a field of a number has to be, and what this one is instead."""
+    expected = "A number is digits, with - or + before them where there is a sign."
+    if re.fullmatch(r"[+-]?[0-9]+", value, re.ASCII):
+        return f"A number is from {LEAST_NUMBER:,} to {MOST_NUMBER:,} (64 bits), and this one is {'smaller' if number_of(value) < 0 else 'larger'}."
+    if not value or value.upper() in ("NULL", "\\N", "NA", "N/A", "NAN", "NONE"):
+        return f"There are no nulls. {expected} Write a number that stands for none, as 0 or -1, or leave the record out."
+    if re.fullmatch(r"\s*[+-]?[0-9]+\s*", value):
+        return f"{expected} Blanks beside it count: take them away."
+    if re.fullmatch(r"[0-9]{4}-[0-9]{2}-[0-9]{2}.*|[0-9]{1,2}[./][0-9]{1,2}[./][0-9]{2,4}", value):
+        return f"{expected} This looks like a date: declare the column as VARCHAR(10), and write dates as YYYY-MM-DD."
+    if re.fullmatch(r"[+-]?[0-9]*[.,][0-9]*", value):
+        return f"{expected} Decimals are stored as integers of the smallest unit, as cents in the place of euros; 5.0 is written 5."
+    return f"{expected} For texts declare the column as VARCHAR(n)."
+
+
+def text_expected(value, most):
+    return f"The value has {len(value):,} characters, and at most {most:,} fit. Declare a longer text, VARCHAR({len(value)}) or more, or shorten the value."
+
+
+def key(table, fault, data):
+    (_, head), (line, fields), (earlier, before) = chosen(data, 0, fault["record"], fault["earlier"])
+    for tokens in table.keys:
+        at = [column_place(head, token.name) for token in tokens]
+        if [fields[i] for i in at] == [before[i] for i in at] or all(is_same(table, t, fields[i], before[i]) for t, i in zip(tokens, at)):
+            names, values = listed(plain(t.name) for t in tokens), ", ".join(quoted(fields[i]) for i in at)
+            break
+    return [f"{at_record(fault, line)}: {values} stands in the key {names} already, on line {earlier} (record {fault['earlier']}).\n"
+            f"    line {earlier}: {plain(','.join(before)[:200])}\n    line {line}: {plain(','.join(fields)[:200])}",
+            f"No two records have the same values in a PRIMARY KEY or UNIQUE. Remove one of the two, or the key from the schema."]
+
+
+def is_same(table, token, one, other):
+    """Whether two fields spell one value: 7 and 007 are one number."""
+    return one == other or table.column(token.name).is_number and number_of(one) == number_of(other)

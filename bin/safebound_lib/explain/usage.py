@@ -1,0 +1,93 @@
+"""`error usage`: which word of the command line is wrong, and what it may be."""
+import re
+
+from ..near import hint, listed
+from ..spot import plain
+from ..table import BY_WORD, COMMANDS, MOST_SEED, program_options
+
+DIGITS = re.compile(r"[0-9]+", re.ASCII)
+
+
+def explain(fault, run):
+    if not run.words:
+        return ["No command is given."] + overview()
+    command = BY_WORD.get(run.command)
+    if command is None or command.is_own:
+        return wrong_command(run.command)
+    return [first_wrong(command, run.words[1:]) or "These words are no command.", f"It is: safebound {command.spelled}",
+            f"`safebound help {command.word}` says more."]
+
+
+def overview():
+    commands = "".join(f"\n    safebound {' '.join([c.word, *c.places]):<22} {c.help}" for c in COMMANDS)
+    return [f"The commands are:{commands}", "`safebound help COMMAND` says more, with examples."]
+
+
+def wrong_command(word):
+    words = [c.word for c in COMMANDS]
+    if word.startswith("-"):
+        return [f"The command comes first, and then its options: {plain(word)} stands before one."] + overview()
+    return [f"There is no command {plain(word)}.{hint(word, words)}"] + overview()
+
+
+def first_wrong(command, words):
+    """The first word that can't stand where it stands, as a sentence."""
+    options = {o.word: o for o in program_options(command)}
+    found, seen, left = [], set(), list(words)
+    while left:
+        word = left.pop(0)
+        if word == "--":
+            found += left
+            break
+        head, equals, value = word.partition("=")
+        if not word.startswith("-") or word == "-":
+            found.append(word)
+            continue
+        if head not in options:
+            return unknown(command, head)
+        wrong = wrong_option(options[head], head in seen, value if equals else left.pop(0) if options[head].value and left else None)
+        if wrong:
+            return wrong
+        seen.add(head)
+    return wrong_places(command, found)
+
+
+def unknown(command, word):
+    may = f"Its options are {listed(o.spelled for o in command.options)}."
+    if word in {o.word for c in COMMANDS for o in c.options}:
+        return f"{command.word} has no option {plain(word)}. {may}"
+    return f"There is no option {plain(word)}.{hint(word, [o.word for o in command.options])} {may} A file whose name begins with - stands behind the word --."
+
+
+def wrong_option(option, is_again, value):
+    """What is wrong with an option and its value, or nothing."""
+    if is_again:
+        return f"{option.word} stands twice; it may stand once."
+    if not option.value:
+        return f"{option.word} takes no value." if value is not None else None
+    between = f"a number from {option.least:,} to {option.most:,}, in digits alone: {option.spelled}"
+    if value is None:
+        return f"{option.word} lacks its value, {between}."
+    if not DIGITS.fullmatch(value):
+        return f"{option.word} has the value {plain(value) or 'of no characters'}. It takes {between}.{spelled_out(value)}"
+    if not option.least <= int(value[-4000:]) <= option.most:
+        return f"{option.word} has the value {plain(value)}. It takes {between}."
+    return None
+
+
+def spelled_out(value):
+    """A number as it was meant, in digits."""
+    if re.fullmatch(r"[0-9]{1,3}([,_.' ][0-9]{3})+", value):
+        return f" Write {re.sub('[^0-9]', '', value)}."
+    match = re.fullmatch(r"([0-9])[eE]\+?([0-9])", value)
+    return f" Write {int(match[1]) * 10 ** int(match[2])}." if match else ""
+
+
+def wrong_places(command, found):
+    if len(found) < len(command.places):
+        return f"{command.word} lacks {listed(command.places[len(found):])}."
+    if len(found) > len(command.places):
+        return f"{plain(found[len(command.places)])} is a word too many: {command.word} takes {listed(command.places)} alone."
+    if command.places == ("NUMBER",) and not (DIGITS.fullmatch(found[0]) and int(found[0][-4000:]) <= MOST_SEED):
+        return f"{plain(found[0])} is no number from 0 to {MOST_SEED:,}, in digits alone."
+    return None

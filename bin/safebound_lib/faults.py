@@ -1,0 +1,25 @@
+"""The line of a fault (docs/ERRORS.md), told apart into its words."""
+import re
+
+FORMS = [re.compile(form, re.DOTALL) for form in (
+    r"error (?P<kind>usage)", r"error (?P<kind>read) (?P<file>.*)", r"error (?P<kind>schema|query) (?P<cause>\w+) (?P<at>\d+)",
+    r"error (?P<kind>table) (?P<file>\S+) (?P<cause>utf8) (?P<at>\d+)",
+    r"error (?P<kind>table) (?P<file>\S+) (?P<cause>header) (?P<column>.*)",
+    r"error (?P<kind>table) (?P<file>\S+) (?P<cause>width) (?P<record>\d+) (?P<found>\d+)",
+    r"error (?P<kind>table) (?P<file>\S+) (?P<cause>field) (?P<record>\d+) (?P<column>.*)",
+    r"error (?P<kind>table) (?P<file>\S+) (?P<cause>key) (?P<record>\d+) (?P<earlier>\d+)",
+    r"error (?P<kind>limit) (?P<cause>file-bytes|rows) (?P<file>.*) (?P<found>\d+)", r"error (?P<kind>limit) (?P<cause>[\w-]+) (?P<found>\d+)",
+    r"error (?P<kind>budget) (?P<least>\d+)", r"error (?P<kind>past-bits)", r"error (?P<kind>write) (?P<cause>out|notes)",
+    r"error (?P<kind>memory)")]
+NUMBERS = {"at", "record", "found", "earlier", "least"}
+
+
+def fault_of(notes):
+    """The fault that standard error tells, as a dictionary, or nothing. A fault stands alone, but for one of a stream behind the plan."""
+    text = notes.decode("utf-8", "surrogateescape")
+    line = text if text.startswith("error ") else text[text.rstrip("\n").rfind("\n") + 1:]
+    for form in FORMS:
+        match = form.fullmatch(line.removesuffix("\n"))
+        if match:
+            return {name: int(value) if name in NUMBERS else value for name, value in match.groupdict().items()}
+    return None

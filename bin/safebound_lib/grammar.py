@@ -1,0 +1,57 @@
+"""Reading tokens by a grammar, rule by rule, and what could have stood where that goes wrong."""
+
+
+class Wrong(Exception):
+    """The tokens begin no text of the grammar."""
+
+
+class Reader:
+    """Goes along the tokens. It remembers the furthest place that it tested, and all that it tested for there."""
+
+    def __init__(self, tokens):
+        self.tokens, self.at, self.furthest, self.tested = tokens, 0, 0, []
+
+    @property
+    def token(self):
+        return self.tokens[self.at] if self.at < len(self.tokens) else None
+
+    def test(self, passes, what):
+        """Whether the next token passes; `what` it was tested for is remembered."""
+        if self.at > self.furthest:
+            self.furthest, self.tested = self.at, []
+        if what not in self.tested:
+            self.tested.append(what)
+        return self.token is not None and passes(self.token)
+
+    def has(self, *sources):
+        return self.test(lambda token: token.is_one(*sources), " or ".join(sources))
+
+    def maybe(self, *sources):
+        """Takes the next token where it is one of these words or symbols."""
+        return self.next() if self.has(*sources) else None
+
+    def take(self, *sources):
+        return self.maybe(*sources) or self.wrong()
+
+    def has_kind(self, kind, what):
+        return self.test(lambda token: token.kind == kind, what)
+
+    def has_name(self, what):
+        return self.test(lambda token: token.is_name, what)
+
+    def take_name(self, what):
+        return self.next() if self.has_name(what) else self.wrong()
+
+    def next(self):
+        self.at += 1
+        return self.tokens[self.at - 1]
+
+    def wrong(self):
+        raise Wrong()
+
+    def many(self, rule, separator=","):
+        """A list of what a rule reads, with separators between."""
+        found = [rule()]
+        while self.maybe(separator):
+            found.append(rule())
+        return found

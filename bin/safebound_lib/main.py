@@ -1,0 +1,99 @@
+"""The friendly command: own options and commands here, all other words to the program."""
+import os
+import sys
+
+from . import VERSION, program
+from .table import BY_WORD, DATA, EXPLAIN, HELP, JSON, VERSION as VERSION_OPTION
+from .words import Misused, read_line
+
+MISUSED = 2
+
+
+def main(words):
+    try:
+        line = read_line(words)
+        if HELP.word in line.own:
+            return show_help(line.words[:1] if line.command in BY_WORD else [])
+        if VERSION_OPTION.word in line.own or line.words == ["version"]:
+            return show_version()
+        refuse_strange(line)
+        if DATA.word in line.own:
+            enter(line)
+        if line.command in BY_WORD and BY_WORD[line.command].is_own:
+            return own_command(line)
+        return run_program(line)
+    except Misused as fault:
+        program.say(f"safebound: {fault}\n")
+        return MISUSED
+
+
+def refuse_strange(line):
+    """Own options stand only with commands that have them; a command that isn't there is the program's to refuse."""
+    command = BY_WORD.get(line.command)
+    for word in line.own if command else ():
+        if word not in {option.word for option in command.options} | {EXPLAIN.word}:
+            raise Misused(f"{line.command} has no option {word}; `safebound help {line.command}` lists those that it has")
+
+
+def enter(line):
+    """Goes into the folder of `--data`."""
+    folder = line.own[DATA.word]
+    try:
+        line.before = os.getcwd()
+        os.chdir(folder)
+    except OSError as fault:
+        raise Misused(f"{DATA.word} {folder}: {fault.strerror}") from None
+
+
+def run_program(line):
+    """The program's own commands. It is run so that its notes are seen only where a fault may be explained."""
+    path = program.found()
+    if JSON.word in line.own:
+        from .json_plan import show
+        return show(path, line)
+    if not (EXPLAIN.word in line.own or program.is_terminal(2)):
+        program.become(path, line.words)
+    status, notes = program.run_and_read(path, line.words)
+    explain(path, line, status, notes)
+    return status
+
+
+def explain(path, line, status, notes):
+    """What stands below the line of a fault; below a plan only that entries aren't connected."""
+    from .explain import Run, explained, not_connected
+    from .faults import fault_of
+    run = Run(line.words, path, line.before)
+    fault = fault_of(notes) if status else None
+    program.say(explained(fault, run) if fault else not_connected(run) if status == 0 else "")
+
+
+def own_command(line):
+    from . import own
+    return {"help": lambda: show_help(line.words[1:]), "new": lambda: own.new(line.words[1:]), "check": lambda: own.check(program.found(), line),
+            "picture": lambda: own.picture(program.found(), line), "completion": lambda: own.completion(line.words[1:])}[line.command]()
+
+
+def show_help(topics):
+    from . import pages
+    if len(topics) > 1:
+        raise Misused("help takes one word: a command, or errors")
+    text = pages.topic(topics[0]) if topics else pages.overview()
+    if text is None:
+        from .near import hint, listed
+        raise Misused(f"there is no help on {topics[0]}.{hint(topics[0], pages.TOPICS)} There is help on {listed(pages.TOPICS)}")
+    program.write(1, text)
+    return 0
+
+
+def show_version():
+    from .places import program as path
+    program.write(1, f"safebound {VERSION}\nprogram: {path() or 'not built yet (make build)'}\n")
+    return 0
+
+
+def run(words):
+    """The exit status of the command, with Python's own interruptions as a shell expects them."""
+    try:
+        return main(words)
+    except KeyboardInterrupt:
+        return program.end_as(-2)

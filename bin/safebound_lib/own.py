@@ -1,0 +1,108 @@
+"""The commands that the program doesn't have: `new`, `check`, `picture`, `completion`."""
+import os
+import shutil
+import tempfile
+
+from . import pages, places, program
+from .explain import Run, explained, not_connected, read
+from .faults import fault_of
+from .near import listed
+from .plans import option_of, read_audit, read_plan
+from .query import read_query
+from .schema import read_schema
+from .table import BUDGET, OUTPUT, SHELLS
+from .words import Misused, places as places_of
+
+PARTS_OF_EXAMPLE = (".sql", ".csv")
+
+
+def new(words):
+    """Copies the example's texts and tables into a new folder."""
+    if len(words) != 1:
+        raise Misused("new takes one word, the folder: safebound new FOLDER")
+    folder, source = words[0], places.example()
+    try:
+        os.makedirs(folder, exist_ok=True)
+        if os.listdir(folder):
+            raise Misused(f"{folder} isn't empty: nothing was written")
+        names = sorted(name for name in os.listdir(source) if name.endswith(PARTS_OF_EXAMPLE))
+        for name in names:
+            shutil.copyfile(os.path.join(source, name), os.path.join(folder, name))
+    except OSError as fault:
+        raise Misused(f"{folder}: {fault.strerror}") from None
+    program.write(1, f"{folder}: {listed(names)}\nRun it, and then edit it:\n    safebound run schema.sql query.sql --data {folder}\n")
+    return 0
+
+
+def check(path, line):
+    """The texts alone: the program plans them where no table lies, and a table that it can't read shows that both are right."""
+    files = places_of(line.words[1:])
+    if len(files) not in (1, 2) or len(files) != len([w for w in line.words[1:] if w != "--"]):
+        raise Misused("check takes the schema and maybe the query: safebound check SCHEMA [QUERY]")
+    with tempfile.TemporaryDirectory(prefix="safebound-") as empty:
+        query = os.path.join(empty, "no query")
+        with open(query, "wb"):
+            pass
+        absolute = [os.path.abspath(file) for file in files] + [query]
+        status, _, notes = program.answer(path, ["plan", "--", *absolute[:2]], empty)
+    fault = fault_of(notes)
+    is_right = fault is not None and (fault["kind"] == "read" and fault["file"] not in absolute or len(files) == 1 and fault["kind"] == "query")
+    if is_right:
+        program.write(1, found_right(files))
+        return 0
+    return tell(notes, fault, Run(["plan", "--", *files], path, line.before), dict(zip(absolute, files)), status)
+
+
+def tell(notes, fault, run, names, status):
+    """The line of the fault, with the file's name as it was given, and its explanation."""
+    if fault and fault.get("file") in names:
+        fault["file"] = names[fault["file"]]
+        notes = notes.replace(os.fsencode(os.path.abspath(fault["file"])), os.fsencode(fault["file"]))
+    program.say(notes.decode("utf-8", "surrogateescape") + (explained(fault, run) if fault else ""))
+    return status
+
+
+def found_right(files):
+    """What was read, in a line for each text."""
+    schema = read_schema(read(files[0]))
+    said = f"{files[0]}: right. Tables: {listed((f'{t.name} ({len(t.columns)} columns)' for t in schema.tables), most=64)}\n"
+    if len(files) == 2:
+        query = read_query(read(files[1]))
+        entries = listed(e.name if e.name == e.table.name else f"{e.name} (table {e.table.name})" for e in query.entries)
+        said += f"{files[1]}: right. Entries: {entries}\n" + not_connected(Run(["plan", "--", *files]))
+    return said
+
+
+def picture(path, line):
+    """One audit, and the picture of its plan and its rows."""
+    from .picture import draw
+    words = ["audit", *line.words[1:]]
+    status, out, notes = program.answer(path, words)
+    run = Run(words, path, line.before)
+    if status:
+        return tell(notes, fault_of(notes), run, {}, status)
+    plan = read_plan(notes.decode())
+    tables = {entry.name: entry.table.name for entry in run.query.entries}
+    budget = option_of(words, BUDGET.word)
+    svg = draw(plan, read_audit(out.decode(), plan.levels), tables, int(budget) if budget else None)
+    return save(svg, line.own.get(OUTPUT.word, "plan.svg"))
+
+
+def save(svg, to):
+    if to == "-":
+        program.write(1, svg)
+        return 0
+    try:
+        with open(to, "w", encoding="utf-8") as f:
+            f.write(svg)
+    except OSError as fault:
+        raise Misused(f"{to}: {fault.strerror}") from None
+    program.say(f"{to}: the picture of the plan; a browser shows it\n")
+    return 0
+
+
+def completion(words):
+    if len(words) != 1 or words[0] not in SHELLS:
+        raise Misused(f"completion takes one word: {listed(SHELLS, 'or')}")
+    program.write(1, pages.completion(words[0]))
+    return 0

@@ -1,0 +1,150 @@
+"""Help, the man page and completion, all from the table of commands."""
+import re
+import textwrap
+
+from . import VERSION
+from .places import page
+from .table import BY_WORD, COMMANDS, HELP, SHELLS, VERSION as VERSION_OPTION, valued
+
+SUMMARY = "joins tables with bounds that are proved"
+ABOUT = ("A schema text, a query text (select-project-join SQL-92) and one CSV file for each table: SafeBound bounds every scan and every "
+         "intermediate join, picks the best order, refuses a query whose bound passes the budget, and then lists every row. No bound is too low; that is proved.")
+OWN_OPTIONS = ("Options of this command stand before `--`; all other words go to the proved program as they are, and its streams and exit status come "
+               "back as they are. Where standard error is a terminal, a fault is explained below its line.")
+STATUSES = "0 done; 2 the words; 3 a file; 4 the schema; 5 the query; 6 a table; 7 a limit; 8 the budget; 9 past every budget; 10 a stream; 11 memory. `safebound help errors` lists each line."
+LIMITS = "One to 12 entries in FROM; 64 MiB and 4,000,000 rows for each table; budgets up to 20,000,000."
+
+
+def options_of(command):
+    return [*command.options, HELP]
+
+
+def overview():
+    lines = [f"safebound {VERSION}: {SUMMARY}", "", *wrapped(ABOUT), "", "Commands:"]
+    lines += [entry(" ".join([c.word, *places_of(c)]), c.help) for c in COMMANDS]
+    lines += ["", *wrapped(OWN_OPTIONS), "", *wrapped("Limits: " + LIMITS), "", "Begin with:", "    safebound new trips", "    cd trips", "    safebound run schema.sql query.sql", "",
+              "`safebound help COMMAND` says more of one, with examples; `safebound help errors` lists the faults."]
+    return "\n".join(lines) + "\n"
+
+
+def places_of(command):
+    needed = len(command.places) - command.optional
+    return [place if i < needed else f"[{place}]" for i, place in enumerate(command.places)]
+
+
+def of_command(command):
+    lines = wrapped(f"safebound {command.spelled}", "    ") + [""] + wrapped(f"{command.help[0].upper()}{command.help[1:]}. {command.more}".strip())
+    lines += ["", "Options:", *(entry(o.spelled, described(o)) for o in options_of(command))]
+    if command.examples:
+        lines += ["", "Examples:", *(f"    {example}" for example in command.examples)]
+    return "\n".join(lines) + "\n"
+
+
+def described(option):
+    """The option's help with its range."""
+    return option.help + (f" ({option.least:,} to {option.most:,})" if option.least is not None else "")
+
+
+def wrapped(text, indent=""):
+    return textwrap.wrap(text, 79, subsequent_indent=indent, break_on_hyphens=False)
+
+
+def entry(word, text):
+    """A word and what it says, the text in a column of its own."""
+    first = f"  {word:<22} "
+    return "\n".join(textwrap.wrap(text, 79, initial_indent=first, subsequent_indent=" " * 25, break_on_hyphens=False))
+
+
+def errors():
+    """The table of docs/ERRORS.md, laid out for a terminal."""
+    with open(page("ERRORS.md"), encoding="utf-8") as f:
+        lines = f.read().splitlines()
+    found = ["Each fault is one line on standard error, with an exit status.", ""]
+    for line in lines:
+        cells = [cell.strip() for cell in line.strip("|").split("|")]
+        if line.startswith("| `error") and len(cells) == 4:
+            found += [f"{cells[0].replace('`', '')}  (exit status {cells[1]})", *textwrap.wrap(cells[2].replace("`", "") + ".", 79, initial_indent="    ", subsequent_indent="    ")]
+            found += textwrap.wrap(f"To do: {cells[3].replace('`', '')}.", 79, initial_indent="    ", subsequent_indent="    ") if cells[3] else []
+            found.append("")
+    return "\n".join(found)
+
+
+def man():
+    """The man page, in the macros of man(7)."""
+    lines = [f'.TH SAFEBOUND 1 "" "safebound {VERSION}"', ".SH NAME", f"safebound \\- {SUMMARY}", ".SH SYNOPSIS"]
+    lines += [part for c in COMMANDS for part in (f".B safebound {roff(c.word)}", roff(" ".join([*places_of(c), *(f"[{o.spelled}]" for o in c.options)])), ".br")]
+    lines += [".SH DESCRIPTION", roff(ABOUT), ".PP", roff(OWN_OPTIONS), ".SH COMMANDS"]
+    for command in COMMANDS:
+        lines += [".TP", f".B {roff(' '.join([command.word, *places_of(command)]))}", roff(f"{command.help[0].upper()}{command.help[1:]}. {command.more}".strip())]
+    lines.append(".SH OPTIONS")
+    for option in dict.fromkeys(o for c in COMMANDS for o in c.options):
+        of = ", ".join(c.word for c in COMMANDS if option in c.options)
+        lines += [".TP", f".B {roff(option.spelled)}", roff(f"{described(option)}. With {of}.")]
+    lines += [".SH EXIT STATUS", roff(STATUSES), ".SH LIMITS", roff(LIMITS), ".SH EXAMPLES", ".nf", *(roff(e) for c in COMMANDS for e in c.examples), ".fi"]
+    return "\n".join(lines) + "\n"
+
+
+def roff(text):
+    return re.sub(r"^([.'])", r"\\&\1", text.replace("\\", "\\e").replace("-", "\\-"))
+
+
+def topic(name):
+    """The page of a topic, or nothing."""
+    if name in BY_WORD:
+        return of_command(BY_WORD[name])
+    return {"errors": errors, "man": man}.get(name, lambda: None)()
+
+
+TOPICS = tuple(BY_WORD) + ("errors", "man")
+
+
+def completion(shell):
+    words = {c.word: " ".join(o.word for o in options_of(c)) for c in COMMANDS}
+    cases = "\n".join(f"        {word}) known={options!r};;" for word, options in words.items())
+    commands = " ".join([*words, HELP.word, VERSION_OPTION.word])
+    return {"bash": BASH, "zsh": ZSH}[shell].format(commands=commands, cases=cases, numbers="|".join(sorted(valued())), topics=" ".join(TOPICS), shells=" ".join(SHELLS))
+
+
+BASH = """# bash completion for safebound
+_safebound() {{
+    local current=${{COMP_WORDS[COMP_CWORD]}} before=${{COMP_WORDS[COMP_CWORD-1]}} known=''
+    COMPREPLY=()
+    if [ "$COMP_CWORD" -eq 1 ]; then
+        COMPREPLY=($(compgen -W '{commands}' -- "$current")); return
+    fi
+    case $before in
+        {numbers}) return;;
+        --data) COMPREPLY=($(compgen -d -- "$current")); return;;
+        help) COMPREPLY=($(compgen -W '{topics}' -- "$current")); return;;
+        completion) COMPREPLY=($(compgen -W '{shells}' -- "$current")); return;;
+    esac
+    case ${{COMP_WORDS[1]}} in
+{cases}
+    esac
+    case $current in
+        -*) COMPREPLY=($(compgen -W "$known" -- "$current"));;
+        *) COMPREPLY=($(compgen -f -- "$current"));;
+    esac
+}}
+complete -o filenames -F _safebound safebound
+"""
+
+ZSH = """#compdef safebound
+_safebound() {{
+    local known=''
+    if (( CURRENT == 2 )); then
+        compadd -- {commands}; return
+    fi
+    case $words[CURRENT-1] in
+        {numbers}) return;;
+        --data) _files -/; return;;
+        help) compadd -- {topics}; return;;
+        completion) compadd -- {shells}; return;;
+    esac
+    case $words[2] in
+{cases}
+    esac
+    if [[ $PREFIX == -* ]]; then compadd -- ${{=known}}; else _files; fi
+}}
+if [[ $funcstack[1] == _safebound ]]; then _safebound "$@"; else compdef _safebound safebound; fi
+"""

@@ -1,0 +1,30 @@
+"""Where the program and the pages lie, in a copy of the repository and where `make install` put them."""
+import os
+
+LIB = os.path.dirname(os.path.realpath(__file__))
+TOP = os.path.dirname(os.path.dirname(LIB))
+BUILT = os.path.join(TOP, "crates", "safebound_cli", "out", "safebound_cli")
+# PREFIX/lib/safebound/safebound_lib is where this file lies then.
+SHARED = os.path.join(os.path.dirname(TOP), "share", "safebound")
+INSTALLED = os.path.join(os.path.dirname(TOP), "bin", "safebound_cli")
+
+
+def program():
+    """The path of the proved program, or nothing where there is none. SAFEBOUND_PROGRAM names another one."""
+    found = os.environ.get("SAFEBOUND_PROGRAM")
+    candidates = [found] if found else [BUILT, INSTALLED]
+    return next((os.path.abspath(path) for path in candidates if os.path.isfile(path)), None)
+
+
+def page(name):
+    """The path of a page of docs/."""
+    return first(os.path.join(TOP, "docs", name), os.path.join(SHARED, name))
+
+
+def example():
+    """The folder of the example that `safebound new` lays."""
+    return first(os.path.join(TOP, "examples", "trips"), os.path.join(SHARED, "trips"))
+
+
+def first(*paths):
+    return next((path for path in paths if os.path.exists(path)), paths[0])

@@ -1,0 +1,121 @@
+"""Running the proved program, with its words, streams and exit status as they are."""
+import os
+import select
+import signal
+import subprocess
+import sys
+
+from . import places
+
+NO_PROGRAM = """safebound: the proved program isn't here. In the repository, `make build` proves and builds it;
+`make run DATA=FOLDER` tries a folder of yours within a minute, with nothing proved.
+SAFEBOUND_PROGRAM names a program that lies elsewhere."""
+
+
+def found():
+    """The program's path; without one the command ends."""
+    path = places.program()
+    if path is None:
+        sys.exit(NO_PROGRAM)
+    return path
+
+
+def become(path, words):
+    """Turns into the program. Signals that Python ignores are as they were before it began."""
+    for name in (signal.SIGPIPE, signal.SIGXFSZ):
+        signal.signal(name, signal.SIG_DFL)
+    try:
+        os.execv(path, [path, *words])
+    except OSError as fault:
+        sys.exit(f"safebound: {path} can't be run: {fault.strerror}")
+
+
+def answer(path, words, folder=None, seconds=None):
+    """The exit status, standard output and standard error of a run that nobody sees."""
+    done = subprocess.run([path, *words], cwd=folder, stdin=subprocess.DEVNULL, capture_output=True, timeout=seconds)
+    return done.returncode, done.stdout, done.stderr
+
+
+class Relay:
+    """Hands bytes on to one of our own streams until that fails."""
+
+    def __init__(self, stream, to):
+        self.stream, self.to, self.kept, self.is_open = stream, to, [], True
+        os.set_blocking(stream.fileno(), False)
+
+    def hand_on(self):
+        """Hands on what is there."""
+        while self.is_open:
+            try:
+                part = os.read(self.stream.fileno(), 65536)
+            except BlockingIOError:
+                return
+            if not part or not self.write(part):
+                self.is_open = False
+                self.stream.close()
+
+    def write(self, part):
+        if self.to == 2:
+            self.kept.append(part)
+        try:
+            while part:
+                part = part[os.write(self.to, part):]
+        except OSError:
+            # A terminal that went away: the program is told so by its own stream. Its notes are still read, for their fault.
+            return self.to == 2
+        return True
+
+
+def run_and_read(path, words):
+    """Runs the program on our streams. The exit status, and what it wrote on standard error.
+
+    Where both streams are terminals, rows go by us too: else they could overtake the plan that was written before them.
+    """
+    rows = subprocess.PIPE if is_terminal(1) else None
+    for name in (signal.SIGINT, signal.SIGTERM, signal.SIGHUP):
+        signal.signal(name, lambda *_: None)
+    try:
+        child = subprocess.Popen([path, *words], stdout=rows, stderr=subprocess.PIPE)
+    except OSError as fault:
+        sys.exit(f"safebound: {path} can't be run: {fault.strerror}")
+    for name in (signal.SIGTERM, signal.SIGHUP):
+        signal.signal(name, lambda number, _: child.send_signal(number))
+    notes = Relay(child.stderr, 2)
+    relays = [notes] + ([Relay(child.stdout, 1)] if rows else [])
+    while any(relay.is_open for relay in relays):
+        ready, _, _ = select.select([r.stream for r in relays if r.is_open], [], [])
+        # Notes first: what was written on them before the rows that are ready is there by now.
+        for relay in relays:
+            if relay is notes or relay.stream in ready:
+                relay.hand_on()
+    return end_as(child.wait()), b"".join(notes.kept)
+
+
+def end_as(status):
+    """The status as it is; a program that a signal ended is followed by that signal."""
+    if status < 0:
+        if -status not in (signal.SIGKILL, signal.SIGSTOP):
+            signal.signal(-status, signal.SIG_DFL)
+        os.kill(os.getpid(), -status)
+    return status
+
+
+def is_terminal(number):
+    try:
+        return os.isatty(number)
+    except OSError:
+        return False
+
+
+def say(text):
+    """Writes on standard error, whatever the text holds."""
+    write(2, text)
+
+
+def write(number, text):
+    data = text.encode("utf-8", "surrogateescape")
+    try:
+        while data:
+            data = data[os.write(number, data):]
+    except OSError:
+        pass

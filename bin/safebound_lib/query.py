@@ -1,0 +1,271 @@
+"""Query texts: entries, references and conditions, and where one goes wrong (docs/DEFINITIONS.md, "Query texts")."""
+from dataclasses import dataclass, field
+
+from .grammar import Reader, Wrong
+from .tokens import LEAST_NUMBER, MOST_NUMBER, number_of, tokens_of
+
+OPERATORS = ("=", "<>", "<", "<=", ">", ">=")
+
+
+@dataclass
+class Entry:
+    """An entry of FROM; `first` is the number of the first entry of its part."""
+    table: object
+    alias: object
+    first: int
+
+    @property
+    def name(self):
+        return (self.alias or self.table).name
+
+
+@dataclass
+class Reference:
+    """`ENTRY.COLUMN` or `COLUMN`, or `ENTRY.*`, whose `column` is nothing; it sees the entries of `scope`."""
+    entry: object
+    column: object
+    scope: range = None
+
+    @property
+    def token(self):
+        return self.entry or self.column
+
+    @property
+    def end(self):
+        return (self.column or self.entry).end
+
+
+@dataclass
+class Literal:
+    tokens: list
+
+    @property
+    def token(self):
+        return self.tokens[0]
+
+    @property
+    def end(self):
+        return self.tokens[-1].end
+
+    @property
+    def is_number(self):
+        return self.tokens[-1].kind == "number"
+
+    @property
+    def fits(self):
+        return not self.is_number or LEAST_NUMBER <= number_of("".join(t.source for t in self.tokens)) <= MOST_NUMBER
+
+
+@dataclass
+class Test:
+    """A comparison, BETWEEN or IN over its operands."""
+    operator: str
+    operands: list
+    start: int
+    end: int
+
+
+@dataclass
+class Joined:
+    """Conditions joined by AND or OR, or one under NOT."""
+    by: str
+    members: list
+    start: int
+    end: int
+
+
+@dataclass
+class Query:
+    """What was read of a query text: all of it where `tested` is empty, else what lies before the token `wrong`."""
+    tokens: list
+    outs: list = field(default_factory=list)
+    entries: list = field(default_factory=list)
+    conditions: list = field(default_factory=list)
+    references: list = field(default_factory=list)
+    tests: list = field(default_factory=list)
+    literals: list = field(default_factory=list)
+    wrong: int = None
+    tested: tuple = ()
+
+    def conjuncts(self):
+        return [member for condition in self.conditions for member in members(condition)]
+
+
+class QueryReader(Reader):
+    def __init__(self, tokens):
+        super().__init__(tokens)
+        self.query = Query(tokens)
+
+    def read(self):
+        self.take("SELECT")
+        if not self.maybe("*"):
+            self.many(self.out)
+        self.take("FROM")
+        self.many(self.part)
+        if self.maybe("WHERE"):
+            self.query.conditions.append(self.condition())
+        self.maybe(";")
+        self.test(lambda token: False, "the end of the text")
+        if self.token is not None:
+            self.wrong()
+
+    def out(self):
+        first = self.take_name("a column")
+        if not self.maybe("."):
+            self.refer(None, first)
+        elif self.maybe("*"):
+            self.query.references.append(Reference(first, None))
+            return
+        else:
+            self.refer(first, self.take_name("a column"))
+        self.second_name("a name for it")
+
+    def second_name(self, what):
+        if self.maybe("AS"):
+            return self.take_name(what)
+        return self.next() if self.has_name(what) else None
+
+    def refer(self, entry, column):
+        self.query.references.append(Reference(entry, column))
+        return self.query.references[-1]
+
+    def part(self):
+        first = len(self.query.entries)
+        self.source(first)
+        while self.has("INNER") or self.has("JOIN"):
+            if self.maybe("INNER") and not self.has("JOIN"):
+                self.wrong()
+            self.take("JOIN")
+            self.source(first)
+            self.take("ON")
+            seen = len(self.query.references)
+            self.query.conditions.append(self.condition())
+            for reference in self.query.references[seen:]:
+                reference.scope = range(first, len(self.query.entries))
+
+    def source(self, first):
+        table = self.take_name("a table")
+        self.query.entries.append(Entry(table, self.second_name("an alias"), first))
+
+    def condition(self):
+        return self.joined("OR", lambda: self.joined("AND", self.factor))
+
+    def joined(self, by, rule):
+        found = self.many(rule, by)
+        return found[0] if len(found) == 1 else Joined(by, found, found[0].start, found[-1].end)
+
+    def factor(self):
+        word = self.maybe("NOT")
+        found = self.test_or_condition()
+        return Joined("NOT", [found], word.start, found.end) if word else found
+
+    def test_or_condition(self):
+        if not self.has("("):
+            return self.predicate()
+        start = self.next().start
+        found = self.condition()
+        end = self.take(")").end
+        # With its parentheses, so that the text of it stays a condition.
+        return Joined(found.by, found.members, start, end) if isinstance(found, Joined) else found
+
+    def predicate(self):
+        left = self.operand()
+        negated = self.maybe("NOT")
+        if self.maybe("BETWEEN"):
+            low = self.operand()
+            self.take("AND")
+            return self.tested_by("NOT BETWEEN" if negated else "BETWEEN", [left, low, self.operand()])
+        if self.maybe("IN"):
+            self.take("(")
+            values = self.many(self.literal)
+            return self.tested_by("NOT IN" if negated else "IN", [left, *values], self.take(")").end)
+        if negated:
+            self.wrong()
+        operator = self.take(*OPERATORS)
+        return self.tested_by(operator.source, [left, self.operand()])
+
+    def tested_by(self, operator, operands, end=None):
+        self.query.tests.append(Test(operator, operands, operands[0].token.start, end or operands[-1].end))
+        return self.query.tests[-1]
+
+    def operand(self):
+        if not self.has_name("a column"):
+            return self.literal()
+        first = self.next()
+        return self.refer(first, self.take_name("a column")) if self.maybe(".") else self.refer(None, first)
+
+    def literal(self):
+        sign = self.maybe("+", "-")
+        if self.has_kind("number", "a number") or not sign and self.has_kind("text", "a text in single quotes"):
+            self.query.literals.append(Literal([sign, self.next()] if sign else [self.next()]))
+            return self.query.literals[-1]
+        return self.wrong()
+
+
+def members(condition):
+    """The members of a condition at AND, through parentheses."""
+    if isinstance(condition, Joined) and condition.by == "AND":
+        return [found for member in condition.members for found in members(member)]
+    return [condition]
+
+
+def references_of(condition):
+    """The references in a condition."""
+    if isinstance(condition, Joined):
+        return [found for member in condition.members for found in references_of(member)]
+    return [operand for operand in condition.operands if isinstance(operand, Reference)]
+
+
+def read_query(text):
+    """The query of a text's bytes, or of as much of it as is right."""
+    reader = QueryReader(tokens_of(text))
+    try:
+        reader.read()
+    except Wrong:
+        reader.query.wrong, reader.query.tested = reader.furthest, tuple(reader.tested)
+    for reference in reader.query.references:
+        reference.scope = reference.scope or range(len(reader.query.entries))
+    return reader.query
+
+
+def visible(query, reference, schema):
+    """The entries in scope that a reference may mean, each with its table and the column."""
+    found = []
+    for number in reference.scope:
+        entry = query.entries[number]
+        table = schema.table(entry.table.name)
+        if reference.entry and entry.name != reference.entry.name:
+            continue
+        column = table and reference.column and table.column(reference.column.name)
+        if column:
+            found.append((entry, table, column))
+    return found
+
+
+def meant(query, reference, schema):
+    """The entry, the table and the column that a reference stands for, or nothing."""
+    found = visible(query, reference, schema)
+    return found[0] if len(found) == 1 else None
+
+
+def equality(query, condition, schema):
+    """The two entries of an equality between columns of two entries, by number, or nothing."""
+    if not isinstance(condition, Test) or condition.operator != "=":
+        return None
+    sides = [isinstance(o, Reference) and meant(query, o, schema) for o in condition.operands]
+    if not all(sides) or sides[0][0] is sides[1][0]:
+        return None
+    return tuple(next(i for i, entry in enumerate(query.entries) if entry is side[0]) for side in sides)
+
+
+def groups(query, schema):
+    """The entries in groups that equalities connect, each group by the numbers of its entries."""
+    found = [[i] for i in range(len(query.entries))]
+    for condition in query.conjuncts():
+        pair = equality(query, condition, schema)
+        if pair:
+            one, other = (next(group for group in found if i in group) for i in pair)
+            if one is not other:
+                one.extend(other)
+                found.remove(other)
+    return [sorted(group) for group in found]

@@ -1,0 +1,181 @@
+"""Schema texts: the tables that one declares, and where it goes wrong (docs/DEFINITIONS.md, "Schema texts")."""
+from dataclasses import dataclass, field
+
+from .grammar import Reader, Wrong
+from .tokens import number_of, tokens_of
+
+NUMBERS = ("INT", "INTEGER", "SMALLINT", "BIGINT")
+
+
+@dataclass
+class Column:
+    token: object
+    type: str
+    length: int = None
+    is_whole: bool = False
+
+    @property
+    def name(self):
+        return self.token.name
+
+    @property
+    def is_number(self):
+        return self.length is None
+
+
+@dataclass
+class Reference:
+    target: object
+    columns: list
+    of: list
+
+
+@dataclass
+class Table:
+    token: object
+    columns: list = field(default_factory=list)
+    keys: list = field(default_factory=list)
+    primary: list = field(default_factory=list)
+    references: list = field(default_factory=list)
+
+    @property
+    def name(self):
+        return self.token.name
+
+    @property
+    def file(self):
+        return self.name.lower() + ".csv"
+
+    def column(self, name):
+        return next((column for column in self.columns if column.name == name), None)
+
+
+@dataclass
+class Schema:
+    """What was read of a schema text: all of it where `tested` is empty, else what lies before the token `wrong`."""
+    tables: list
+    tokens: list
+    wrong: int = None
+    tested: tuple = ()
+
+    def table(self, name):
+        return next((table for table in self.tables if table.name == name), None)
+
+
+class SchemaReader(Reader):
+    def __init__(self, tokens):
+        super().__init__(tokens)
+        self.tables = []
+
+    def schema(self):
+        self.table()
+        while self.maybe(";") and not self.test_end():
+            self.table()
+        if not self.test_end():
+            self.wrong()
+
+    def test_end(self):
+        self.test(lambda token: False, "the end of the text")
+        return self.token is None
+
+    def table(self):
+        self.take("CREATE")
+        self.take("TABLE")
+        self.tables.append(Table(self.take_name("a table's name")))
+        self.take("(")
+        self.many(self.element)
+        self.take(")")
+
+    def element(self):
+        table = self.tables[-1]
+        if self.maybe("CONSTRAINT"):
+            self.take_name("a rule's name")
+            return self.table_rule(table) or self.wrong()
+        return self.table_rule(table) or self.column(table)
+
+    def table_rule(self, table):
+        if self.has("PRIMARY"):
+            self.primary(table, [self.next()], self.names)
+        elif self.maybe("UNIQUE"):
+            table.keys.append(self.names())
+        elif self.maybe("FOREIGN"):
+            self.take("KEY")
+            columns = self.names()
+            self.take("REFERENCES")
+            self.target(table, columns)
+        else:
+            return False
+        return True
+
+    def primary(self, table, words, columns):
+        self.take("KEY")
+        found = columns()
+        table.keys.append(found)
+        table.primary.append((words[0], found))
+
+    def column(self, table):
+        column = Column(self.take_name("a column's name"), "")
+        self.type(column)
+        table.columns.append(column)
+        while self.column_rule(table, column):
+            pass
+
+    def column_rule(self, table, column):
+        named = self.maybe("CONSTRAINT")
+        if named:
+            self.take_name("a rule's name")
+        if self.maybe("NOT"):
+            self.take("NULL")
+            column.is_whole = True
+        elif self.has("PRIMARY"):
+            self.primary(table, [self.next()], lambda: [column.token])
+        elif self.maybe("UNIQUE"):
+            table.keys.append([column.token])
+        elif self.maybe("REFERENCES"):
+            self.target(table, [column.token])
+        else:
+            return self.wrong() if named else False
+        return True
+
+    def names(self):
+        self.take("(")
+        found = self.many(lambda: self.take_name("a column's name"))
+        self.take(")")
+        return found
+
+    def target(self, table, columns):
+        target = self.take_name("a table's name")
+        table.references.append(Reference(target, self.names() if self.has("(") else [], columns))
+        while self.maybe("ON"):
+            self.take("DELETE", "UPDATE")
+            if self.maybe("NO"):
+                self.take("ACTION")
+            elif self.maybe("SET"):
+                self.take("NULL", "DEFAULT")
+            else:
+                self.take("CASCADE")
+
+    def type(self, column):
+        if self.has("INTEGER", "INT", "SMALLINT", "BIGINT"):
+            column.type = self.next().word
+            return
+        if self.maybe("CHAR", "CHARACTER"):
+            self.take("VARYING")
+        else:
+            self.take("VARCHAR")
+        self.take("(")
+        if not self.test(lambda token: token.kind == "number" and number_of(token.source) > 0, "a length of at least 1"):
+            self.wrong()
+        column.length = number_of(self.next().source)
+        column.type = f"VARCHAR({column.length})"
+        self.take(")")
+
+
+def read_schema(text):
+    """The schema of a text's bytes, or of as much of it as is right."""
+    reader = SchemaReader(tokens_of(text))
+    try:
+        reader.schema()
+    except Wrong:
+        return Schema(reader.tables, reader.tokens, reader.furthest, tuple(reader.tested))
+    return Schema(reader.tables, reader.tokens)

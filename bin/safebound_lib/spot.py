@@ -1,0 +1,37 @@
+"""A place of a file: its line and column, and the line with a mark below the place."""
+import unicodedata
+
+MOST_SHOWN, BEFORE = 100, 60
+
+
+def plain(text):
+    """Text as it may stand on a terminal: control characters, and bytes that are no UTF-8, as escapes."""
+    return "".join(c if c.isprintable() else f"\\x{ord(c) - 0xDC00:02x}" if "\udc80" <= c <= "\udcff" else c.encode("unicode_escape").decode() for c in text)
+
+
+def width(text):
+    return sum(2 if unicodedata.east_asian_width(c) in "WF" else 0 if unicodedata.combining(c) else 1 for c in text)
+
+
+def spot(file, data, at, length=1):
+    """`FILE, line L, column C`, the line and a mark below the place; columns are characters, counted from 1."""
+    at = min(at, len(data))
+    while data[at:at + 1] >= b"\xc0" and b"\x80" <= data[at + length:at + length + 1] < b"\xc0":
+        length += 1
+    start = data.rfind(b"\n", 0, at) + 1
+    end = data.find(b"\n", at)
+    line = data[start:len(data) if end < 0 else end].rstrip(b"\r")
+    number = data.count(b"\n", 0, at) + 1
+    text = lambda part: part.decode("utf-8", "surrogateescape").replace("\ufeff", "")
+    before, marked, behind = (text(part) for part in (line[:at - start], line[at - start:at - start + length], line[at - start + length:]))
+    return f"{plain(file)}, line {number}, column {len(before) + 1}\n" + marked_line(before, marked, behind)
+
+
+def marked_line(before, marked, behind):
+    """The line, cut to what fits, and the mark."""
+    cut = len(before) > BEFORE
+    before, marked = ("..." if cut else "") + plain(before.replace("\t", " ")[-BEFORE:]), plain(marked.replace("\t", " "))[:MOST_SHOWN]
+    behind = plain(behind.replace("\t", " "))
+    room = max(MOST_SHOWN - len(before) - len(marked), 0)
+    behind = behind if len(behind) <= room else behind[:room] + "..."
+    return f"    {before}{marked}{behind}\n    {' ' * width(before)}{'^' * max(width(marked), 1)}"

@@ -1,0 +1,100 @@
+"""The table of commands and options. One line adds one: help, man page, completion and explanations all read it."""
+from dataclasses import dataclass
+
+MOST_BUDGET, USUAL_BUDGET = 20_000_000, 1_000_000
+
+
+@dataclass(frozen=True)
+class Option:
+    """A word with a value (`value` is its name in the help), or a flag. Own options are taken out before the program runs."""
+    word: str
+    value: str
+    help: str
+    least: int = None
+    most: int = None
+    is_own: bool = False
+
+    @property
+    def spelled(self):
+        return f"{self.word} {self.value}" if self.value else self.word
+
+
+@dataclass(frozen=True)
+class Command:
+    word: str
+    places: tuple
+    help: str
+    options: tuple = ()
+    more: str = ""
+    examples: tuple = ()
+    is_own: bool = False
+    optional: int = 0
+
+    @property
+    def spelled(self):
+        needed = len(self.places) - self.optional
+        places = [place if i < needed else f"[{place}]" for i, place in enumerate(self.places)]
+        return " ".join([self.word, *places, *(f"[{option.spelled}]" for option in self.options)])
+
+
+BUDGET = Option("--budget", "N", "the most rows that the bound of any level may say; 1,000,000 without it", 1, MOST_BUDGET)
+ACCURACY = Option("--accuracy", "K", "how closely lists of degrees are kept: more takes longer and mostly lowers bounds; 1 without it", 1, 64)
+REDUCE = Option("--reduce", None, "puts rows aside that lack a partner, and makes bounds over those that are left")
+OF_PLANS = (BUDGET, ACCURACY, REDUCE)
+
+DATA = Option("--data", "DIR", "runs in the folder DIR, where the tables are; SCHEMA and QUERY are looked up there too", is_own=True)
+EXPLAIN = Option("--explain", None, "explains a fault also where standard error is no terminal", is_own=True)
+JSON = Option("--json", None, "writes the plan as JSON on standard output: tables, conditions and bounds", is_own=True)
+OUTPUT = Option("--output", "FILE", "where the picture goes: plan.svg without it, and - is standard output", is_own=True)
+HELP = Option("--help", None, "this help", is_own=True)
+VERSION = Option("--version", None, "the version of this command, and which program it runs", is_own=True)
+
+TEXTS = ("SCHEMA", "QUERY")
+SHELLS = ("bash", "zsh")
+COMMANDS = (
+    Command("run", TEXTS, "the plan on standard error, and every row on standard output, as CSV",
+            (*OF_PLANS, DATA, EXPLAIN),
+            "Where the bound of some level is past the budget, nothing is joined and the least budget is told.",
+            ("safebound run schema.sql query.sql", "safebound run schema.sql query.sql --data shop --budget 50000 > rows.csv")),
+    Command("plan", TEXTS, "the plan on standard error, and no rows",
+            (*OF_PLANS, DATA, EXPLAIN, JSON), "",
+            ("safebound plan schema.sql query.sql --accuracy 8", "safebound plan schema.sql query.sql --json")),
+    Command("audit", TEXTS, "the plan, and beside each level's bound the number of its rows",
+            (*OF_PLANS, DATA, EXPLAIN, JSON), "",
+            ("safebound audit schema.sql query.sql --reduce",)),
+    Command("demo", ("NUMBER",), "the audit of a query over a shop of 670,000 rows, made in memory",
+            (EXPLAIN,), "NUMBER is from 0 to 4,294,967,295, and another one makes other rows.",
+            ("safebound demo 7",)),
+    Command("check", TEXTS, "reads the two texts alone, without any table, and says what is wrong with them",
+            (DATA,), "The query may be left out. The exit status is 0 where the texts are right.",
+            ("safebound check schema.sql", "safebound check schema.sql query.sql"), is_own=True, optional=1),
+    Command("picture", TEXTS, "draws the plan, with each level's bound and true rows, as one SVG",
+            (*OF_PLANS, DATA, OUTPUT), "It runs an audit, so the query is joined.",
+            ("safebound picture schema.sql query.sql", "safebound picture schema.sql query.sql --output films.svg"), is_own=True),
+    Command("new", ("FOLDER",), "lays a small example in a new folder, to edit",
+            (), "", ("safebound new trips",), is_own=True),
+    Command("help", ("COMMAND",), "this help, or that of one command; `help errors` lists every fault with what to do",
+            (), "", ("safebound help run", "safebound help errors"), is_own=True, optional=1),
+    Command("completion", ("SHELL",), "prints the completion for bash or zsh",
+            (), "", ("source <(safebound completion bash)",), is_own=True),
+)
+# What the table holds by name.
+BY_WORD = {command.word: command for command in COMMANDS}
+PROGRAM_COMMANDS = tuple(command for command in COMMANDS if not command.is_own)
+MOST_SEED = 2**32 - 1
+
+
+def program_options(command):
+    """The options of a command that the program itself reads."""
+    return [option for option in command.options if not option.is_own]
+
+
+def valued():
+    """The words of all options of the program that have a value."""
+    return {o.word for command in COMMANDS for o in program_options(command) if o.value}
+
+
+def own_options():
+    """All options of the friendly command, by their words."""
+    found = {o.word: o for command in COMMANDS for o in command.options if o.is_own}
+    return {**found, HELP.word: HELP, "-h": HELP, VERSION.word: VERSION}

@@ -1,0 +1,65 @@
+"""Reading the command line: own options are taken out, and every other word stays as it is."""
+from dataclasses import dataclass, field
+
+from .table import own_options, valued
+
+
+class Misused(Exception):
+    """Words that the friendly command itself can't take."""
+
+
+@dataclass
+class Line:
+    """The words that are left for the program, the own options by word, and the folder that `--data` left."""
+    words: list = field(default_factory=list)
+    own: dict = field(default_factory=dict)
+    before: str = None
+
+    @property
+    def command(self):
+        return self.words[0] if self.words else ""
+
+
+def read_line(words):
+    """The line of a list of words. Behind `--` and as another option's value, a word is no option of ours."""
+    line, left, own, with_value = Line(), list(words), own_options(), valued()
+    while left:
+        word = left.pop(0)
+        head, equals, value = word.partition("=")
+        if word == "--":
+            line.words += [word, *left]
+            left = []
+        elif word in with_value:
+            line.words += [word, *left[:1]]
+            del left[:1]
+        elif word in own or head in own and own[head].value and equals:
+            add_own(line, own[head if equals else word], value if equals else None, left)
+        else:
+            line.words.append(word)
+    return line
+
+
+def add_own(line, option, value, left):
+    if option.word in line.own:
+        raise Misused(f"{option.word} stands twice")
+    if option.value and value is None:
+        if not left:
+            raise Misused(f"{option.word} lacks its value: {option.spelled}")
+        value = left.pop(0)
+    if option.value and not value:
+        raise Misused(f"{option.word} has an empty value: {option.spelled}")
+    line.own[option.word] = value if option.value else True
+
+
+def places(words):
+    """The place words among those behind the command: what is no option and no option's value."""
+    found, left, with_value = [], list(words), valued()
+    while left:
+        word = left.pop(0)
+        if word == "--":
+            return found + left
+        if word in with_value:
+            del left[:1]
+        elif not word.startswith("-") or word == "-":
+            found.append(word)
+    return found
