@@ -35,7 +35,7 @@ fn a_missing_file_is_counted(rt: HostRuntime) -> Result<(), Fail> {
 // The file, read whole with at most so many bytes a call: its length, and how many calls that took.
 fn read_slowly(alloc: Global, most: u32) -> Result<(usize, u64), Fail> {
     let inner = store_of(alloc, 0)?;
-    let mut store = SlowStore::new(inner, most);
+    let mut store = SlowStore { inner, most };
     let read = read_file(alloc, &mut store, "r.csv", 100)?;
     Ok((read.len(), store.inner.calls))
 }
@@ -52,7 +52,7 @@ fn files_are_read_byte_by_byte(rt: HostRuntime) -> Result<(), Fail> {
 // What a sink of so much room took of ten bytes, of which its second call fails or none, handed on whole or one by one.
 fn taken(alloc: Global, room: u64, failing: u64, most: u32) -> Result<(bool, usize), Fail> {
     let inner = MemSink::new(alloc, room, Seq::one(alloc, failing)?)?;
-    let mut sink = SlowSink::new(inner, most);
+    let mut sink = SlowSink { inner, most };
     let all = write_all(&mut sink, b"X\r\n1\r\n1\r\n2").is_ok();
     Ok((all, sink.inner.written().len()))
 }

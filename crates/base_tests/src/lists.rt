@@ -66,13 +66,26 @@ fn lists_are_combined_by_rank(rt: HostRuntime) -> Result<(), Fail> {
     Ok(())
 }
 
-fn item(item: u32, gives: u32, needs: u32) -> Use {
-    Use { item, gives, needs }
-}
-
 // Item 1 needs what nobody gives, item 0 what item 1 gives; item 2 gives for itself, and item 3 needs nothing.
 fn marks(alloc: Global) -> Result<RowBuf<bool>, NoMemory> {
-    reduce(alloc, 4, 4, &[item(0, 0, 1), item(1, 1, 2), item(2, 3, 3)])
+    let uses = [
+        Use {
+            item: 0,
+            gives: 0,
+            needs: 1,
+        },
+        Use {
+            item: 1,
+            gives: 1,
+            needs: 2,
+        },
+        Use {
+            item: 2,
+            gives: 3,
+            needs: 3,
+        },
+    ];
+    reduce(alloc, 4, 4, &uses)
 }
 
 #[test]
