@@ -15,7 +15,7 @@ WORDS := run schema.sql query.sql
 ##                (2 seconds with the proved program; a minute without it, and then nothing is proved)
 ## make build     proves and builds the program (long the first time; it says how long is left)
 ## make install   puts program, command, man page and completion below PREFIX, /usr/local (2 seconds)
-## make test      the gate: every proof, the gate's own edits, every test (under two hours from nothing; it says how far it is)
+## make test      the gate: every proof, the gate's own edits, every test (30 minutes from nothing; it says how far it is)
 ## make edits     every wrong body that a contract must refuse (two hours); make edits CRATES="plans set_bounds" some of them
 ## make bench     measures beside plain Rust and databases (minutes, once built)
 ## make memory    runs with each request for memory refused in turn (minutes)
