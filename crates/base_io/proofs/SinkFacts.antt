@@ -60,7 +60,8 @@ prefix_of_all old new a grew = record { front = a; rest = []; whole = append-nil
 pub prefix_of_none : (old : Option (List ℕ)) (a : List ℕ) → GrewByPrefix old old a
 prefix_of_none old a = record { front = []; rest = a; whole = refl; grew = sym (appended-nil old) }
 
-parts_split : {X : Type 0} (f : X → List ℕ) (parts : List X) (i : ℕ) (d : X) → i < length parts
+-- the parts before place i, the one there and those behind it are all parts
+pub parts_split : {X : Type 0} (f : X → List ℕ) (parts : List X) (i : ℕ) (d : X) → i < length parts
     → (flat_map f (take i parts) ++ f (get_or parts i d)) ++ flat_map f (drop (i + 1) parts) ≡ flat_map f parts
 parts_split f parts i d lt =
     let back = take-append-drop (i + 1) parts in
@@ -77,5 +78,3 @@ prefix_at_part f old mid new parts i d lt e h =
     let first = prefix_after_first old mid new (flat_map f (take i parts)) (f (get_or parts i d)) e h in
     let whole = prefix_of_first old new (flat_map f (take i parts) ++ f (get_or parts i d)) (flat_map f (drop (i + 1) parts)) first in
     subst (GrewByPrefix old new) (parts_split f parts i d lt) whole
-
-pub ruleset prefix_steps = (prefix_of_first, prefix_after_first, whole_after_first, prefix_of_all, prefix_of_none)

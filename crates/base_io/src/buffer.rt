@@ -1,8 +1,8 @@
 //! A fixed room in front of a sink.
-ghost use Rattle.std.specs.Prelude.{◌≡◌, ◌≤◌, ◌+◌, ◌++◌, [], length, OnOk, OnErr};
+ghost use Rattle.std.specs.Prelude.{◌≡◌, ◌≤◌, ◌+◌, ◌++◌, [], length, OnOk};
 ghost use Rattle.std.specs.List.{flat_map};
-ghost use Rattle.base_io.specs.Causes.{Rose};
-ghost use Rattle.base_io.specs.Sinks.{appended, GrewByPrefix, TookBut};
+ghost use Rattle.base_io.specs.Devices.{growth};
+ghost use Rattle.base_io.specs.Writes.{Put, Wrote};
 
 use crate::{Failed, Sink, write_all};
 use std::marker::Model;
@@ -51,11 +51,8 @@ impl Buffer {
 
     /// Hands all bytes that wait to the sink.
     pub fn flush<N: Sink>(&mut self, sink: &mut N) -> Result<(), Failed>
-        ensures ok { OnOk result (N.taken sink.new ≡ appended (N.taken sink.old) self.old) }
+        ensures wrote { Wrote (growth N.taken N.faults sink.old sink.new) self.old result }
         ensures empty { OnOk result (self.new ≡ []) }
-        ensures prefix { GrewByPrefix (N.taken sink.old) (N.taken sink.new) self.old }
-        ensures later { N.faults sink.old ≤ N.faults sink.new }
-        ensures failed { OnErr result (Rose (N.faults sink.old) (N.faults sink.new)) }
     {
         write_all(sink, &self.bytes[..self.used])?;
         self.used = 0;
@@ -64,10 +61,7 @@ impl Buffer {
 
     /// Adds bytes, and hands what waits to the sink where there is no room for them.
     pub fn put<N: Sink>(&mut self, sink: &mut N, bytes: &[u8]) -> Result<(), Failed>
-        ensures ok { OnOk result (TookBut (N.taken sink.old) (N.taken sink.new) self.new (self.old ++ bytes.now)) }
-        ensures prefix { GrewByPrefix (N.taken sink.old) (N.taken sink.new) (self.old ++ bytes.now) }
-        ensures later { N.faults sink.old ≤ N.faults sink.new }
-        ensures failed { OnErr result (Rose (N.faults sink.old) (N.faults sink.new)) }
+        ensures { Put (growth N.taken N.faults sink.old sink.new) self.old self.new bytes.now result }
     {
         if bytes.len() <= ROOM - self.used {
             self.keep(bytes);
@@ -84,11 +78,7 @@ impl Buffer {
 
     /// Adds the bytes of several parts, in order.
     pub fn put_parts<N: Sink>(&mut self, sink: &mut N, parts: &[&[u8]]) -> Result<(), Failed>
-        ensures ok { OnOk result (TookBut (N.taken sink.old) (N.taken sink.new) self.new (self.old ++ flat_map
-            (λ part. part.now) parts.now)) }
-        ensures prefix { GrewByPrefix (N.taken sink.old) (N.taken sink.new) (self.old ++ flat_map (λ part. part.now) parts.now) }
-        ensures later { N.faults sink.old ≤ N.faults sink.new }
-        ensures failed { OnErr result (Rose (N.faults sink.old) (N.faults sink.new)) }
+        ensures { Put (growth N.taken N.faults sink.old sink.new) self.old self.new (flat_map (λ part. part.now) parts.now) result }
     {
         'parts: for part in parts {
             self.put(sink, part)?;

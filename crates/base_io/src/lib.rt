@@ -4,8 +4,9 @@
 //! writes texts with `write_all` and `write_parts`.
 //!
 //! Callers cite `told` (what a store tells of a name), `ReadsFile` (what reading a file answers),
-//! `appended` and `GrewByPrefix` (what a sink took), and `Rose` (a count of faults rose). They see
-//! `Seq` as the list of its items, `Boxed` as its value and `Name` as its bytes.
+//! `appended` and `GrewByPrefix` (what a sink took), `Wrote` and `Put` (what a step leaves that writes),
+//! and `Rose` (a count of faults rose). They see `Seq` as the list of its items, `Boxed` as its value and
+//! `Name` as its bytes.
 #![tactic(auto)]
 
 mod boxed;

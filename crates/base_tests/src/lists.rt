@@ -3,8 +3,8 @@ use base_io::{Boxed, Name, NoMemory, Seq};
 use counted_sets::{Use, reduce};
 use degree_lists::falling;
 use entry_sets::EntrySet;
-use piece_compress::{compress, pieces_at_most};
-use piece_math::Pieces;
+use piece_compress::{compress, compress_runs, pieces_at_most};
+use piece_math::{Piece, Pieces};
 use row_buf::RowBuf;
 use std::alloc::Global;
 use std::test::Fail;
@@ -48,6 +48,50 @@ fn counts_fall(rt: HostRuntime) -> Result<(), Fail> {
     let pieces = compressed(rt.alloc())?;
     assert_eq!(rt; (pieces.total(), pieces.pieces().len()), (9, 2));
     assert_eq!(rt; pieces_at_most(5, 1), 4);
+    Ok(())
+}
+
+// A list of these runs. Runs that don't fall are answered as want of memory, which fails a test.
+fn of_runs(alloc: Global, runs: &[(u64, u64)]) -> Result<Pieces, NoMemory> {
+    let mut list = Pieces::empty(alloc);
+    let mut last = u64::MAX;
+    let mut room = u64::MAX;
+    'runs: for &(degree, keys) in runs {
+        if degree == 0 || degree > last || keys == 0 || keys > room {
+            return Err(NoMemory);
+        }
+        list.push_run(u128::from(degree), keys)?;
+        last = degree;
+        room -= keys;
+    }
+    Ok(list)
+}
+
+// Ten billion rows by the degrees of their keys: 6,000 keys have 1,000,000 rows each, 5,000 have 600,001, and 999,995 have 1,000.
+const MANY_ROWS: [(u64, u64); 3] = [(1_000_000, 6_000), (600_001, 5_000), (1_000, 999_995)];
+
+// They are compressed with accuracy 1, where the second degree is not half of the first: its 3,000,005,000 rows go to 3,001 keys of the
+// first degree, and of the others 999,000,000 are left, which 999,000 keys have.
+fn many_compressed(alloc: Global) -> Result<Pieces, NoMemory> {
+    let list = of_runs(alloc, &MANY_ROWS)?;
+    if list.total() != 10_000_000_000 {
+        return Err(NoMemory);
+    }
+    compress_runs(alloc, &list, 1)
+}
+
+#[test]
+fn ten_billion_rows_are_compressed_by_their_runs(rt: HostRuntime) -> Result<(), Fail> {
+    let list = many_compressed(rt.alloc())?;
+    let first = Piece {
+        value: 1_000_000,
+        count: 9_001,
+    };
+    let others = Piece {
+        value: 1_000,
+        count: 999_000,
+    };
+    assert!(rt; list.pieces() == [first, others].as_slice());
     Ok(())
 }
 

@@ -155,7 +155,7 @@ fn with_rows(alloc: Global, rows: &[u64]) -> Result<EntryLists, NoMemory>
     let mut lists = EntryLists::new(alloc);
     let mut entry: u8 = 0;
     for count in rows {
-        lists.set_rows(entry, (*count).min(1 << 32))?;
+        lists.set_rows(entry, *count)?;
         entry = entry.wrapping_add(1);
     }
     Ok(lists)

@@ -21,12 +21,12 @@ use Rattle.sql_meaning.specs.Answers.{conjuncts_of}
 use Rattle.sql_meaning.specs.Choices.{extended, IsChoiceOf}
 use Rattle.sql_meaning.specs.Conditions.{cond_holds}
 use Rattle.sql_meaning.specs.Databases.{AreCells, IsAskable, IsColumnOf, IsColumnOfKind, IsDatabaseOf}
-use Rattle.sql_meaning.specs.Levels.{all_hold, completed_hold, row_in, Conjunct}
+use Rattle.sql_meaning.specs.Levels.{all_hold, completed_hold, passes_own, row_in, Conjunct}
 use Rattle.sql_meaning.specs.Tables.{row_counts, tables_of}
 use Rattle.sql_meaning.proofs.LoopFacts.{rows_are}
 use Rattle.sql_meaning.proofs.NamedFacts.{can_ask}
 use Rattle.join_steps.specs.declared.keys.Key.{Key}
-use Rattle.join_steps.specs.Lists.{passes_own, scan_of, IsOfScan, IsOrderOf}
+use Rattle.join_steps.specs.Lists.{scan_of, IsOfScan, IsOrderOf}
 use Rattle.join_steps.specs.Sides.{is_between}
 use Rattle.join_steps.proofs.KeyFacts.{key_holds, sides_between, IsKeyOf}
 use Rattle.hash_join.specs.Levels.{joined, level_sizes, query_level, scan_sizes}

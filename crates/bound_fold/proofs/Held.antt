@@ -1,11 +1,11 @@
 -- Maps of row bounds and lists, before and after one more key.
-use Rattle.std.proofs.Common.{◌≡◌, ◌≢◌, ◌⊎◌, inl, inr, ℕ, ◌≤◌, ◌^◌, Bool, true, false, ◌&&◌, List, Option, Some, None, refl, ap, sym, ◌∙◌, subst, sum}
+use Rattle.std.proofs.Common.{◌≡◌, ◌≢◌, ◌⊎◌, inl, inr, ℕ, ◌<◌, ◌^◌, Bool, true, false, ◌&&◌, List, Option, Some, None, refl, ap, sym, ◌∙◌, subst, sum}
 use Rattle.std.specs.Prelude.{Result, Ok, Err, OnOk, OnErr, nat_eq, if◌then◌else◌}
 use Rattle.std.specs.HashMap.{get, Updates, IsUnchanged}
 use Rattle.std.specs.Map.{lookup}
 use Rattle.std.proofs.lemmas.Bool.{eqb-true}
 use Rattle.degree_sequences.specs.Falling.{IsFalling}
-use Rattle.bound_fold.specs.Known.{MapOf, same_pair, rows_in, list_in, AreSmall, AreListsOf}
+use Rattle.bound_fold.specs.Known.{MapOf, same_pair, rows_in, list_in, AreBounds, AreListsOf}
 
 -- the map is as it was, or one key has a new value
 abbrev pub Puts : {K X : Type 0} → (K → K → Bool) → MapOf K X → MapOf K X → K → X → Type 0
@@ -29,11 +29,11 @@ at_key : {X : Type 0} (t : Bool) (v : X) (before : Option X) (x : X) → (if t t
 at_key true v before x e = inl (refl, cc e)
 at_key false v before x e = inr (refl, e)
 
-pub small_after : (old new : MapOf ℕ ℕ) (entry n : ℕ) → AreSmall old → n ≤ 2 ^ 32 → Puts nat_eq old new entry n → AreSmall new
-small_after old new entry n small fits (inl same) e m h = small e m (sym (same e) ∙ h)
-small_after old new entry n small fits (inr up) e m h = elim (at_key (nat_eq entry e) n (rows_in old e) m (sym (up e) ∙ h)) [
-  | inl now ↦ subst (λ k. k ≤ 2 ^ 32) now.1 fits
-  | inr was ↦ small e m was.1
+pub bounds_after : (old new : MapOf ℕ ℕ) (entry n : ℕ) → AreBounds old → n < 2 ^ 64 → Puts nat_eq old new entry n → AreBounds new
+bounds_after old new entry n bounds fits (inl same) e m h = bounds e m (sym (same e) ∙ h)
+bounds_after old new entry n bounds fits (inr up) e m h = elim (at_key (nat_eq entry e) n (rows_in old e) m (sym (up e) ∙ h)) [
+  | inl now ↦ subst (λ k. k < 2 ^ 64) now.1 fits
+  | inr was ↦ bounds e m was.1
 ]
 
 pub rows_after : (old new : MapOf ℕ ℕ) (lists : MapOf (ℕ × ℕ) (List ℕ)) (entry n : ℕ) → AreListsOf old lists → ((column : ℕ) → list_in lists entry column ≡ None)

@@ -22,7 +22,7 @@ each_positive [] all = tt
 each_positive (x ∷ s) all = (all 0 0 (omega arith), each_positive s (λ i d h. all (suc i) d (omega arith)))
 
 -- numbers of a small sum fit
-fits : (s : List ℕ) → sum s ≤ 2 ^ 32 → map saturated s ≡ s
+fits : (s : List ℕ) → sum s < 2 ^ 64 → map saturated s ≡ s
 fits [] small = refl
 fits (x ∷ s) small =
     let whole : sum (x ∷ s) ≡ x + sum s = sum_by-cons (λ (y : ℕ). y) x s in
@@ -43,7 +43,7 @@ composed-none s fall pos =
       running_sum-le-sum s r,
     ))
 
-pub is_composed : (s own : List ℕ) → sum s ≤ 2 ^ 32 → IsFalling s → All (λ x. 0 < x) s → own ≡ s → own ≡ map saturated (composed s [])
+pub is_composed : (s own : List ℕ) → sum s < 2 ^ 64 → IsFalling s → All (λ x. 0 < x) s → own ≡ s → own ≡ map saturated (composed s [])
 is_composed s own small fall pos same = same ∙ sym (ap (map saturated) (composed-none s fall (each_positive s pos)) ∙ fits s small)
 
 none_there : (link : Option ℕ) → is_some link ≡ false → link ≡ None

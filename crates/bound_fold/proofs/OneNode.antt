@@ -34,11 +34,11 @@ total_of lists entry column (Some list) e h = sym (ap (λ (o : Option ℕ). unwr
 pub listed_total : (lists : EntryLists) (entry column : ℕ) → IsSome (list_of lists entry column) → sum ((bounds_of lists).list entry column) ≡ (bounds_of lists).rows entry
 listed_total lists entry column h = total_of lists entry column (list_of lists entry column) refl h
 
-small_rows : (lists : EntryLists) (entry : ℕ) (o : Option ℕ) → rows_of lists entry ≡ o → unwrap_or o 0 ≤ 2 ^ 32
+small_rows : (lists : EntryLists) (entry : ℕ) (o : Option ℕ) → rows_of lists entry ≡ o → unwrap_or o 0 < 2 ^ 64
 small_rows lists entry None e = omega arith
-small_rows lists entry (Some n) e = lists.small entry n e
+small_rows lists entry (Some n) e = lists.bounds entry n e
 
-pub rows_small : (lists : EntryLists) (entry : ℕ) → (bounds_of lists).rows entry ≤ 2 ^ 32
+pub rows_small : (lists : EntryLists) (entry : ℕ) → (bounds_of lists).rows entry < 2 ^ 64
 rows_small lists entry = small_rows lists entry (rows_of lists entry) refl
 
 at_each : (P : ChildLists → Type 0) (children : List Child) → AllByRecursion P (map lists_of children) → (k : ℕ) (d : Child) → k < length children → P (lists_of (get_or children k d))

@@ -1,5 +1,5 @@
 -- Row bounds by entry, and lists by entry and column, as maps hold them.
-use Rattle.std.specs.Prelude.{◌≡◌, ℕ, ◌≤◌, ◌^◌, ◌&&◌, nat_eq, Bool, List, Option, Some}
+use Rattle.std.specs.Prelude.{◌≡◌, ℕ, ◌<◌, ◌^◌, ◌&&◌, nat_eq, Bool, List, Option, Some}
 use Rattle.std.specs.List.{sum}
 use Rattle.std.specs.declared.hash.FoldHasher.{FoldHasher}
 use Rattle.std.specs.declared.hash.BuildHasherDefault.{BuildHasherDefault}
@@ -21,9 +21,9 @@ rows_in rows entry = get nat_eq rows entry
 abbrev pub list_in : MapOf (ℕ × ℕ) (List ℕ) → ℕ → ℕ → Option (List ℕ)
 list_in lists entry column = get same_pair lists (entry, column)
 
--- no row bound is above 2^32
-abbrev pub AreSmall : MapOf ℕ ℕ → Type 0
-AreSmall rows = (entry n : ℕ) → rows_in rows entry ≡ Some n → n ≤ 2 ^ 32
+-- each row bound is a number of 64 bits
+abbrev pub AreBounds : MapOf ℕ ℕ → Type 0
+AreBounds rows = (entry n : ℕ) → rows_in rows entry ≡ Some n → n < 2 ^ 64
 
 -- each list falls, and its sum is the row bound of its entry
 abbrev pub AreListsOf : MapOf ℕ ℕ → MapOf (ℕ × ℕ) (List ℕ) → Type 0

@@ -1,8 +1,8 @@
 //! What is known of the entries of a query: their row bounds, and the lists of their joined columns.
-ghost use Rattle.std.specs.Prelude.{◌≡◌, ◌≢◌, ◌⊎◌, ◌≤◌, ◌^◌, ℕ, Some, None, OnOk, OnErr};
+ghost use Rattle.std.specs.Prelude.{◌≡◌, ◌≢◌, ◌⊎◌, ℕ, Some, None, OnOk, OnErr};
 ghost use Rattle.std.specs.List.{sum};
 ghost use Rattle.std.specs.Option.{option_copied};
-ghost use Rattle.bound_fold.specs.Known.{AreSmall, AreListsOf};
+ghost use Rattle.bound_fold.specs.Known.{AreBounds, AreListsOf};
 
 use base_io::NoMemory;
 use piece_math::Pieces;
@@ -11,12 +11,12 @@ use std::collections::HashMap;
 
 /// For each entry its row bound, and for each of its columns a list; each is there or not.
 ///
-/// A row bound is at most 2^32, and the sum of each list is the row bound of its entry.
+/// The sum of each list is the row bound of its entry.
 #[derive(Drop)]
 pub struct EntryLists {
     rows: HashMap<u8, u64>,
     lists: HashMap<(u8, u32), Pieces>,
-    pub ghost small: { AreSmall rows },
+    pub ghost bounds: { AreBounds rows },
     pub ghost sums: { AreListsOf rows lists },
 }
 
@@ -36,7 +36,6 @@ impl EntryLists {
 
     /// Sets the row bound of an entry. On `NoMemory` all is as it was.
     pub fn set_rows(&mut self, entry: u8, rows: u64) -> Result<(), NoMemory>
-        requires small { rows ≤ 2 ^ 32 }
         requires no_list { (column : ℕ) → list_of self.old entry column ≡ None }
         ensures set { OnOk result (rows_of self.new entry ≡ Some rows) }
         ensures others { (other : ℕ) → other ≢ entry → rows_of self.new other ≡ rows_of self.old other }

@@ -77,7 +77,7 @@ fn product_below(
 
 // The list of an entry below which no class stands: nothing is composed with it.
 fn own_list(list: &Pieces) -> Result<Pieces, NoMemory>
-    requires { sum list.now ≤ 2 ^ 32 }
+    requires { sum list.now < 2 ^ 64 }
     ensures { IfOk result (λ own. own ≡ map saturated (composed list.now [])) }
 {
     // What is looked at here is that the list falls, and that its numbers are positive.

@@ -5,7 +5,7 @@ use Rattle.std.proofs.lemmas.List.{length-map}
 use Rattle.sql_meaning.specs.Examples.{triangle, triangle_tables}
 use Rattle.join_steps.specs.Lists.{scan_of}
 use Rattle.tree_plans.specs.declared.bushy.BushyPlan.{BushyPlan}
-use Rattle.tree_plans.specs.TreePlans.{joined_nodes, IsTreePlan}
+use Rattle.tree_plans.specs.TreePlans.{joined_nodes, IsTreePlan, IsWithin}
 use Rattle.tree_rows.specs.Rooms.{bound_at}
 use Rattle.hash_join.specs.Examples.{equal, one_is_two, pair, six_and_five, twice_three, Comparison}
 use Rattle.hash_join.proofs.Worked.{level_is, scan_is}
@@ -44,9 +44,10 @@ pair_tree = record {
   joins = refl;
   behind = (omega arith, omega arith, tt);
   once = two_named;
-  small_scans = (omega arith, (omega arith, tt));
-  small_joins = (omega arith, tt);
 }
+
+pair_small : IsWithin 4000000 pair_plan
+pair_small = record { scans = (omega arith, (omega arith, tt)); joins = (omega arith, tt) }
 
 pair_scan : (entry : ℕ) → entry < 2 → length (scan_of pair six_and_five entry) ≤ get_or pair_plan.scans entry 0
 pair_scan zero low =
@@ -71,7 +72,7 @@ pair_node (suc (suc zero)) low =
 pair_node (suc (suc (suc node))) low = absurd (omega arith)
 
 pub pair_planned : IsTreePlanOf pair six_and_five pair_plan
-pair_planned = record { for_each_entry = pair_tree; scans = pair_scan; nodes = pair_node }
+pair_planned = record { for_each_entry = pair_tree; small = pair_small; scans = pair_scan; nodes = pair_node }
 
 -- ---- the triangle
 
@@ -82,8 +83,6 @@ triangle_tree = record {
   joins = refl;
   behind = (omega arith, omega arith, (omega arith, omega arith, tt));
   once = four_named;
-  small_scans = (omega arith, (omega arith, (omega arith, tt)));
-  small_joins = (omega arith, (omega arith, tt));
 }
   where
     four_named : NamedOnce 4 triangle_plan
@@ -101,6 +100,9 @@ triangle_scans zero low = scan_is sides triangle_tables 0
 triangle_scans (suc zero) low = scan_is sides triangle_tables 1
 triangle_scans (suc (suc zero)) low = scan_is sides triangle_tables 2
 triangle_scans (suc (suc (suc entry))) low = absurd (omega arith)
+
+triangle_small : IsWithin 4000000 triangle_plan
+triangle_small = record { scans = (omega arith, (omega arith, (omega arith, tt))); joins = (omega arith, (omega arith, tt)) }
 
 triangle_scan : (entry : ℕ) → entry < 3 → length (scan_of triangle triangle_tables entry) ≤ get_or triangle_plan.scans entry 0
 triangle_scan zero low = scan_fits (scan_of triangle triangle_tables 0) (0 ∷ 1 ∷ 2 ∷ []) 3 (triangle_scans 0 low) (omega arith)
@@ -127,7 +129,7 @@ triangle_node (suc (suc (suc (suc zero)))) low =
 triangle_node (suc (suc (suc (suc (suc node))))) low = absurd (omega arith)
 
 pub triangle_planned : IsTreePlanOf triangle triangle_tables triangle_plan
-triangle_planned = record { for_each_entry = triangle_tree; scans = triangle_scan; nodes = triangle_node }
+triangle_planned = record { for_each_entry = triangle_tree; small = triangle_small; scans = triangle_scan; nodes = triangle_node }
 
 -- ---- a condition that fails
 
@@ -138,9 +140,10 @@ alone_tree = record {
   joins = refl;
   behind = tt;
   once = λ node low. absurd (omega arith);
-  small_scans = (omega arith, tt);
-  small_joins = tt;
 }
+
+alone_small : IsWithin 4000000 alone
+alone_small = record { scans = (omega arith, tt); joins = tt }
 
 alone_scan : (entry : ℕ) → entry < 1 → length (scan_of (never (0 ∷ [])) three entry) ≤ get_or alone.scans entry 0
 alone_scan zero low = scan_fits (scan_of (never (0 ∷ [])) three 0) (0 ∷ 1 ∷ 2 ∷ []) 3 (scan_is (one_is_two ∷ []) three 0) (omega arith)
@@ -151,7 +154,7 @@ alone_node zero low = level_fits (node_rows (never (0 ∷ [])) three alone 0) []
 alone_node (suc node) low = absurd (omega arith)
 
 pub alone_planned : IsTreePlanOf (never (0 ∷ [])) three alone
-alone_planned = record { for_each_entry = alone_tree; scans = alone_scan; nodes = alone_node }
+alone_planned = record { for_each_entry = alone_tree; small = alone_small; scans = alone_scan; nodes = alone_node }
 
 twice_tree : IsTreePlan 2 twice
 twice_tree = record {
@@ -160,9 +163,10 @@ twice_tree = record {
   joins = refl;
   behind = (omega arith, omega arith, tt);
   once = two_named;
-  small_scans = (omega arith, (omega arith, tt));
-  small_joins = (omega arith, tt);
 }
+
+twice_small : IsWithin 4000000 twice
+twice_small = record { scans = (omega arith, (omega arith, tt)); joins = (omega arith, tt) }
 
 twice_scans : (entry : ℕ) → entry < 2 → scan_of (never (0 ∷ 0 ∷ [])) twice_three entry ≡ 0 ∷ 1 ∷ 2 ∷ []
 twice_scans zero low = scan_is (one_is_two ∷ []) twice_three 0
@@ -185,4 +189,4 @@ twice_node (suc (suc zero)) low =
 twice_node (suc (suc (suc node))) low = absurd (omega arith)
 
 pub twice_planned : IsTreePlanOf (never (0 ∷ 0 ∷ [])) twice_three twice
-twice_planned = record { for_each_entry = twice_tree; scans = twice_scan; nodes = twice_node }
+twice_planned = record { for_each_entry = twice_tree; small = twice_small; scans = twice_scan; nodes = twice_node }

@@ -47,8 +47,8 @@ weighs_most most bounds (node left right) high =
       ]
     ]
 
--- a table's rows at most at each inner node
-pub sum_small : (bounds : List ℕ) (tree : JoinTree) → inner_greatest bounds tree ≤ 4000000 → inner_sum bounds tree ≤ inner_count tree * 4000000
+-- the greatest budget at most at each inner node
+pub sum_small : (bounds : List ℕ) (tree : JoinTree) → inner_greatest bounds tree ≤ 2 ^ 59 → inner_sum bounds tree ≤ inner_count tree * 2 ^ 59
 sum_small bounds (leaf entry) low = omega arith
 sum_small bounds (node left right) low = omega (arith, sum_small bounds left (omega arith), sum_small bounds right (omega arith))
 

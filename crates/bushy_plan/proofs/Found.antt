@@ -110,22 +110,22 @@ least_cost_from bounds table n least more size is_table is =
     }
 
 -- a tree within the least cost weighs its sum, which isn't the heaviest
-weighs_small : (bounds : List ℕ) (n least : ℕ) (tree : JoinTree) → n ≤ 12 → least ≤ 4000000 → IsTreeOver (all_of n) tree → inner_greatest bounds tree ≤ least
-    → (weight_of (weight.SumWithin least) bounds tree ≡ inner_sum bounds tree) × (inner_sum bounds tree ≤ 48000000)
+weighs_small : (bounds : List ℕ) (n least : ℕ) (tree : JoinTree) → n ≤ 12 → least ≤ 2 ^ 59 → IsTreeOver (all_of n) tree → inner_greatest bounds tree ≤ least
+    → (weight_of (weight.SumWithin least) bounds tree ≡ inner_sum bounds tree) × (inner_sum bounds tree < 2 ^ 63)
 weighs_small bounds n least tree few small is_tree low =
-    let sum_is_small : inner_sum bounds tree ≤ 48000000 = omega (arith, sum_small bounds tree (omega arith), count_of_all n tree is_tree) in
+    let sum_is_small : inner_sum bounds tree < 2 ^ 63 = omega (arith, sum_small bounds tree (omega arith), count_of_all n tree is_tree) in
     (omega (arith, weighs_sum least bounds tree low, sum_is_small), sum_is_small)
 
-found_is_light : (bounds : List ℕ) (n least : ℕ) → n ≤ 12 → least ≤ 4000000 → (found : IsLeastCost bounds n least)
-    → (weight_of (weight.SumWithin least) bounds found.tree ≡ inner_sum bounds found.tree) × (inner_sum bounds found.tree ≤ 48000000)
+found_is_light : (bounds : List ℕ) (n least : ℕ) → n ≤ 12 → least ≤ 2 ^ 59 → (found : IsLeastCost bounds n least)
+    → (weight_of (weight.SumWithin least) bounds found.tree ≡ inner_sum bounds found.tree) × (inner_sum bounds found.tree < 2 ^ 63)
 found_is_light bounds n least few small found =
     weighs_small bounds n least found.tree few small found.is_tree (omega (arith, greatest_at_most_cost bounds found.tree, found.costs))
 
-pub sum_is_light : (bounds table : List ℕ) (n least : ℕ) → 0 < n → n ≤ 12 → least ≤ 4000000 → IsLeastCost bounds n least → length bounds ≡ 2 ^ n
+pub sum_is_light : (bounds table : List ℕ) (n least : ℕ) → 0 < n → n ≤ 12 → least ≤ 2 ^ 59 → IsLeastCost bounds n least → length bounds ≡ 2 ^ n
     → IsTable (weight.SumWithin least) bounds table (length bounds) → get_or table (length bounds - 1) 0 < 2 ^ 128 - 1
 sum_is_light bounds table n least some few small found size is_table =
     let last : length bounds - 1 ≡ all_of n = omega arith in
-    let weighs : (weight_of (weight.SumWithin least) bounds found.tree ≡ inner_sum bounds found.tree) × (inner_sum bounds found.tree ≤ 48000000) =
+    let weighs : (weight_of (weight.SumWithin least) bounds found.tree ≡ inner_sum bounds found.tree) × (inner_sum bounds found.tree < 2 ^ 63) =
     found_is_light bounds n least few small found in
     let lightest : IsLeastWeight (weight.SumWithin least) bounds (length bounds - 1) (get_or table (length bounds - 1) 0) =
     is_table (length bounds - 1) (omega (arith, last, some_of_all n some)) (omega (arith, pow_pos n)) in
@@ -152,13 +152,13 @@ best_of_one bounds tree is_tree = record {
     not_before (leaf entry) over before = before
     not_before (node left right) over before = absurd (no_split_of_one 0 (entries_of left) (entries_of right) over.0)
 
-best_of_more : (bounds : List ℕ) (n least : ℕ) (tree : JoinTree) → 1 < n → n ≤ 12 → least ≤ 4000000 → IsLeastCost bounds n least
+best_of_more : (bounds : List ℕ) (n least : ℕ) (tree : JoinTree) → 1 < n → n ≤ 12 → least ≤ 2 ^ 59 → IsLeastCost bounds n least
     → IsFirstLightest (weight.SumWithin least) bounds (all_of n) tree → IsBest bounds n tree × (cost bounds tree ≡ least)
 best_of_more bounds n least tree more few small found first = (best, costs)
   where
     within : inner_greatest bounds tree ≤ least
     within = elim (cases_lt least (inner_greatest bounds tree)) [
-      | inl above ↦ (let weighs : (weight_of (weight.SumWithin least) bounds found.tree ≡ inner_sum bounds found.tree) × (inner_sum bounds found.tree ≤ 48000000) =
+      | inl above ↦ (let weighs : (weight_of (weight.SumWithin least) bounds found.tree ≡ inner_sum bounds found.tree) × (inner_sum bounds found.tree < 2 ^ 63) =
           found_is_light bounds n least few small found in
           absurd (omega (arith, first.none_lighter found.tree found.is_tree, weighs.0, weighs.1, weighs_most least bounds tree above)))
       | inr below ↦ below
@@ -182,7 +182,7 @@ best_of_more bounds n least tree more few small found first = (best, costs)
       none_earlier = λ other is_tree same equal. first.none_earlier other is_tree (theirs other is_tree same ∙ equal ∙ sym own);
     }
 
-best_of_first : (bounds : List ℕ) (n least : ℕ) (tree : JoinTree) → 0 < n → n ≤ 12 → least ≤ 4000000 → IsLeastCost bounds n least
+best_of_first : (bounds : List ℕ) (n least : ℕ) (tree : JoinTree) → 0 < n → n ≤ 12 → least ≤ 2 ^ 59 → IsLeastCost bounds n least
     → IsFirstLightest (weight.SumWithin least) bounds (all_of n) tree → IsBest bounds n tree × (cost bounds tree ≡ least)
 best_of_first bounds zero least tree some few small found first = absurd (omega arith)
 best_of_first bounds (suc zero) least tree some few small found first =
@@ -190,7 +190,7 @@ best_of_first bounds (suc zero) least tree some few small found first =
     (best, omega (arith, best.none_cheaper found.tree found.is_tree, found.none_cheaper tree first.is_tree, found.costs))
 best_of_first bounds (suc (suc n)) least tree some few small found first = best_of_more bounds (suc (suc n)) least tree (omega arith) few small found first
 
-pub joins_of_best : (bounds : List ℕ) (n least root : ℕ) (joins : List Join) → 0 < n → n ≤ 12 → least ≤ 4000000 → IsLeastCost bounds n least → length bounds ≡ 2 ^ n
+pub joins_of_best : (bounds : List ℕ) (n least root : ℕ) (joins : List Join) → 0 < n → n ≤ 12 → least ≤ 2 ^ 59 → IsLeastCost bounds n least → length bounds ≡ 2 ^ n
     → IsReadOff (weight.SumWithin least) bounds n (length bounds - 1) [] joins root → AreOfBest bounds n least joins
 joins_of_best bounds n least root joins some few small found size read =
     let last : length bounds - 1 ≡ all_of n = omega arith in

@@ -50,7 +50,7 @@ one_best bounds n a b p q =
 one_least : (bounds : List ℕ) (n a b : ℕ) → IsLeastCost bounds n a → IsLeastCost bounds n b → a ≡ b
 one_least bounds n a b p q = omega (arith, p.none_cheaper q.tree q.is_tree, q.none_cheaper p.tree p.is_tree, p.costs, q.costs)
 
-pub accepted : (bounds : List ℕ) (n budget : ℕ) (best : JoinTree) (e : BushyError) → budget ≤ 4000000 → IsBest bounds n best → cost bounds best ≤ budget → IsCause bounds n budget e → e ≡ error.NoMemory
+pub accepted : (bounds : List ℕ) (n budget : ℕ) (best : JoinTree) (e : BushyError) → budget ≤ 2 ^ 59 → IsBest bounds n best → cost bounds best ≤ budget → IsCause bounds n budget e → e ≡ error.NoMemory
 accepted bounds n budget best (error.Budget least) few is_best within cause = absurd (omega (arith, cause.0.none_cheaper best is_best.is_tree))
 accepted bounds n budget best error.PastBits few is_best within cause = absurd (omega (arith, cause.1.none_cheaper best is_best.is_tree))
 accepted bounds n budget best error.NoMemory few is_best within cause = refl

@@ -14,9 +14,9 @@ use Rattle.bushy_plan.proofs.Found.{some_of_all}
 use Rattle.bushy_plan.proofs.LeftDeep.{no_dearer}
 use Rattle.bushy_plan.proofs.Numbering.{behind_theirs, bounds_small, count_of_all, length-joins_from, named_once}
 
-pub plan_from : (bounds : List ℕ) (scans : List ℕ) (plan : BushyPlan) → length scans ≤ 12 → AllByRecursion (λ rows. rows ≤ 4000000) scans → plan.scans ≡ scans → plan.cost ≤ 4000000
+pub plan_from : (bounds : List ℕ) (scans : List ℕ) (plan : BushyPlan) → length scans ≤ 12 → plan.scans ≡ scans
     → AreOfBest bounds (length scans) plan.cost plan.joins → IsTreePlan (length scans) plan
-plan_from bounds scans plan few small same within best = record {
+plan_from bounds scans plan few same best = record {
   few = few;
   scans = ap length same;
   joins = omega (arith, ap (length {A = Join}) best.are_its, length-joins_from bounds (length scans) best.tree, count_of_all (length scans) best.tree best.is_best.is_tree);
@@ -24,10 +24,14 @@ plan_from bounds scans plan few small same within best = record {
       (behind_theirs bounds (length scans) (all_of (length scans)) (length scans) best.tree (omega (arith, pow_pos (length scans))) (omega arith) best.is_best.is_tree);
   once = λ node below. ap (λ (joins : List Join). count_by (λ (other : ℕ). other == node) (joined_nodes joins)) best.are_its
       ∙ named_once bounds (length scans) node best.tree best.is_best.is_tree below;
-  small_scans = subst (λ (list : List ℕ). AllByRecursion (λ rows. rows ≤ 4000000) list) (sym same) small;
-  small_joins = subst (λ (joins : List Join). AllByRecursion (λ join. join.bound ≤ 4000000) joins) (sym best.are_its)
-      (bounds_small bounds (length scans) 4000000 best.tree (omega (arith, greatest_at_most_cost bounds best.tree, best.is_its)));
 }
+
+-- its bounds are at most its cost
+pub joins_within : (bounds : List ℕ) (n cheapest most : ℕ) (joins : List Join) → AreOfBest bounds n cheapest joins → cheapest ≤ most
+    → AllByRecursion (λ join. join.bound ≤ most) joins
+joins_within bounds n cheapest most joins best within =
+    subst (λ (joins : List Join). AllByRecursion (λ join. join.bound ≤ most) joins) (sym best.are_its)
+    (bounds_small bounds n most best.tree (omega (arith, greatest_at_most_cost bounds best.tree, best.is_its)))
 
 -- no order costs less
 pub best_not_dearer : (bounds : List ℕ) (n cheapest : ℕ) (joins : List Join) → 0 < n → AreOfBest bounds n cheapest joins → (order : List ℕ) → IsOrder n order → cheapest ≤ left_deep_cost bounds order

@@ -1,6 +1,6 @@
 //! The joins of the first of the lightest trees, read off the table from the root down.
 ghost use Rattle.std.specs.Prelude.{◌≡◌, ◌+◌, ◌<◌, ◌≤◌, length, slice_index, IfOk};
-ghost use Rattle.limits.specs.Profile.{most_entries, most_rows, top_bound};
+ghost use Rattle.limits.specs.Profile.{greatest_budget, most_entries, top_bound};
 ghost use Rattle.bushy_plan.specs.JoinTrees.{IsTreeOver, JoinTree, inner_count};
 ghost use Rattle.bushy_plan.specs.Splits.{IsBehindFirst, IsFirstLightestSplit, IsReadOff, IsTable};
 
@@ -38,7 +38,7 @@ pub(crate) fn push_joins(
     joins: &mut Vec<Join>,
 ) -> Result<u8, NoMemory>
     requires count { count ≤ most_entries }
-    requires small { most ≤ most_rows }
+    requires small { most ≤ greatest_budget }
     requires some { 0 < set }
     requires set { set < length bounds.now }
     requires filled { length table.now ≡ length bounds.now }

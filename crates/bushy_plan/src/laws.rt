@@ -1,6 +1,6 @@
 //! What the definitions say, as laws. Each call does nothing.
 ghost use Rattle.std.specs.Prelude.{◌≡◌, ◌≤◌, ◌⊎◌, [], ◌∷◌, ℕ, List};
-ghost use Rattle.limits.specs.Profile.{most_rows};
+ghost use Rattle.limits.specs.Profile.{greatest_budget};
 ghost use Rattle.tree_plans.specs.Examples.{join};
 ghost use Rattle.bushy_plan.specs.BestTree.{IsBefore, IsBest, cost, total};
 ghost use Rattle.bushy_plan.specs.Causes.{IsCause};
@@ -18,7 +18,7 @@ pub fn one_best_tree()
 /// Where the best tree costs no more than the budget, no refusal has a cause but want of memory; and besides that one refusal at most has
 /// one.
 pub fn one_answer()
-    ensures accepted { (bounds : List ℕ) (n budget : ℕ) (best : JoinTree) (e : BushyError) → budget ≤ most_rows
+    ensures accepted { (bounds : List ℕ) (n budget : ℕ) (best : JoinTree) (e : BushyError) → budget ≤ greatest_budget
         → IsBest bounds n best → cost bounds best ≤ budget → IsCause bounds n budget e → e ≡ error.NoMemory }
     ensures refused { (bounds : List ℕ) (n budget : ℕ) (e f : BushyError)
         → IsCause bounds n budget e → IsCause bounds n budget f

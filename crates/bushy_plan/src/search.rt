@@ -1,7 +1,7 @@
 //! The search.
 ghost use Rattle.std.specs.Prelude.{◌≡◌, ◌-◌, ◌≤◌, ◌<◌, ◌^◌, ℕ, List, length, slice_index, IfErr, IfOk};
 ghost use Rattle.std.specs.List.{AllByRecursion};
-ghost use Rattle.limits.specs.Profile.{most_entries, most_rows, top_bound};
+ghost use Rattle.limits.specs.Profile.{greatest_budget, most_entries, top_bound};
 ghost use Rattle.order_search.specs.Orders.{cost as left_deep_cost};
 ghost use Rattle.plans.specs.LeftDeep.{IsOrder};
 ghost use Rattle.tree_plans.specs.TreePlans.{IsTreePlan};
@@ -35,12 +35,12 @@ pub fn choose_bushy(
     requires some { 1 ≤ length scans.now }
     requires few { length scans.now ≤ most_entries }
     requires bounds { length bounds.now ≡ 2 ^ length scans.now }
-    requires scans { AllByRecursion (λ rows. rows ≤ most_rows) scans.now }
-    requires budget { budget ≤ most_rows }
+    requires budget { budget ≤ greatest_budget }
 
     ensures plan { IfOk result (IsTreePlan (length scans.now)) }
     ensures best { IfOk result (IsBestPlan bounds.now (length scans.now)) }
     ensures within { IfOk result (λ plan. plan.cost ≤ budget) }
+    ensures joins { IfOk result (λ plan. AllByRecursion (λ join. join.bound ≤ budget) plan.joins) }
     ensures scans { IfOk result (λ plan. plan.scans ≡ scans.now) }
     ensures no_dearer { IfOk result (λ plan. (order : List ℕ) → IsOrder (length scans.now) order
         → plan.cost ≤ left_deep_cost bounds.now order) }
@@ -84,7 +84,7 @@ fn best_joins(alloc: Global, count: u8, bounds: &[u128], least: u128) -> Result<
     requires count { count ≤ most_entries }
     requires bounds { length bounds.now ≡ 2 ^ count }
     requires least { IsLeastCost bounds.now count least }
-    requires small { least ≤ most_rows }
+    requires small { least ≤ greatest_budget }
     ensures { IfOk result (λ joins. AreOfBest bounds.now count least joins.items) }
 {
     let sums = least_weights(alloc, Weight::SumWithin(least), bounds)?;

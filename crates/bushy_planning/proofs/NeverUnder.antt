@@ -18,7 +18,7 @@ use Rattle.level_bounds.specs.Orders.{IsOrderOfSet}
 use Rattle.level_bounds.proofs.SetNumbers.{order_of_set}
 use Rattle.tree_plans.specs.declared.bushy.BushyPlan.{BushyPlan}
 use Rattle.tree_plans.specs.declared.bushy.Join.{Join}
-use Rattle.tree_plans.specs.TreePlans.{IsTreePlan}
+use Rattle.tree_plans.specs.TreePlans.{IsTreePlan, IsWithin}
 use Rattle.tree_rows.specs.Rooms.{bound_at}
 use Rattle.tree_rows.specs.Trees.{entries_at, node_count, node_entries, singles, with_joins}
 use Rattle.tree_rows.proofs.Once.{plan_leaf, plan_once, singles_at, singles_length}
@@ -43,7 +43,7 @@ weaker P Q more (x ∷ xs) all = (more x all.0, weaker P Q more xs all.1)
 
 module _ (query : Query) (db : Database) (bounds : List ℕ) (plan : BushyPlan)
     (never : BoundsAreNeverUnder query (tables_of db) bounds plan.scans)
-    (is : IsTreePlan (length query.from) plan) (best : IsBestPlan bounds (length query.from) plan) where
+    (is : IsTreePlan (length query.from) plan) (within : IsWithin 4000000 plan) (best : IsBestPlan bounds (length query.from) plan) where
   abbrev n : ℕ
   n = length query.from
 
@@ -142,7 +142,7 @@ module _ (query : Query) (db : Database) (bounds : List ℕ) (plan : BushyPlan)
     inner_fits : length (chosen_rows query db (entries_at plan (n + k))) ≤ bound_at plan (n + k)
     inner_fits = elim (never.each_set (entries_of subtree) (entries_at plan (n + k)) whole.fits is_order) [
       | inl fits ↦ omega (arith, fits, its_bound)
-      | inr top ↦ absurd (omega (arith, top, its_bound, all_small plan.scans plan.joins is.small_scans is.small_joins (n + k)))
+      | inr top ↦ absurd (omega (arith, top, its_bound, all_small plan.scans plan.joins within.scans within.joins (n + k)))
     ]
 
   -- ---- all nodes
@@ -159,7 +159,7 @@ module _ (query : Query) (db : Database) (bounds : List ℕ) (plan : BushyPlan)
   ]
 
   pub never_under : IsTreePlanOf query db plan
-  never_under = record { for_each_entry = is; scans = never.each_scan; nodes = node_fits }
+  never_under = record { for_each_entry = is; small = within; scans = never.each_scan; nodes = node_fits }
 
 -- ---- the bounds of a query
 
@@ -172,7 +172,7 @@ bounds_never_under query db accuracy scans same =
     })
 
 pub planned_never_under : (query : Query) (db : Database) (accuracy : ℕ) (plan : BushyPlan)
-    → plan.scans ≡ scan_bounds_of query (tables_of db) accuracy → IsTreePlan (length query.from) plan
+    → plan.scans ≡ scan_bounds_of query (tables_of db) accuracy → IsTreePlan (length query.from) plan → IsWithin 4000000 plan
     → IsBestPlan (set_bounds_of query (tables_of db) accuracy) (length query.from) plan → IsTreePlanOf query db plan
-planned_never_under query db accuracy plan same is best =
-    never_under query db (set_bounds_of query (tables_of db) accuracy) plan (bounds_never_under query db accuracy plan.scans same) is best
+planned_never_under query db accuracy plan same is within best =
+    never_under query db (set_bounds_of query (tables_of db) accuracy) plan (bounds_never_under query db accuracy plan.scans same) is within best

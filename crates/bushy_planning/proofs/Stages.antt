@@ -1,12 +1,13 @@
 -- From what a choice of a tree promises to the answer for a query.
-use Rattle.std.proofs.Common.{◌≡◌, ℕ, suc, ◌<◌, ◌≤◌, List, [], ◌∷◌, length, get_or, Ok, Err, Result, ap, ◌∙◌, subst, arith}
+use Rattle.std.proofs.Common.{◌≡◌, ℕ, suc, ◌<◌, ◌≤◌, List, [], ◌∷◌, length, get_or, Ok, Err, Result, ap, sym, ◌∙◌, subst, arith}
 use Rattle.std.specs.Prelude.{IfErr, IfOk}
 use Rattle.std.specs.List.{AllByRecursion}
 use Rattle.csv_tables.specs.declared.types.Database.{Database}
 use Rattle.query_types.specs.declared.types.Query.{Query}
 use Rattle.sql_meaning.specs.Tables.{row_counts, tables_of}
 use Rattle.tree_plans.specs.declared.bushy.BushyPlan.{BushyPlan}
-use Rattle.tree_plans.specs.TreePlans.{IsTreePlan}
+use Rattle.tree_plans.specs.declared.bushy.Join.{Join}
+use Rattle.tree_plans.specs.TreePlans.{IsTreePlan, IsWithin}
 use Rattle.bushy_plan.specs.BestTree.{IsBestPlan}
 use Rattle.bushy_plan.specs.Causes.{IsCause}
 use Rattle.bushy_plan.specs.declared.refusal.BushyError.{BushyError}
@@ -58,8 +59,22 @@ module _ (query : Query) (db : Database) (accuracy : ℕ) where
       pub is_whole : IfOk answer (IsTreePlan (length scans)) → IfOk answer (IsTreePlan (length query.from))
       is_whole h = subst (λ (n : ℕ). IfOk answer (IsTreePlan n)) as_many h
 
+-- the scans are within the rows of a table, and the joins within the budget
+pub is_within : (answer : Result BushyPlan BushyError) (scans : List ℕ) (budget : ℕ) → AllByRecursion (λ rows. rows ≤ 4000000) scans → budget ≤ 4000000
+    → IfOk answer (λ plan. plan.scans ≡ scans) → IfOk answer (λ plan. AllByRecursion (λ join. join.bound ≤ budget) plan.joins) → IfOk answer (IsWithin 4000000)
+is_within (Ok plan) scans budget few small same joins = record {
+  scans = subst (AllByRecursion (λ rows. rows ≤ 4000000)) (sym same) few;
+  joins = each_join plan.joins joins;
+}
+  where
+    each_join : (joins : List Join) → AllByRecursion (λ join. join.bound ≤ budget) joins → AllByRecursion (λ join. join.bound ≤ 4000000) joins
+    each_join [] all = tt
+    each_join (join ∷ joins) all = (omega (arith, all.0, small), each_join joins all.1)
+is_within (Err e) scans budget few small same joins = tt
+
 pub is_plan_of : (query : Query) (db : Database) (accuracy : ℕ) (answer : Result BushyPlan BushyError)
     → IfOk answer (λ plan. plan.scans ≡ scan_bounds_of query (tables_of db) accuracy) → IfOk answer (IsTreePlan (length query.from))
+    → IfOk answer (IsWithin 4000000)
     → IfOk answer (IsBestPlan (set_bounds_of query (tables_of db) accuracy) (length query.from)) → IfOk answer (IsTreePlanOf query db)
-is_plan_of query db accuracy (Ok plan) scans whole best = planned_never_under query db accuracy plan scans whole best
-is_plan_of query db accuracy (Err e) scans whole best = tt
+is_plan_of query db accuracy (Ok plan) scans whole within best = planned_never_under query db accuracy plan scans whole within best
+is_plan_of query db accuracy (Err e) scans whole within best = tt

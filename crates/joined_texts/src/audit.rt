@@ -1,8 +1,8 @@
 //! The audit text.
 ghost use Rattle.std.specs.Prelude.{ℕ, ◌≡◌, ◌<◌, ◌+◌, ◌==◌, length};
 ghost use Rattle.std.specs.List.{AllByRecursion, IsDistinct};
-ghost use Rattle.outcomes.specs.Devices.{growth};
-ghost use Rattle.outcomes.specs.Writes.{Put, Wrote};
+ghost use Rattle.base_io.specs.Devices.{growth};
+ghost use Rattle.base_io.specs.Writes.{Put, Wrote};
 ghost use Rattle.plans.specs.LeftDeep.{IsPlan};
 ghost use Rattle.printed_texts.specs.Plans.{audit_line, audit_lines, level_audits, row_count};
 ghost use Rattle.joined_texts.specs.Printed.{level_counts};

@@ -2,8 +2,8 @@
 ghost use Rattle.std.specs.Prelude.{◌≡◌, ℕ, ◌+◌, ◌-◌, ◌<◌, ◌==◌, All, length, slice_index};
 ghost use Rattle.std.specs.List.{flat_map, IsDistinct};
 ghost use Rattle.link_index.specs.Forest.{rows_at, way_to};
-ghost use Rattle.outcomes.specs.Devices.{growth};
-ghost use Rattle.outcomes.specs.Writes.{Put, Wrote};
+ghost use Rattle.base_io.specs.Devices.{growth};
+ghost use Rattle.base_io.specs.Writes.{Put, Wrote};
 ghost use Rattle.sql_meaning.specs.Databases.{IsDatabaseOf};
 ghost use Rattle.join_steps.specs.Lists.{IsOrderOf};
 ghost use Rattle.hash_join.specs.Levels.{query_level};

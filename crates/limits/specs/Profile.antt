@@ -53,6 +53,14 @@ most_budget = 20000000
 abbrev pub usual_budget : ℕ
 usual_budget = 1000000
 
+-- what the searches and the lists take, whatever a program allows: rows of a table, and the budget of a plan. The bounds of twelve joins
+-- within such a budget have a sum of less than 2^63
+abbrev pub greatest_rows : ℕ
+greatest_rows = 2 ^ 48
+
+abbrev pub greatest_budget : ℕ
+greatest_budget = 2 ^ 59
+
 -- the accuracy of compressed lists, and which one where none is named
 abbrev pub least_accuracy : ℕ
 least_accuracy = 1

@@ -42,6 +42,12 @@ pub const LEAST_BUDGET: u64 = 1;
 /// The greatest budget, in rows.
 pub const MOST_BUDGET: u64 = 20_000_000;
 
+/// The most rows of a table that lists, bounds and compression take, whatever a program allows.
+pub const GREATEST_ROWS: u64 = 1 << 48;
+
+/// The greatest budget that the searches take, in rows, whatever a program allows.
+pub const GREATEST_BUDGET: u64 = 1 << 59;
+
 /// The budget where none is named, in rows.
 pub const USUAL_BUDGET: u64 = 1_000_000;
 
@@ -67,6 +73,7 @@ pub fn limits_are_named()
     ensures queries { (MOST_VALUES ≡ profile.most_values) × (MOST_CONJUNCTS ≡ profile.most_conjuncts)
         × (MOST_OUTPUTS ≡ profile.most_outputs) }
     ensures budget { (LEAST_BUDGET ≡ profile.least_budget) × (MOST_BUDGET ≡ profile.most_budget) × (USUAL_BUDGET ≡ profile.usual_budget) }
+    ensures greatest { (GREATEST_ROWS ≡ profile.greatest_rows) × (GREATEST_BUDGET ≡ profile.greatest_budget) }
     ensures accuracy { (LEAST_ACCURACY ≡ profile.least_accuracy) × (MOST_ACCURACY ≡ profile.most_accuracy)
         × (USUAL_ACCURACY ≡ profile.usual_accuracy) }
     ensures bound { TOP_BOUND ≡ profile.top_bound }

@@ -36,23 +36,23 @@ abbrev sum_weight : ℕ → List ℕ → ℕ → List ℕ → ℕ
 sum_weight least bounds n order = weight_of (weight.SumWithin least) bounds (2 ^ n - 1) (2 ^ n - 1) order
 
 -- such an order weighs its sum, which isn't the heaviest
-weighs_sum : (bounds : List ℕ) (n least : ℕ) (order : List ℕ) → n ≤ 12 → least ≤ 20000000 → IsOrder n order → cost bounds order ≤ least
-    → (sum_weight least bounds n order ≡ total bounds order) × (total bounds order ≤ 240000000)
+weighs_sum : (bounds : List ℕ) (n least : ℕ) (order : List ℕ) → n ≤ 12 → least ≤ 2 ^ 59 → IsOrder n order → cost bounds order ≤ least
+    → (sum_weight least bounds n order ≡ total bounds order) × (total bounds order < 2 ^ 63)
 weighs_sum bounds n least order few small is_order low =
-    let sum_small : total bounds order ≤ 240000000 = total-small bounds n order few is_order (omega arith) in
+    let sum_small : total bounds order < 2 ^ 63 = total-small bounds n order few is_order (omega arith) in
     (omega (arith, weighs_total least bounds (2 ^ n - 1) order (way_from_order n order is_order) low, sum_small), sum_small)
 
-pub sum_is_light : (bounds table : List ℕ) (n least : ℕ) → n ≤ 12 → least ≤ 20000000 → IsLeastCost bounds n least → length bounds ≡ 2 ^ n
+pub sum_is_light : (bounds table : List ℕ) (n least : ℕ) → n ≤ 12 → least ≤ 2 ^ 59 → IsLeastCost bounds n least → length bounds ≡ 2 ^ n
     → IsTable (weight.SumWithin least) bounds (length bounds - 1) table (2 ^ n) → get_or table (length bounds - 1) 0 < 2 ^ 128 - 1
 sum_is_light bounds table n least few small found size is_table =
     let value : ℕ = get_or table (length bounds - 1) 0 in
     let lightest : IsLeastWeight (weight.SumWithin least) bounds (2 ^ n - 1) (2 ^ n - 1) (get_or table (length bounds - 1) 0) =
     subst (λ k. IsLeastWeight (weight.SumWithin least) bounds k k (get_or table (length bounds - 1) 0)) (last_place bounds n size) (is_table (length bounds - 1) (omega (arith, pow_pos n))) in
-    let weighs : (sum_weight least bounds n found.order ≡ total bounds found.order) × (total bounds found.order ≤ 240000000) =
+    let weighs : (sum_weight least bounds n found.order ≡ total bounds found.order) × (total bounds found.order < 2 ^ 63) =
     weighs_sum bounds n least found.order few small found.is_order (omega (arith, found.costs)) in
     omega (arith, lightest.none_lighter found.order (way_from_order n found.order found.is_order), weighs.0, weighs.1)
 
-best_of_whole : (bounds : List ℕ) (n least : ℕ) (order : List ℕ) → n ≤ 12 → least ≤ 20000000 → IsLeastCost bounds n least
+best_of_whole : (bounds : List ℕ) (n least : ℕ) (order : List ℕ) → n ≤ 12 → least ≤ 2 ^ 59 → IsLeastCost bounds n least
     → IsFirstLightest (weight.SumWithin least) bounds (2 ^ n - 1) (2 ^ n - 1) order → IsBest bounds n order × (cost bounds order ≡ least)
 best_of_whole bounds n least order few small found first = (best, costs)
   where
@@ -61,7 +61,7 @@ best_of_whole bounds n least order few small found first = (best, costs)
 
     costs : cost bounds order ≡ least
     costs = elim (cases_lt least (cost bounds order)) [
-      | inl above ↦ (let weighs : (sum_weight least bounds n found.order ≡ total bounds found.order) × (total bounds found.order ≤ 240000000) =
+      | inl above ↦ (let weighs : (sum_weight least bounds n found.order ≡ total bounds found.order) × (total bounds found.order < 2 ^ 63) =
           weighs_sum bounds n least found.order few small found.is_order (omega (arith, found.costs)) in
           absurd (omega (arith, first.none_lighter found.order (way_from_order n found.order found.is_order), weighs.0, weighs.1, weighs_most least bounds (2 ^ n - 1) order first.is_way above)))
       | inr below ↦ omega (arith, found.none_cheaper order is_order)
@@ -81,7 +81,7 @@ best_of_whole bounds n least order few small found first = (best, costs)
       none_earlier = λ other other_order same equal. first.none_earlier other (way_from_order n other other_order) (theirs other other_order same ∙ equal ∙ sym own);
     }
 
-pub best_found : (bounds order : List ℕ) (n least : ℕ) → n ≤ 12 → least ≤ 20000000 → IsLeastCost bounds n least → length bounds ≡ 2 ^ n
+pub best_found : (bounds order : List ℕ) (n least : ℕ) → n ≤ 12 → least ≤ 2 ^ 59 → IsLeastCost bounds n least → length bounds ≡ 2 ^ n
     → IsFirstLightest (weight.SumWithin least) bounds (length bounds - 1) (length bounds - 1) order → IsBest bounds n order × (cost bounds order ≡ least)
 best_found bounds order n least few small found size first =
     best_of_whole bounds n least order few small found (subst (λ k. IsFirstLightest (weight.SumWithin least) bounds k k order) (last_place bounds n size) first)

@@ -1,5 +1,5 @@
 -- There is no second best order, and no second answer.
-use Rattle.std.proofs.Common.{◌≡◌, ℕ, ◌≤◌, List, [], ◌∷◌, refl, ap, sym, arith, inl, inr}
+use Rattle.std.proofs.Common.{◌≡◌, ℕ, ◌^◌, ◌≤◌, List, [], ◌∷◌, refl, ap, sym, arith, inl, inr}
 use Rattle.std.specs.Prelude.{◌⊎◌}
 use Rattle.order_search.specs.Causes.{IsCause}
 use Rattle.order_search.specs.Orders.{IsBest, IsLeastCost, IsNotAfter, cost, total}
@@ -30,7 +30,7 @@ one_best bounds n a b p q =
 one_least : (bounds : List ℕ) (n a b : ℕ) → IsLeastCost bounds n a → IsLeastCost bounds n b → a ≡ b
 one_least bounds n a b p q = omega (arith, p.none_cheaper q.order q.is_order, q.none_cheaper p.order p.is_order, p.costs, q.costs)
 
-pub accepted : (bounds : List ℕ) (n budget : ℕ) (best : List ℕ) (e : PlanError) → budget ≤ 20000000 → IsBest bounds n best → cost bounds best ≤ budget → IsCause bounds n budget e → e ≡ error.NoMemory
+pub accepted : (bounds : List ℕ) (n budget : ℕ) (best : List ℕ) (e : PlanError) → budget ≤ 2 ^ 59 → IsBest bounds n best → cost bounds best ≤ budget → IsCause bounds n budget e → e ≡ error.NoMemory
 accepted bounds n budget best (error.Budget least) few is_best within cause = absurd (omega (arith, cause.0.none_cheaper best is_best.is_order))
 accepted bounds n budget best error.PastBits few is_best within cause = absurd (omega (arith, cause.1.none_cheaper best is_best.is_order))
 accepted bounds n budget best error.NoMemory few is_best within cause = refl

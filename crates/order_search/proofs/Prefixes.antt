@@ -1,5 +1,5 @@
 -- The bounds of an order's prefixes, one entry at a time.
-use Rattle.std.proofs.Common.{◌≡◌, ℕ, ◌+◌, ◌*◌, ◌^◌, ◌≤◌, suc, List, [], ◌∷◌, length, map, get_or, refl, ap, ◌∙◌, sum, arith}
+use Rattle.std.proofs.Common.{◌≡◌, ℕ, ◌+◌, ◌*◌, ◌^◌, ◌<◌, ◌≤◌, suc, List, [], ◌∷◌, length, map, get_or, refl, ap, ◌∙◌, sum, arith}
 use Rattle.std.proofs.lemmas.List.Sums.{sum_by-cons}
 use Rattle.order_search.specs.Orders.{cost, greatest, levels, prefixes, total}
 use Rattle.entry_sets.specs.Sets.{set_of}
@@ -54,10 +54,10 @@ sum-at_most most (x ∷ xs) h = omega (arith, sum-cons x xs, sum-at_most most xs
     product = omega arith
 
 -- twelve levels within the greatest budget
-pub total-small : (bounds : List ℕ) (n : ℕ) (order : List ℕ) → n ≤ 12 → IsOrder n order → cost bounds order ≤ 20000000 → total bounds order ≤ 240000000
+pub total-small : (bounds : List ℕ) (n : ℕ) (order : List ℕ) → n ≤ 12 → IsOrder n order → cost bounds order ≤ 2 ^ 59 → total bounds order < 2 ^ 63
 total-small bounds n order few is_order h =
     let size : length (levels_after bounds 0 order) ≡ n = length-levels_after bounds 0 order ∙ is_order.all in
-    omega (arith, size, total_is bounds order, sum-at_most 20000000 (levels_after bounds 0 order) (omega (arith, cost_is bounds order)))
+    omega (arith, size, total_is bounds order, sum-at_most (2 ^ 59) (levels_after bounds 0 order) (omega (arith, cost_is bounds order)))
 
 -- an order with its levels and a scan for each entry is a plan
 pub plan_from : (bounds scans : List ℕ) (plan : Plan) → IsOrder (length scans) plan.order → plan.levels ≡ levels bounds plan.order → plan.scans ≡ scans → IsPlan (length scans) plan

@@ -2,7 +2,7 @@
 ghost use Rattle.std.specs.Prelude.{◌≡◌, ◌==◌, ◌≤◌, ◌⊎◌, ◌↔◌, [], ◌∷◌, ℕ, List};
 ghost use Rattle.std.specs.Int.{bit_at};
 ghost use Rattle.std.specs.List.{Contains, IsDistinct};
-ghost use Rattle.limits.specs.Profile.{most_budget};
+ghost use Rattle.limits.specs.Profile.{greatest_budget};
 ghost use Rattle.order_search.specs.Causes.{IsCause};
 ghost use Rattle.order_search.specs.Examples.{dearer_prefix, equal_bounds, one_pair_past_bits, past_bits, three_entries};
 ghost use Rattle.order_search.specs.Orders.{IsBest, cost, levels, prefixes, total};
@@ -24,7 +24,7 @@ pub fn one_best_order()
 /// Where the best order costs no more than the budget, no refusal has a cause but want of memory; and besides that one refusal at most has
 /// one.
 pub fn one_answer()
-    ensures accepted { (bounds : List ℕ) (n budget : ℕ) (best : List ℕ) (e : PlanError) → budget ≤ most_budget
+    ensures accepted { (bounds : List ℕ) (n budget : ℕ) (best : List ℕ) (e : PlanError) → budget ≤ greatest_budget
         → IsBest bounds n best → cost bounds best ≤ budget → IsCause bounds n budget e → e ≡ error.NoMemory }
     ensures refused { (bounds : List ℕ) (n budget : ℕ) (e f : PlanError)
         → IsCause bounds n budget e → IsCause bounds n budget f

@@ -1,6 +1,6 @@
 //! The search.
 ghost use Rattle.std.specs.Prelude.{◌≡◌, ◌≤◌, ◌<◌, ◌^◌, length, IfErr, IfOk};
-ghost use Rattle.limits.specs.Profile.{most_budget, most_entries};
+ghost use Rattle.limits.specs.Profile.{greatest_budget, most_entries};
 ghost use Rattle.order_search.specs.Causes.{IsCause};
 ghost use Rattle.order_search.specs.Orders.{IsBest, IsLeastCost, cost, levels as levels_of};
 ghost use Rattle.plans.specs.LeftDeep.{IsOrder, IsPlan};
@@ -33,7 +33,7 @@ pub fn choose(
     requires some { 1 ≤ length scans.now }
     requires few { length scans.now ≤ most_entries }
     requires bounds { length bounds.now ≡ 2 ^ length scans.now }
-    requires budget { budget ≤ most_budget }
+    requires budget { budget ≤ greatest_budget }
 
     ensures plan { IfOk result (IsPlan (length scans.now)) }
     ensures best { IfOk result (λ plan. IsBest bounds.now (length scans.now) plan.order) }
@@ -75,7 +75,7 @@ fn best_order(alloc: Global, count: u8, bounds: &[u128], least: u128) -> Result<
     requires count { count ≤ most_entries }
     requires bounds { length bounds.now ≡ 2 ^ count }
     requires least { IsLeastCost bounds.now count least }
-    requires small { least ≤ most_budget }
+    requires small { least ≤ greatest_budget }
     ensures best { IfOk result (λ order. IsBest bounds.now count order.items) }
     ensures cost { IfOk result (λ order. cost bounds.now order.items ≡ least) }
 {

@@ -1,3 +1,2 @@
 pub mod ReadFacts
 pub mod StatusFacts
-pub mod WriteFacts

@@ -2,7 +2,8 @@
 use Rattle.std.proofs.Common.{◌≡◌, ℕ, ◌≤◌, inl, inr, Option, None, Some, Result, Ok, Err, refl, ap, sym, ◌∙◌, subst, arith}
 use Rattle.base_io.specs.Causes.{Rose}
 use Rattle.base_io.specs.Files.{Files}
-use Rattle.outcomes.specs.Devices.{Reading}
+use Rattle.base_io.specs.Devices.{Reading}
+use Rattle.base_io.proofs.CountFacts.{later_then_rose}
 use Rattle.outcomes.specs.Reads.{◌>>=◌, Ends, Gives, IsOfWhatIsThere, MissesNothing, Reads, Tells}
 use Rattle.outcomes.specs.declared.ending.Ending.{Ending}
 use Rattle.outcomes.specs.declared.ending.Ending.TheVariants as ending
@@ -32,10 +33,6 @@ pub record Meets (first second : Reading) : Type 0 where
   pub files : first.files_after ≡ second.files
   pub faults : first.faults_after ≡ second.faults_before
   pub misses : first.misses_after ≡ second.misses_before
-
-rose_earlier : (f0 f1 f2 : ℕ) → f0 ≤ f1 → Rose f1 f2 → Rose f0 f2
-rose_earlier f0 f1 f2 le (inl lt) = inl (omega arith)
-rose_earlier f0 f1 f2 le (inr last) = inr last
 
 -- a value of the first stage leaves what the second gives
 at_ok : {A B : Type 0} (r : Result A Refusal) (f : A → Result B Refusal) (x : A) → r ≡ Ok x → (r >>= f) ≡ f x
@@ -95,7 +92,7 @@ module _ {A B : Type 0} (one : OfFiles A) (two : A → OfFiles B) where
         w.2,
       )
       ends (ending.Fault file) w = (
-        rose_earlier first.faults_before second.faults_before second.faults_after (omega (arith, h.later, meets.faults)) w.0,
+        later_then_rose first.faults_before second.faults_before second.faults_after (omega (arith, h.later, meets.faults)) w.0,
         λ files told. more files file (h.gives files told) (w.1 files (told_again files told)),
       )
       ends ending.NoMemory w = tt

@@ -1,2 +1,3 @@
 pub mod DigitCounts
 pub mod Growing
+pub mod GrowingRuns

@@ -6,11 +6,13 @@
 //! dominates keys is meant as in SafeBound (SIGMOD 2023).
 //!
 //! Callers cite `compressed` of crate `degree_sequences` and `most_pieces`:
-//! `let list = compress(alloc, counts.as_slice(), 1)?;` gives `list ≡ compressed 1 counts`.
+//! `let list = compress(alloc, counts.as_slice(), 1)?;` gives `list ≡ compressed 1 counts`, and so does `compress_runs(alloc, &runs, 1)?`
+//! where the counts are kept as runs.
 #![tactic(auto)]
 
 ghost use Rattle.std.specs.Prelude.{◌≡◌, ℕ, ◌+◌, ◌-◌, ◌*◌, ◌^◌, ◌<◌, ◌≤◌, List, slice_index, IfOk, length, replicate, ◌++◌, OnOk};
 ghost use Rattle.std.specs.List.{All, sum};
+ghost use Rattle.limits.specs.Profile.{greatest_rows};
 ghost use Rattle.degree_sequences.specs.Compression.{compressed, next_head};
 ghost use Rattle.degree_sequences.specs.Degrees.{degree_list};
 ghost use Rattle.degree_sequences.specs.Domination.{DominatesKeys};
@@ -40,7 +42,7 @@ struct Run {
 pub fn compress(alloc: Global, falling: &[u64], accuracy: u8) -> Result<Pieces, NoMemory>
     requires falls { IsFalling falling.now }
     requires positive { All (λ degree. 0 < degree) falling.now }
-    requires small { sum falling.now ≤ 2 ^ 32 }
+    requires small { sum falling.now ≤ greatest_rows }
     requires accuracy { (0 < accuracy) × (accuracy ≤ 64) }
     ensures compressed { IfOk result (λ list. list ≡ compressed accuracy falling.now) }
     ensures dominates { IfOk result (λ list. (keys : List ℕ) → degree_list keys ≡ falling.now → DominatesKeys list keys) }
@@ -48,20 +50,38 @@ pub fn compress(alloc: Global, falling: &[u64], accuracy: u8) -> Result<Pieces, 
     ensures near { IfOk result (λ list. (r : ℕ) → accuracy * slice_index list r ≤ (accuracy + 1) * slice_index falling.now r) }
     ensures few_pieces { IfOk result (λ list. runs list ≤ most_pieces (slice_index falling.now 0) accuracy) }
 {
+    let falling = Pieces::from_list(alloc, falling)?;
+    compress_runs(alloc, &falling, accuracy)
+}
+
+/// A degree list that is kept as runs, compressed with an accuracy from 1 to 64. The cost is in the number of runs, however many keys
+/// they have.
+pub fn compress_runs(alloc: Global, falling: &Pieces, accuracy: u8) -> Result<Pieces, NoMemory>
+    requires small { sum falling.now ≤ greatest_rows }
+    requires accuracy { (0 < accuracy) × (accuracy ≤ 64) }
+    ensures compressed { IfOk result (λ list. list ≡ compressed accuracy falling.now) }
+    ensures dominates { IfOk result (λ list. (keys : List ℕ) → degree_list keys ≡ falling.now → DominatesKeys list keys) }
+    ensures sum { IfOk result (λ list. sum list ≡ sum falling.now) }
+    ensures near { IfOk result (λ list. (r : ℕ) → accuracy * slice_index list r ≤ (accuracy + 1) * slice_index falling.now r) }
+    ensures few_pieces { IfOk result (λ list. runs list ≤ most_pieces (slice_index falling.now 0) accuracy) }
+{
+    let runs = falling.pieces();
     let mut pieces = Pieces::empty(alloc);
-    let mut head = falling.first().copied().unwrap_or(0);
+    let mut head = first_degree(falling);
     let mut run = Run {
         value: head,
         count: 0,
     };
     let mut rows: u64 = 0;
     let mut covered: u64 = 0;
-    for &degree in falling {
+    for equal in runs {
+        let degree = equal.value as u64;
         head = head_after(head, degree, accuracy);
-        rows += degree;
+        rows += degree * equal.count;
         if covered < rows {
-            run = extended(&mut pieces, run, head)?;
-            covered += head;
+            let times = (rows - covered).div_ceil(head);
+            run = extended(&mut pieces, run, head, times)?;
+            covered += head * times;
         }
     }
     if run.count > 0 {
@@ -70,9 +90,21 @@ pub fn compress(alloc: Global, falling: &[u64], accuracy: u8) -> Result<Pieces, 
     Ok(pieces)
 }
 
+// The first degree of a list, or 0.
+fn first_degree(falling: &Pieces) -> u64
+    requires { sum falling.now ≤ greatest_rows }
+    ensures { result ≡ slice_index falling.now 0 }
+{
+    let runs = falling.pieces();
+    if runs.is_empty() {
+        return 0;
+    }
+    runs[0].value as u64
+}
+
 // A degree that lies far enough below the head is the next head.
 fn head_after(head: u64, degree: u64, accuracy: u8) -> u64
-    requires head { head ≤ 2 ^ 32 }
+    requires head { head ≤ greatest_rows }
     requires degree { degree ≤ head }
     requires accuracy { accuracy ≤ 64 }
     ensures { result ≡ next_head accuracy head degree }
@@ -85,28 +117,31 @@ fn head_after(head: u64, degree: u64, accuracy: u8) -> u64
     }
 }
 
-// The run with one more element. Where that has another value, the run goes to the pieces first.
-fn extended(pieces: &mut Pieces, run: Run, value: u64) -> Result<Run, NoMemory>
+// The run with so many more elements. Where these have another value, the run goes to the pieces first.
+fn extended(pieces: &mut Pieces, run: Run, value: u64, times: u64) -> Result<Run, NoMemory>
     requires positive { 0 < value }
     requires lower { value ≤ run.value }
     requires falls { All (λ x. run.value ≤ x) pieces.old }
-    requires room { length pieces.old + run.count + 1 < 2 ^ 64 }
+    requires room { length pieces.old + run.count + times < 2 ^ 64 }
     ensures value { IfOk result (λ longer. longer.value ≡ value) }
-    ensures one_more { IfOk result (λ longer. 0 < longer.count) }
-    ensures before { IfOk result (λ longer. pieces.new ++ replicate (longer.count - 1) longer.value ≡ pieces.old
+    ensures more { IfOk result (λ longer. times ≤ longer.count) }
+    ensures before { IfOk result (λ longer. pieces.new ++ replicate (longer.count - times) longer.value ≡ pieces.old
         ++ replicate run.count run.value) }
     ensures falls { IfOk result (λ longer. All (λ x. longer.value ≤ x) pieces.new) }
 {
     if run.value == value {
         return Ok(Run {
             value,
-            count: run.count + 1,
+            count: run.count + times,
         });
     }
     if run.count > 0 {
         pieces.push_run(u128::from(run.value), run.count)?;
     }
-    Ok(Run { value, count: 1 })
+    Ok(Run {
+        value,
+        count: times,
+    })
 }
 
 // Ends the answer with the run, whose last element has so many rows too many.

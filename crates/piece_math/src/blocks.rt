@@ -81,7 +81,7 @@ fn grouped(parent: &Pieces, weights: &Pieces) -> Result<Pieces, NoMemory>
 /// The composition: the weights of the rows that `children` give, summed by the blocks of `parent`.
 pub fn compose(alloc: Global, parent: &Pieces, children: &[Child]) -> Result<Pieces, NoMemory>
     requires columns { All (λ child. sum child.column ≡ sum parent.now) children.now }
-    requires small { sum parent.now ≤ 2 ^ 32 }
+    requires small { sum parent.now < 2 ^ 64 }
     ensures value { IfOk result (λ list. list ≡ map saturated (composed parent.now (map lists_of children.now))) }
     ensures few_pieces { IfOk result (λ list. runs list ≤ runs parent.now + 2 * class_runs children.now) }
 {

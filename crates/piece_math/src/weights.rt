@@ -22,7 +22,7 @@ pub struct Child {
 
 // The class weight of each row, by its rank in the column.
 fn spread(child: &Child) -> Result<Pieces, NoMemory>
-    requires { sum child.now.column ≤ 2 ^ 32 }
+    requires { sum child.now.column < 2 ^ 64 }
     ensures lists { IsChildOf (sum child.now.column) (lists_of child.now) }
     ensures value { IfOk result (λ list. list ≡ trimmed (weights_of (lists_of child.now ∷ []) (sum child.now.column))) }
     ensures few_pieces { IfOk result (λ list. runs list ≤ runs child.now.class) }
@@ -46,7 +46,6 @@ fn spread(child: &Child) -> Result<Pieces, NoMemory>
 // The weights of that many rows: the product of the weights that each child gives them.
 pub fn row_weights(alloc: Global, children: &[Child], rows: u64) -> Result<Pieces, NoMemory>
     requires columns { All (λ child. sum child.column ≡ rows) children.now }
-    requires small { rows ≤ 2 ^ 32 }
     ensures value { IfOk result (λ weights. weights ≡ map saturated (trimmed (weights_of (map lists_of children.now) rows))) }
     ensures few_pieces { IfOk result (λ weights. 0 < length children.now → runs weights ≤ class_runs children.now) }
 {
@@ -62,7 +61,6 @@ pub fn row_weights(alloc: Global, children: &[Child], rows: u64) -> Result<Piece
 /// The sum of the weights of that many rows, for a table without a parent, or `u128::MAX` where it is larger.
 pub fn root_total(alloc: Global, children: &[Child], rows: u64) -> Result<u128, NoMemory>
     requires columns { All (λ child. sum child.column ≡ rows) children.now }
-    requires small { rows ≤ 2 ^ 32 }
     ensures { IfOk result (λ total. total ≡ saturated (total_of (map lists_of children.now) rows)) }
 {
     let weights = row_weights(alloc, children, rows)?;

@@ -1,7 +1,7 @@
 //! The line that tells a status. Nothing here takes memory.
 ghost use Rattle.std.specs.Prelude.{◌≡◌, ◌≢◌, ◌∷◌, [], codes, decimal, option_copied};
-ghost use Rattle.outcomes.specs.Devices.{growth};
-ghost use Rattle.outcomes.specs.Writes.{Wrote};
+ghost use Rattle.base_io.specs.Devices.{growth};
+ghost use Rattle.base_io.specs.Writes.{Wrote};
 ghost use Rattle.printed_texts.specs.Faults.{column_in, error_line, fault_line, file_name, file_of_table, is_of_file as of_file, limit_word as word_of_limit, limit_words, query_cause, schema_cause, sink_name, table_cause, table_in, table_words};
 ghost use Rattle.printed_texts.specs.Words.{file_text, named};
 

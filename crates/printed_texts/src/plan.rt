@@ -1,8 +1,8 @@
 //! The plan text. Nothing here takes memory.
 ghost use Rattle.std.specs.Prelude.{ℕ, ◌≡◌, ◌≤◌, ◌<◌, ◌+◌, ◌++◌, length, slice_get};
 ghost use Rattle.std.specs.List.{AllByRecursion};
-ghost use Rattle.outcomes.specs.Devices.{growth};
-ghost use Rattle.outcomes.specs.Writes.{Put, Wrote};
+ghost use Rattle.base_io.specs.Devices.{growth};
+ghost use Rattle.base_io.specs.Writes.{Put, Wrote};
 ghost use Rattle.plans.specs.LeftDeep.{IsPlan};
 ghost use Rattle.printed_texts.specs.Plans.{alias_of, level_bound, level_line, level_lines, plan_lines, scan_line, scan_lines};
 

@@ -17,7 +17,7 @@ use Rattle.bound_fold.specs.declared.lists.EntryLists.{EntryLists}
 use Rattle.bound_fold.specs.Lists.{bounds_of, list_of, rows_of}
 use Rattle.filtered_lists.specs.Lists.{ColumnLists, RowCounts, filtered_list, row_bound}
 use Rattle.filtered_lists.specs.Standing.{SumTo}
-use Rattle.filtered_lists.proofs.Lists.{rows_within, sum-filtered}
+use Rattle.filtered_lists.proofs.Lists.{sum-filtered}
 use Rattle.predicate_bounds.specs.declared.columns.ColumnSteps.{ColumnSteps}
 use Rattle.predicate_bounds.specs.declared.columns.EntryStats.{EntryStats}
 use Rattle.predicate_bounds.specs.declared.columns.QueryStats.{QueryStats}
@@ -91,10 +91,6 @@ pub has_first : (query : Query) (stats : QueryStats) (known : Statistics) (entry
 has_first query stats known entry tells low =
     let here : TellsEntry query stats known entry = tells.entries entry low in
     is_some_of (first_steps stats entry) (asked_lists query entry (known.lists entry here.column)) here.lists
-
-pub small_rows : (query : Query) (stats : QueryStats) (known : Statistics) (entry rows : ℕ) → Tells query stats known → entry < length query.from → rows ≡ scan_rows query known entry → rows ≤ 2 ^ 32
-small_rows query stats known entry rows tells low is =
-    omega (arith, is, rows_within (known.counts entry) entry query.conjuncts, (tells.entries entry low).small)
 
 -- ---- lists
 

@@ -16,9 +16,8 @@ use Rattle.tree_bounds.specs.TreeBounds.{EntryBounds}
 use Rattle.tree_bounds.proofs.Scanned.{scanned_within}
 use Rattle.sql_meaning.specs.Answers.{conjuncts_of}
 use Rattle.sql_meaning.specs.Choices.{IsChoiceOf}
-use Rattle.sql_meaning.specs.Levels.{row_in}
+use Rattle.sql_meaning.specs.Levels.{all_pass, level_over, row_in}
 use Rattle.sql_meaning.specs.Tables.{Tables, row_counts}
-use Rattle.join_steps.specs.Lists.{all_pass, level_over}
 use Rattle.level_bounds.specs.Keys.{JoinsEqualKeys, Keys}
 use Rattle.level_bounds.specs.Orders.{IsOrderOfSet}
 use Rattle.level_bounds.specs.Scans.{equalities_in, query_level, query_scan}

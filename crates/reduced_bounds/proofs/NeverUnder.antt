@@ -9,7 +9,7 @@ use Rattle.tree_bounds.specs.SetBounds.{bound_of_set}
 use Rattle.set_bounds.proofs.Telling.{told_at}
 use Rattle.sql_meaning.specs.Answers.{conjuncts_of}
 use Rattle.sql_meaning.specs.Tables.{Tables}
-use Rattle.join_steps.specs.Lists.{level_over}
+use Rattle.sql_meaning.specs.Levels.{level_over}
 use Rattle.level_bounds.specs.Orders.{IsOrderOfSet}
 use Rattle.level_bounds.specs.Scans.{equalities_in}
 use Rattle.table_stats.proofs.ValueNumbers.{have_keys}

@@ -7,11 +7,10 @@ use Rattle.query_types.specs.declared.types.Query.{Query}
 use Rattle.query_types.specs.Named.{NamesItsEntries}
 use Rattle.sql_meaning.specs.Answers.{answer, conjuncts_of, entries_of, selected}
 use Rattle.sql_meaning.specs.Choices.{choices}
-use Rattle.sql_meaning.specs.Levels.{all_hold, level, row_in}
+use Rattle.sql_meaning.specs.Levels.{all_hold, level, level_over, row_in}
 use Rattle.sql_meaning.specs.Tables.{Tables, row_counts}
 use Rattle.sql_meaning.proofs.AskFacts.{asks_only}
-use Rattle.join_steps.specs.Lists.{level_over}
-use Rattle.join_steps.proofs.LevelsOver.{over_scans}
+use Rattle.sql_meaning.proofs.LevelsOver.{over_scans}
 use Rattle.level_bounds.specs.Orders.{IsOrderOfSet}
 use Rattle.level_bounds.specs.Scans.{query_scan}
 use Rattle.level_bounds.proofs.LastLevel.{last_level_is_answer}

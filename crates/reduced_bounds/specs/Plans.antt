@@ -8,7 +8,7 @@ use Rattle.plan_answers.specs.PlanAnswer.{plan_answer}
 use Rattle.query_types.specs.declared.types.Query.{Query}
 use Rattle.sql_meaning.specs.Answers.{conjuncts_of}
 use Rattle.sql_meaning.specs.Tables.{Tables, row_counts}
-use Rattle.join_steps.specs.Lists.{level_over}
+use Rattle.sql_meaning.specs.Levels.{level_over}
 use Rattle.reduced_scans.specs.Families.{IsFamily, list_at}
 use Rattle.reduced_scans.specs.Rounds.{reduced_of}
 use Rattle.reduced_scans.specs.Scans.{scans_of}

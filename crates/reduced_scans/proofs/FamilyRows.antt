@@ -5,10 +5,9 @@ use Rattle.std.proofs.lemmas.Bool.{cases_lt}
 use Rattle.query_types.specs.declared.types.Query.{Query}
 use Rattle.sql_meaning.specs.Answers.{conjuncts_of}
 use Rattle.sql_meaning.specs.Choices.{choices}
-use Rattle.sql_meaning.specs.Levels.{all_hold, row_in}
+use Rattle.sql_meaning.specs.Levels.{all_hold, all_pass, level_over, row_in}
 use Rattle.sql_meaning.specs.Tables.{Tables, row_counts}
-use Rattle.join_steps.specs.Lists.{all_pass, level_over}
-use Rattle.join_steps.proofs.LevelsOver.{over_restricted}
+use Rattle.sql_meaning.proofs.LevelsOver.{over_restricted}
 use Rattle.level_bounds.specs.Scans.{query_level}
 use Rattle.level_bounds.proofs.Lists.{from_filter, in_filter, in_range, map_alike}
 use Rattle.reduced_scans.specs.Families.{IsFamily, list_at}

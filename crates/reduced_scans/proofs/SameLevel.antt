@@ -4,10 +4,9 @@ use Rattle.std.specs.List.{Contains, filter}
 use Rattle.query_types.specs.declared.types.Query.{Query}
 use Rattle.query_types.specs.Named.{NamesItsEntries}
 use Rattle.sql_meaning.specs.Answers.{conjuncts_of, entries_of}
-use Rattle.sql_meaning.specs.Levels.{row_in}
+use Rattle.sql_meaning.specs.Levels.{all_pass, level_over, row_in}
 use Rattle.sql_meaning.specs.Tables.{Tables, row_counts}
 use Rattle.sql_meaning.proofs.AskFacts.{asks_only}
-use Rattle.join_steps.specs.Lists.{all_pass, level_over}
 use Rattle.level_bounds.specs.Orders.{IsOrderOfSet}
 use Rattle.level_bounds.specs.Scans.{query_level}
 use Rattle.level_bounds.proofs.Choosing.{entry_of}

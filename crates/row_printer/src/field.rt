@@ -1,8 +1,8 @@
 //! Fields, quoted where they need it.
-ghost use Rattle.std.specs.Prelude.{◌≡◌, ◌≤◌, ◌++◌, codes, OnOk, OnErr};
+ghost use Rattle.std.specs.Prelude.{◌≡◌, ◌++◌, codes};
 ghost use Rattle.std.specs.List.{list_any};
-ghost use Rattle.base_io.specs.Causes.{Rose};
-ghost use Rattle.base_io.specs.Sinks.{GrewByPrefix, TookBut};
+ghost use Rattle.base_io.specs.Devices.{growth};
+ghost use Rattle.base_io.specs.Writes.{Put};
 ghost use Rattle.row_printer.specs.Fields.{doubled, doubled_quote, field_text, is_special as special, lone_field_text};
 
 use base_io::{Buffer, Failed, Sink};
@@ -28,10 +28,7 @@ fn needs_quotes(field: &[u8]) -> bool
 }
 
 fn put_byte<N: Sink>(byte: u8, buffer: &mut Buffer, sink: &mut N) -> Result<(), Failed>
-    ensures ok { OnOk result (TookBut (N.taken sink.old) (N.taken sink.new) buffer.new (buffer.old ++ doubled_quote byte)) }
-    ensures prefix { GrewByPrefix (N.taken sink.old) (N.taken sink.new) (buffer.old ++ doubled_quote byte) }
-    ensures later { N.faults sink.old ≤ N.faults sink.new }
-    ensures failed { OnErr result (Rose (N.faults sink.old) (N.faults sink.new)) }
+    ensures { Put (growth N.taken N.faults sink.old sink.new) buffer.old buffer.new (doubled_quote byte) result }
 {
     if byte == b'"' {
         buffer.put(sink, TWO_QUOTES)
@@ -42,10 +39,7 @@ fn put_byte<N: Sink>(byte: u8, buffer: &mut Buffer, sink: &mut N) -> Result<(), 
 
 // The field with each double quote doubled.
 fn put_doubled<N: Sink>(field: &[u8], buffer: &mut Buffer, sink: &mut N) -> Result<(), Failed>
-    ensures ok { OnOk result (TookBut (N.taken sink.old) (N.taken sink.new) buffer.new (buffer.old ++ doubled field.now)) }
-    ensures prefix { GrewByPrefix (N.taken sink.old) (N.taken sink.new) (buffer.old ++ doubled field.now) }
-    ensures later { N.faults sink.old ≤ N.faults sink.new }
-    ensures failed { OnErr result (Rose (N.faults sink.old) (N.faults sink.new)) }
+    ensures { Put (growth N.taken N.faults sink.old sink.new) buffer.old buffer.new (doubled field.now) result }
 {
     'bytes: for byte in field {
         put_byte(*byte, buffer, sink)?;
@@ -54,25 +48,17 @@ fn put_doubled<N: Sink>(field: &[u8], buffer: &mut Buffer, sink: &mut N) -> Resu
 }
 
 fn put_quoted<N: Sink>(field: &[u8], buffer: &mut Buffer, sink: &mut N) -> Result<(), Failed>
-    ensures ok { OnOk result (TookBut (N.taken sink.old) (N.taken sink.new) buffer.new (buffer.old
-        ++ (codes "\"" ++ (doubled field.now ++ codes "\"")))) }
-    ensures prefix { GrewByPrefix (N.taken sink.old) (N.taken sink.new) (buffer.old ++ (codes "\"" ++ (doubled field.now ++ codes "\""))) }
-    ensures later { N.faults sink.old ≤ N.faults sink.new }
-    ensures failed { OnErr result (Rose (N.faults sink.old) (N.faults sink.new)) }
+    ensures { Put (growth N.taken N.faults sink.old sink.new) buffer.old buffer.new (codes "\"" ++ (doubled field.now ++ codes "\"")) result }
 {
     buffer.put(sink, QUOTE)?;
     put_doubled(field, buffer, sink)?;
-    buffer.put(sink, QUOTE)?;
-    Ok(())
+    buffer.put(sink, QUOTE)
 }
 
 /// Puts a field of a record with several: in double quotes where it holds a comma, CR, LF or a double quote,
 /// each double quote doubled. On `Failed` a prefix of what waits and of the field's text was taken.
 pub fn put_field<N: Sink>(field: &[u8], buffer: &mut Buffer, sink: &mut N) -> Result<(), Failed>
-    ensures ok { OnOk result (TookBut (N.taken sink.old) (N.taken sink.new) buffer.new (buffer.old ++ field_text field.now)) }
-    ensures prefix { GrewByPrefix (N.taken sink.old) (N.taken sink.new) (buffer.old ++ field_text field.now) }
-    ensures later { N.faults sink.old ≤ N.faults sink.new }
-    ensures failed { OnErr result (Rose (N.faults sink.old) (N.faults sink.new)) }
+    ensures { Put (growth N.taken N.faults sink.old sink.new) buffer.old buffer.new (field_text field.now) result }
 {
     if needs_quotes(field) {
         put_quoted(field, buffer, sink)
@@ -88,10 +74,7 @@ pub fn put_lone_field<N: Sink>(
     buffer: &mut Buffer,
     sink: &mut N,
 ) -> Result<(), Failed>
-    ensures ok { OnOk result (TookBut (N.taken sink.old) (N.taken sink.new) buffer.new (buffer.old ++ lone_field_text field.now)) }
-    ensures prefix { GrewByPrefix (N.taken sink.old) (N.taken sink.new) (buffer.old ++ lone_field_text field.now) }
-    ensures later { N.faults sink.old ≤ N.faults sink.new }
-    ensures failed { OnErr result (Rose (N.faults sink.old) (N.faults sink.new)) }
+    ensures { Put (growth N.taken N.faults sink.old sink.new) buffer.old buffer.new (lone_field_text field.now) result }
 {
     match field {
         [] => buffer.put(sink, TWO_QUOTES),
@@ -101,20 +84,14 @@ pub fn put_lone_field<N: Sink>(
 
 /// Puts what stands between two fields.
 pub fn put_comma<N: Sink>(buffer: &mut Buffer, sink: &mut N) -> Result<(), Failed>
-    ensures ok { OnOk result (TookBut (N.taken sink.old) (N.taken sink.new) buffer.new (buffer.old ++ codes ",")) }
-    ensures prefix { GrewByPrefix (N.taken sink.old) (N.taken sink.new) (buffer.old ++ codes ",") }
-    ensures later { N.faults sink.old ≤ N.faults sink.new }
-    ensures failed { OnErr result (Rose (N.faults sink.old) (N.faults sink.new)) }
+    ensures { Put (growth N.taken N.faults sink.old sink.new) buffer.old buffer.new (codes ",") result }
 {
     buffer.put(sink, COMMA)
 }
 
 /// Puts the end of a record.
 pub fn put_record_end<N: Sink>(buffer: &mut Buffer, sink: &mut N) -> Result<(), Failed>
-    ensures ok { OnOk result (TookBut (N.taken sink.old) (N.taken sink.new) buffer.new (buffer.old ++ codes "\r\n")) }
-    ensures prefix { GrewByPrefix (N.taken sink.old) (N.taken sink.new) (buffer.old ++ codes "\r\n") }
-    ensures later { N.faults sink.old ≤ N.faults sink.new }
-    ensures failed { OnErr result (Rose (N.faults sink.old) (N.faults sink.new)) }
+    ensures { Put (growth N.taken N.faults sink.old sink.new) buffer.old buffer.new (codes "\r\n") result }
 {
     buffer.put(sink, RECORD_END)
 }

@@ -8,9 +8,8 @@ use Rattle.plans.specs.declared.left_deep.Plan.{Plan}
 use Rattle.query_types.specs.Named.{NamesItsEntries}
 use Rattle.query_types.specs.declared.types.Query.{Query}
 use Rattle.sql_meaning.specs.Answers.{conjuncts_of, entries_of}
-use Rattle.sql_meaning.specs.Levels.{level, level_of}
+use Rattle.sql_meaning.specs.Levels.{level, level_of, level_over}
 use Rattle.sql_meaning.specs.Tables.{Tables, row_counts, tables_of}
-use Rattle.join_steps.specs.Lists.{level_over}
 use Rattle.hash_join.specs.Levels.{query_level}
 use Rattle.level_bounds.specs.Orders.{IsOrderOfSet}
 use Rattle.level_bounds.proofs.SetNumbers.{order_of_all}

@@ -3,7 +3,7 @@ use Rattle.std.proofs.Common.{◌≡◌, ℕ, inl, inr, List, Option, None, Some
 use Rattle.std.specs.Prelude.{IsOk, codes}
 use Rattle.base_io.specs.Files.{Files}
 use Rattle.schema_types.specs.declared.types.Schema.{Schema}
-use Rattle.outcomes.specs.Devices.{Growth, Reading}
+use Rattle.base_io.specs.Devices.{Growth, Reading}
 use Rattle.outcomes.specs.Reads.{AtFile, Ends, Reads}
 use Rattle.outcomes.specs.Statuses.{ended}
 use Rattle.outcomes.specs.declared.ending.Ending.{Ending}

@@ -3,7 +3,7 @@ use Rattle.std.proofs.Common.{◌≡◌, ℕ, List, Option, None, Some, Result, 
 use Rattle.base_io.specs.Causes.{Rose}
 use Rattle.base_io.specs.Files.{Files}
 use Rattle.demo_files.specs.Files.{demo_files}
-use Rattle.outcomes.specs.Devices.{Growth, Reading}
+use Rattle.base_io.specs.Devices.{Growth, Reading}
 use Rattle.outcomes.specs.Reads.{Ends, Gives, Reads}
 use Rattle.outcomes.specs.declared.ending.Ending.{Ending}
 use Rattle.outcomes.specs.declared.ending.Ending.TheVariants as ending

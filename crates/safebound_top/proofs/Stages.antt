@@ -7,7 +7,7 @@ use Rattle.query_types.specs.declared.types.Query.{Query}
 use Rattle.schema_types.specs.declared.types.Schema.{Schema}
 use Rattle.text_answers.specs.QueryTexts.{query_answer}
 use Rattle.text_answers.specs.SchemaTexts.{schema_answer}
-use Rattle.outcomes.specs.Devices.{Reading}
+use Rattle.base_io.specs.Devices.{Reading}
 use Rattle.outcomes.specs.Errors.{query_refusal, schema_refusal}
 use Rattle.outcomes.specs.Reads.{◌>>=◌, AtFile, Reads, Tells, seen, told}
 use Rattle.outcomes.specs.declared.ending.Ending.{Ending}

@@ -1,13 +1,11 @@
 -- The texts, one after the other, and what is told of a failed write.
 use Rattle.std.proofs.Common.{◌≡◌, ℕ, ◌<◌, ◌≤◌, inl, inr, List, Option, None, Some, Result, Ok, Err, refl, ap, sym, ◌∙◌, subst, arith}
-use Rattle.std.specs.Prelude.{nat_lt}
-use Rattle.std.proofs.lemmas.Bool.{cases_Bool}
-use Rattle.std.proofs.lemmas.Bool.Decides.{nat_tests}
-use Rattle.base_io.specs.Causes.{Rose}
+use Rattle.base_io.specs.Devices.{Growth}
 use Rattle.base_io.specs.Sinks.{GrewByPrefix, appended}
+use Rattle.base_io.specs.Writes.{Wrote}
 use Rattle.base_io.specs.declared.errors.Failed.{Failed}
-use Rattle.outcomes.specs.Devices.{Growth}
-use Rattle.outcomes.specs.Writes.{Wrote}
+use Rattle.base_io.proofs.CountFacts.{later_then_rose, rose_then_later}
+use Rattle.base_io.proofs.WriteFacts.{between}
 use Rattle.outcomes.specs.declared.names.SinkId.{SinkId}
 use Rattle.outcomes.specs.declared.names.SinkId.TheVariants as sink
 use Rattle.outcomes.specs.declared.status.Status.{Status}
@@ -17,25 +15,10 @@ use Rattle.safebound_top.specs.Course.{CutInNotes, CutInOut, Ended, Told, Writte
 use Rattle.safebound_top.specs.Headline.{GrewWhole, WasCut}
 use Rattle.safebound_top.specs.Texts.{out_text_of, plan_text}
 
-abbrev between : Option (List ℕ) → Option (List ℕ) → ℕ → ℕ → Growth
-between t0 t1 f0 f1 = record { taken_before = t0; taken_after = t1; faults_before = f0; faults_after = f1 }
-
 -- a line that was written, whole or cut, was told
 pub told_of : (g : Growth) (line : List ℕ) (r : Result (Unit {0}) Failed) → Wrote g line r → Told g line
 told_of g line (Ok u) h = record { tells = record { prefix = h.prefix; whole = λ calm. h.ok }; later = h.later }
 told_of g line (Err e) h = record { tells = record { prefix = h.prefix; whole = λ calm. absurd (calm h.failed) }; later = h.later }
-
--- a count that rose has risen later on too
-rose_on : (f0 f1 f2 : ℕ) → f0 ≤ f1 → f1 ≤ f2 → Rose f0 f1 → Rose f0 f2
-rose_on f0 f1 f2 first next (inl lt) = inl (omega arith)
-rose_on f0 f1 f2 first next (inr last) = elim (cases_Bool (nat_lt f1 f2)) [
-  | inl more ↦ inl (let lt : f1 < f2 = grind (arith, nat_tests) in omega arith)
-  | inr same ↦ inr (let le : f2 ≤ f1 = grind (arith, nat_tests) in omega arith)
-]
-
-rose_earlier : (f0 f1 f2 : ℕ) → f0 ≤ f1 → Rose f1 f2 → Rose f0 f2
-rose_earlier f0 f1 f2 le (inl lt) = inl (omega arith)
-rose_earlier f0 f1 f2 le (inr last) = inr last
 
 -- ---- the plan text, and then the other text, if any
 
@@ -74,9 +57,9 @@ out_cut t0 t1 o0 o1 f0 f1 g0 g1 run text (Some other) u e is out h k = record {
 pub ended_cut : (which : SinkId) (s : Status) (t0 t1 t2 o0 o1 : Option (List ℕ)) (f0 f1 f2 g0 g1 : ℕ) (run : Accepted) (line : List ℕ) → s ≡ status.WriteFault which
     → Written (between o0 o1 g0 g1) (between t0 t1 f0 f1) run (Err which) → Told (between t1 t2 f1 f2) line → Ended s (between o0 o1 g0 g1) (between t0 t2 f0 f2) run line
 ended_cut sink.Notes s t0 t1 t2 o0 o1 f0 f1 f2 g0 g1 run line is h told =
-    CutInNotes is (rose_on f0 f1 f2 h.later_notes told.later h.texts.0) h.texts.1 (record { mid = t1; cut = h.texts.2; told = told.tells.prefix })
+    CutInNotes is (rose_then_later f0 f1 f2 h.later_notes h.texts.0 told.later) h.texts.1 (record { mid = t1; cut = h.texts.2; told = told.tells.prefix })
 ended_cut sink.Out s t0 t1 t2 o0 o1 f0 f1 f2 g0 g1 run line is h told =
     CutInOut is h.texts.0 h.texts.2 (record {
       prefix = subst (λ (t : Option (List ℕ)). GrewByPrefix t t2 line) h.texts.1 told.tells.prefix;
-      whole = λ calm. told.tells.whole (λ rose. calm (rose_earlier f0 f1 f2 h.later_notes rose)) ∙ ap (λ (t : Option (List ℕ)). appended t line) h.texts.1;
+      whole = λ calm. told.tells.whole (λ rose. calm (later_then_rose f0 f1 f2 h.later_notes rose)) ∙ ap (λ (t : Option (List ℕ)). appended t line) h.texts.1;
     })

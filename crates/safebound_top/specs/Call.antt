@@ -2,7 +2,7 @@
 use Rattle.std.specs.Prelude.{ℕ, ◌≡◌, List, Option}
 use Rattle.base_io.specs.Causes.{Rose}
 use Rattle.base_io.specs.Sinks.{appended, GrewByPrefix}
-use Rattle.outcomes.specs.Devices.{Growth, Reading}
+use Rattle.base_io.specs.Devices.{Growth, Reading}
 use Rattle.outcomes.specs.declared.status.Status.{Status}
 
 -- a sink took a prefix of a text, and all of it where its count of faults didn't rise

@@ -3,10 +3,10 @@ use Rattle.std.specs.Prelude.{ℕ, ◌≡◌, ◌≤◌, List, codes, Option, No
 use Rattle.base_io.specs.Files.{Files}
 use Rattle.base_io.specs.Sinks.{appended, GrewByPrefix}
 use Rattle.base_io.specs.declared.errors.Failed.{Failed}
-use Rattle.outcomes.specs.Devices.{Growth, Reading}
+use Rattle.base_io.specs.Devices.{Growth, Reading}
 use Rattle.outcomes.specs.Reads.{Reads}
 use Rattle.outcomes.specs.Statuses.{ended}
-use Rattle.outcomes.specs.Writes.{Wrote}
+use Rattle.base_io.specs.Writes.{Wrote}
 use Rattle.outcomes.specs.declared.ending.Ending.{Ending}
 use Rattle.outcomes.specs.declared.names.FileId.{FileId}
 use Rattle.outcomes.specs.declared.names.SinkId.{SinkId}

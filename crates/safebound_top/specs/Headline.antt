@@ -6,7 +6,7 @@ use Rattle.std.specs.Prelude.{ℕ, ◌≡◌, ◌↔◌, ◌⊎◌, List, codes,
 use Rattle.base_io.specs.Causes.{Rose}
 use Rattle.base_io.specs.Files.{Files}
 use Rattle.base_io.specs.Sinks.{appended, GrewByPrefix}
-use Rattle.outcomes.specs.Devices.{Growth}
+use Rattle.base_io.specs.Devices.{Growth}
 use Rattle.outcomes.specs.Reads.{IsOfWhatIsThere, MissesNothing}
 use Rattle.outcomes.specs.Statuses.{refused}
 use Rattle.outcomes.specs.declared.names.FileId.{FileId}

@@ -1,7 +1,7 @@
 -- The shop whose files a command makes in memory, and the store that a command reads.
 use Rattle.std.specs.Prelude.{ℕ, List, Option, None, Some}
 use Rattle.demo_files.specs.Files.{demo_files}
-use Rattle.outcomes.specs.Devices.{Reading}
+use Rattle.base_io.specs.Devices.{Reading}
 use Rattle.safebound_words.specs.Answer.{command_of}
 use Rattle.safebound_words.specs.Requests.{Request, Run, Plan, Audit, Demo}
 

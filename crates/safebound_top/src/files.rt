@@ -1,7 +1,7 @@
 //! The two texts, from their files.
 ghost use Rattle.std.specs.Prelude.{◌≤◌, IfOk, length};
 ghost use Rattle.limits.specs.Profile.{most_conjuncts};
-ghost use Rattle.outcomes.specs.Devices.{reading};
+ghost use Rattle.base_io.specs.Devices.{reading};
 ghost use Rattle.outcomes.specs.Reads.{AtFile, Reads};
 ghost use Rattle.schema_types.specs.Validity.{IsValid};
 ghost use Rattle.query_types.specs.Validity.{IsOf};

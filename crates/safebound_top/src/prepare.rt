@@ -2,7 +2,7 @@
 ghost use Rattle.std.specs.Prelude.{ℕ, ◌≡◌, ◌⊎◌, ◌<◌, ◌≤◌, IfErr, IfOk, Ok, length};
 ghost use Rattle.limits.specs.Profile.{most_accuracy, most_budget, most_conjuncts};
 ghost use Rattle.level_bounds.specs.Keys.{HaveDifferentCharacters};
-ghost use Rattle.outcomes.specs.Devices.{reading};
+ghost use Rattle.base_io.specs.Devices.{reading};
 ghost use Rattle.outcomes.specs.Reads.{Reads, Tells, seen};
 ghost use Rattle.planned_joins.specs.PlansOf.{HaveFewRows};
 ghost use Rattle.query_types.specs.Validity.{IsOf};

@@ -1,7 +1,7 @@
 //! The line that tells how a call ended.
 ghost use Rattle.std.specs.Prelude.{◌≡◌, ◌≢◌, option_copied};
-ghost use Rattle.outcomes.specs.Devices.{growth};
-ghost use Rattle.outcomes.specs.Writes.{Wrote};
+ghost use Rattle.base_io.specs.Devices.{growth};
+ghost use Rattle.base_io.specs.Writes.{Wrote};
 ghost use Rattle.safebound_top.specs.Asks.{ask_of};
 ghost use Rattle.safebound_top.specs.Course.{Told};
 ghost use Rattle.printed_texts.specs.Words.{named};

@@ -1,8 +1,8 @@
 //! The texts that a run leaves in its two streams. Nothing here takes memory.
 ghost use Rattle.std.specs.Prelude.{◌≤◌, length};
 ghost use Rattle.limits.specs.Profile.{most_conjuncts};
-ghost use Rattle.outcomes.specs.Devices.{growth};
-ghost use Rattle.outcomes.specs.Writes.{Wrote};
+ghost use Rattle.base_io.specs.Devices.{growth};
+ghost use Rattle.base_io.specs.Writes.{Wrote};
 ghost use Rattle.printed_texts.specs.Plans.{audit_lines};
 ghost use Rattle.printed_texts.specs.Texts.{rows_lines};
 ghost use Rattle.sql_meaning.specs.Databases.{IsDatabaseOf};

@@ -1,7 +1,7 @@
 //! The top call, stage by stage.
 ghost use Rattle.std.specs.Prelude.{◌≡◌, ◌⊎◌, ◌<◌, ◌≤◌, IfSome, List, ℕ, Ok, Some, map, option_copied};
 ghost use Rattle.limits.specs.Profile.{most_accuracy, most_budget};
-ghost use Rattle.outcomes.specs.Devices.{growth, reading};
+ghost use Rattle.base_io.specs.Devices.{growth, reading};
 ghost use Rattle.outcomes.specs.Statuses.{ended};
 ghost use Rattle.schema_types.specs.Validity.{IsValid};
 ghost use Rattle.safebound_top.specs.Asks.{ask_of, asked, command_stage};

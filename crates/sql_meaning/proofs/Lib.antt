@@ -3,6 +3,7 @@ pub mod AskFacts
 pub mod ConditionFacts
 pub mod ColumnFacts
 pub mod LevelFacts
+pub mod LevelsOver
 pub mod LoopFacts
 pub mod NamedFacts
 pub mod NestedLoops

@@ -4,8 +4,8 @@
 //!
 //! In come a query (`query_types`) and a database (`csv_tables`) that is of it (`IsDatabaseOf`). `holds` says whether a
 //! condition holds in given rows, without memory; `answer_slow` lists the choices of the answer, for tests. Callers
-//! cite `tables_of`, `cond_holds`, `entries_named`, `choices_of`, `chosen`, `answer`, `conjuncts_of`, `level`, `scan`
-//! and the laws of `laws`.
+//! cite `tables_of`, `cond_holds`, `entries_named`, `choices_of`, `chosen`, `answer`, `conjuncts_of`, `level_over` for
+//! levels over given lists of rows, `level` and `scan` over whole tables, and the laws of `laws`.
 #![tactic(auto)]
 
 mod answer;

@@ -4,4 +4,3 @@ pub mod RuleFacts
 pub mod RunFacts
 pub mod TextFacts
 pub mod WordFacts
-pub mod WriteFacts

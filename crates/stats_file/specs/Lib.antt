@@ -7,4 +7,3 @@ pub mod Lines
 pub mod Parts
 pub mod Rules
 pub mod Runs
-pub mod Writing

@@ -4,7 +4,8 @@ ghost use Rattle.std.specs.Fmt.{signed_decimal};
 ghost use Rattle.std.specs.List.{flat_map};
 ghost use Rattle.stats_file.specs.Lines.{datum_text, hex_byte, hex_digit as digit_of, hex_text, run_text, runs_text};
 ghost use Rattle.stats_file.specs.Parts.{part_text};
-ghost use Rattle.stats_file.specs.Writing.{growth, Put};
+ghost use Rattle.base_io.specs.Devices.{growth};
+ghost use Rattle.base_io.specs.Writes.{Put};
 
 use crate::Datum;
 use base_io::{Buffer, Failed, Sink};

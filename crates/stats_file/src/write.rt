@@ -6,7 +6,8 @@ ghost use Rattle.stats_file.specs.Lines.{cut_line, first_line, frequent_line, li
 ghost use Rattle.stats_file.specs.Parts.{HasColumns};
 ghost use Rattle.stats_file.specs.Rules.{IsSection, KeepsRules};
 ghost use Rattle.stats_file.specs.Runs.{runs_of};
-ghost use Rattle.stats_file.specs.Writing.{growth, Put, Wrote};
+ghost use Rattle.base_io.specs.Devices.{growth};
+ghost use Rattle.base_io.specs.Writes.{Put, Wrote};
 
 use crate::parts::{Part, put_line};
 use crate::{Datum, Pair, StatsFile, TableStats};

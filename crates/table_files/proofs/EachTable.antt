@@ -12,7 +12,7 @@ use Rattle.csv_tables.specs.Pools.{BeginsWith}
 use Rattle.csv_tables.specs.Rows.{Row}
 use Rattle.csv_tables.specs.declared.types.Cells.{Cells}
 use Rattle.csv_tables.proofs.TableFacts.{columns-grown, rows_of_columns-grown}
-use Rattle.outcomes.specs.Devices.{Reading}
+use Rattle.base_io.specs.Devices.{Reading}
 use Rattle.outcomes.specs.Reads.{◌>>=◌, AtFile, MissesNothing, Reads}
 use Rattle.outcomes.specs.declared.ending.Ending.{Ending}
 use Rattle.outcomes.specs.declared.ending.Ending.TheVariants as ending

@@ -6,7 +6,7 @@ use Rattle.base_io.specs.Causes.{Rose}
 use Rattle.base_io.specs.Files.{Files, IsAbsent, ReadsFile, file_of, told, told_file}
 use Rattle.base_io.specs.declared.errors.ReadError.TheVariants as error
 use Rattle.schema_types.specs.declared.errors.LimitKind.TheVariants as limit
-use Rattle.outcomes.specs.Devices.{Reading}
+use Rattle.base_io.specs.Devices.{Reading}
 use Rattle.outcomes.specs.Reads.{AtFile, Reads}
 use Rattle.outcomes.specs.declared.ending.Ending.TheVariants as ending
 use Rattle.outcomes.specs.declared.names.FileId.{FileId}

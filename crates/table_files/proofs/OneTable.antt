@@ -7,7 +7,7 @@ use Rattle.csv_tables.specs.Rows.{Row}
 use Rattle.csv_tables.specs.declared.types.TableError.{TableError}
 use Rattle.csv_tables.specs.declared.types.TableError.TheVariants as table
 use Rattle.schema_types.specs.declared.types.Table.{Table}
-use Rattle.outcomes.specs.Devices.{Reading}
+use Rattle.base_io.specs.Devices.{Reading}
 use Rattle.outcomes.specs.Errors.{table_ending, table_refusal}
 use Rattle.outcomes.specs.Reads.{AtFile, Reads, Tells, told}
 use Rattle.outcomes.specs.declared.ending.Ending.{Ending}

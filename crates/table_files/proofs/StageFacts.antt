@@ -9,7 +9,7 @@ use Rattle.query_types.specs.Validity.{IsOf}
 use Rattle.query_types.specs.declared.types.Query.{Query}
 use Rattle.query_types.specs.declared.types.Source.{Source}
 use Rattle.sql_meaning.specs.Databases.{IsDatabaseOf}
-use Rattle.outcomes.specs.Devices.{Reading}
+use Rattle.base_io.specs.Devices.{Reading}
 use Rattle.outcomes.specs.Reads.{Reads}
 use Rattle.outcomes.specs.declared.ending.Ending.{Ending}
 use Rattle.outcomes.specs.declared.names.FileId.{FileId}

@@ -1,7 +1,7 @@
 //! Tables, one after the other.
 ghost use Rattle.std.specs.Prelude.{◌≡◌, ◌≤◌, ◌<◌, [], All, length, IfOk};
 ghost use Rattle.limits.specs.Profile.{most_rows};
-ghost use Rattle.outcomes.specs.Devices.{reading};
+ghost use Rattle.base_io.specs.Devices.{reading};
 ghost use Rattle.outcomes.specs.Reads.{Reads, seen};
 ghost use Rattle.schema_types.specs.Validity.{IsValid};
 ghost use Rattle.table_files.specs.EntryTables.{AreCellsOfEach, rows_of_tables};

@@ -2,7 +2,7 @@
 ghost use Rattle.std.specs.Prelude.{◌≡◌, ◌<◌, ◌≤◌, ℕ, All, IfOk, IsUtf8, length};
 ghost use Rattle.limits.specs.Profile.{most_rows};
 ghost use Rattle.csv_tables.specs.Pools.{AreDifferent};
-ghost use Rattle.outcomes.specs.Devices.{reading};
+ghost use Rattle.base_io.specs.Devices.{reading};
 ghost use Rattle.outcomes.specs.Reads.{Reads, seen};
 ghost use Rattle.query_types.specs.Validity.{IsOf};
 ghost use Rattle.schema_types.specs.Validity.{IsValid};

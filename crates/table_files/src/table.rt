@@ -3,7 +3,7 @@ ghost use Rattle.std.specs.Prelude.{◌≡◌, ◌≤◌, ◌+◌, length, IfOk,
 ghost use Rattle.limits.specs.Profile.{most_rows};
 ghost use Rattle.csv_tables.specs.Cells.{AreCellsOf, rows_of_cells};
 ghost use Rattle.csv_tables.specs.Pools.{BeginsWith};
-ghost use Rattle.outcomes.specs.Devices.{reading};
+ghost use Rattle.base_io.specs.Devices.{reading};
 ghost use Rattle.outcomes.specs.Reads.{AtFile, Reads, seen};
 ghost use Rattle.schema_types.specs.Validity.{IsValidTable};
 ghost use Rattle.table_files.specs.TableFile.{file_name, file_rows};

@@ -2,7 +2,7 @@
 -- in the plan's order.
 use Rattle.std.specs.Prelude.{◌≡◌, ℕ, ◌+◌, ◌-◌, ◌*◌, ◌<◌, ◌≤◌, ◌==◌, List, [], ◌∷◌, length, ⊤}
 use Rattle.std.specs.List.{AllByRecursion, count_by}
-use Rattle.limits.specs.Profile.{most_entries, most_rows}
+use Rattle.limits.specs.Profile.{most_entries}
 use Rattle.tree_plans.specs.declared.bushy.BushyPlan.{BushyPlan}
 use Rattle.tree_plans.specs.declared.bushy.Join.{Join}
 
@@ -16,12 +16,15 @@ abbrev pub AreBehindTheirs : ℕ → List Join → Type 0
 AreBehindTheirs own [] = ⊤
 AreBehindTheirs own (join ∷ joins) = (join.left < own) × (join.right < own) × AreBehindTheirs (own + 1) joins
 
--- a plan for n entries: a bound for the scan of each, and joins that make one tree of them. No bound is above the rows of a table
+-- a plan for n entries: a bound for the scan of each, and joins that make one tree of them
 pub record IsTreePlan (n : ℕ) (plan : BushyPlan) : Type 0 where
   pub few : n ≤ most_entries
   pub scans : length plan.scans ≡ n
   pub joins : length plan.joins + 1 ≡ n
   pub behind : AreBehindTheirs n plan.joins
   pub once : (node : ℕ) → node < 2 * n - 2 → count_by (λ other. other == node) (joined_nodes plan.joins) ≡ 1
-  pub small_scans : AllByRecursion (λ rows. rows ≤ most_rows) plan.scans
-  pub small_joins : AllByRecursion (λ join. join.bound ≤ most_rows) plan.joins
+
+-- no bound of the plan is above so many rows
+pub record IsWithin (most : ℕ) (plan : BushyPlan) : Type 0 where
+  pub scans : AllByRecursion (λ rows. rows ≤ most) plan.scans
+  pub joins : AllByRecursion (λ join. join.bound ≤ most) plan.joins

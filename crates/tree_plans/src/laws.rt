@@ -1,6 +1,6 @@
 ghost use Rattle.std.specs.Prelude.{[], ◌∷◌};
 ghost use Rattle.tree_plans.specs.Examples.{join, plan_of};
-ghost use Rattle.tree_plans.specs.TreePlans.{IsTreePlan};
+ghost use Rattle.tree_plans.specs.TreePlans.{IsTreePlan, IsWithin};
 
 /// What the definitions say of one entry and of three. It does nothing.
 pub fn examples()
@@ -9,5 +9,6 @@ pub fn examples()
     ensures itself { ¬ IsTreePlan 3 (plan_of (join 1 2 5 ∷ join 0 4 9 ∷ []) (3 ∷ 3 ∷ 3 ∷ []) 9) }
     ensures twice { ¬ IsTreePlan 3 (plan_of (join 1 2 5 ∷ join 2 3 9 ∷ []) (3 ∷ 3 ∷ 3 ∷ []) 9) }
     ensures missing { ¬ IsTreePlan 3 (plan_of (join 1 2 5 ∷ []) (3 ∷ 3 ∷ 3 ∷ []) 5) }
-    ensures large { ¬ IsTreePlan 2 (plan_of (join 0 1 4000001 ∷ []) (3 ∷ 3 ∷ []) 4000001) }
+    ensures within { IsWithin 9 (plan_of (join 1 2 5 ∷ join 0 3 9 ∷ []) (3 ∷ 3 ∷ 3 ∷ []) 9) }
+    ensures large { ¬ IsWithin 8 (plan_of (join 1 2 5 ∷ join 0 3 9 ∷ []) (3 ∷ 3 ∷ 3 ∷ []) 9) }
 {}

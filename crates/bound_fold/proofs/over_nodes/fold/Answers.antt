@@ -34,12 +34,13 @@ unwrap-rows-requires c =
 own_rows : (c : goal.After-as_slice-in-Entry-2) → (bounds_of c.args.lists.now).rows c.in-Entry.entry ≡ c.unwrap-rows.result
 own_rows c = ap (λ (o : Option ℕ). unwrap_or o 0) (sym c.rows.ensures ∙ c.unwrap-rows.ensures)
 
-pub root_total-requires-clause-columns : goal.root_total-requires-clause-columns
-root_total-requires-clause-columns c =
-    columns_total c.args.lists.now c.as_slice-nodes.result.now c.in-Entry.entry 0 c.unwrap-rows.result c.as_slice-in-Entry-2.result.now
-    ((tree_listed c.args.lists.now c.as_slice-nodes.result.now c.args.tree.now.nodes c.as_slice-nodes.ensures c.requires.valid c.requires.listed).below 0 c.in-Entry.entry _
-    (omega (arith, ap length c.as_slice-nodes.ensures, c.requires.valid.some)) c.in-Entry.is)
-    (ap (map lists_of) c.as_slice-in-Entry-2.ensures.value ∙ c.in_ok-children-in-Entry.ensures) (own_rows c)
+pub root_total-requires : goal.root_total-requires
+root_total-requires c = record {
+  columns = columns_total c.args.lists.now c.as_slice-nodes.result.now c.in-Entry.entry 0 c.unwrap-rows.result c.as_slice-in-Entry-2.result.now
+      ((tree_listed c.args.lists.now c.as_slice-nodes.result.now c.args.tree.now.nodes c.as_slice-nodes.ensures c.requires.valid c.requires.listed).below 0 c.in-Entry.entry _
+      (omega (arith, ap length c.as_slice-nodes.ensures, c.requires.valid.some)) c.in-Entry.is)
+      (ap (map lists_of) c.as_slice-in-Entry-2.ensures.value ∙ c.in_ok-children-in-Entry.ensures) (own_rows c);
+}
 
 pub returns-clause-of_nodes : goal.returns-clause-of_nodes
 returns-clause-of_nodes c =

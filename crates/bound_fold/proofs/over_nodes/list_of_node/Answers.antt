@@ -1,4 +1,4 @@
-use Rattle.std.proofs.Common.{◌≡◌, ◌∙◌, ◌+◌, ◌^◌, ◌≤◌, List, ℕ, [], ap, map, subst, sum, sym}
+use Rattle.std.proofs.Common.{◌≡◌, ◌∙◌, ◌+◌, ◌^◌, ◌<◌, List, ℕ, [], ap, map, subst, sum, sym}
 use Rattle.std.specs.Prelude.{not}
 use Rattle.degree_sequences.specs.ByRank.{rank_product_of}
 use Rattle.degree_sequences.specs.Composition.{composed}
@@ -25,8 +25,8 @@ own_list-requires c =
     let total : sum c.unwrap-list.result.now ≡ (bounds_of c.args.lists.now).rows c.in-Entry.entry =
     ap sum (found_list c.list.result c.unwrap-list.result _ c.list.ensures c.unwrap-list.ensures)
     ∙ listed_total c.args.lists.now c.in-Entry.entry _ (c.requires.listed.above c.args.i c.in-Entry.entry _ c.requires.below_root c.requires.within c.in-Entry.is) in
-    let small : (bounds_of c.args.lists.now).rows c.in-Entry.entry ≤ 2 ^ 32 = rows_small c.args.lists.now c.in-Entry.entry in
-    subst (λ n. n ≤ 2 ^ 32) (sym total) small
+    let small : (bounds_of c.args.lists.now).rows c.in-Entry.entry < 2 ^ 64 = rows_small c.args.lists.now c.in-Entry.entry in
+    subst (λ n. n < 2 ^ 64) (sym total) small
 
 pub returns-then-is_none : goal.returns-then-is_none
 returns-then-is_none c =
@@ -44,8 +44,8 @@ compose-requires-clause-columns c =
 
 pub compose-requires-clause-small : goal.compose-requires-clause-small
 compose-requires-clause-small c =
-    let small : (bounds_of c.args.lists.now).rows c.in-Entry.entry ≤ 2 ^ 32 = rows_small c.args.lists.now c.in-Entry.entry in
-    subst (λ n. n ≤ 2 ^ 32) (sym (own_total c)) small
+    let small : (bounds_of c.args.lists.now).rows c.in-Entry.entry < 2 ^ 64 = rows_small c.args.lists.now c.in-Entry.entry in
+    subst (λ n. n < 2 ^ 64) (sym (own_total c)) small
 
 pub returns-in_ok-children-in-Entry : goal.returns-in_ok-children-in-Entry
 returns-in_ok-children-in-Entry c =

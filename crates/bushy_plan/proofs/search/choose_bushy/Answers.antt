@@ -1,5 +1,5 @@
 use Rattle.std.proofs.Common.{rules, arith}
-use Rattle.bushy_plan.proofs.Whole.{best_not_dearer, plan_from}
+use Rattle.bushy_plan.proofs.Whole.{best_not_dearer, joins_within, plan_from}
 use Rattle.bushy_plan.proofs.search.choose_bushy.Goals as goal
 
 pub returns-clause-best : goal.returns-clause-best
@@ -13,7 +13,10 @@ returns-clause-within c = omega arith
 
 pub returns-clause-plan : goal.returns-clause-plan
 returns-clause-plan c =
-    plan_from c.args.bounds.now c.args.scans.now _ c.requires.few c.requires.scans (returns-clause-scans c) (omega (arith, returns-clause-within c)) (returns-clause-best c)
+    plan_from c.args.bounds.now c.args.scans.now _ c.requires.few (returns-clause-scans c) (returns-clause-best c)
+
+pub returns-clause-joins : goal.returns-clause-joins
+returns-clause-joins c = joins_within c.args.bounds.now _ _ c.args.budget _ (returns-clause-best c) (returns-clause-within c)
 
 pub returns-clause-no_dearer : goal.returns-clause-no_dearer
 returns-clause-no_dearer c order is_order =

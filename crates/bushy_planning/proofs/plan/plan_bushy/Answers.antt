@@ -2,7 +2,7 @@ use Rattle.std.proofs.Common.{ℕ, ◌≡◌, ◌^◌, List, length, ap, sym, �
 use Rattle.sql_meaning.specs.Tables.{tables_of}
 use Rattle.gathered_stats.specs.Statistics.{statistics_of}
 use Rattle.planning.specs.Bounds.{scan_bounds_of, set_bounds_of}
-use Rattle.bushy_planning.proofs.Stages.{as_many, has_cause, is_best, is_plan_of, is_whole, kept, small_scans}
+use Rattle.bushy_planning.proofs.Stages.{as_many, has_cause, is_best, is_plan_of, is_whole, is_within, kept, small_scans}
 use Rattle.bushy_planning.proofs.plan.plan_bushy.Goals as goal
 
 pub choose_bushy-requires : goal.choose_bushy-requires
@@ -21,7 +21,6 @@ choose_bushy-requires c =
       some = omega (arith, count, c.requires.database.some);
       few = omega (arith, count, c.requires.database.few);
       bounds = c.in_ok-bounds.ensures.count ∙ ap (λ (n : ℕ). 2 ^ n) (sym count);
-      scans = small_scans query db c.args.accuracy bounds scans same like 4000000 c.requires.few_rows;
       budget = omega arith;
     }
 
@@ -38,10 +37,11 @@ returns c =
     let like : scans ≡ scan_bounds_of query (tables_of db) c.args.accuracy =
     c.in_ok-scans.ensures.exact known c.in_ok-stats.ensures.tells in
     let its_scans = kept query db c.args.accuracy bounds scans same like answer c.choose_bushy.ensures.scans in
+    let within = is_within answer scans c.args.budget (small_scans query db c.args.accuracy bounds scans same like 4000000 c.requires.few_rows) c.requires.budget c.choose_bushy.ensures.scans c.choose_bushy.ensures.joins in
     let whole = is_whole query db c.args.accuracy bounds scans same like answer c.choose_bushy.ensures.plan in
     let best = is_best query db c.args.accuracy bounds scans same like answer c.choose_bushy.ensures.best in
     record {
-      never_under = is_plan_of query db c.args.accuracy answer its_scans whole best;
+      never_under = is_plan_of query db c.args.accuracy answer its_scans whole within best;
       best = best;
       scans = its_scans;
       within = c.choose_bushy.ensures.within;

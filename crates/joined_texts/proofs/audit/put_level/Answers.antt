@@ -1,5 +1,5 @@
 use Rattle.std.proofs.lemmas.Result.{err_from_is_err_and}
-use Rattle.outcomes.proofs.WriteFacts.{put_cut, put_err, put_then}
+use Rattle.base_io.proofs.WriteFacts.{put_cut, put_err, put_then}
 use Rattle.printed_texts.specs.Plans.{row_count}
 use Rattle.joined_texts.proofs.audit.put_level.Goals as goal
 

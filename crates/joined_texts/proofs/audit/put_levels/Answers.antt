@@ -1,7 +1,7 @@
 use Rattle.std.proofs.Common.{◌≡◌, ◌+◌, ◌++◌, ◌<◌, [], drop, length, get_or, ap, sym, refl, ◌∙◌, arith}
 use Rattle.std.specs.Prelude.{slice_get}
 use Rattle.std.proofs.lemmas.Result.{err_from_is_err_and}
-use Rattle.outcomes.proofs.WriteFacts.{put_cut_next, put_err, put_none, put_then}
+use Rattle.base_io.proofs.WriteFacts.{put_cut_next, put_err, put_none, put_then}
 use Rattle.printed_texts.specs.Plans.{alias_of, audit_line, level_audits}
 use Rattle.printed_texts.proofs.PlanLines.{one_more_done}
 use Rattle.joined_texts.specs.Printed.{level_counts}

@@ -1,6 +1,6 @@
 use Rattle.std.proofs.Common.{◌≡◌, ◌+◌, ◌++◌, List, ℕ, Ok, drop}
-use Rattle.outcomes.specs.Devices.{growth}
-use Rattle.outcomes.specs.Writes.{Put}
+use Rattle.base_io.specs.Devices.{growth}
+use Rattle.base_io.specs.Writes.{Put}
 use Rattle.printed_texts.specs.Plans.{level_audits}
 use Rattle.joined_texts.specs.Printed.{level_counts}
 use Rattle.joined_texts.proofs.audit.put_levels.Given as goal

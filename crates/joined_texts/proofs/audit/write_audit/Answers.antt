@@ -1,5 +1,5 @@
 use Rattle.std.proofs.lemmas.Result.{err_from_is_err_and}
-use Rattle.outcomes.proofs.WriteFacts.{flushed, wrote_err}
+use Rattle.base_io.proofs.WriteFacts.{flushed, wrote_err}
 use Rattle.joined_texts.proofs.audit.write_audit.Goals as goal
 
 pub returns-in_err-put_levels : goal.returns-in_err-put_levels
@@ -9,5 +9,4 @@ returns-in_err-put_levels g c =
 
 pub returns : goal.returns
 returns g c =
-    let f = c.flush.ensures in
-    flushed c.flush.result c.new-buffer.ensures (rw (c.as_slice-order.ensures, c.as_slice-levels.ensures) at c.in_ok-put_levels.ensures) f.ok f.prefix f.later f.failed
+    flushed c.new-buffer.ensures (rw (c.as_slice-order.ensures, c.as_slice-levels.ensures) at c.in_ok-put_levels.ensures) c.flush.ensures.wrote

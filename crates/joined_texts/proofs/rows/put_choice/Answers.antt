@@ -2,7 +2,7 @@ use Rattle.std.proofs.Common.{◌≡◌, ◌≤◌, ◌++◌, ℕ, List, [], ◌
 use Rattle.std.proofs.lemmas.List.{length-take-le}
 use Rattle.sql_meaning.specs.Tables.{row_counts, tables_of}
 use Rattle.sql_meaning.proofs.LoopFacts.{choice_length}
-use Rattle.outcomes.proofs.WriteFacts.{put_as}
+use Rattle.base_io.proofs.WriteFacts.{put_as}
 use Rattle.joined_texts.specs.Listed.{choice_record}
 use Rattle.joined_texts.proofs.Placing.{is_choice, placed_in, text_is}
 use Rattle.joined_texts.proofs.rows.put_choice.Goals as goal

@@ -1,7 +1,7 @@
 use Rattle.std.proofs.Common.{◌≡◌, ◌≤◌, ◌-◌, ◌++◌, ℕ, List, [], ◌∷◌, drop, length, take, ap, ◌∙◌, arith}
 use Rattle.std.proofs.lemmas.List.{length-take-le, take_at}
 use Rattle.link_index.specs.Forest.{way_to}
-use Rattle.outcomes.proofs.WriteFacts.{put_as}
+use Rattle.base_io.proofs.WriteFacts.{put_as}
 use Rattle.joined_texts.specs.Listed.{choice_record}
 use Rattle.joined_texts.proofs.rows.put_row.Goals as goal
 

@@ -1,6 +1,6 @@
 use Rattle.std.proofs.Common.{[], arith}
 use Rattle.std.proofs.lemmas.Result.{err_from_is_err_and}
-use Rattle.outcomes.proofs.WriteFacts.{put_err, put_part, put_part_cut}
+use Rattle.base_io.proofs.WriteFacts.{put_err, put_part, put_part_cut}
 use Rattle.joined_texts.specs.Listed.{choice_record, last_rows}
 use Rattle.joined_texts.proofs.rows.put_rows.Goals as goal
 

@@ -1,7 +1,7 @@
 use Rattle.std.specs.List.{flat_map}
 use Rattle.std.proofs.lemmas.Result.{err_from_is_err_and}
 use Rattle.hash_join.specs.declared.joining.Joining.{Joining}
-use Rattle.outcomes.proofs.WriteFacts.{flushed, put_as, put_cut, put_then, wrote_err}
+use Rattle.base_io.proofs.WriteFacts.{flushed, put_as, put_cut, put_then, wrote_err}
 use Rattle.printed_texts.specs.Texts.{rows_lines}
 use Rattle.joined_texts.specs.Listed.{IsOrdered, choice_record, last_rows}
 use Rattle.joined_texts.specs.Printed.{printed_rows}
@@ -36,11 +36,10 @@ returns-in_err-put_rows g c =
 
 pub returns : goal.returns
 returns g c =
-    let f = c.flush.ensures in
     let joining : Joining = record { query = c.args.query; db = c.args.db; order = c.args.order } in
     let ordered : IsOrdered joining = record { database = c.requires.database; entries = c.requires.order } in
-    flushed c.flush.result c.new-buffer.ensures
+    flushed c.new-buffer.ensures
     (put_as (rows_lines c.args.query.now.select (printed_rows c.args.query.now c.args.db.now c.args.order.now))
     (whole_text joining ordered c.args.executed.now c.requires.last c.requires.count c.as_slice.result.now c.as_slice.ensures)
     (put_then c.in_ok-put_line.ensures c.in_ok-put_rows.ensures))
-    f.ok f.prefix f.later f.failed
+    c.flush.ensures.wrote

@@ -6,8 +6,8 @@ use Rattle.piece_math.specs.Children.{lists_of}
 use Rattle.piece_math.proofs.Composing.{composed_value, composed_few}
 use Rattle.piece_math.proofs.blocks.compose.Goals as goal
 
-pub row_weights-requires-clause-columns : goal.row_weights-requires-clause-columns
-row_weights-requires-clause-columns c k d h = c.requires.columns k d h ∙ omega (arith, c.total-rows.ensures, c.requires.small)
+pub row_weights-requires : goal.row_weights-requires
+row_weights-requires c = record { columns = λ k d h. c.requires.columns k d h ∙ omega (arith, c.total-rows.ensures, c.requires.small) }
 
 pub returns-clause-value : goal.returns-clause-value
 returns-clause-value c =

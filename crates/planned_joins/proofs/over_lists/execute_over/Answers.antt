@@ -5,7 +5,8 @@ use Rattle.reserve_plan.specs.Rooms.{IsRoomForLevel}
 use Rattle.row_buf.specs.Rows.{Rows}
 use Rattle.sql_meaning.specs.Answers.{conjuncts_of}
 use Rattle.sql_meaning.specs.Tables.{row_counts, tables_of}
-use Rattle.join_steps.specs.Lists.{IsOfScan, IsOrderOf, level_over}
+use Rattle.sql_meaning.specs.Levels.{level_over}
+use Rattle.join_steps.specs.Lists.{IsOfScan, IsOrderOf}
 use Rattle.hash_join.specs.Levels.{list_of}
 use Rattle.hash_join.specs.Rooms.{HasChains, HasKeys, HasLevels}
 use Rattle.hash_join.proofs.PlanRooms.{zip_long}

@@ -4,9 +4,9 @@ use Rattle.std.specs.List.{flat_map}
 use Rattle.std.proofs.lemmas.List.{take_all}
 use Rattle.std.proofs.lemmas.List.Concat.{flat_map_single}
 use Rattle.std.proofs.lemmas.Result.{err_from_is_err_and}
-use Rattle.outcomes.specs.Devices.{growth}
-use Rattle.outcomes.specs.Writes.{Put}
-use Rattle.outcomes.proofs.WriteFacts.{put_as, put_err, put_part, put_part_cut}
+use Rattle.base_io.specs.Devices.{growth}
+use Rattle.base_io.specs.Writes.{Put}
+use Rattle.base_io.proofs.WriteFacts.{put_as, put_err, put_part, put_part_cut}
 use Rattle.printed_texts.proofs.lines.put_lower.Goals as goal
 
 abbrev lower : ℕ → List ℕ
@@ -15,18 +15,12 @@ lower b = to_ascii_lowercase b ∷ []
 pub returns-in_err-put : goal.returns-in_err-put
 returns-in_err-put g c =
     let p = err_from_is_err_and c.from_residual.result c.from_residual.ensures.1 in
-    let k = c.in_err-put.ensures in
-    let put : Put (growth g.N.Sink.taken g.N.Sink.faults c.bytes.sink c.put.new.sink) c.bytes.buffer c.put.new.self (c.to_ascii_lowercase.result ∷ []) (Err c.in_err-put.field-0.0) =
-    record { ok = tt; prefix = k.prefix; later = k.later; failed = k.failed } in
     put_err p.1 (put_as (map to_ascii_lowercase c.args.name.now) (flat_map_single to_ascii_lowercase c.args.name.now)
-    (put_part_cut lower c.args.name.now c.bytes.byte-index 0 (omega arith) c.bytes.invariant (rw c.to_ascii_lowercase.ensures.value at put)))
+    (put_part_cut lower c.args.name.now c.bytes.byte-index 0 (omega arith) c.bytes.invariant (rw c.to_ascii_lowercase.ensures.value at c.in_err-put.ensures)))
 
 pub bytes-preserved : goal.bytes-preserved
 bytes-preserved g c =
-    let k = c.in_ok-put.ensures in
-    let put : Put (growth g.N.Sink.taken g.N.Sink.faults c.bytes.sink c.put.new.sink) c.bytes.buffer c.put.new.self (c.to_ascii_lowercase.result ∷ []) (Ok tt) =
-    record { ok = k.ok; prefix = k.prefix; later = k.later; failed = tt } in
-    put_part lower c.args.name.now c.bytes.byte-index 0 (omega arith) c.bytes.invariant (rw c.to_ascii_lowercase.ensures.value at put)
+    put_part lower c.args.name.now c.bytes.byte-index 0 (omega arith) c.bytes.invariant (rw c.to_ascii_lowercase.ensures.value at c.in_ok-put.ensures)
 
 pub returns : goal.returns
 returns g c =

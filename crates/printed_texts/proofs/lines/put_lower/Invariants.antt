@@ -1,8 +1,8 @@
 use Rattle.std.proofs.Common.{[], ◌∷◌, Ok, take}
 use Rattle.std.specs.Char.{to_ascii_lowercase}
 use Rattle.std.specs.List.{flat_map}
-use Rattle.outcomes.specs.Devices.{growth}
-use Rattle.outcomes.specs.Writes.{Put}
+use Rattle.base_io.specs.Devices.{growth}
+use Rattle.base_io.specs.Writes.{Put}
 use Rattle.printed_texts.proofs.lines.put_lower.Given as goal
 
 abbrev pub invariant-bytes : goal.invariant-bytes

@@ -2,9 +2,9 @@ use Rattle.std.proofs.Common.{map}
 use Rattle.std.specs.Prelude.{codes}
 use Rattle.std.specs.Char.{to_ascii_lowercase}
 use Rattle.std.proofs.lemmas.Result.{err_from_is_err_and}
-use Rattle.outcomes.specs.Devices.{growth}
-use Rattle.outcomes.specs.Writes.{Put}
-use Rattle.outcomes.proofs.WriteFacts.{put_cut, put_err, put_then}
+use Rattle.base_io.specs.Devices.{growth}
+use Rattle.base_io.specs.Writes.{Put}
+use Rattle.base_io.proofs.WriteFacts.{put_cut, put_err, put_then}
 use Rattle.printed_texts.proofs.lines.put_table_file.Goals as goal
 
 pub returns-in_err-put_lower : goal.returns-in_err-put_lower
@@ -14,7 +14,4 @@ returns-in_err-put_lower g c =
 
 pub returns : goal.returns
 returns g c =
-    let k = c.put.ensures in
-    let put : Put (growth g.N.Sink.taken g.N.Sink.faults c.put_lower.new.sink c.put.new.sink) c.put_lower.new.buffer c.put.new.self (codes ".csv") c.put.result =
-    record { ok = k.ok; prefix = k.prefix; later = k.later; failed = k.failed } in
-    put_then {a = map to_ascii_lowercase c.args.table.now.name} (rw (c.as_bytes.ensures.value, c.as_str.ensures) at c.in_ok-put_lower.ensures) put
+    put_then {a = map to_ascii_lowercase c.args.table.now.name} (rw (c.as_bytes.ensures.value, c.as_str.ensures) at c.in_ok-put_lower.ensures) c.put.ensures

@@ -1,7 +1,7 @@
 use Rattle.std.proofs.Common.{List, ℕ, arith}
 use denote.Bor.{Bor}
 use Rattle.std.proofs.lemmas.Result.{err_from_is_err_and}
-use Rattle.outcomes.proofs.WriteFacts.{put_err, put_part, put_part_cut}
+use Rattle.base_io.proofs.WriteFacts.{put_err, put_part, put_part_cut}
 use Rattle.printed_texts.specs.Faults.{behind_blank}
 use Rattle.printed_texts.proofs.lines.put_words.Goals as goal
 

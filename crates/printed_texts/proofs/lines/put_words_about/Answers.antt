@@ -1,7 +1,7 @@
 use Rattle.std.proofs.Common.{◌++◌, ◌∷◌, refl}
 use Rattle.std.specs.List.{flat_map}
 use Rattle.std.proofs.lemmas.Result.{err_from_is_err_and}
-use Rattle.outcomes.proofs.WriteFacts.{put_as, put_cut, put_cut_next, put_err, put_then}
+use Rattle.base_io.proofs.WriteFacts.{put_as, put_cut, put_cut_next, put_err, put_then}
 use Rattle.printed_texts.specs.Faults.{behind_blank}
 use Rattle.printed_texts.specs.Words.{file_text}
 use Rattle.printed_texts.proofs.ErrorLines.{about_are, seen_words, word_parts}

@@ -2,9 +2,9 @@ use Rattle.std.proofs.Common.{◌≡◌, ◌++◌, ◌∷◌, [], ℕ, List, Ok,
 use Rattle.std.specs.Prelude.{codes}
 use Rattle.std.specs.List.{flat_map}
 use Rattle.std.proofs.lemmas.Result.{err_from_is_err_and}
-use Rattle.outcomes.specs.Devices.{growth}
-use Rattle.outcomes.specs.Writes.{Put}
-use Rattle.outcomes.proofs.WriteFacts.{flushed, put_as, put_cut, put_cut_next, put_err, put_then, wrote_err}
+use Rattle.base_io.specs.Devices.{growth}
+use Rattle.base_io.specs.Writes.{Put}
+use Rattle.base_io.proofs.WriteFacts.{flushed, put_as, put_cut, put_cut_next, put_err, put_then, wrote_err}
 use Rattle.printed_texts.specs.Faults.{behind_blank, error_line}
 use Rattle.printed_texts.specs.Words.{file_text}
 use Rattle.printed_texts.proofs.ErrorLines.{line_is, seen_words, word_parts, words_are}
@@ -13,39 +13,20 @@ use Rattle.printed_texts.proofs.lines.write_words.Goals as goal
 pub returns-in_err-put : goal.returns-in_err-put
 returns-in_err-put g c =
     let p = err_from_is_err_and c.from_residual.result c.from_residual.ensures.1 in
-    let k = c.in_err-put.ensures in
-    let head : Put (growth g.N.Sink.taken g.N.Sink.faults c.args.sink.now c.put.new.sink) c.new-buffer.result c.put.new.self (codes "error") (Err c.in_err-put.field-0.0) =
-    record { ok = tt; prefix = k.prefix; later = k.later; failed = k.failed } in
-    wrote_err c.new-buffer.ensures p.1 (put_as (error_line (seen_words c.args.words.now)) (line_is (seen_words c.args.words.now) (word_parts c.args.words.now) (words_are c.args.words.now)) (put_cut (word_parts c.args.words.now ++ codes "\n") head))
+    wrote_err c.new-buffer.ensures p.1 (put_as (error_line (seen_words c.args.words.now)) (line_is (seen_words c.args.words.now) (word_parts c.args.words.now) (words_are c.args.words.now)) (put_cut (word_parts c.args.words.now ++ codes "\n") c.in_err-put.ensures))
 
 pub returns-in_err-put_words : goal.returns-in_err-put_words
 returns-in_err-put_words g c =
     let p = err_from_is_err_and c.from_residual-in_err-put_words.result c.from_residual-in_err-put_words.ensures.1 in
-    let k = c.in_ok-put.ensures in
-    let head : Put (growth g.N.Sink.taken g.N.Sink.faults c.args.sink.now c.put.new.sink) c.new-buffer.result c.put.new.self (codes "error") (Ok tt) =
-    record { ok = k.ok; prefix = k.prefix; later = k.later; failed = tt } in
-    wrote_err c.new-buffer.ensures p.1 (put_cut_next (codes "\n") (error_line (seen_words c.args.words.now)) (line_is (seen_words c.args.words.now) (word_parts c.args.words.now) (words_are c.args.words.now)) head c.in_err-put_words.ensures)
+    wrote_err c.new-buffer.ensures p.1 (put_cut_next (codes "\n") (error_line (seen_words c.args.words.now)) (line_is (seen_words c.args.words.now) (word_parts c.args.words.now) (words_are c.args.words.now)) c.in_ok-put.ensures c.in_err-put_words.ensures)
 
 pub returns-in_err-put-2 : goal.returns-in_err-put-2
 returns-in_err-put-2 g c =
     let p = err_from_is_err_and c.from_residual-in_err-put-2.result c.from_residual-in_err-put-2.ensures.1 in
-    let k = c.in_ok-put.ensures in
-    let head : Put (growth g.N.Sink.taken g.N.Sink.faults c.args.sink.now c.put.new.sink) c.new-buffer.result c.put.new.self (codes "error") (Ok tt) =
-    record { ok = k.ok; prefix = k.prefix; later = k.later; failed = tt } in
-    let m = c.in_err-put-2.ensures in
-    let end : Put (growth g.N.Sink.taken g.N.Sink.faults c.put_words.new.sink c.put-2.new.sink) c.put_words.new.buffer c.put-2.new.self (codes "\n") (Err c.in_err-put-2.field-0.0) =
-    record { ok = tt; prefix = m.prefix; later = m.later; failed = m.failed } in
     wrote_err c.new-buffer.ensures p.1 (put_as (error_line (seen_words c.args.words.now)) (line_is (seen_words c.args.words.now) (word_parts c.args.words.now) (words_are c.args.words.now))
-    (put_then head (put_then c.in_ok-put_words.ensures end)))
+    (put_then c.in_ok-put.ensures (put_then c.in_ok-put_words.ensures c.in_err-put-2.ensures)))
 
 pub returns : goal.returns
 returns g c =
-    let k = c.in_ok-put.ensures in
-    let head : Put (growth g.N.Sink.taken g.N.Sink.faults c.args.sink.now c.put.new.sink) c.new-buffer.result c.put.new.self (codes "error") (Ok tt) =
-    record { ok = k.ok; prefix = k.prefix; later = k.later; failed = tt } in
-    let m = c.in_ok-put-2.ensures in
-    let end : Put (growth g.N.Sink.taken g.N.Sink.faults c.put_words.new.sink c.put-2.new.sink) c.put_words.new.buffer c.put-2.new.self (codes "\n") (Ok tt) =
-    record { ok = m.ok; prefix = m.prefix; later = m.later; failed = tt } in
-    let f = c.flush.ensures in
-    flushed c.flush.result c.new-buffer.ensures (put_as (error_line (seen_words c.args.words.now)) (line_is (seen_words c.args.words.now) (word_parts c.args.words.now) (words_are c.args.words.now))
-    (put_then head (put_then c.in_ok-put_words.ensures end))) f.ok f.prefix f.later f.failed
+    flushed c.new-buffer.ensures (put_as (error_line (seen_words c.args.words.now)) (line_is (seen_words c.args.words.now) (word_parts c.args.words.now) (words_are c.args.words.now))
+    (put_then c.in_ok-put.ensures (put_then c.in_ok-put_words.ensures c.in_ok-put-2.ensures))) c.flush.ensures.wrote

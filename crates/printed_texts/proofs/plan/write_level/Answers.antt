@@ -1,9 +1,9 @@
 use Rattle.std.proofs.Common.{List}
 use Rattle.std.specs.Prelude.{codes}
 use Rattle.std.proofs.lemmas.Result.{err_from_is_err_and}
-use Rattle.outcomes.specs.Devices.{growth}
-use Rattle.outcomes.specs.Writes.{Put}
-use Rattle.outcomes.proofs.WriteFacts.{put_cut, put_err, put_then}
+use Rattle.base_io.specs.Devices.{growth}
+use Rattle.base_io.specs.Writes.{Put}
+use Rattle.base_io.proofs.WriteFacts.{put_cut, put_err, put_then}
 use Rattle.printed_texts.proofs.plan.write_level.Goals as goal
 
 pub returns-in_err-put_level_bound : goal.returns-in_err-put_level_bound
@@ -13,7 +13,4 @@ returns-in_err-put_level_bound g c =
 
 pub returns : goal.returns
 returns g c =
-    let k = c.put.ensures in
-    let end : Put (growth g.N.Sink.taken g.N.Sink.faults c.put_level_bound.new.sink c.put.new.sink) c.put_level_bound.new.buffer c.put.new.self (codes "\n") c.put.result =
-    record { ok = k.ok; prefix = k.prefix; later = k.later; failed = k.failed } in
-    put_then c.in_ok-put_level_bound.ensures end
+    put_then c.in_ok-put_level_bound.ensures c.put.ensures

@@ -1,5 +1,5 @@
 use Rattle.std.proofs.lemmas.Result.{err_from_is_err_and}
-use Rattle.outcomes.proofs.WriteFacts.{flushed, put_cut, put_then, wrote_err}
+use Rattle.base_io.proofs.WriteFacts.{flushed, put_cut, put_then, wrote_err}
 use Rattle.printed_texts.specs.Plans.{level_lines}
 use Rattle.printed_texts.proofs.plan.write_plan.Goals as goal
 
@@ -17,7 +17,6 @@ returns-in_err-write_levels g c =
 
 pub returns : goal.returns
 returns g c =
-    let f = c.flush.ensures in
-    flushed c.flush.result c.new-buffer.ensures
+    flushed c.new-buffer.ensures
     (put_then (rw c.as_slice.ensures at c.in_ok-write_scans.ensures) (rw (c.as_slice-order.ensures, c.as_slice-levels.ensures) at c.in_ok-write_levels.ensures))
-    f.ok f.prefix f.later f.failed
+    c.flush.ensures.wrote

@@ -1,6 +1,6 @@
 use Rattle.std.proofs.Common.{◌+◌, ◌++◌, drop, get_or, ap, sym, refl, ◌∙◌, arith}
 use Rattle.std.proofs.lemmas.Result.{err_from_is_err_and}
-use Rattle.outcomes.proofs.WriteFacts.{put_cut_next, put_err, put_then}
+use Rattle.base_io.proofs.WriteFacts.{put_cut_next, put_err, put_then}
 use Rattle.printed_texts.specs.Plans.{scan_line, scan_lines}
 use Rattle.printed_texts.proofs.PlanLines.{next_scan, one_more_done}
 use Rattle.printed_texts.proofs.plan.write_scans.Goals as goal

@@ -1,6 +1,6 @@
 use Rattle.std.proofs.Common.{◌≡◌, ◌++◌, List, ℕ, Ok, drop}
-use Rattle.outcomes.specs.Devices.{growth}
-use Rattle.outcomes.specs.Writes.{Put}
+use Rattle.base_io.specs.Devices.{growth}
+use Rattle.base_io.specs.Writes.{Put}
 use Rattle.printed_texts.specs.Plans.{scan_lines}
 use Rattle.printed_texts.proofs.plan.write_scans.Given as goal
 

@@ -1,7 +1,7 @@
 use Rattle.std.proofs.Common.{refl, arith}
 use Rattle.std.proofs.lemmas.Result.{err_from_is_err_and}
 use Rattle.sql_meaning.specs.Tables.{tables_of}
-use Rattle.outcomes.proofs.WriteFacts.{put_err, put_item, put_item_cut}
+use Rattle.base_io.proofs.WriteFacts.{put_err, put_item, put_item_cut}
 use Rattle.printed_texts.specs.Lines.{next_field}
 use Rattle.printed_texts.proofs.rows.put_others.Goals as goal
 

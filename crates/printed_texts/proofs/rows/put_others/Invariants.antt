@@ -1,7 +1,7 @@
 use Rattle.std.proofs.Common.{Ok, take}
 use Rattle.std.specs.List.{flat_map}
-use Rattle.outcomes.specs.Devices.{growth}
-use Rattle.outcomes.specs.Writes.{Put}
+use Rattle.base_io.specs.Devices.{growth}
+use Rattle.base_io.specs.Writes.{Put}
 use Rattle.sql_meaning.specs.Tables.{tables_of}
 use Rattle.printed_texts.specs.Lines.{next_field}
 use Rattle.printed_texts.proofs.rows.put_others.Given as goal

@@ -2,7 +2,7 @@ use Rattle.std.proofs.Common.{◌-◌, drop, take, length}
 use Rattle.std.specs.List.{flat_map}
 use Rattle.std.proofs.lemmas.Result.{err_from_is_err_and}
 use Rattle.sql_meaning.specs.Tables.{tables_of}
-use Rattle.outcomes.proofs.WriteFacts.{put_as, put_cut, put_err, put_then}
+use Rattle.base_io.proofs.WriteFacts.{put_as, put_cut, put_err, put_then}
 use Rattle.printed_texts.specs.Lines.{fields_at, next_field}
 use Rattle.printed_texts.proofs.Records.{several}
 use Rattle.printed_texts.proofs.rows.put_several.Goals as goal

@@ -1,6 +1,6 @@
 use Rattle.std.proofs.Common.{◌≡◌, ◌<◌, ℕ, [], length, subst, arith}
 use Rattle.query_bounds.specs.Bounds.{Holds, scan_rows}
-use Rattle.query_bounds.proofs.Holding.{has_first, no_list, none_hold, rows_more, rows_told, small_rows}
+use Rattle.query_bounds.proofs.Holding.{has_first, no_list, none_hold, rows_more, rows_told}
 use Rattle.query_bounds.proofs.lists.with_rows.Goals as goal
 
 pub loop-entry-init : goal.loop-entry-init
@@ -11,13 +11,9 @@ row_bound-requires-clause-known c =
     has_first c.args.query.now c.args.stats.now c.requires.told.known c.loop-entry.entry c.requires.told.tells (omega (arith, c.loop-entry-test.true, c.len-entry-end.ensures))
 
 pub set_rows-requires : goal.set_rows-requires
-set_rows-requires c =
-    let low : c.loop-entry.entry < length c.args.query.now.from = omega (arith, c.loop-entry-test.true, c.len-entry-end.ensures) in
-    record {
-      small = small_rows c.args.query.now c.args.stats.now c.requires.told.known c.loop-entry.entry c.in_ok-rows.rows c.requires.told.tells low
-          (rows_told c.args.query.now c.args.stats.now c.requires.told.known c.loop-entry.entry c.in_ok-rows.rows c.requires.told.tells low c.in_ok-rows.ensures.rows);
-      no_list = λ column. no_list c.args.query.now c.requires.told.known c.loop-entry.entry c.loop-entry.lists (c.loop-entry.invariant c.requires.told.known c.requires.told.tells) c.loop-entry.entry column;
-    }
+set_rows-requires c = record {
+  no_list = λ column. no_list c.args.query.now c.requires.told.known c.loop-entry.entry c.loop-entry.lists (c.loop-entry.invariant c.requires.told.known c.requires.told.tells) c.loop-entry.entry column;
+}
 
 pub loop-entry-preserved : goal.loop-entry-preserved
 loop-entry-preserved c = λ known tells.

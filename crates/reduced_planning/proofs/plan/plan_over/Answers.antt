@@ -17,7 +17,7 @@ choose-requires c =
       some = omega (arith, count, c.requires.database.some);
       few = omega (arith, count, c.requires.database.few);
       bounds = sets_counted query (tables_of c.args.db.now) lists c.args.accuracy c.in_ok-bounds.bounds c.in_ok-bounds.ensures ∙ ap (λ (n : ℕ). 2 ^ n) (sym count);
-      budget = c.requires.budget;
+      budget = omega arith;
     }
 
 pub returns : goal.returns

@@ -1,6 +1,6 @@
 use Rattle.std.proofs.Common.{◌<◌, ℕ, List, length, ap, ◌∙◌, arith}
 use Rattle.reduced_scans.specs.Lists.{lists_of}
-use Rattle.reduced_scans.proofs.OfQuery.{read_list, read_short}
+use Rattle.reduced_scans.proofs.OfQuery.{read_list}
 use Rattle.reduced_planning.proofs.Knowing.{rows_more, rows_none}
 use Rattle.reduced_planning.proofs.rows.row_bounds.Goals as goal
 
@@ -8,16 +8,7 @@ pub lists-init : goal.lists-init
 lists-init c = record { rows = rows_none (lists_of c.args.lists.now) c.new-known.result c.new-known.ensures.rows; no_lists = c.new-known.ensures.lists }
 
 pub set_rows-requires : goal.set_rows-requires
-set_rows-requires c =
-    let low : c.lists.entry < length c.args.lists.now = omega (arith, c.lists-test.true) in
-    record {
-      small = omega (
-        arith,
-        c.len.ensures,
-        read_short c.args.lists.now c.requires.sizes c.lists.entry c.index-lists-entry.result low c.index-lists-entry.is,
-      );
-      no_list = λ column. c.lists.invariant.no_lists c.lists.entry column;
-    }
+set_rows-requires c = record { no_list = λ column. c.lists.invariant.no_lists c.lists.entry column }
 
 pub lists-preserved : goal.lists-preserved
 lists-preserved c =

@@ -1,12 +1,9 @@
-use Rattle.std.proofs.Common.{◌≤◌, ◌++◌, take}
-use Rattle.std.specs.List.{flat_map}
-use Rattle.base_io.specs.Sinks.{TookBut}
-use Rattle.row_printer.specs.Fields.{doubled_quote}
+use Rattle.std.proofs.Common.{Ok, take}
+use Rattle.base_io.specs.Devices.{growth}
+use Rattle.base_io.specs.Writes.{Put}
+use Rattle.row_printer.specs.Fields.{doubled}
 use Rattle.row_printer.proofs.field.put_doubled.Given as goal
 
 abbrev pub invariant-bytes : goal.invariant-bytes
-invariant-bytes g l = record {
-  later : g.N.Sink.faults l.initial.sink ≤ g.N.Sink.faults l.sink;
-  took : TookBut (g.N.Sink.taken l.initial.sink) (g.N.Sink.taken l.sink) l.buffer
-      (l.initial.buffer ++ flat_map doubled_quote (take l.byte-index l.field));
-}
+invariant-bytes g l =
+    Put (growth g.N.Sink.taken g.N.Sink.faults l.initial.sink l.sink) l.initial.buffer l.buffer (doubled (take l.byte-index l.field)) (Ok tt)

@@ -1,31 +1,19 @@
-use Rattle.std.proofs.Common.{[], ◌∷◌, List, ℕ}
+use Rattle.std.proofs.Common.{◌++◌}
+use Rattle.std.specs.Prelude.{codes}
+use Rattle.std.proofs.lemmas.Result.{err_from_is_err_and}
+use Rattle.base_io.proofs.WriteFacts.{put_cut, put_err, put_then}
 use Rattle.row_printer.specs.Fields.{doubled}
-use Rattle.row_printer.proofs.Three.{took_three, cut_first, cut_second, cut_third}
 use Rattle.row_printer.proofs.field.put_quoted.Goals as goal
 
-quote : List ℕ
-quote = 34 ∷ []
+pub returns-in_err-put : goal.returns-in_err-put
+returns-in_err-put g c =
+    let p = err_from_is_err_and c.from_residual.result c.from_residual.ensures.1 in
+    put_err p.1 (put_cut (doubled c.args.field.now ++ codes "\"") c.in_err-put.ensures)
 
-pub returns-in_err-put-clause-prefix : goal.returns-in_err-put-clause-prefix
-unfolding quote
-returns-in_err-put-clause-prefix g c = cut_first _ _ c.args.buffer.now quote (doubled c.args.field.now) quote c.put.ensures.prefix
+pub returns-in_err-put_doubled : goal.returns-in_err-put_doubled
+returns-in_err-put_doubled g c =
+    let p = err_from_is_err_and c.from_residual-in_err-put_doubled.result c.from_residual-in_err-put_doubled.ensures.1 in
+    put_err p.1 (put_then c.in_ok-put.ensures (put_cut (codes "\"") c.in_err-put_doubled.ensures))
 
-pub returns-in_err-put_doubled-clause-prefix : goal.returns-in_err-put_doubled-clause-prefix
-unfolding quote
-returns-in_err-put_doubled-clause-prefix g c =
-    cut_second _ _ _ _ c.args.buffer.now quote (doubled c.args.field.now) quote c.in_ok-put.ensures.ok c.put_doubled.ensures.prefix
-
-pub returns-in_err-put-2-clause-prefix : goal.returns-in_err-put-2-clause-prefix
-unfolding quote
-returns-in_err-put-2-clause-prefix g c =
-    cut_third _ _ _ _ _ _ c.args.buffer.now quote (doubled c.args.field.now) quote c.in_ok-put.ensures.ok c.in_ok-put_doubled.ensures.ok c.put-2.ensures.prefix
-
-pub returns-clause-ok : goal.returns-clause-ok
-unfolding quote
-returns-clause-ok g c =
-    took_three _ _ _ _ _ _ _ c.args.buffer.now quote (doubled c.args.field.now) quote c.in_ok-put.ensures.ok c.in_ok-put_doubled.ensures.ok c.in_ok-put-2.ensures.ok
-
-pub returns-clause-prefix : goal.returns-clause-prefix
-unfolding quote
-returns-clause-prefix g c =
-    cut_third _ _ _ _ _ _ c.args.buffer.now quote (doubled c.args.field.now) quote c.in_ok-put.ensures.ok c.in_ok-put_doubled.ensures.ok c.put-2.ensures.prefix
+pub returns : goal.returns
+returns g c = put_then c.in_ok-put.ensures (put_then c.in_ok-put_doubled.ensures c.put-2.ensures)

@@ -1,6 +1,6 @@
 use Rattle.std.proofs.Common.{arith}
 use Rattle.std.proofs.lemmas.Result.{err_from_is_err_and}
-use Rattle.stats_file.proofs.WriteFacts.{put_err, put_part, put_part_cut}
+use Rattle.base_io.proofs.WriteFacts.{put_err, put_part, put_part_cut}
 use Rattle.stats_file.specs.Lines.{hex_byte}
 use Rattle.stats_file.proofs.parts.put_hex_bytes.Goals as goal
 

@@ -1,6 +1,7 @@
 use Rattle.std.proofs.Common.{Ok, take}
 use Rattle.std.specs.List.{flat_map}
-use Rattle.stats_file.specs.Writing.{growth, Put}
+use Rattle.base_io.specs.Devices.{growth}
+use Rattle.base_io.specs.Writes.{Put}
 use Rattle.stats_file.specs.Parts.{part_text}
 use Rattle.stats_file.proofs.parts.put_line.Given as goal
 

@@ -1,7 +1,7 @@
 use Rattle.std.proofs.Common.{◌++◌, arith}
 use Rattle.std.specs.Prelude.{codes}
 use Rattle.std.proofs.lemmas.Result.{err_from_is_err_and}
-use Rattle.stats_file.proofs.WriteFacts.{put_err, put_part, put_part_cut}
+use Rattle.base_io.proofs.WriteFacts.{put_err, put_part, put_part_cut}
 use Rattle.stats_file.specs.Lines.{run_text}
 use Rattle.piece_math.specs.declared.pieces.Piece.{Piece}
 use Rattle.stats_file.proofs.parts.put_next_runs.Goals as goal

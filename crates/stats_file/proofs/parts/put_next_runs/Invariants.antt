@@ -1,7 +1,8 @@
 use Rattle.std.proofs.Common.{◌++◌, Ok, take}
 use Rattle.std.specs.Prelude.{codes}
 use Rattle.std.specs.List.{flat_map}
-use Rattle.stats_file.specs.Writing.{growth, Put}
+use Rattle.base_io.specs.Devices.{growth}
+use Rattle.base_io.specs.Writes.{Put}
 use Rattle.stats_file.specs.Lines.{run_text}
 use Rattle.piece_math.specs.declared.pieces.Piece.{Piece}
 use Rattle.stats_file.proofs.parts.put_next_runs.Given as goal

@@ -2,7 +2,7 @@ use Rattle.std.proofs.Common.{arith}
 use Rattle.std.proofs.lemmas.Bool.Decides.{nat_tests}
 use Rattle.stats_file.specs.Lines.{runs_text}
 use Rattle.stats_file.proofs.RunFacts.{first_and_others}
-use Rattle.stats_file.proofs.WriteFacts.{put_as, put_then}
+use Rattle.base_io.proofs.WriteFacts.{put_as, put_then}
 use Rattle.stats_file.proofs.parts.put_runs.Goals as goal
 
 pub returns : goal.returns

@@ -1,6 +1,6 @@
 use Rattle.std.proofs.Common.{refl, arith}
 use Rattle.std.proofs.lemmas.Result.{err_from_is_err_and}
-use Rattle.stats_file.proofs.WriteFacts.{put_err, put_item, put_item_cut}
+use Rattle.base_io.proofs.WriteFacts.{put_err, put_item, put_item_cut}
 use Rattle.stats_file.specs.Lines.{cut_line}
 use Rattle.stats_file.proofs.write.put_cuts.Goals as goal
 

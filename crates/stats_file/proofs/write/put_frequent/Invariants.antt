@@ -1,6 +1,7 @@
 use Rattle.std.proofs.Common.{List, ℕ, Ok, take}
 use Rattle.std.specs.List.{flat_map}
-use Rattle.stats_file.specs.Writing.{growth, Put}
+use Rattle.base_io.specs.Devices.{growth}
+use Rattle.base_io.specs.Writes.{Put}
 use Rattle.stats_file.specs.Lines.{frequent_line}
 use Rattle.stats_file.specs.declared.types.Datum.{Datum}
 use Rattle.stats_file.specs.Runs.{runs_of}

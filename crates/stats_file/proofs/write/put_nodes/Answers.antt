@@ -1,7 +1,7 @@
 use Rattle.std.proofs.Common.{List, ℕ, refl, arith}
 use Rattle.std.specs.Prelude.{codes}
 use Rattle.std.proofs.lemmas.Result.{err_from_is_err_and}
-use Rattle.stats_file.proofs.WriteFacts.{put_err, put_item, put_item_cut}
+use Rattle.base_io.proofs.WriteFacts.{put_err, put_item, put_item_cut}
 use Rattle.stats_file.specs.Lines.{list_line}
 use Rattle.stats_file.specs.Runs.{runs_of}
 use Rattle.stats_file.proofs.write.put_nodes.Goals as goal

@@ -1,7 +1,8 @@
 use Rattle.std.proofs.Common.{List, ℕ, Ok, take}
 use Rattle.std.specs.Prelude.{codes}
 use Rattle.std.specs.List.{flat_map}
-use Rattle.stats_file.specs.Writing.{growth, Put}
+use Rattle.base_io.specs.Devices.{growth}
+use Rattle.base_io.specs.Writes.{Put}
 use Rattle.stats_file.specs.Lines.{list_line}
 use Rattle.stats_file.specs.Runs.{runs_of}
 use Rattle.stats_file.proofs.write.put_nodes.Given as goal

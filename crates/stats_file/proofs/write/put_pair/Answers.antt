@@ -6,7 +6,7 @@ use Rattle.stats_file.specs.Lines.{list_line}
 use Rattle.stats_file.specs.FileText.{pair_lines, value_line}
 use Rattle.stats_file.specs.Runs.{runs_of}
 use Rattle.stats_file.proofs.TextFacts.{pair_text_is, tree_part}
-use Rattle.stats_file.proofs.WriteFacts.{put_as, put_cut, put_err, put_then}
+use Rattle.base_io.proofs.WriteFacts.{put_as, put_cut, put_err, put_then}
 use Rattle.stats_file.proofs.write.put_pair.Goals as goal
 
 pub returns-in_err-put_names : goal.returns-in_err-put_names

@@ -5,7 +5,7 @@ use Rattle.std.proofs.lemmas.Result.{err_from_is_err_and}
 use Rattle.stats_file.specs.FileText.{section_lines}
 use Rattle.stats_file.proofs.RuleFacts.{have_columns}
 use Rattle.stats_file.proofs.TextFacts.{pair_part, section_text_is}
-use Rattle.stats_file.proofs.WriteFacts.{put_as, put_cut, put_err, put_then}
+use Rattle.base_io.proofs.WriteFacts.{put_as, put_cut, put_err, put_then}
 use Rattle.stats_file.proofs.write.put_section.Goals as goal
 
 pub get-table-requires : goal.get-table-requires

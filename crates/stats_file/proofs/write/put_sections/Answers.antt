@@ -1,7 +1,7 @@
 use Rattle.std.proofs.Common.{refl, arith}
 use Rattle.std.specs.List.{concat}
 use Rattle.std.proofs.lemmas.Result.{err_from_is_err_and}
-use Rattle.stats_file.proofs.WriteFacts.{put_err, put_item, put_item_cut}
+use Rattle.base_io.proofs.WriteFacts.{put_err, put_item, put_item_cut}
 use Rattle.stats_file.specs.FileText.{section_lines}
 use Rattle.stats_file.specs.declared.types.TableStats.{TableStats}
 use Rattle.stats_file.proofs.write.put_sections.Goals as goal

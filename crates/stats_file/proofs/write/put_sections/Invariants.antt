@@ -1,6 +1,7 @@
 use Rattle.std.proofs.Common.{Ok, take}
 use Rattle.std.specs.List.{concat, flat_map}
-use Rattle.stats_file.specs.Writing.{growth, Put}
+use Rattle.base_io.specs.Devices.{growth}
+use Rattle.base_io.specs.Writes.{Put}
 use Rattle.stats_file.specs.FileText.{section_lines}
 use Rattle.stats_file.specs.declared.types.TableStats.{TableStats}
 use Rattle.stats_file.proofs.write.put_sections.Given as goal

@@ -4,7 +4,7 @@ use Rattle.std.specs.List.{flat_map}
 use Rattle.std.proofs.lemmas.Result.{err_from_is_err_and}
 use Rattle.stats_file.specs.Lines.{list_line}
 use Rattle.stats_file.specs.Runs.{runs_of}
-use Rattle.stats_file.proofs.WriteFacts.{put_cut, put_err, put_then}
+use Rattle.base_io.proofs.WriteFacts.{put_cut, put_err, put_then}
 use Rattle.stats_file.proofs.write.put_tree.Goals as goal
 
 pub returns-in_err-put_cuts : goal.returns-in_err-put_cuts

@@ -3,9 +3,10 @@ use Rattle.std.specs.List.{flat_map}
 use Rattle.std.proofs.lemmas.Result.{err_from_is_err_and}
 use Rattle.stats_file.specs.FileText.{file_text}
 use Rattle.stats_file.specs.Lines.{end_line}
-use Rattle.stats_file.specs.Writing.{growth, Put}
+use Rattle.base_io.specs.Devices.{growth}
+use Rattle.base_io.specs.Writes.{Put}
 use Rattle.stats_file.proofs.TextFacts.{file_text_is, section_part}
-use Rattle.stats_file.proofs.WriteFacts.{flushed, put_cut, put_then, wrote_as, wrote_err}
+use Rattle.base_io.proofs.WriteFacts.{flushed, put_cut, put_then, wrote_as, wrote_err}
 use Rattle.stats_file.proofs.write.write_stats.Goals as goal
 
 pub returns-in_err-put_first_line : goal.returns-in_err-put_first_line
@@ -23,19 +24,12 @@ returns-in_err-put_sections g c =
 pub returns-in_err-put : goal.returns-in_err-put
 returns-in_err-put g c =
     let p = err_from_is_err_and c.from_residual-in_err-put.result c.from_residual-in_err-put.ensures.1 in
-    let k = c.in_err-put.ensures in
-    let last : Put (growth g.N.Sink.taken g.N.Sink.faults c.put_sections.new.sink c.put.new.sink) c.put_sections.new.buffer c.put.new.self end_line (Err c.in_err-put.field-0.0) =
-    record { ok = tt; prefix = k.prefix; later = k.later; failed = k.failed } in
     wrote_as (file_text c.args.schema.now c.args.file.now) (sym (file_text_is c.args.schema.now c.args.file.now))
-    (wrote_err c.new-buffer.ensures p.1 (put_then c.in_ok-put_first_line.ensures (put_then (rw c.as_slice.ensures at c.in_ok-put_sections.ensures) last)))
+    (wrote_err c.new-buffer.ensures p.1 (put_then c.in_ok-put_first_line.ensures (put_then (rw c.as_slice.ensures at c.in_ok-put_sections.ensures) c.in_err-put.ensures)))
 
 pub returns : goal.returns
 returns g c =
-    let k = c.in_ok-put.ensures in
-    let last : Put (growth g.N.Sink.taken g.N.Sink.faults c.put_sections.new.sink c.put.new.sink) c.put_sections.new.buffer c.put.new.self end_line (Ok tt) =
-    record { ok = k.ok; prefix = k.prefix; later = k.later; failed = tt } in
-    let f = c.flush.ensures in
     wrote_as (file_text c.args.schema.now c.args.file.now) (sym (file_text_is c.args.schema.now c.args.file.now))
-    (flushed c.flush.result c.new-buffer.ensures
-    (put_then c.in_ok-put_first_line.ensures (put_then (rw c.as_slice.ensures at c.in_ok-put_sections.ensures) last))
-    f.ok f.prefix f.later f.failed)
+    (flushed c.new-buffer.ensures
+    (put_then c.in_ok-put_first_line.ensures (put_then (rw c.as_slice.ensures at c.in_ok-put_sections.ensures) c.in_ok-put.ensures))
+    c.flush.ensures.wrote)

@@ -1,5 +1,5 @@
 use Rattle.std.specs.Prelude.{All}
-use Rattle.outcomes.specs.Devices.{reading}
+use Rattle.base_io.specs.Devices.{reading}
 use Rattle.table_files.proofs.EachTable.{SoFar}
 use Rattle.table_files.proofs.FewRows.{HasFewRows}
 use Rattle.table_files.proofs.each.read_each.Given as goal

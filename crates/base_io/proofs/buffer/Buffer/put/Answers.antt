@@ -1,16 +1,16 @@
-use Rattle.base_io.proofs.BufferFacts.{took_whole}
-use Rattle.base_io.proofs.SinkFacts.{prefix_after_first, prefix_of_first, whole_after_first}
+use Rattle.std.proofs.lemmas.Result.{err_from_is_err_and}
+use Rattle.base_io.proofs.WriteFacts.{put_err, put_past, put_stuck}
 use Rattle.base_io.proofs.buffer.Buffer.put.Goals as goal
 
-pub returns-in_err-flush-clause-prefix : goal.returns-in_err-flush-clause-prefix
-returns-in_err-flush-clause-prefix g c = prefix_of_first _ _ _ _ c.in_err-flush.ensures.prefix
+pub returns-in_err-flush : goal.returns-in_err-flush
+returns-in_err-flush g c =
+    let p = err_from_is_err_and c.from_residual.result c.from_residual.ensures.1 in
+    put_err p.1 (put_stuck c.args.bytes.now c.in_err-flush.ensures.wrote)
 
-pub returns-in_err-write_all-clause-prefix : goal.returns-in_err-write_all-clause-prefix
-returns-in_err-write_all-clause-prefix g c = prefix_after_first _ _ _ _ _ c.in_ok-flush.ensures.ok c.in_err-write_all.ensures.prefix
+pub returns-in_err-write_all : goal.returns-in_err-write_all
+returns-in_err-write_all g c =
+    let p = err_from_is_err_and c.from_residual-in_err-write_all.result c.from_residual-in_err-write_all.ensures.1 in
+    put_err p.1 (put_past c.in_ok-flush.ensures.empty c.in_ok-flush.ensures.wrote c.in_err-write_all.ensures)
 
-pub returns-clause-ok : goal.returns-clause-ok
-returns-clause-ok g c =
-    rw c.in_ok-flush.ensures.empty (took_whole _ _ _ (whole_after_first _ _ _ _ _ c.in_ok-flush.ensures.ok c.in_ok-write_all.ensures.ok))
-
-pub returns-clause-prefix : goal.returns-clause-prefix
-returns-clause-prefix g c = prefix_after_first _ _ _ _ _ c.in_ok-flush.ensures.ok c.in_ok-write_all.ensures.prefix
+pub returns : goal.returns
+returns g c = put_past c.in_ok-flush.ensures.empty c.in_ok-flush.ensures.wrote c.in_ok-write_all.ensures

@@ -4,7 +4,7 @@ use Rattle.bound_fold.proofs.lists.EntryLists.add.Goals as goal
 
 pub invariant_of-self : goal.invariant_of-self
 invariant_of-self c = record {
-  small = c.args.self.now.small;
+  bounds = c.args.self.now.bounds;
   sums = lists_after c.args.self.now.rows c.args.self.now.lists c.insert.new.self c.args.entry c.args.column c.args.list c.args.self.now.sums c.pieces.ensures.list_falls c.requires.total
       (put same_pair c.args.self.now.lists c.insert.new.self (c.args.entry, c.args.column) c.args.list c.insert.result c.insert.ensures.updates c.insert.ensures.err);
 }

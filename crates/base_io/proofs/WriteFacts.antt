@@ -1,21 +1,21 @@
 -- Steps that write, one after the other.
-use Rattle.std.proofs.Common.{◌≡◌, ℕ, ◌+◌, ◌<◌, ◌≤◌, inl, inr, List, [], ◌++◌, take, drop, length, get_or, Option, None, Some, Result, Ok, Err, refl, ap, sym, ◌∙◌, append_assoc, append-nil, subst, arith}
+use Rattle.std.proofs.Common.{◌≡◌, ℕ, ◌+◌, ◌<◌, ◌≤◌, List, [], ◌++◌, take, drop, length, get_or, Option, Result, Ok, Err, ap, sym, ◌∙◌, append_assoc, append-nil, subst, arith}
 use Rattle.std.specs.Prelude.{OnOk, OnErr}
 use Rattle.std.specs.List.{flat_map}
 use Rattle.base_io.specs.Causes.{Rose}
+use Rattle.base_io.specs.Devices.{Growth}
 use Rattle.base_io.specs.Sinks.{appended, GrewByPrefix, TookBut}
+use Rattle.base_io.specs.Writes.{Put, Wrote}
 use Rattle.base_io.specs.declared.errors.Failed.{Failed}
 use Rattle.base_io.proofs.BufferFacts.{cut_next, cut_off, parts_more, took_next, went_on}
-use Rattle.base_io.proofs.SinkFacts.{prefix_of_first, prefix_of_none, prefix_of_all}
-use Rattle.std.proofs.lemmas.List.{take-append-drop}
-use Rattle.std.proofs.lemmas.Grind.{flat_map-append}
-use Rattle.outcomes.specs.Devices.{Growth}
-use Rattle.outcomes.specs.Writes.{Put, Wrote}
+use Rattle.base_io.proofs.CountFacts.{later_then_rose}
+use Rattle.base_io.proofs.SinkFacts.{appended-nil, parts_split, prefix_after_first, prefix_at_part, prefix_of_first, prefix_of_none, whole_after_first}
 
 abbrev Written : Type 0
 Written = Result (Unit {0}) Failed
 
-abbrev between : Option (List ℕ) → Option (List ℕ) → ℕ → ℕ → Growth
+-- a sink by what it took and by its counts
+abbrev pub between : Option (List ℕ) → Option (List ℕ) → ℕ → ℕ → Growth
 between t0 t1 f0 f1 = record { taken_before = t0; taken_after = t1; faults_before = f0; faults_after = f1 }
 
 -- what follows from a success, and from a failure
@@ -27,29 +27,53 @@ where_err : (r : Written) (P Q : Type 0) → (P → Q) → OnErr r P → OnErr r
 where_err (Ok u) P Q f h = tt
 where_err (Err e) P Q f h = f h
 
-rose_earlier : (f0 f1 f2 : ℕ) → f0 ≤ f1 → Rose f1 f2 → Rose f0 f2
-rose_earlier f0 f1 f2 le (inl lt) = inl (omega arith)
-rose_earlier f0 f1 f2 le (inr last) = inr last
+rose_earlier : (f0 f1 f2 : ℕ) (r : Written) → f0 ≤ f1 → OnErr r (Rose f1 f2) → OnErr r (Rose f0 f2)
+rose_earlier f0 f1 f2 r le = where_err r (Rose f1 f2) (Rose f0 f2) (later_then_rose f0 f1 f2 le)
+
+-- ---- straight to the sink
+
+-- a failure under another name
+pub wrote_failed : {g : Growth} {a : List ℕ} {x y : Failed} {r : Written} → r ≡ Err y → Wrote g a (Err x) → Wrote g a r
+wrote_failed {g} {a} {x} {y} {r} e h = subst (λ (v : Written). Wrote g a v) (sym e) (record { ok = tt; prefix = h.prefix; later = h.later; failed = h.failed })
+
+-- the same text, written otherwise
+pub wrote_as : {g : Growth} {a : List ℕ} {r : Written} (b : List ℕ) → a ≡ b → Wrote g a r → Wrote g b r
+wrote_as {g} {a} {r} b e h = subst (λ (x : List ℕ). Wrote g x r) e h
+
+-- a text, and then what follows it
+pub wrote_then : {t0 t1 t2 : Option (List ℕ)} {f0 f1 f2 : ℕ} {a b : List ℕ} {u : Unit {0}} {r : Written} → Wrote (between t0 t1 f0 f1) a (Ok u)
+    → Wrote (between t1 t2 f1 f2) b r → Wrote (between t0 t2 f0 f2) (a ++ b) r
+wrote_then {t0} {t1} {t2} {f0} {f1} {f2} {a} {b} {u} {r} h k = record {
+  ok = where_ok r (t2 ≡ appended t1 b) (t2 ≡ appended t0 (a ++ b)) (whole_after_first t0 t1 t2 a b h.ok) k.ok;
+  prefix = prefix_after_first t0 t1 t2 a b h.ok k.prefix;
+  later = omega (arith, h.later, k.later);
+  failed = rose_earlier f0 f1 f2 r h.later k.failed;
+}
+
+-- the items before place i, and then a prefix of the one there
+pub wrote_part_cut : {X : Type 0} {t0 t1 t2 : Option (List ℕ)} {f0 f1 f2 : ℕ} {e : Failed} (f : X → List ℕ) (items : List X) (i : ℕ) (d : X) → i < length items
+    → t1 ≡ appended t0 (flat_map f (take i items)) → f0 ≤ f1 → Wrote (between t1 t2 f1 f2) (f (get_or items i d)) (Err e) → Wrote (between t0 t2 f0 f2) (flat_map f items) (Err e)
+wrote_part_cut {X} {t0} {t1} {t2} {f0} {f1} {f2} {e} f items i d lt took le h = record {
+  ok = tt;
+  prefix = prefix_at_part f t0 t1 t2 items i d lt took h.prefix;
+  later = omega (arith, le, h.later);
+  failed = later_then_rose f0 f1 f2 le h.failed;
+}
+
+-- ---- through a buffer
 
 -- nothing was put
 pub put_none : (t : Option (List ℕ)) (f : ℕ) (w : List ℕ) → Put (between t t f f) w w [] (Ok tt)
 put_none t f w = record {
-  ok = record { front = []; whole = sym (append-nil w); grew = sym (nothing t) };
+  ok = record { front = []; whole = sym (append-nil w); grew = sym (appended-nil t) };
   prefix = prefix_of_none t (w ++ []);
   later = omega arith;
   failed = tt;
 }
-  where
-    nothing : (t : Option (List ℕ)) → appended t [] ≡ t
-    nothing None = refl
-    nothing (Some before) = ap Some (append-nil before)
 
 -- the same text, written otherwise
 pub put_as : {g : Growth} {w w' a : List ℕ} {r : Written} (b : List ℕ) → a ≡ b → Put g w w' a r → Put g w w' b r
 put_as {g} {w} {w'} {a} {r} b e h = subst (λ (x : List ℕ). Put g w w' x r) e h
-
-pub wrote_as : {g : Growth} {a : List ℕ} {r : Written} (b : List ℕ) → a ≡ b → Wrote g a r → Wrote g b r
-wrote_as {g} {a} {r} b e h = subst (λ (x : List ℕ). Wrote g x r) e h
 
 -- a failure under another name
 pub put_err : {g : Growth} {w w' a : List ℕ} {x y : Failed} {r : Written} → r ≡ Err y → Put g w w' a (Err x) → Put g w w' a r
@@ -63,7 +87,7 @@ put_then {t0} {t1} {t2} {f0} {f1} {f2} {w0} {w1} {w2} {a} {b} {u} {r} h k = reco
       (λ took. subst (TookBut t0 t2 w2) (append_assoc w0 a b) (took_next t0 t1 t2 w1 w2 (w0 ++ a) b h.ok took)) k.ok;
   prefix = subst (GrewByPrefix t0 t2) (append_assoc w0 a b) (cut_next t0 t1 t2 w1 (w0 ++ a) b h.ok k.prefix);
   later = omega (arith, h.later, k.later);
-  failed = where_err r (Rose f1 f2) (Rose f0 f2) (rose_earlier f0 f1 f2 h.later) k.failed;
+  failed = rose_earlier f0 f1 f2 r h.later k.failed;
 }
 
 -- a text of which the first part was cut
@@ -82,19 +106,20 @@ pub put_cut_next : {t0 t1 t2 : Option (List ℕ)} {f0 f1 f2 : ℕ} {w0 w1 w2 don
 put_cut_next {t0} {t1} {t2} {f0} {f1} {f2} {w0} {w1} {w2} {done} {next} {u} {x} left all whole h k =
     put_as all (append_assoc done next left ∙ whole) (put_cut {a = done ++ next} left (put_then h k))
 
+-- ---- items, one after the other
+
 parts_whole : {X : Type 0} (f : X → List ℕ) (parts : List X) (i : ℕ) (d : X) → i < length parts
     → flat_map f (take i parts) ++ (f (get_or parts i d) ++ flat_map f (drop (i + 1) parts)) ≡ flat_map f parts
 parts_whole f parts i d lt =
-    sym (append_assoc (flat_map f (take i parts)) (f (get_or parts i d)) (flat_map f (drop (i + 1) parts)))
-    ∙ ap (λ (x : List ℕ). x ++ flat_map f (drop (i + 1) parts)) (parts_more f [] parts i d lt)
-    ∙ sym (flat_map-append f (take (i + 1) parts) (drop (i + 1) parts)) ∙ ap (flat_map f) (take-append-drop (i + 1) parts)
+    sym (append_assoc (flat_map f (take i parts)) (f (get_or parts i d)) (flat_map f (drop (i + 1) parts))) ∙ parts_split f parts i d lt
 
 -- the items before place i, and then the one there; an element that is a number has no name
 pub put_part : {X : Type 0} {t0 t1 t2 : Option (List ℕ)} {f0 f1 f2 : ℕ} {w0 w1 w2 : List ℕ} {u v : Unit {0}} (f : X → List ℕ) (items : List X) (i : ℕ) (d : X)
     → i < length items → Put (between t0 t1 f0 f1) w0 w1 (flat_map f (take i items)) (Ok u) → Put (between t1 t2 f1 f2) w1 w2 (f (get_or items i d)) (Ok v)
     → Put (between t0 t2 f0 f2) w0 w2 (flat_map f (take (i + 1) items)) (Ok tt)
-put_part f items i d lt h k = put_as (flat_map f (take (i + 1) items)) (parts_more f [] items i d lt) (put_then h k)
+put_part f items i d lt h k = put_as (flat_map f (take (i + 1) items)) (parts_more f items i d lt) (put_then h k)
 
+-- the items before place i, and then a prefix of the one there
 pub put_part_cut : {X : Type 0} {t0 t1 t2 : Option (List ℕ)} {f0 f1 f2 : ℕ} {w0 w1 w2 : List ℕ} {u : Unit {0}} {e : Failed} (f : X → List ℕ) (items : List X) (i : ℕ) (d : X)
     → i < length items → Put (between t0 t1 f0 f1) w0 w1 (flat_map f (take i items)) (Ok u) → Put (between t1 t2 f1 f2) w1 w2 (f (get_or items i d)) (Err e)
     → Put (between t0 t2 f0 f2) w0 w2 (flat_map f items) (Err e)
@@ -104,38 +129,47 @@ put_part_cut f items i d lt h k = put_cut_next (flat_map f (drop (i + 1) items))
 pub put_item : {X : Type 0} {t0 t1 t2 : Option (List ℕ)} {f0 f1 f2 : ℕ} {w0 w1 w2 text : List ℕ} {u v : Unit {0}} (f : X → List ℕ) (items : List X) (i : ℕ) (x : X)
     → i < length items → x ≡ get_or items i x → text ≡ f x → Put (between t0 t1 f0 f1) w0 w1 (flat_map f (take i items)) (Ok u) → Put (between t1 t2 f1 f2) w1 w2 text (Ok v)
     → Put (between t0 t2 f0 f2) w0 w2 (flat_map f (take (i + 1) items)) (Ok tt)
-put_item {X} {t0} {t1} {t2} {f0} {f1} {f2} {w0} {w1} {w2} {text} {u} {v} f items i x lt at' is h k =
-    put_as (flat_map f (take (i + 1) items))
-    (ap (λ (y : List ℕ). flat_map f (take i items) ++ y) (is ∙ ap f at') ∙ parts_more f [] items i x lt)
-    (put_then h k)
+put_item f items i x lt at' is h k = put_part f items i x lt h (put_as (f (get_or items i x)) (is ∙ ap f at') k)
 
--- the items before place i, and then a prefix of the one there
 pub put_item_cut : {X : Type 0} {t0 t1 t2 : Option (List ℕ)} {f0 f1 f2 : ℕ} {w0 w1 w2 text : List ℕ} {u : Unit {0}} {e : Failed} (f : X → List ℕ) (items : List X) (i : ℕ) (x : X)
     → i < length items → x ≡ get_or items i x → text ≡ f x → Put (between t0 t1 f0 f1) w0 w1 (flat_map f (take i items)) (Ok u) → Put (between t1 t2 f1 f2) w1 w2 text (Err e)
     → Put (between t0 t2 f0 f2) w0 w2 (flat_map f items) (Err e)
-put_item_cut {X} {t0} {t1} {t2} {f0} {f1} {f2} {w0} {w1} {w2} {text} {u} {e} f items i x lt at' is h k =
-    put_cut_next (flat_map f (drop (i + 1) items)) (flat_map f items)
-    (ap (λ (y : List ℕ). flat_map f (take i items) ++ (y ++ flat_map f (drop (i + 1) items))) (is ∙ ap f at') ∙ parts_whole f items i x lt) h k
+put_item_cut f items i x lt at' is h k = put_part_cut f items i x lt h (put_as (f (get_or items i x)) (is ∙ ap f at') k)
 
--- what waits goes on to the sink, after a buffer that began empty
-pub flushed : {t0 t1 t2 : Option (List ℕ)} {f0 f1 f2 : ℕ} {w0 w1 a : List ℕ} {u : Unit {0}} (r : Written) → w0 ≡ [] → Put (between t0 t1 f0 f1) w0 w1 a (Ok u)
-    → OnOk r (t2 ≡ appended t1 w1) → GrewByPrefix t1 t2 w1 → f1 ≤ f2 → OnErr r (Rose f1 f2) → Wrote (between t0 t2 f0 f2) a r
-flushed {t0} {t1} {t2} {f0} {f1} {f2} {w0} {w1} {a} {u} r empty h whole cut le rose =
+-- ---- what waits goes on to the sink
+
+-- what waits, and then a text that goes past the buffer
+pub put_past : {t0 t1 t2 : Option (List ℕ)} {f0 f1 f2 : ℕ} {w w' text : List ℕ} {u : Unit {0}} {r : Written} → w' ≡ [] → Wrote (between t0 t1 f0 f1) w (Ok u)
+    → Wrote (between t1 t2 f1 f2) text r → Put (between t0 t2 f0 f2) w w' text r
+put_past {t0} {t1} {t2} {f0} {f1} {f2} {w} {w'} {text} {u} {r} empty h k =
+    let both : Wrote (between t0 t2 f0 f2) (w ++ text) r = wrote_then h k in
+    record {
+      ok = where_ok r (t2 ≡ appended t0 (w ++ text)) (TookBut t0 t2 w' (w ++ text))
+          (λ all. record { front = w ++ text; whole = ap (λ (x : List ℕ). (w ++ text) ++ x) empty ∙ append-nil (w ++ text); grew = all }) both.ok;
+      prefix = both.prefix;
+      later = both.later;
+      failed = both.failed;
+    }
+
+-- what waits was cut
+pub put_stuck : {t0 t1 : Option (List ℕ)} {f0 f1 : ℕ} {w w' : List ℕ} {x : Failed} (text : List ℕ) → Wrote (between t0 t1 f0 f1) w (Err x)
+    → Put (between t0 t1 f0 f1) w w' text (Err x)
+put_stuck {t0} {t1} {f0} {f1} {w} {w'} {x} text h = record { ok = tt; prefix = prefix_of_first t0 t1 w text h.prefix; later = h.later; failed = h.failed }
+
+-- after a buffer that began empty
+pub flushed : {t0 t1 t2 : Option (List ℕ)} {f0 f1 f2 : ℕ} {w0 w1 a : List ℕ} {u : Unit {0}} {r : Written} → w0 ≡ [] → Put (between t0 t1 f0 f1) w0 w1 a (Ok u)
+    → Wrote (between t1 t2 f1 f2) w1 r → Wrote (between t0 t2 f0 f2) a r
+flushed {t0} {t1} {t2} {f0} {f1} {f2} {w0} {w1} {a} {u} {r} empty h k =
     let took : TookBut t0 t1 w1 a = subst (λ (w : List ℕ). TookBut t0 t1 w1 (w ++ a)) empty h.ok in
     record {
-      ok = where_ok r (t2 ≡ appended t1 w1) (t2 ≡ appended t0 a) (λ all. went_on t0 t1 t2 w1 a took all) whole;
-      prefix = cut_off t0 t1 t2 w1 a took cut;
-      later = omega (arith, h.later, le);
-      failed = where_err r (Rose f1 f2) (Rose f0 f2) (rose_earlier f0 f1 f2 h.later) rose;
+      ok = where_ok r (t2 ≡ appended t1 w1) (t2 ≡ appended t0 a) (went_on t0 t1 t2 w1 a took) k.ok;
+      prefix = cut_off t0 t1 t2 w1 a took k.prefix;
+      later = omega (arith, h.later, k.later);
+      failed = rose_earlier f0 f1 f2 r h.later k.failed;
     }
 
 -- a buffer that began empty was cut before its last bytes went on
 pub wrote_err : {t0 t1 : Option (List ℕ)} {f0 f1 : ℕ} {w0 w1 a : List ℕ} {x y : Failed} {r : Written} → w0 ≡ [] → r ≡ Err y → Put (between t0 t1 f0 f1) w0 w1 a (Err x)
     → Wrote (between t0 t1 f0 f1) a r
 wrote_err {t0} {t1} {f0} {f1} {w0} {w1} {a} {x} {y} {r} empty e h =
-    subst (λ (v : Written). Wrote (between t0 t1 f0 f1) a v) (sym e) (record {
-      ok = tt;
-      prefix = subst (λ (w : List ℕ). GrewByPrefix t0 t1 (w ++ a)) empty h.prefix;
-      later = h.later;
-      failed = h.failed;
-    })
+    wrote_failed e (record { ok = tt; prefix = subst (λ (w : List ℕ). GrewByPrefix t0 t1 (w ++ a)) empty h.prefix; later = h.later; failed = h.failed })

@@ -1,4 +1,4 @@
--- The devices of a run before and after a call.
+-- A sink and a store before and after a call.
 use Rattle.std.specs.Prelude.{ℕ, List, Option}
 use Rattle.base_io.specs.Files.{Files}
 
