@@ -1,0 +1,102 @@
+-- Lists fitted to a number of rows: they fall, their elements are positive, and they sum to it.
+use Rattle.std.proofs.Common.{◌≡◌, ℕ, zero, suc, ◌+◌, ◌-◌, ◌*◌, ◌<◌, ◌≤◌, ◌^◌, min, List, [], ◌∷◌, ◌++◌, map, length, take, get_or, replicate, refl, ap, sym, ◌∙◌, subst, sum, arith}
+use Rattle.std.specs.List.{AllByRecursion}
+use Rattle.std.proofs.lemmas.List.{append-nil, take_all, take_more}
+use Rattle.std.proofs.lemmas.List.Folds.{sum_by-replicate}
+use Rattle.std.proofs.lemmas.List.Sums.{sum_by-append}
+use Rattle.degree_sequences.specs.Falling.{IsFalling}
+use Rattle.degree_sequences.specs.RunningSums.{cut_at, running_sum, with_running_sums}
+use Rattle.degree_sequences.proofs.Minima.{IsFalling-cut_at, running_sum-cut_at}
+use Rattle.degree_sequences.proofs.RunningSums.{running_sum-past}
+use Rattle.piece_math.proofs.RunningMinima.{positive-falling_trimmed}
+use Rattle.safebound_lists.specs.declared.runs.Run.{Run}
+use Rattle.safebound_lists.specs.Runs.{AreRight, list_of, no_run, run_at}
+use Rattle.safebound_lists.proofs.Following.{elements_at_least, list_of_more, no_more_than_sum}
+use Rattle.safebound_bounds.specs.Meaning.{fitted}
+
+-- ---- a falling list and then a run of no larger elements
+
+run_falls : (n v : ℕ) → IsFalling (replicate n v)
+run_falls zero v r = omega arith
+run_falls (suc zero) v zero = omega arith
+run_falls (suc (suc n)) v zero = omega arith
+run_falls (suc n) v (suc r) = run_falls n v r
+
+first_of_run : (n v : ℕ) → get_or (replicate n v) 0 0 ≤ v
+first_of_run zero v = omega arith
+first_of_run (suc n) v = omega arith
+
+pub falls_on : (s : List ℕ) (v n : ℕ) → IsFalling s → AllByRecursion (λ x. v ≤ x) s → IsFalling (s ++ replicate n v)
+falls_on [] v n fall all r = run_falls n v r
+falls_on (x ∷ []) v n fall all zero = omega (arith, first_of_run n v, all.0)
+falls_on (x ∷ (y ∷ s)) v n fall all zero = fall 0
+falls_on (x ∷ s) v n fall all (suc r) = falls_on s v n (λ k. fall (suc k)) all.1 r
+
+-- ---- the list of right runs
+
+front_falls : (runs : List Run) → AreRight runs → (n : ℕ) → n ≤ length runs → IsFalling (list_of (take n runs))
+front_falls runs right zero low r = omega arith
+front_falls runs right (suc n) low r =
+    let here : n < length runs = omega arith in
+    let next : suc n ≡ n + 1 = omega arith in
+    let falls : IsFalling (list_of (take (suc n) runs)) =
+    subst IsFalling (sym (ap (λ k. list_of (take k runs)) next ∙ ap list_of (take_more runs n no_run here) ∙ list_of_more (take n runs) (run_at runs n)))
+    (falls_on (list_of (take n runs)) (run_at runs n).degree (run_at runs n).keys (front_falls runs right n (omega arith))
+    (elements_at_least (run_at runs n).degree (take n runs) (right n here).falls)) in
+    falls r
+
+pub right_falls : (runs : List Run) → AreRight runs → IsFalling (list_of runs)
+right_falls runs right = subst (λ (s : List Run). IsFalling (list_of s)) (take_all (length runs) runs (omega arith)) (front_falls runs right (length runs) (omega arith))
+
+-- ---- a fitted list
+
+pub positive_cut : (s : List ℕ) (n : ℕ) → IsFalling s → AllByRecursion (λ x. 0 < x) (cut_at s n)
+positive_cut s n fall = positive-falling_trimmed (with_running_sums (λ r. min (running_sum s r) n) (length s)) (IsFalling-cut_at s n fall)
+
+pub cut_sum : (s : List ℕ) (n : ℕ) → sum (cut_at s n) ≡ min (sum s) n
+cut_sum s n =
+    sym (running_sum-past (cut_at s n) (length s + length (cut_at s n)) (omega arith))
+    ∙ running_sum-cut_at s n (length s + length (cut_at s n))
+    ∙ ap (λ k. min k n) (running_sum-past s (length s + length (cut_at s n)) (omega arith))
+
+pub fitted_sum : (rows : ℕ) (s : List ℕ) → sum (fitted rows s) ≡ rows
+fitted_sum rows s =
+    omega (
+      arith,
+      cut_sum s rows,
+      sum_by-append (λ (x : ℕ). x) (cut_at s rows) (replicate (rows - sum (cut_at s rows)) 1),
+      sum_by-replicate (λ (x : ℕ). x) (rows - sum (cut_at s rows)) 1,
+    )
+
+pub one_or_more : (s : List ℕ) → AllByRecursion (λ x. 0 < x) s → AllByRecursion (λ x. 1 ≤ x) s
+one_or_more [] all = tt
+one_or_more (x ∷ s) all = (omega (arith, all.0), one_or_more s all.1)
+
+pub fitted_falls : (rows : ℕ) (s : List ℕ) → IsFalling s → IsFalling (fitted rows s)
+fitted_falls rows s fall = falls_on (cut_at s rows) 1 (rows - sum (cut_at s rows)) (IsFalling-cut_at s rows fall) (one_or_more (cut_at s rows) (positive_cut s rows fall))
+
+ones_positive : (n : ℕ) → AllByRecursion (λ x. 0 < x) (replicate n 1)
+ones_positive zero = tt
+ones_positive (suc n) = (omega arith, ones_positive n)
+
+both_positive : (s t : List ℕ) → AllByRecursion (λ x. 0 < x) s → AllByRecursion (λ x. 0 < x) t → AllByRecursion (λ x. 0 < x) (s ++ t)
+both_positive [] t all others = others
+both_positive (x ∷ s) t all others = (all.0, both_positive s t all.1 others)
+
+pub fitted_positive : (rows : ℕ) (s : List ℕ) → IsFalling s → AllByRecursion (λ x. 0 < x) (fitted rows s)
+fitted_positive rows s fall =
+    both_positive (cut_at s rows) (replicate (rows - sum (cut_at s rows)) 1) (positive_cut s rows fall) (ones_positive (rows - sum (cut_at s rows)))
+
+-- ---- as it is made
+
+-- the elements of a cut list are at least 1, and it has room for as many more as are left
+pub no_longer : (s : List ℕ) → AllByRecursion (λ x. 0 < x) s → length s ≤ sum s
+no_longer s all = no_more_than_sum s (one_or_more s all)
+
+pub made_full : (rows : ℕ) (s cut : List ℕ) → cut ≡ cut_at s rows → rows ≤ sum cut → cut ≡ fitted rows s
+made_full rows s cut is full =
+    let none : rows - sum (cut_at s rows) ≡ 0 = omega (arith, full, ap sum is) in
+    is ∙ sym (ap (λ n. cut_at s rows ++ replicate n 1) none ∙ append-nil (cut_at s rows))
+
+pub made_longer : (rows : ℕ) (s cut longer : List ℕ) → cut ≡ cut_at s rows → longer ≡ cut ++ replicate (rows - sum cut) 1 → longer ≡ fitted rows s
+made_longer rows s cut longer is pushed = pushed ∙ ap (λ (t : List ℕ). t ++ replicate (rows - sum t) 1) is

@@ -1,0 +1,4 @@
+pub mod Fitting
+pub mod WithoutValues
+pub mod Holding
+pub mod Bounded

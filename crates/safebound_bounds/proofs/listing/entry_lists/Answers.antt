@@ -1,0 +1,53 @@
+use Rattle.std.proofs.Common.{◌≡◌, ◌+◌, ◌<◌, ◌≤◌, ◌++◌, ◌∷◌, [], ℕ, List, length, take, get_or, refl, ap, sym, ◌∙◌, subst, arith}
+use Rattle.std.specs.Prelude.{Some}
+use Rattle.std.proofs.lemmas.List.{take_all, take_more}
+use Rattle.safebound_lists.specs.declared.runs.Run.{Run}
+use Rattle.safebound_lists.specs.Runs.{AreRight, list_of}
+use Rattle.safebound_bounds.specs.declared.arguments.ColumnList.{ColumnList}
+use Rattle.safebound_bounds.specs.Arguments.{AreRunsRightAt, IsRightListAt, list_at, no_list, runs_of}
+use Rattle.safebound_bounds.specs.Listed.{Holds}
+use Rattle.safebound_bounds.specs.Meaning.{fitted}
+use Rattle.safebound_bounds.proofs.Holding.{list_more, not_held, rows_there, without_lists}
+use Rattle.safebound_bounds.proofs.listing.entry_lists.Goals as goal
+
+pub loop-list-init : goal.loop-list-init
+loop-list-init c = without_lists c.args.rows.now (length c.args.rows.now) c.args.runs.now c.in_ok-known.known c.in_ok-known.ensures
+
+pub own_runs-own-requires : goal.own_runs-own-requires
+own_runs-own-requires c = (c.requires.lists c.loop-list.list-index c.loop-list-test.true).there
+
+pub bounds-rows-list : goal.bounds-rows-list
+bounds-rows-list c = (c.requires.lists c.loop-list.list-index c.loop-list-test.true).entry
+
+pub fitted-requires : goal.fitted-requires
+fitted-requires c =
+    let right : IsRightListAt (length c.args.rows.now) (length c.args.runs.now) c.args.lists.now c.loop-list.list-index = c.requires.lists c.loop-list.list-index c.loop-list-test.true in
+    record {
+      rows = c.requires.rows (list_at c.args.lists.now c.loop-list.list-index).entry right.entry;
+      right = subst AreRight (sym c.own_runs-own.ensures) (c.requires.runs c.loop-list.list-index c.loop-list-test.true);
+    }
+
+pub add-requires : goal.add-requires
+add-requires c =
+    let right : IsRightListAt (length c.args.rows.now) (length c.args.runs.now) c.args.lists.now c.loop-list.list-index = c.requires.lists c.loop-list.list-index c.loop-list-test.true in
+    record {
+      total = rows_there c.args.rows.now (length c.args.rows.now) (take c.loop-list.list-index c.args.lists.now) c.args.runs.now c.loop-list.known c.loop-list.invariant
+          (list_at c.args.lists.now c.loop-list.list-index).entry right.entry ∙ ap Some (sym c.in_ok-fitting.ensures.total);
+      no_list = not_held c.args.rows.now (length c.args.rows.now) (take c.loop-list.list-index c.args.lists.now) c.args.runs.now c.loop-list.known
+          (list_at c.args.lists.now c.loop-list.list-index).entry (list_at c.args.lists.now c.loop-list.list-index).column c.loop-list.invariant right.once;
+    }
+
+pub loop-list-preserved : goal.loop-list-preserved
+loop-list-preserved c =
+    let right : IsRightListAt (length c.args.rows.now) (length c.args.runs.now) c.args.lists.now c.loop-list.list-index = c.requires.lists c.loop-list.list-index c.loop-list-test.true in
+    subst (λ (s : List ColumnList). Holds c.args.rows.now (length c.args.rows.now) s c.args.runs.now c.add.new.self)
+    (sym (take_more c.args.lists.now c.loop-list.list-index no_list c.loop-list-test.true))
+    (list_more c.args.rows.now (length c.args.rows.now) (take c.loop-list.list-index c.args.lists.now) c.args.runs.now (list_at c.args.lists.now c.loop-list.list-index)
+    c.loop-list.known c.add.new.self c.in_ok-fitting.fitting c.loop-list.invariant right.once
+    (c.in_ok-fitting.ensures.list ∙ ap (λ (own : List Run). fitted (get_or c.args.rows.now (list_at c.args.lists.now c.loop-list.list-index).entry 0) (list_of own)) c.own_runs-own.ensures)
+    c.in_ok-add.ensures.set c.in_ok-add.ensures.others c.in_ok-add.ensures.rows)
+
+pub returns : goal.returns
+returns c =
+    subst (λ (s : List ColumnList). Holds c.args.rows.now (length c.args.rows.now) s c.args.runs.now c.loop-list.known)
+    (take_all c.loop-list.list-index c.args.lists.now (omega arith)) c.loop-list.invariant

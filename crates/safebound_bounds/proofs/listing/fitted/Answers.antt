@@ -1,0 +1,45 @@
+use Rattle.std.proofs.Common.{◌≡◌, ◌+◌, ◌-◌, ◌<◌, ◌≤◌, ◌^◌, ◌++◌, ℕ, List, length, replicate, sum, ap, sym, ◌∙◌, subst, arith}
+use Rattle.std.specs.List.{All}
+use Rattle.degree_sequences.specs.Falling.{IsFalling}
+use Rattle.degree_sequences.specs.RunningSums.{cut_at}
+use Rattle.piece_math.proofs.Expansion.{All-from_recursion}
+use Rattle.safebound_lists.specs.Runs.{list_of}
+use Rattle.safebound_bounds.specs.Meaning.{fitted}
+use Rattle.safebound_bounds.proofs.Fitting.{cut_sum, fitted_sum, made_full, made_longer, no_longer, one_or_more, positive_cut, right_falls}
+use Rattle.safebound_bounds.proofs.listing.fitted.Goals as goal
+use Rattle.safebound_bounds.proofs.listing.fitted.Goals.{then-total-rows+in_ok-push_run, else-total-rows}
+
+pub overflow_cast-total : goal.overflow_cast-total
+overflow_cast-total c = omega (arith, c.total-total.ensures, ap sum c.in_ok-cut.ensures.value, cut_sum c.in_ok-list.list c.args.rows)
+
+pub push_run-requires-clause-falls : goal.push_run-requires-clause-falls
+push_run-requires-clause-falls c =
+    let falls : IsFalling c.in_ok-list.list = subst IsFalling (sym c.in_ok-list.ensures.pieces) (right_falls c.args.runs.now c.requires.right) in
+    subst (All (λ x. 1 ≤ x)) (sym c.in_ok-cut.ensures.value)
+    (All-from_recursion (λ x. 1 ≤ x) (cut_at c.in_ok-list.list c.args.rows) (one_or_more (cut_at c.in_ok-list.list c.args.rows) (positive_cut c.in_ok-list.list c.args.rows falls)))
+
+pub push_run-requires-clause-room : goal.push_run-requires-clause-room
+push_run-requires-clause-room c =
+    let falls : IsFalling c.in_ok-list.list = subst IsFalling (sym c.in_ok-list.ensures.pieces) (right_falls c.args.runs.now c.requires.right) in
+    omega (
+      arith,
+      ap length c.in_ok-cut.ensures.value,
+      no_longer (cut_at c.in_ok-list.list c.args.rows) (positive_cut c.in_ok-list.list c.args.rows falls),
+      cut_sum c.in_ok-list.list c.args.rows,
+      c.requires.rows,
+    )
+
+pub returns-clause-list : goal.returns-clause-list
+returns-clause-list c =
+    let same : fitted c.args.rows c.in_ok-list.list ≡ fitted c.args.rows (list_of c.args.runs.now) = ap (fitted c.args.rows) c.in_ok-list.ensures.pieces in
+    let total : sum c.in_ok-cut.cut ≤ c.args.rows = omega (arith, ap sum c.in_ok-cut.ensures.value, cut_sum c.in_ok-list.list c.args.rows) in
+    let is : c.total-total.result ≡ sum c.in_ok-cut.cut = omega (arith, c.total-total.ensures, total, c.requires.rows) in
+    elim c.if-total-rows.branch [
+      | then-total-rows+in_ok-push_run w ↦ w.cut-is
+          ∙ made_longer c.args.rows c.in_ok-list.list c.in_ok-cut.cut w.push_run.new.self c.in_ok-cut.ensures.value
+          (w.in_ok-push_run.ensures.ok ∙ ap (λ n. c.in_ok-cut.cut ++ replicate (c.args.rows - n) 1) is) ∙ same
+      | else-total-rows w ↦ w.cut-is ∙ made_full c.args.rows c.in_ok-list.list c.in_ok-cut.cut c.in_ok-cut.ensures.value (omega (arith, is, w.if-total-rows.false)) ∙ same
+    ]
+
+pub returns-clause-total : goal.returns-clause-total
+returns-clause-total c = ap sum (returns-clause-list c) ∙ fitted_sum c.args.rows (list_of c.args.runs.now)

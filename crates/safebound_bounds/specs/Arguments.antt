@@ -1,0 +1,72 @@
+-- Which values of a query are right.
+use Rattle.std.specs.Prelude.{◌≡◌, ◌≢◌, ℕ, ◌+◌, ◌<◌, ◌≤◌, Bool, true, false, ◌==◌, ◌&&◌, List, length, take, drop, slice_index, slice_index_or}
+use Rattle.std.specs.List.{list_any}
+use Rattle.limits.specs.Profile.{greatest_rows}
+use Rattle.safebound_lists.specs.declared.runs.Run.{Run}
+use Rattle.safebound_lists.specs.First.{IsFirstWrong}
+use Rattle.safebound_lists.specs.Runs.{AreRight, IsRightAt}
+use Rattle.safebound_bounds.specs.declared.arguments.ColumnList.{ColumnList}
+use Rattle.safebound_bounds.specs.declared.arguments.Equality.{Equality}
+
+-- ---- row bounds
+
+abbrev pub IsRowsRightAt : List ℕ → ℕ → Type 0
+IsRowsRightAt rows i = slice_index rows i ≤ greatest_rows
+
+-- ---- equalities
+
+abbrev pub no_equality : Equality
+no_equality = record { left_entry = 0; left_column = 0; right_entry = 0; right_column = 0 }
+
+abbrev pub equality_at : List Equality → ℕ → Equality
+equality_at equalities i = slice_index_or equalities i no_equality
+
+-- both entries are there, and they are two
+pub record IsEqualityRight (entries : ℕ) (equality : Equality) : Type 0 where
+  pub left : equality.left_entry < entries
+  pub right : equality.right_entry < entries
+  pub two : equality.left_entry ≢ equality.right_entry
+
+-- ---- lists
+
+abbrev pub no_list : ColumnList
+no_list = record { entry = 0; column = 0; first = 0; length = 0 }
+
+abbrev pub list_at : List ColumnList → ℕ → ColumnList
+list_at lists i = slice_index_or lists i no_list
+
+-- the list is of this column
+abbrev pub is_of : ℕ → ℕ → ColumnList → Bool
+is_of entry column list = list.entry == entry && list.column == column
+
+-- its entry is there, it has runs, they are there, and no list before it is of its column
+pub record IsListRight (entries runs : ℕ) (before : List ColumnList) (list : ColumnList) : Type 0 where
+  pub entry : list.entry < entries
+  pub some : 0 < list.length
+  pub there : list.first + list.length ≤ runs
+  pub once : list_any (is_of list.entry list.column) before ≡ false
+
+abbrev pub IsRightListAt : ℕ → ℕ → List ColumnList → ℕ → Type 0
+IsRightListAt entries runs lists i = IsListRight entries runs (take i lists) (list_at lists i)
+
+-- ---- runs
+
+-- the runs of a list
+abbrev pub runs_of : List Run → ColumnList → List Run
+runs_of runs list = take list.length (drop list.first runs)
+
+abbrev pub AreRunsRightAt : List ColumnList → List Run → ℕ → Type 0
+AreRunsRightAt lists runs i = AreRight (runs_of runs (list_at lists i))
+
+-- the first list with a wrong run, and in it the first that is wrong
+pub record IsWrongRun (lists : List ColumnList) (runs : List Run) (place : ℕ) : Type 0 where
+  pub list : ℕ
+  pub first_list : IsFirstWrong (AreRunsRightAt lists runs) (length lists) list
+  pub run : ℕ
+  pub first_run : IsFirstWrong (IsRightAt (runs_of runs (list_at lists list))) (length (runs_of runs (list_at lists list))) run
+  pub at : place ≡ (list_at lists list).first + run
+
+-- ---- both columns of an equality have a list
+pub record AreListed (lists : List ColumnList) (equality : Equality) : Type 0 where
+  pub left : list_any (is_of equality.left_entry equality.left_column) lists ≡ true
+  pub right : list_any (is_of equality.right_entry equality.right_column) lists ≡ true

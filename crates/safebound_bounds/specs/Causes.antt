@@ -1,0 +1,62 @@
+-- Why a call for bounds refuses. A cause says too that none applies which the call looks for before it, so one answer at most is right, beside
+-- want of memory.
+use Rattle.std.specs.Prelude.{◌≡◌, ◌⊎◌, ℕ, ◌^◌, ◌<◌, ◌≤◌, ⊤, List, length}
+use Rattle.limits.specs.Profile.{most_conjuncts, most_entries}
+use Rattle.safebound_lists.specs.declared.refusal.Refusal.{Refusal}
+use Rattle.safebound_lists.specs.declared.refusal.Refusal.TheVariants as refusal
+use Rattle.safebound_lists.specs.declared.runs.Run.{Run}
+use Rattle.safebound_lists.specs.First.{IsFirstWrong}
+use Rattle.safebound_bounds.specs.declared.arguments.ColumnList.{ColumnList}
+use Rattle.safebound_bounds.specs.declared.arguments.Equality.{Equality}
+use Rattle.safebound_bounds.specs.Arguments.{AreListed, AreRunsRightAt, IsEqualityRight, IsRightListAt, IsRowsRightAt, IsWrongRun, equality_at}
+
+-- there are 1 to 12 entries, each with a row bound that is right
+pub record AreRowsRight (rows : List ℕ) : Type 0 where
+  pub some : 1 ≤ length rows
+  pub few : length rows ≤ most_entries
+  pub each : (i : ℕ) → i < length rows → IsRowsRightAt rows i
+
+-- there are at most 256 equalities, each of them right
+pub record AreEqualitiesRight (entries : ℕ) (equalities : List Equality) : Type 0 where
+  pub few : length equalities ≤ most_conjuncts
+  pub each : (i : ℕ) → i < length equalities → IsEqualityRight entries (equality_at equalities i)
+
+-- each list is right, its runs aside
+abbrev pub AreListsRight : ℕ → ℕ → List ColumnList → Type 0
+AreListsRight entries runs lists = (i : ℕ) → i < length lists → IsRightListAt entries runs lists i
+
+-- the runs of each list are right
+abbrev pub AreRunsRight : List ColumnList → List Run → Type 0
+AreRunsRight lists runs = (i : ℕ) → i < length lists → AreRunsRightAt lists runs i
+
+-- every value is right
+pub record IsRight (rows : List ℕ) (equalities : List Equality) (lists : List ColumnList) (runs : List Run) : Type 0 where
+  pub rows_right : AreRowsRight rows
+  pub equalities_right : AreEqualitiesRight (length rows) equalities
+  pub lists_right : AreListsRight (length rows) (length runs) lists
+  pub runs_right : AreRunsRight lists runs
+  pub listed : (i : ℕ) → i < length equalities → AreListed lists (equality_at equalities i)
+
+-- another number of entries than 1 to 12, a row bound, equality, list or run that is the first wrong one, too many equalities, a column
+-- without a list, too little room, or want of memory, which needs no cause
+abbrev pub IsBoundsCause : List ℕ → List Equality → List ColumnList → List Run → ℕ → Refusal → Type 0
+IsBoundsCause rows equalities lists runs room (refusal.Entries count) = (count ≡ length rows) × ((count ≡ 0) ⊎ (most_entries < count))
+IsBoundsCause rows equalities lists runs room (refusal.Rows place) =
+    (1 ≤ length rows) × (length rows ≤ most_entries) × IsFirstWrong (IsRowsRightAt rows) (length rows) place
+IsBoundsCause rows equalities lists runs room (refusal.Equalities count) = AreRowsRight rows × (count ≡ length equalities) × (most_conjuncts < count)
+IsBoundsCause rows equalities lists runs room (refusal.Equality place) =
+    AreRowsRight rows × (length equalities ≤ most_conjuncts)
+    × IsFirstWrong (λ i. IsEqualityRight (length rows) (equality_at equalities i)) (length equalities) place
+IsBoundsCause rows equalities lists runs room (refusal.List place) =
+    AreRowsRight rows × AreEqualitiesRight (length rows) equalities
+    × IsFirstWrong (IsRightListAt (length rows) (length runs) lists) (length lists) place
+IsBoundsCause rows equalities lists runs room (refusal.Run place) =
+    AreRowsRight rows × AreEqualitiesRight (length rows) equalities × AreListsRight (length rows) (length runs) lists
+    × IsWrongRun lists runs place
+IsBoundsCause rows equalities lists runs room (refusal.MissingList place) =
+    AreRowsRight rows × AreEqualitiesRight (length rows) equalities × AreListsRight (length rows) (length runs) lists
+    × AreRunsRight lists runs × IsFirstWrong (λ i. AreListed lists (equality_at equalities i)) (length equalities) place
+IsBoundsCause rows equalities lists runs room (refusal.Room needed) =
+    IsRight rows equalities lists runs × (needed ≡ 2 ^ length rows) × (room < needed)
+IsBoundsCause rows equalities lists runs room refusal.NoMemory = ⊤
+IsBoundsCause rows equalities lists runs room _ = ⊥

@@ -1,0 +1,54 @@
+-- Tables in which rows may have no value in a column, and when what is handed in holds of them.
+use Rattle.std.specs.Prelude.{◌≡◌, ℕ, ◌+◌, ◌<◌, ◌≤◌, List, [], ◌∷◌, length, slice_index, slice_index_or, unwrap_or, Option, Some, None}
+use Rattle.std.specs.List.{AllByRecursion}
+use Rattle.limits.specs.Profile.{greatest_rows}
+use Rattle.degree_sequences.specs.Domination.{DominatesKeys}
+use Rattle.berge_tree.specs.declared.edges.Edge.{Edge}
+use Rattle.entry_sets.specs.Sets.{entries_of_set}
+use Rattle.join_graph.specs.Kept.{equalities_within}
+use Rattle.tree_bounds.specs.Columns.{EachNamedColumn}
+
+-- how many rows the table of each entry has, and for each of its columns the values of these rows
+pub record ValuedTables : Type 0 where
+  pub rows : ℕ → ℕ
+  pub values : ℕ → ℕ → List (Option ℕ)
+
+-- the values that are there
+abbrev pub present : List (Option ℕ) → List ℕ
+present [] = []
+present (None ∷ values) = present values
+present (Some value ∷ values) = value ∷ present values
+
+-- keys for rows from number i on: a row without a value has a key of its own, below all that are made of values
+abbrev pub keys_from : ℕ → List (Option ℕ) → List ℕ
+keys_from i [] = []
+keys_from i (None ∷ values) = i ∷ keys_from (i + 1) values
+keys_from i (Some value ∷ values) = (value + greatest_rows) ∷ keys_from (i + 1) values
+
+abbrev pub keys_of : List (Option ℕ) → List ℕ
+keys_of values = keys_from 0 values
+
+-- the value of the chosen row in a column
+abbrev pub value_of : ValuedTables → (ℕ → ℕ) → ℕ → ℕ → Option ℕ
+value_of tables choice entry column = slice_index_or (tables.values entry column) (choice entry) None
+
+-- both rows have a value there, and it is the same
+abbrev pub Match : Option ℕ → Option ℕ → Type 0
+Match None right = ⊥
+Match (Some left) None = ⊥
+Match (Some left) (Some right) = left ≡ right
+
+-- the choice takes a row for each entry of a list, and in each equality the values match
+pub record SatisfiesValues (tables : ValuedTables) (entries : List ℕ) (es : List Edge) (choice : ℕ → ℕ) : Type 0 where
+  pub rows : AllByRecursion (λ entry. choice entry < tables.rows entry) entries
+  pub equal : AllByRecursion (λ e. Match (value_of tables choice e.left.entry e.left.column) (value_of tables choice e.right.entry e.right.column)) es
+
+-- the list that is given for a column dominates the values that are there; each row has a value or none
+pub record FitsColumn (given : ℕ → ℕ → Option (List ℕ)) (tables : ValuedTables) (entry column : ℕ) : Type 0 where
+  pub values : DominatesKeys (unwrap_or (given entry column) []) (present (tables.values entry column))
+  pub one_each : length (tables.values entry column) ≡ tables.rows entry
+
+-- each entry of a set has at most so many rows, and each column that an equality of the set names fits its list
+pub record ValuesFit (rows : List ℕ) (given : ℕ → ℕ → Option (List ℕ)) (tables : ValuedTables) (es : List Edge) (subset : ℕ) : Type 0 where
+  pub entries : AllByRecursion (λ entry. tables.rows entry ≤ slice_index rows entry) (entries_of_set subset)
+  pub columns : EachNamedColumn (FitsColumn given tables) (equalities_within subset es)

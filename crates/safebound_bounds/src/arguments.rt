@@ -1,0 +1,21 @@
+//! What a caller hands in beside row bounds and runs.
+
+/// An equality between columns of two different entries.
+#[repr(C)]
+#[derive(Clone, Copy, Debug, PartialEq, Eq)]
+pub struct Equality {
+    pub left_entry: u32,
+    pub left_column: u32,
+    pub right_entry: u32,
+    pub right_column: u32,
+}
+
+/// The list of an entry's column: so many of the call's runs, from one on.
+#[repr(C)]
+#[derive(Clone, Copy, Debug, PartialEq, Eq)]
+pub struct ColumnList {
+    pub entry: u32,
+    pub column: u32,
+    pub first: u64,
+    pub length: u64,
+}

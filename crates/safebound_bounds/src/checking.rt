@@ -1,0 +1,114 @@
+//! Which value is the first wrong one. None of this takes memory.
+ghost use Rattle.std.specs.Prelude.{◌≡◌, ◌+◌, ◌<◌, ◌≤◌, ◌↔◌, ℕ, length, IsTrue, MatchOption};
+ghost use Rattle.std.specs.List.{list_any};
+ghost use Rattle.safebound_lists.specs.First.{IsFirstWrong};
+ghost use Rattle.safebound_bounds.specs.Arguments.{AreListed, AreRunsRightAt, IsEqualityRight, IsListRight, IsRightListAt, IsRowsRightAt, IsWrongRun, equality_at, is_of, list_at, runs_of};
+
+use crate::arguments::{ColumnList, Equality};
+use limits::GREATEST_ROWS;
+use safebound_lists::{Run, first_wrong_run};
+
+pub(crate) fn first_wrong_rows(rows: &[u64]) -> Option<usize>
+    ensures { MatchOption result ((i : ℕ) → i < length rows.now → IsRowsRightAt rows.now i)
+        (IsFirstWrong (IsRowsRightAt rows.now) (length rows.now)) }
+{
+    for (place, most) in rows.iter().enumerate() {
+        if *most > GREATEST_ROWS {
+            return Some(place);
+        }
+    }
+    None
+}
+
+fn is_right(entries: usize, equality: Equality) -> bool
+    ensures { IsTrue result ↔ IsEqualityRight entries equality }
+{
+    (equality.left_entry as usize) < entries
+        && (equality.right_entry as usize) < entries
+        && equality.left_entry != equality.right_entry
+}
+
+pub(crate) fn first_wrong_equality(entries: usize, equalities: &[Equality]) -> Option<usize>
+    ensures { MatchOption result ((i : ℕ) → i < length equalities.now → IsEqualityRight entries (equality_at equalities.now i))
+        (IsFirstWrong (λ i. IsEqualityRight entries (equality_at equalities.now i)) (length equalities.now)) }
+{
+    for (place, equality) in equalities.iter().enumerate() {
+        if !is_right(entries, *equality) {
+            return Some(place);
+        }
+    }
+    None
+}
+
+// Whether one of the lists is of a column.
+fn is_listed(lists: &[ColumnList], entry: u32, column: u32) -> bool
+    ensures { result ≡ list_any (is_of entry column) lists.now }
+{
+    lists
+        .iter()
+        .any(|list| list.entry == entry && list.column == column)
+}
+
+fn is_list_right(entries: usize, runs: usize, before: &[ColumnList], list: ColumnList) -> bool
+    ensures { IsTrue result ↔ IsListRight entries runs before.now list }
+{
+    if list.entry as usize >= entries || list.length == 0 {
+        return false;
+    }
+    if list.first > runs as u64 || list.length > runs as u64 - list.first {
+        return false;
+    }
+    !is_listed(before, list.entry, list.column)
+}
+
+pub(crate) fn first_wrong_list(entries: usize, runs: usize, lists: &[ColumnList]) -> Option<usize>
+    ensures { MatchOption result ((i : ℕ) → i < length lists.now → IsRightListAt entries runs lists.now i)
+        (IsFirstWrong (IsRightListAt entries runs lists.now) (length lists.now)) }
+{
+    for (place, list) in lists.iter().enumerate() {
+        if !is_list_right(entries, runs, &lists[..place], *list) {
+            return Some(place);
+        }
+    }
+    None
+}
+
+/// The runs of a list that are there.
+pub(crate) fn own_runs<'a>(runs: &'a [Run], list: ColumnList) -> &'a [Run]
+    requires { list.first + list.length ≤ length runs.now }
+    ensures { result.now ≡ runs_of runs.now list }
+{
+    &runs[list.first as usize..(list.first + list.length) as usize]
+}
+
+pub(crate) fn first_wrong_run_of(lists: &[ColumnList], runs: &[Run]) -> Option<u64>
+    requires { (i : ℕ) → i < length lists.now → (list_at lists.now i).first + (list_at lists.now i).length ≤ length runs.now }
+    ensures { MatchOption result ((i : ℕ) → i < length lists.now → AreRunsRightAt lists.now runs.now i) (IsWrongRun lists.now runs.now) }
+{
+    for list in lists {
+        let own = own_runs(runs, *list);
+        if let Some(place) = first_wrong_run(own) {
+            return Some(list.first + place as u64);
+        }
+    }
+    None
+}
+
+fn are_listed(lists: &[ColumnList], equality: Equality) -> bool
+    ensures { IsTrue result ↔ AreListed lists.now equality }
+{
+    is_listed(lists, equality.left_entry, equality.left_column)
+        && is_listed(lists, equality.right_entry, equality.right_column)
+}
+
+pub(crate) fn first_missing(lists: &[ColumnList], equalities: &[Equality]) -> Option<usize>
+    ensures { MatchOption result ((i : ℕ) → i < length equalities.now → AreListed lists.now (equality_at equalities.now i))
+        (IsFirstWrong (λ i. AreListed lists.now (equality_at equalities.now i)) (length equalities.now)) }
+{
+    for (place, equality) in equalities.iter().enumerate() {
+        if !are_listed(lists, *equality) {
+            return Some(place);
+        }
+    }
+    None
+}

@@ -1,0 +1,29 @@
+-- A status of 0 tells that all was done.
+use Rattle.std.proofs.Common.{◌≡◌, ℕ, refl, sym, ◌∙◌, arith}
+use Rattle.std.specs.Prelude.{Result, Ok, Err, OnOk}
+use Rattle.safebound_lists.specs.declared.refusal.Refusal.{Refusal}
+use Rattle.safebound_lists.specs.declared.refusal.Refusal.TheVariants as refusal
+use Rattle.safebound_c.specs.Status.{status_of, status_of_refusal}
+
+refused_so : (why : Refusal) → status_of_refusal why ≡ 0 → ⊥
+refused_so (refusal.Room needed) h = omega arith
+refused_so refusal.NoMemory h = omega arith
+refused_so (refusal.Budget least) h = omega arith
+refused_so refusal.PastBits h = omega arith
+refused_so (refusal.Keys count) h = omega arith
+refused_so (refusal.Accuracy given) h = omega arith
+refused_so (refusal.Run place) h = omega arith
+refused_so (refusal.OtherRun place) h = omega arith
+refused_so (refusal.Sum sum) h = omega arith
+refused_so (refusal.Entries count) h = omega arith
+refused_so (refusal.Rows place) h = omega arith
+refused_so (refusal.Equalities count) h = omega arith
+refused_so (refusal.Equality place) h = omega arith
+refused_so (refusal.List place) h = omega arith
+refused_so (refusal.MissingList place) h = omega arith
+refused_so (refusal.Bounds count) h = omega arith
+refused_so (refusal.GivenBudget given) h = omega arith
+
+pub done_so : (P : Type 0) (answer : Result ℕ Refusal) (status : ℕ) → status ≡ status_of answer → status ≡ 0 → OnOk answer P → P
+done_so P (Ok count) status is zero h = h
+done_so P (Err why) status is zero h = absurd (refused_so why (sym is ∙ zero))

@@ -1,0 +1,66 @@
+-- What a status and the number behind `detail` stand for.
+use Rattle.std.specs.Prelude.{◌≡◌, ℕ, List, Result, Ok, Err, IfErr, IfOk, OnErr}
+use Rattle.safebound_lists.specs.declared.refusal.Refusal.{Refusal}
+use Rattle.safebound_lists.specs.declared.refusal.Refusal.TheVariants as refusal
+
+-- all was done
+abbrev pub done : ℕ
+done = 0
+
+abbrev pub status_of_refusal : Refusal → ℕ
+status_of_refusal (refusal.Room needed) = 1
+status_of_refusal refusal.NoMemory = 2
+status_of_refusal (refusal.Budget least) = 3
+status_of_refusal refusal.PastBits = 4
+status_of_refusal (refusal.Keys count) = 16
+status_of_refusal (refusal.Accuracy given) = 17
+status_of_refusal (refusal.Run place) = 18
+status_of_refusal (refusal.OtherRun place) = 19
+status_of_refusal (refusal.Sum sum) = 20
+status_of_refusal (refusal.Entries count) = 21
+status_of_refusal (refusal.Rows place) = 22
+status_of_refusal (refusal.Equalities count) = 23
+status_of_refusal (refusal.Equality place) = 24
+status_of_refusal (refusal.List place) = 25
+status_of_refusal (refusal.MissingList place) = 26
+status_of_refusal (refusal.Bounds count) = 27
+status_of_refusal (refusal.GivenBudget given) = 28
+
+-- the number that goes with it, or the old one where none does
+abbrev pub detail_of_refusal : Refusal → ℕ → ℕ
+detail_of_refusal (refusal.Room needed) old = needed
+detail_of_refusal refusal.NoMemory old = old
+detail_of_refusal (refusal.Budget least) old = least
+detail_of_refusal refusal.PastBits old = old
+detail_of_refusal (refusal.Keys count) old = count
+detail_of_refusal (refusal.Accuracy given) old = given
+detail_of_refusal (refusal.Run place) old = place
+detail_of_refusal (refusal.OtherRun place) old = place
+detail_of_refusal (refusal.Sum sum) old = sum
+detail_of_refusal (refusal.Entries count) old = count
+detail_of_refusal (refusal.Rows place) old = place
+detail_of_refusal (refusal.Equalities count) old = count
+detail_of_refusal (refusal.Equality place) old = place
+detail_of_refusal (refusal.List place) old = place
+detail_of_refusal (refusal.MissingList place) old = place
+detail_of_refusal (refusal.Bounds count) old = count
+detail_of_refusal (refusal.GivenBudget given) old = given
+
+-- an answer is how many elements were written, or a refusal
+abbrev pub status_of : Result ℕ Refusal → ℕ
+status_of (Ok count) = done
+status_of (Err why) = status_of_refusal why
+
+abbrev pub detail_of : Result ℕ Refusal → ℕ → ℕ
+detail_of (Ok count) old = count
+detail_of (Err why) old = detail_of_refusal why old
+
+-- The status and the number behind `detail` tell an answer, and it is right: what was done is done, a refusal has its cause, and on one the
+-- room is as it was.
+pub record Tells {A : Type 0} (Done : ℕ → Type 0) (Cause : Refusal → Type 0) (old new : List A) (before status after : ℕ) : Type 0 where
+  pub answer : Result ℕ Refusal
+  pub told : status ≡ status_of answer
+  pub detail : after ≡ detail_of answer before
+  pub done : IfOk answer Done
+  pub refused : IfErr answer Cause
+  pub kept : OnErr answer (new ≡ old)

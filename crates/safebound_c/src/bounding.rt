@@ -1,0 +1,43 @@
+//! The call for bounds.
+ghost use Rattle.std.specs.Prelude.{◌≡◌, ◌⊎◌, ◌^◌, ◌<◌, ◌≤◌, ℕ, List, length, slice_index};
+ghost use Rattle.std.specs.List.{AllByRecursion};
+ghost use Rattle.entry_sets.specs.Sets.{entries_of_set};
+ghost use Rattle.join_graph.specs.Kept.{equalities_within};
+ghost use Rattle.tree_bounds.specs.Tables.{AreDifferent};
+ghost use Rattle.safebound_lists.specs.Written.{IsFilled};
+ghost use Rattle.safebound_bounds.specs.Causes.{IsBoundsCause, IsRight};
+ghost use Rattle.safebound_bounds.specs.Meaning.{all_bounds, edges_of, given, known, no_bound};
+ghost use Rattle.safebound_bounds.specs.Values.{SatisfiesValues, ValuedTables, ValuesFit};
+ghost use Rattle.safebound_c.specs.Status.{Tells, done};
+
+use crate::status::told;
+use safebound_bounds::{ColumnList, Equality, bounds};
+use safebound_lists::Run;
+use std::alloc::Global;
+
+/// Writes the bounds of all sets of entries, in rows, each at the number whose bits are the set.
+///
+/// Never under: where the row bounds and lists fit tables, in which rows may be without values, no set has more choices of one row for each
+/// of its entries that satisfy its equalities than its bound says, or the bound is 2^64 - 1.
+#[unsafe(no_mangle)]
+pub extern "C" fn safebound_bounds(
+    alloc: Global,
+    rows: &[u64],
+    equalities: &[Equality],
+    lists: &[ColumnList],
+    runs: &[Run],
+    into: &mut [u64],
+    detail: &mut u64,
+) -> u32
+    ensures exact { Tells (IsFilled (all_bounds (known rows.now lists.now runs.now) (edges_of equalities.now) (length rows.now)) into.old into.new)
+        (IsBoundsCause rows.now equalities.now lists.now runs.now (length into.old)) into.old into.new detail.old result detail.new }
+    ensures right { result ≡ done → IsRight rows.now equalities.now lists.now runs.now }
+    ensures never_under { result ≡ done → (subset : ℕ) → subset < 2 ^ length rows.now
+        → (tables : ValuedTables) → ValuesFit rows.now (given lists.now runs.now) tables (edges_of equalities.now) subset
+        → (choices : List (ℕ → ℕ))
+        → AllByRecursion (SatisfiesValues tables (entries_of_set subset) (equalities_within subset (edges_of equalities.now))) choices
+        → AreDifferent (entries_of_set subset) choices
+        → (length choices ≤ slice_index into.new subset) ⊎ (slice_index into.new subset ≡ no_bound) }
+{
+    told(bounds(alloc, rows, equalities, lists, runs, into), detail)
+}

@@ -1,0 +1,16 @@
+//! The library as C sees it: each call of include/safebound.h, thin over the crates that check values and answer.
+//!
+//! A call answers a status and leaves a number behind `detail`. `Tells` says what both stand for, and with them what was written into the
+//! caller's room. No call has a condition, and calls keep nothing between them.
+#![tactic(auto)]
+
+mod bounding;
+mod listing;
+mod planning;
+mod status;
+mod version;
+
+pub use bounding::safebound_bounds;
+pub use listing::{safebound_append, safebound_compress, safebound_degrees};
+pub use planning::{safebound_order, safebound_tree};
+pub use version::safebound_version;

@@ -1,0 +1,40 @@
+//! Calls for plans.
+ghost use Rattle.std.specs.Prelude.{length};
+ghost use Rattle.safebound_plans.specs.Causes.{IsOrderCause, IsTreeCause};
+ghost use Rattle.safebound_plans.specs.Orders.{IsBestOrder};
+ghost use Rattle.safebound_plans.specs.Trees.{IsBestTree};
+ghost use Rattle.safebound_c.specs.Status.{Tells};
+
+use crate::status::told;
+use safebound_plans::{JoinNode, Level, order, tree};
+use std::alloc::Global;
+
+/// Writes the levels of the best left-deep order over bounds of all sets.
+#[unsafe(no_mangle)]
+pub extern "C" fn safebound_order(
+    alloc: Global,
+    bounds: &[u64],
+    budget: u64,
+    into: &mut [Level],
+    detail: &mut u64,
+) -> u32
+    ensures { Tells (IsBestOrder bounds.now budget into.old into.new) (IsOrderCause bounds.now budget (length into.old))
+        into.old into.new detail.old result detail.new }
+{
+    told(order(alloc, bounds, budget, into), detail)
+}
+
+/// Writes the joins of the best join tree over bounds of all sets.
+#[unsafe(no_mangle)]
+pub extern "C" fn safebound_tree(
+    alloc: Global,
+    bounds: &[u64],
+    budget: u64,
+    into: &mut [JoinNode],
+    detail: &mut u64,
+) -> u32
+    ensures { Tells (IsBestTree bounds.now budget into.old into.new) (IsTreeCause bounds.now budget (length into.old))
+        into.old into.new detail.old result detail.new }
+{
+    told(tree(alloc, bounds, budget, into), detail)
+}

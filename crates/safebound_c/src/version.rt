@@ -1,0 +1,35 @@
+//! The library's version.
+ghost use Rattle.std.specs.Prelude.{◌≡◌, length, IfErr, IfOk, OnErr};
+ghost use Rattle.safebound_lists.specs.Written.{IsFilled, NeedsRoom};
+ghost use Rattle.safebound_c.specs.Status.{Tells};
+ghost use Rattle.safebound_c.specs.Version.{version_text};
+
+use crate::status::told;
+use safebound_lists::Refusal;
+
+// The text and a 0 at its end.
+const VERSION: &[u8; 6] = b"0.1.0\0";
+
+fn version(into: &mut [u8]) -> Result<u64, Refusal>
+    ensures done { IfOk result (IsFilled version_text into.old into.new) }
+    ensures refused { IfErr result (NeedsRoom (length version_text) (length into.old)) }
+    ensures kept { OnErr result (into.new ≡ into.old) }
+{
+    let count = VERSION.len();
+    if into.len() < count {
+        return Err(Refusal::Room {
+            needed: count as u64,
+        });
+    }
+    into[..count].copy_from_slice(VERSION);
+    Ok(count as u64)
+}
+
+/// Writes the library's version as text, with a 0 at its end.
+#[unsafe(no_mangle)]
+pub extern "C" fn safebound_version(into: &mut [u8], detail: &mut u64) -> u32
+    ensures { Tells (IsFilled version_text into.old into.new) (NeedsRoom (length version_text) (length into.old))
+        into.old into.new detail.old result detail.new }
+{
+    told(version(into), detail)
+}

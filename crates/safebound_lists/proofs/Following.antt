@@ -1,0 +1,154 @@
+-- Runs that follow one another: their list, its sum and its length.
+use Rattle.std.proofs.Common.{◌≡◌, ℕ, zero, suc, ◌+◌, ◌-◌, ◌*◌, ◌/◌, ◌<◌, ◌≤◌, ◌^◌, List, [], ◌∷◌, ◌++◌, length, take, replicate, ap, sym, ◌∙◌, subst, sum, arith}
+use Rattle.std.specs.List.{AllByRecursion, All}
+use Rattle.std.proofs.Math.Nat.{le-div_iff_mul-le}
+use Rattle.std.proofs.lemmas.List.{append_assoc, append-nil, take_all, take_more}
+use Rattle.std.proofs.lemmas.List.Folds.{sum_by-replicate}
+use Rattle.std.proofs.lemmas.List.Sums.{sum_by-append, sum_by-cons}
+use borrow.Author.Count.{below_more}
+use Rattle.piece_math.proofs.Expansion.{All-from_recursion}
+use Rattle.safebound_lists.specs.declared.runs.Run.{Run}
+use Rattle.safebound_lists.specs.Runs.{AreRight, IsRightAt, MayFollow, list_of, no_run, run_at}
+
+-- ---- facts on each run
+
+pub all_more : (P : Run → Type 0) (xs : List Run) (x : Run) → AllByRecursion P xs → P x → AllByRecursion P (xs ++ x ∷ [])
+all_more P [] x all here = (here, tt)
+all_more P (y ∷ xs) x all here = (all.0, all_more P xs x all.1 here)
+
+pub all_last : (P : Run → Type 0) (xs : List Run) (x : Run) → AllByRecursion P (xs ++ x ∷ []) → P x
+all_last P [] x all = all.0
+all_last P (y ∷ xs) x all = all_last P xs x all.1
+
+pub lower_still : (low least : ℕ) → low ≤ least → (xs : List Run) → AllByRecursion (λ e. least ≤ e.degree) xs → AllByRecursion (λ e. low ≤ e.degree) xs
+lower_still low least h [] all = tt
+lower_still low least h (x ∷ xs) all = (omega (arith, all.0), lower_still low least h xs all.1)
+
+-- ---- the list of one more run
+
+pub list_of_more : (before : List Run) (run : Run) → list_of (before ++ run ∷ []) ≡ list_of before ++ replicate run.keys run.degree
+list_of_more [] run = append-nil (replicate run.keys run.degree)
+list_of_more (b ∷ bs) run =
+    ap (λ (s : List ℕ). replicate b.keys b.degree ++ s) (list_of_more bs run)
+    ∙ sym (append_assoc (replicate b.keys b.degree) (list_of bs) (replicate run.keys run.degree))
+
+pub sum_more : (before : List Run) (run : Run) → sum (list_of (before ++ run ∷ [])) ≡ sum (list_of before) + run.keys * run.degree
+sum_more before run =
+    ap sum (list_of_more before run)
+    ∙ sum_by-append (λ (x : ℕ). x) (list_of before) (replicate run.keys run.degree)
+    ∙ ap (λ n. sum (list_of before) + n) (sum_by-replicate (λ (x : ℕ). x) run.keys run.degree)
+
+-- each element of the list is at least what each degree is
+elements_of_run : (v d n : ℕ) → v ≤ d → (s : List ℕ) → AllByRecursion (λ x. v ≤ x) s → AllByRecursion (λ x. v ≤ x) (replicate n d ++ s)
+elements_of_run v d zero h s all = all
+elements_of_run v d (suc n) h s all = (h, elements_of_run v d n h s all)
+
+pub elements_at_least : (v : ℕ) (xs : List Run) → AllByRecursion (λ e. v ≤ e.degree) xs → AllByRecursion (λ x. v ≤ x) (list_of xs)
+elements_at_least v [] all = tt
+elements_at_least v (x ∷ xs) all = elements_of_run v x.degree x.keys all.0 (list_of xs) (elements_at_least v xs all.1)
+
+pub may_be_pushed : (v : ℕ) (xs : List Run) → AllByRecursion (λ e. v ≤ e.degree) xs → All (λ x. v ≤ x) (list_of xs)
+may_be_pushed v xs all = All-from_recursion (λ x. v ≤ x) (list_of xs) (elements_at_least v xs all)
+
+-- positive numbers are no more than their sum
+pub no_more_than_sum : (s : List ℕ) → AllByRecursion (λ x. 1 ≤ x) s → length s ≤ sum s
+no_more_than_sum [] all = omega arith
+no_more_than_sum (x ∷ s) all = omega (arith, all.0, no_more_than_sum s all.1, sum_by-cons (λ (y : ℕ). y) x s)
+
+keys_within : (keys degree : ℕ) → 0 < degree → keys ≤ keys * degree
+keys_within zero degree h = omega arith
+keys_within (suc keys) degree h = omega (arith, keys_within keys degree h)
+
+-- so a run that may follow finds room
+pub room_for : (before : List Run) (run : Run) → MayFollow before run → length (list_of before) + run.keys ≤ 2 ^ 48
+room_for before run may =
+    omega (
+      arith,
+      no_more_than_sum (list_of before) (elements_at_least 1 before (lower_still 1 run.degree (omega (arith, may.degree)) before may.falls)),
+      keys_within run.keys run.degree may.degree,
+      sum_more before run,
+      may.sum,
+    )
+
+-- ---- the test, run by run
+
+-- what the loop knows of the runs before a place
+pub record IsTested (runs : List Run) (place least left : ℕ) : Type 0 where
+  pub right : (i : ℕ) → i < place → IsRightAt runs i
+  pub least_below : AllByRecursion (λ e. least ≤ e.degree) (take place runs)
+  pub greatest : (x : ℕ) → x < 2 ^ 64 → AllByRecursion (λ e. x ≤ e.degree) (take place runs) → x ≤ least
+  pub sums : left + sum (list_of (take place runs)) ≡ 2 ^ 48
+
+pub none_tested : (runs : List Run) → IsTested runs 0 18446744073709551615 281474976710656
+none_tested runs = record {
+  right = λ i h. absurd (omega arith);
+  least_below = tt;
+  greatest = λ x h all. omega arith;
+  sums = omega arith;
+}
+
+module _ (runs : List Run) (place least left : ℕ) (tested : IsTested runs place least left) (low : place < length runs) where
+  more : take (place + 1) runs ≡ take place runs ++ run_at runs place ∷ []
+  more = take_more runs place no_run low
+
+  -- which runs may not follow
+  pub rises : (run_at runs place).degree < 2 ^ 64 → least < (run_at runs place).degree → IsRightAt runs place → ⊥
+  rises fits above may = absurd (omega (arith, tested.greatest (run_at runs place).degree fits may.falls))
+
+  pub passes : 0 < (run_at runs place).degree → left / (run_at runs place).degree < (run_at runs place).keys → IsRightAt runs place → ⊥
+  passes some above may =
+      let within : (run_at runs place).keys * (run_at runs place).degree ≤ left = omega (arith, sum_more (take place runs) (run_at runs place), may.sum, tested.sums) in
+      absurd (omega (arith, above, (le-div_iff_mul-le {k = (run_at runs place).degree} {x = (run_at runs place).keys} {y = left} some).1 within))
+
+  -- and what may
+  module _ (degree : 0 < (run_at runs place).degree) (keys : 0 < (run_at runs place).keys) (falls : (run_at runs place).degree ≤ least)
+      (fits : (run_at runs place).keys ≤ left / (run_at runs place).degree) where
+    pub within_left : (run_at runs place).keys * (run_at runs place).degree ≤ left
+    within_left = (le-div_iff_mul-le {k = (run_at runs place).degree} {x = (run_at runs place).keys} {y = left} degree).0 fits
+
+    may_follow : IsRightAt runs place
+    may_follow = record {
+      degree = degree;
+      keys = keys;
+      falls = lower_still (run_at runs place).degree least falls (take place runs) tested.least_below;
+      sum = omega (arith, sum_more (take place runs) (run_at runs place), tested.sums, within_left);
+    }
+
+    -- the runs up to the next place
+    right_so_far : (i : ℕ) → i < place + 1 → IsRightAt runs i
+    right_so_far = below_more (IsRightAt runs) place tested.right may_follow
+
+    pub one_more_tested : IsTested runs (place + 1) (run_at runs place).degree (left - (run_at runs place).degree * (run_at runs place).keys)
+    one_more_tested = record {
+      right = right_so_far;
+      least_below = subst (AllByRecursion (λ e. (run_at runs place).degree ≤ e.degree)) (sym more)
+          (all_more (λ e. (run_at runs place).degree ≤ e.degree) (take place runs) (run_at runs place) may_follow.falls (omega arith));
+      greatest = λ x h all. all_last (λ e. x ≤ e.degree) (take place runs) (run_at runs place) (subst (AllByRecursion (λ e. x ≤ e.degree)) more all);
+      sums = omega (arith, ap (λ (s : List Run). sum (list_of s)) more, sum_more (take place runs) (run_at runs place), tested.sums, within_left);
+    }
+
+-- ---- all runs
+
+pub right_sum : (runs : List Run) → AreRight runs → sum (list_of runs) ≤ 2 ^ 48
+right_sum [] right = omega arith
+right_sum (r ∷ rs) right =
+    let whole : take (length rs + 1) (r ∷ rs) ≡ r ∷ rs = take_all (length rs + 1) (r ∷ rs) (omega arith) in
+    let last : take (length rs + 1) (r ∷ rs) ≡ take (length rs) (r ∷ rs) ++ run_at (r ∷ rs) (length rs) ∷ [] = take_more (r ∷ rs) (length rs) no_run (omega arith) in
+    let may : IsRightAt (r ∷ rs) (length rs) = right (length rs) (omega arith) in
+    subst (λ (s : List Run). sum (list_of s) ≤ 2 ^ 48) (sym last ∙ whole) may.sum
+
+-- ---- the list, run by run
+
+module _ (runs : List Run) (i v : ℕ) (pieces : List ℕ) (so_far : pieces ≡ list_of (take i runs)) (value : v ≡ (run_at runs i).degree) (low : i < length runs) (right : AreRight runs) where
+  pub next_falls : All (λ x. v ≤ x) pieces
+  next_falls = rw (so_far, value) (may_be_pushed (run_at runs i).degree (take i runs) (right i low).falls)
+
+  pub next_room : length pieces + (run_at runs i).keys < 2 ^ 64
+  next_room = omega (arith, ap length so_far, room_for (take i runs) (run_at runs i) (right i low))
+
+  pub next_list : (longer : List ℕ) → longer ≡ pieces ++ replicate (run_at runs i).keys v → longer ≡ list_of (take (i + 1) runs)
+  next_list longer is =
+      is ∙ ap (λ (s : List ℕ). s ++ replicate (run_at runs i).keys v) so_far
+      ∙ ap (λ x. list_of (take i runs) ++ replicate (run_at runs i).keys x) value
+      ∙ sym (list_of_more (take i runs) (run_at runs i))
+      ∙ ap list_of (sym (take_more runs i no_run low))

@@ -1,0 +1,3 @@
+pub mod Following
+pub mod Small
+pub mod Writing

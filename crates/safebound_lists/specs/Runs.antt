@@ -1,0 +1,51 @@
+-- Lists as runs: a run says that so many keys stand in so many rows each.
+use Rattle.std.specs.Prelude.{ℕ, ◌+◌, ◌<◌, ◌≤◌, List, [], ◌∷◌, ◌++◌, map, length, take, slice_index_or}
+use Rattle.std.specs.List.{AllByRecursion, sum}
+use Rattle.limits.specs.Profile.{greatest_rows, most_accuracy}
+use Rattle.piece_math.specs.declared.pieces.Piece.{Piece}
+use Rattle.piece_math.specs.Expanded.{expanded}
+use Rattle.safebound_lists.specs.declared.runs.Run.{Run}
+
+-- a run as the piece of a list
+abbrev pub piece_of : Run → Piece
+piece_of run = record { value = run.degree; count = run.keys }
+
+-- the list that runs stand for: the degree of each run, as often as it has keys
+abbrev pub list_of : List Run → List ℕ
+list_of runs = expanded (map piece_of runs)
+
+-- the run at a place. Past the end there is none
+abbrev pub no_run : Run
+no_run = record { degree = 0; keys = 0 }
+
+abbrev pub run_at : List Run → ℕ → Run
+run_at runs i = slice_index_or runs i no_run
+
+-- a run may follow others: it has rows and keys, no degree before it is lower, and with it all degrees sum to at most 2^48
+pub record MayFollow (before : List Run) (run : Run) : Type 0 where
+  pub degree : 0 < run.degree
+  pub keys : 0 < run.keys
+  pub falls : AllByRecursion (λ earlier. run.degree ≤ earlier.degree) before
+  pub sum : sum (list_of (before ++ run ∷ [])) ≤ greatest_rows
+
+-- the run at a place may follow those before it
+abbrev pub IsRightAt : List Run → ℕ → Type 0
+IsRightAt runs i = MayFollow (take i runs) (run_at runs i)
+
+-- each run may
+abbrev pub AreRight : List Run → Type 0
+AreRight runs = (i : ℕ) → i < length runs → IsRightAt runs i
+
+-- ---- what calls take
+
+-- compression: a right list, and an accuracy from 1 to 64
+pub record MayBeCompressed (runs : List Run) (accuracy : ℕ) : Type 0 where
+  pub some : 0 < accuracy
+  pub most : accuracy ≤ most_accuracy
+  pub right : AreRight runs
+
+-- a sum: two right lists whose degrees sum to at most 2^48 together
+pub record MayBeAdded (runs others : List Run) : Type 0 where
+  pub right : AreRight runs
+  pub others_right : AreRight others
+  pub small : sum (list_of runs) + sum (list_of others) ≤ greatest_rows

@@ -1,0 +1,72 @@
+-- Costs over bounds of 64 bits: what 128 bits tell of them, 64 bits do.
+use Rattle.std.proofs.Common.{◌≡◌, ◌⊎◌, inl, inr, ℕ, zero, suc, ◌+◌, ◌-◌, ◌<◌, ◌≤◌, ◌^◌, Bool, true, false, eqb, max, List, [], ◌∷◌, map, length, get_or, refl, ap, sym, ◌∙◌, subst, arith}
+use Rattle.std.specs.List.{AllByRecursion}
+use Rattle.std.specs.Prelude.{if◌then◌else◌}
+use Rattle.entry_sets.specs.Sets.{set_of}
+use Rattle.order_search.specs.Orders.{cost as order_cost, greatest, levels, prefixes}
+use Rattle.bushy_plan.specs.BestTree.{cost as tree_cost, inner_greatest}
+use Rattle.bushy_plan.specs.JoinTrees.{JoinTree, entries_of, leaf, node}
+use Rattle.safebound_plans.specs.Widened.{all_widened, no_bound, widened}
+
+-- 64 bits tell it, or not even 128 do
+abbrev IsNarrow : ℕ → Type 0
+IsNarrow x = (x < 2 ^ 64) ⊎ (x ≡ 2 ^ 128 - 1)
+
+widened_narrow : (b : ℕ) → b < 2 ^ 64 → IsNarrow (widened b)
+widened_narrow b fits = by (eqb b no_bound)
+  where
+    by : (t : Bool) → IsNarrow (if t then 2 ^ 128 - 1 else b)
+    by true = inr refl
+    by false = inl fits
+
+narrow_at : (bounds : List ℕ) → ((k : ℕ) → get_or bounds k 0 < 2 ^ 64) → (i : ℕ) → IsNarrow (get_or (all_widened bounds) i 0)
+narrow_at [] fits i = inl (omega arith)
+narrow_at (b ∷ bs) fits zero = widened_narrow b (fits 0)
+narrow_at (b ∷ bs) fits (suc i) = narrow_at bs (λ k. fits (suc k)) i
+
+-- ---- orders
+
+greatest_narrow : (xs : List ℕ) → AllByRecursion IsNarrow xs → greatest xs ≤ 2 ^ 128 - 2 → greatest xs < 2 ^ 64
+greatest_narrow [] all low = omega arith
+greatest_narrow (x ∷ xs) all low =
+    let rest : greatest xs < 2 ^ 64 = greatest_narrow xs all.1 (omega (arith, low)) in
+    first all.0 rest
+  where
+    first : IsNarrow x → greatest xs < 2 ^ 64 → max x (greatest xs) < 2 ^ 64
+    first (inl small) rest = omega (arith, small, rest)
+    first (inr top) rest = absurd (omega (arith, top, low))
+
+all_narrow : (f : List ℕ → ℕ) → ((x : List ℕ) → IsNarrow (f x)) → (xs : List (List ℕ)) → AllByRecursion IsNarrow (map f xs)
+all_narrow f h [] = tt
+all_narrow f h (x ∷ xs) = (h x, all_narrow f h xs)
+
+pub order_narrow : (bounds order : List ℕ) → ((k : ℕ) → get_or bounds k 0 < 2 ^ 64) → order_cost (all_widened bounds) order ≤ 2 ^ 128 - 2
+    → order_cost (all_widened bounds) order < 2 ^ 64
+order_narrow bounds order fits low =
+    greatest_narrow (levels (all_widened bounds) order)
+    (all_narrow (λ prefix. get_or (all_widened bounds) (set_of prefix) 0) (λ prefix. narrow_at bounds fits (set_of prefix)) (prefixes order)) low
+
+-- ---- trees
+
+either_narrow : (x rest : ℕ) → IsNarrow x → max x rest ≤ 2 ^ 128 - 2 → rest < 2 ^ 64 → max x rest < 2 ^ 64
+either_narrow x rest (inl small) low h = omega arith
+either_narrow x rest (inr top) low h = absurd (omega arith)
+
+inner_narrow : (bounds : List ℕ) → ((k : ℕ) → get_or bounds k 0 < 2 ^ 64) → (t : JoinTree) → inner_greatest (all_widened bounds) t ≤ 2 ^ 128 - 2
+    → inner_greatest (all_widened bounds) t < 2 ^ 64
+inner_narrow bounds fits (leaf entry) low = omega arith
+inner_narrow bounds fits (node left right) low =
+    let l : inner_greatest (all_widened bounds) left < 2 ^ 64 = inner_narrow bounds fits left (omega arith) in
+    let r : inner_greatest (all_widened bounds) right < 2 ^ 64 = inner_narrow bounds fits right (omega arith) in
+    either_narrow (get_or (all_widened bounds) (entries_of left + entries_of right) 0)
+    (max (inner_greatest (all_widened bounds) left) (inner_greatest (all_widened bounds) right))
+    (narrow_at bounds fits (entries_of left + entries_of right)) low (omega arith)
+
+alone_narrow : (x : ℕ) → IsNarrow x → x ≤ 2 ^ 128 - 2 → x < 2 ^ 64
+alone_narrow x (inl small) low = small
+alone_narrow x (inr top) low = absurd (omega arith)
+
+pub tree_narrow : (bounds : List ℕ) → ((k : ℕ) → get_or bounds k 0 < 2 ^ 64) → (t : JoinTree) → tree_cost (all_widened bounds) t ≤ 2 ^ 128 - 2
+    → tree_cost (all_widened bounds) t < 2 ^ 64
+tree_narrow bounds fits (leaf entry) low = alone_narrow (get_or (all_widened bounds) (2 ^ entry) 0) (narrow_at bounds fits (2 ^ entry)) low
+tree_narrow bounds fits (node left right) low = inner_narrow bounds fits (node left right) low

@@ -1,0 +1,3 @@
+pub mod Filling
+pub mod Costs
+pub mod Best

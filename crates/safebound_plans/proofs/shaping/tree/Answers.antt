@@ -1,0 +1,51 @@
+use Rattle.std.proofs.Common.{◌≡◌, ◌<◌, ◌^◌, length, ap, sym, ◌∙◌, subst, arith}
+use Rattle.std.proofs.lemmas.List.{length-map}
+use Rattle.bushy_plan.specs.declared.refusal.BushyError.TheVariants as tree_error
+use Rattle.safebound_plans.specs.Widened.{widened}
+use Rattle.safebound_plans.proofs.Best.{best_tree, tree_cause, tree_fits}
+use Rattle.safebound_plans.proofs.shaping.tree.Goals as goal
+
+pub choose_bushy-requires : goal.choose_bushy-requires
+choose_bushy-requires c = record {
+  some = omega (arith, c.in-Some.ensures.some, c.in_ok-scans.ensures);
+  few = omega (arith, c.in-Some.ensures.few, c.in_ok-scans.ensures);
+  bounds = ap length c.in_ok-wide.ensures ∙ length-map c.args.bounds.now widened ∙ c.in-Some.ensures.sets ∙ ap (λ n. 2 ^ n) (sym c.in_ok-scans.ensures);
+  budget = omega arith;
+}
+
+pub write_joins-requires : goal.write_joins-requires
+write_joins-requires c = omega (arith, ap length c.as_slice.ensures, c.in-Ok.ensures.plan.joins, c.in_ok-scans.ensures)
+
+pub returns-in-Ok-clause-done : goal.returns-in-Ok-clause-done
+returns-in-Ok-clause-done c =
+    best_tree c.args.bounds.now c.in_ok-wide.wide c.in-Some.entries (length c.in_ok-scans.scans) c.args.budget c.in_ok-wide.ensures c.in_ok-scans.ensures
+    c.in-Ok.plan.joins c.as_slice.result.now c.in-Ok.plan.cost _ c.args.into.now c.write_joins.new.into (record { sets = c.in-Some.ensures; within = omega arith })
+    c.in-Ok.ensures.best c.in-Ok.ensures.within c.in-Ok.ensures.plan.joins c.as_slice.ensures c.len.ensures c.write_joins.ensures
+
+pub overflow_cast-result : goal.overflow_cast-result
+overflow_cast-result c =
+    let refused = rw c.in-Err-Budget.field-0-is at c.in-Err-Budget.ensures.refused in
+    let fits : c.in-Err-Budget.least < 2 ^ 64 =
+    tree_fits c.args.bounds.now c.in_ok-wide.wide c.in-Some.entries (length c.in_ok-scans.scans) c.args.budget c.in_ok-wide.ensures c.in_ok-scans.ensures
+    (λ k. omega (arith, c.type_inv.bounds k)) c.in-Err-Budget.least refused in
+    omega (arith, fits)
+
+pub returns-in-Err-Budget-clause-refused : goal.returns-in-Err-Budget-clause-refused
+returns-in-Err-Budget-clause-refused c =
+    let refused = rw c.in-Err-Budget.field-0-is at c.in-Err-Budget.ensures.refused in (
+      c.in-Some.entries,
+      record { sets = c.in-Some.ensures; within = omega arith },
+      omega arith,
+      tree_cause c.args.bounds.now c.in_ok-wide.wide c.in-Some.entries (length c.in_ok-scans.scans) c.args.budget c.in_ok-wide.ensures c.in_ok-scans.ensures
+          (tree_error.Budget c.in-Err-Budget.least) refused,
+    )
+
+pub returns-in-Err-PastBits-clause-refused : goal.returns-in-Err-PastBits-clause-refused
+returns-in-Err-PastBits-clause-refused c =
+    let refused = rw c.in-Err-PastBits.field-0-is at c.in-Err-PastBits.ensures.refused in (
+      c.in-Some.entries,
+      record { sets = c.in-Some.ensures; within = omega arith },
+      omega arith,
+      tree_cause c.args.bounds.now c.in_ok-wide.wide c.in-Some.entries (length c.in_ok-scans.scans) c.args.budget c.in_ok-wide.ensures c.in_ok-scans.ensures
+          tree_error.PastBits refused,
+    )

@@ -1,0 +1,45 @@
+-- Why calls for plans refuse. A cause says too that none applies which the call looks for before it, so one answer at most is right, beside
+-- want of memory.
+use Rattle.std.specs.Prelude.{◌≡◌, ℕ, ◌+◌, ◌<◌, ◌≤◌, ⊤, List, length}
+use Rattle.limits.specs.Profile.{greatest_budget}
+use Rattle.order_search.specs.Causes.{IsCause}
+use Rattle.order_search.specs.declared.refusal.PlanError.TheVariants as plan_error
+use Rattle.bushy_plan.specs.Causes.{IsCause as IsBushyCause}
+use Rattle.bushy_plan.specs.declared.refusal.BushyError.TheVariants as tree_error
+use Rattle.safebound_lists.specs.declared.refusal.Refusal.{Refusal}
+use Rattle.safebound_lists.specs.declared.refusal.Refusal.TheVariants as refusal
+use Rattle.safebound_plans.specs.Given.{AreOfSets, MayPlan}
+use Rattle.safebound_plans.specs.Widened.{all_widened}
+
+-- there are not as many bounds as sets of 1 to 12 entries
+abbrev pub AreOfNoSets : List ℕ → ℕ → Type 0
+AreOfNoSets bounds count = (count ≡ length bounds) × ((n : ℕ) → ¬ AreOfSets bounds n)
+
+-- the budget is too large
+abbrev pub IsBudgetCause : List ℕ → ℕ → ℕ → Type 0
+IsBudgetCause bounds budget given = (n : ℕ) × AreOfSets bounds n × (given ≡ budget) × (greatest_budget < budget)
+
+-- of an order over bounds: another number of bounds than of sets, a budget that is too large, too little room, a budget that no order is
+-- within, no order within 128 bits, or want of memory, which needs no cause
+abbrev pub IsOrderCause : List ℕ → ℕ → ℕ → Refusal → Type 0
+IsOrderCause bounds budget room (refusal.Bounds count) = AreOfNoSets bounds count
+IsOrderCause bounds budget room (refusal.GivenBudget given) = IsBudgetCause bounds budget given
+IsOrderCause bounds budget room (refusal.Room needed) = MayPlan bounds needed budget × (room < needed)
+IsOrderCause bounds budget room (refusal.Budget least) =
+    (n : ℕ) × MayPlan bounds n budget × (n ≤ room) × IsCause (all_widened bounds) n budget (plan_error.Budget least)
+IsOrderCause bounds budget room refusal.PastBits =
+    (n : ℕ) × MayPlan bounds n budget × (n ≤ room) × IsCause (all_widened bounds) n budget plan_error.PastBits
+IsOrderCause bounds budget room refusal.NoMemory = ⊤
+IsOrderCause bounds budget room _ = ⊥
+
+-- of a tree: likewise
+abbrev pub IsTreeCause : List ℕ → ℕ → ℕ → Refusal → Type 0
+IsTreeCause bounds budget room (refusal.Bounds count) = AreOfNoSets bounds count
+IsTreeCause bounds budget room (refusal.GivenBudget given) = IsBudgetCause bounds budget given
+IsTreeCause bounds budget room (refusal.Room needed) = MayPlan bounds (needed + 1) budget × (room < needed)
+IsTreeCause bounds budget room (refusal.Budget least) =
+    (n : ℕ) × MayPlan bounds n budget × (n ≤ room + 1) × IsBushyCause (all_widened bounds) n budget (tree_error.Budget least)
+IsTreeCause bounds budget room refusal.PastBits =
+    (n : ℕ) × MayPlan bounds n budget × (n ≤ room + 1) × IsBushyCause (all_widened bounds) n budget tree_error.PastBits
+IsTreeCause bounds budget room refusal.NoMemory = ⊤
+IsTreeCause bounds budget room _ = ⊥

@@ -1,0 +1,7 @@
+pub mod Widened
+pub mod Given
+pub mod Orders
+pub mod Trees
+pub mod Causes
+pub use Rattle.safebound_lists.specs.Written
+pub use Rattle.safebound_lists.specs.First

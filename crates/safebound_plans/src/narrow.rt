@@ -1,0 +1,50 @@
+//! Bounds of 64 bits, as the searches take them.
+ghost use Rattle.std.specs.Prelude.{◌≡◌, ℕ, length, IfOk, MatchOption};
+ghost use Rattle.safebound_plans.specs.Given.{AreOfSets};
+ghost use Rattle.safebound_plans.specs.Widened.{all_widened, widened as widened_of};
+
+use base_io::{NoMemory, Seq};
+use limits::{MOST_ENTRIES, TOP_BOUND};
+use std::alloc::Global;
+
+/// How many entries there are, from 1 to 12, where there are as many bounds as sets of them.
+pub(crate) fn entries_of(bounds: &[u64]) -> Option<u8>
+    ensures { MatchOption result ((n : ℕ) → ¬ AreOfSets bounds.now n) (AreOfSets bounds.now) }
+{
+    for n in 1..MOST_ENTRIES as u8 + 1 {
+        if bounds.len() == 1usize << n {
+            return Some(n);
+        }
+    }
+    None
+}
+
+// A bound of 64 bits. Its greatest number stands for all from there on, as that of 128 bits does.
+fn widened(bound: u64) -> u128
+    ensures { result ≡ widened_of bound }
+{
+    if bound == u64::MAX {
+        TOP_BOUND
+    } else {
+        u128::from(bound)
+    }
+}
+
+/// The same bounds with 128 bits.
+pub(crate) fn widened_bounds(alloc: Global, bounds: &[u64]) -> Result<Seq<u128>, NoMemory>
+    ensures { IfOk result (λ wide. wide ≡ all_widened bounds.now) }
+{
+    let mut wide = Vec::with_capacity(alloc, bounds.len())?;
+    for bound in bounds {
+        wide.push(widened(*bound))?;
+    }
+    Ok(Seq::from_vec(wide))
+}
+
+/// A scan of nothing for each entry, of which a search looks at the number alone.
+pub(crate) fn no_scans(alloc: Global, entries: u8) -> Result<Seq<u64>, NoMemory>
+    ensures { IfOk result (λ scans. length scans ≡ entries) }
+{
+    let scans = vec![in alloc; 0u64; entries as usize]?;
+    Ok(Seq::from_vec(scans))
+}
