@@ -9,7 +9,7 @@ EXAMPLE := trips
 DATA := examples/$(EXAMPLE)
 WORDS := run schema.sql query.sql
 
-.PHONY: help run build install test edits bench memory limits clean
+.PHONY: help run build install library test edits bench memory limits clean
 
 ## make run       runs a query over examples/trips, or over a folder of yours: make run DATA=FOLDER
 ##                (2 seconds with the proved program; a minute without it, and then nothing is proved)
@@ -49,6 +49,12 @@ install:
 	@bin/safebound completion zsh > $(LAID)/share/zsh/site-functions/_safebound
 	@echo "$(LAID)/bin/safebound"
 
+# The library for C and Python, proved: library/out has it, docs/EMBEDDING.md says how it is used.
+library:
+	@echo "proving and building the library (long the first time: it proves each crate that it is made of)"
+	@cd crates/safebound_c && { rt lib > build.log 2>&1 || { cat build.log; exit 1; }; }
+	@library/build
+
 # Everything: each proof that this machine hasn't kept, the gate's own edits, the tests, the stored runs, random ones.
 test:
 	.ci/run
@@ -57,7 +63,7 @@ test:
 edits:
 	tools/edits $(CRATES)
 
-bench: build
+bench: build library
 	@cd crates/bench_degrees && rt run -- time > build.log 2>&1 || { cat build.log; exit 1; }
 	@cd crates/bench_link_index && rt run -- time > build.log 2>&1 || { cat build.log; exit 1; }
 	@cd crates/bench_tables && rt run -- time > build.log 2>&1 || { cat build.log; exit 1; }
@@ -81,6 +87,7 @@ bench: build
 	bench/reduce
 	bench/demo
 	bench/shop
+	bench/library
 
 # Runs over memory, with each request for memory refused in turn. It takes minutes.
 memory:
@@ -92,4 +99,4 @@ limits: build
 	bench/limits
 
 clean:
-	rm -rf crates/*/out
+	rm -rf crates/*/out library/out

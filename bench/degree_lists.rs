@@ -1,14 +1,14 @@
 //! What `falling` of crate degree_lists is measured against: a copy, the standard sort, and a walk over the runs.
-//! Build with `rustc -O bench/degree_lists.rs`. It prints the time in milliseconds for four million keys
-//! that are all different, all equal, and about as unequal as words of a text.
+//! Build with `rustc -O bench/degree_lists.rs`. It prints the time in milliseconds for four million keys, or for as many
+//! as its word says, that are all different, all equal, and about as unequal as words of a text.
 use std::time::Instant;
 
-const KEYS: u32 = 4_000_000;
+const KEYS: usize = 4_000_000;
 
-fn keys_of(kind: &str) -> Vec<u64> {
+fn keys_of(kind: &str, count: usize) -> Vec<u64> {
     let mut state: u64 = 88172645463325252;
-    let mut keys = Vec::with_capacity(KEYS as usize);
-    for _ in 0..KEYS {
+    let mut keys = Vec::with_capacity(count);
+    for _ in 0..count {
         state ^= state << 13;
         state ^= state >> 7;
         state ^= state << 17;
@@ -35,8 +35,9 @@ fn falling(keys: &[u64]) -> Vec<u64> {
 }
 
 fn main() {
+    let count = std::env::args().nth(1).map_or(KEYS, |word| word.parse().unwrap());
     for kind in ["different", "equal", "unequal"] {
-        let keys = keys_of(kind);
+        let keys = keys_of(kind, count);
         for _ in 0..3 {
             let start = Instant::now();
             let list = falling(&keys);

@@ -1,0 +1,264 @@
+/* SafeBound's library: row bounds of joins that are never too low, and the best plans by them.
+
+   A planner says for each entry of a query how many rows it has at most, and for each joined column how often its
+   values repeat. It gets a bound for every set of entries, the best left-deep order and the best join tree.
+
+   For all calls:
+
+   - They keep nothing between them: no handle, no global, nothing to begin with or to end with.
+     Threads may call at the same time. No call may come from a signal handler, or from the child of a fork of a
+     process with threads.
+   - Numbers have 64 bits. Lengths and rooms are in elements, not in bytes.
+   - A pointer is never NULL and is aligned for its type, also where its length is 0. What a call reads isn't changed
+     meanwhile, and what it writes overlaps nothing else that it gets.
+   - Each call checks every value that it gets. It answers a status and writes a number behind `detail`, by the status:
+
+     SAFEBOUND_OK           `detail` is how many elements were written.
+     SAFEBOUND_ROOM         The room is too small. `detail` is the room that is needed.
+     SAFEBOUND_NO_MEMORY    Memory was wanting. `detail` is as it was.
+     SAFEBOUND_BUDGET       The best plan passes the budget. `detail` is the least budget that would do.
+     SAFEBOUND_PAST_BITS    Each plan has a part without a bound. `detail` is as it was.
+     the others             A value is wrong. `detail` says where: which element, from 0, of the array that is named
+                            with the status below, or the number itself.
+
+     Nothing but `detail` is written unless the status is SAFEBOUND_OK. Where several statuses apply, the one that
+     stands first in the call's list is answered, and of several wrong elements the first. SAFEBOUND_NO_MEMORY may come
+     in the place of any other status.
+
+   Memory comes from three functions, which the archive has over malloc and a program may give: safebound_memory.h. */
+
+#ifndef SAFEBOUND_H
+#define SAFEBOUND_H
+
+#include <stddef.h>
+#include <stdint.h>
+
+#ifdef __cplusplus
+extern "C" {
+#endif
+
+#define SAFEBOUND_MOST_ENTRIES 12
+#define SAFEBOUND_MOST_EQUALITIES 256
+#define SAFEBOUND_MOST_ACCURACY 64
+#define SAFEBOUND_MOST_ROWS (UINT64_C(1) << 48)
+#define SAFEBOUND_MOST_BUDGET (UINT64_C(1) << 59)
+
+/* A bound that stands for itself and for all that 64 bits don't tell: no bound is known. */
+#define SAFEBOUND_NO_BOUND UINT64_MAX
+
+typedef uint32_t safebound_status;
+
+enum {
+    SAFEBOUND_OK = 0,
+    SAFEBOUND_ROOM = 1,
+    SAFEBOUND_NO_MEMORY = 2,
+    SAFEBOUND_BUDGET = 3,
+    SAFEBOUND_PAST_BITS = 4,
+
+    SAFEBOUND_BAD_KEYS = 16,       /* the number of keys */
+    SAFEBOUND_BAD_ACCURACY = 17,   /* the accuracy */
+    SAFEBOUND_BAD_RUN = 18,        /* an element of `runs` */
+    SAFEBOUND_BAD_OTHER_RUN = 19,  /* an element of `others` */
+    SAFEBOUND_BAD_SUM = 20,        /* the sum of two lists */
+    SAFEBOUND_BAD_ENTRIES = 21,    /* the number of entries */
+    SAFEBOUND_BAD_ROWS = 22,       /* an element of `rows` */
+    SAFEBOUND_BAD_EQUALITIES = 23, /* the number of equalities */
+    SAFEBOUND_BAD_EQUALITY = 24,   /* an element of `equalities` */
+    SAFEBOUND_BAD_LIST = 25,       /* an element of `lists` */
+    SAFEBOUND_MISSING_LIST = 26,   /* an element of `equalities`, of which a column has no list */
+    SAFEBOUND_BAD_BOUNDS = 27,     /* the number of bounds */
+    SAFEBOUND_BAD_BUDGET = 28      /* the budget */
+};
+
+/* So many keys stand in `degree` rows each.
+
+   A list of runs says how often the values of a column repeat, the most frequent first: (5, 1), (2, 3) is one value in
+   five rows and three values in two rows each. A list is right where each degree and each number of keys is at least 1,
+   no degree is above the one before it, and all degrees sum to at most 2^48; the first run that breaks this is the one
+   that is told. A list without runs is right, but for safebound_bounds, which takes it for a list that was forgotten. */
+typedef struct safebound_run {
+    uint64_t degree;
+    uint64_t keys;
+} safebound_run;
+
+/* An equality between columns of two different entries. Entries are numbered from 0. A column's number may be any: it
+   tells the columns of one entry apart. */
+typedef struct safebound_equality {
+    uint32_t left_entry;
+    uint32_t left_column;
+    uint32_t right_entry;
+    uint32_t right_column;
+} safebound_equality;
+
+/* The list of an entry's column: so many elements of `runs` of the call, at least one, from the element `first` on. Two
+   lists may share runs, as those of a table that is joined with itself. */
+typedef struct safebound_list {
+    uint32_t entry;
+    uint32_t column;
+    uint64_t first;
+    uint64_t length;
+} safebound_list;
+
+/* One level of an order: the entry that is joined there, and the bound of all entries up to it, in rows. */
+typedef struct safebound_level {
+    uint64_t entry;
+    uint64_t bound;
+} safebound_level;
+
+/* A node of a join tree: the two nodes that it joins, and its bound in rows. With n entries the nodes 0 to n - 1 are the
+   entries, and node n + i is element i. */
+typedef struct safebound_join {
+    uint64_t left;
+    uint64_t right;
+    uint64_t bound;
+} safebound_join;
+
+/* The degree sequence of a column: how often each of its keys stands there, as runs of which the degrees fall.
+
+   `keys` are the column's values, one for each row that has one, in any order; rows without a value (NULL) are left out.
+   Any 64 bits are a key: give texts and other types a number each. The runs have different degrees.
+
+   SAFEBOUND_BAD_KEYS     more than 2^48 keys; `detail` is their number
+   SAFEBOUND_NO_MEMORY    it takes about as much memory as the keys have
+   SAFEBOUND_ROOM         one run for each different degree: at most the root of twice the number of keys
+   SAFEBOUND_OK
+
+   Example: the keys 8, 8, 8, 8, 8, 2, 2, 2, 5 give (5, 1), (3, 1), (1, 1).
+
+       uint64_t keys[] = {8, 8, 8, 8, 8, 2, 2, 2, 5}, detail;
+       safebound_run runs[64];
+       safebound_status status = safebound_degrees(keys, 9, runs, 64, &detail);
+       // SAFEBOUND_OK, and detail is 3 */
+safebound_status safebound_degrees(const uint64_t *keys, size_t keys_length, safebound_run *into, size_t room,
+                                   uint64_t *detail);
+
+/* Few runs that dominate a list: what is known of a column stays true, and later calls are fast.
+
+   The sum of the list is kept. At accuracy K, from 1 to 64, each degree is at most (K + 1) / K times what stood at its
+   rank; and there are at most K times as many runs as the first degree has binary digits, and one more.
+
+   SAFEBOUND_BAD_ACCURACY    not from 1 to 64; `detail` is the accuracy
+   SAFEBOUND_BAD_RUN         `detail` is the element of `runs`
+   SAFEBOUND_NO_MEMORY
+   SAFEBOUND_ROOM            at most one more than `runs` has
+   SAFEBOUND_OK
+
+   Example: (5, 1), (4, 1), (3, 1), (1, 1) gives (5, 2), (3, 1) at accuracy 1.
+
+       safebound_status status = safebound_compress(runs, runs_length, 8, few, 64, &detail); */
+safebound_status safebound_compress(const safebound_run *runs, size_t runs_length, uint64_t accuracy,
+                                    safebound_run *into, size_t room, uint64_t *detail);
+
+/* The rank-wise sum of two lists: that of a column with rows that came later. Rank by rank it is the sum of both
+   degrees, so it dominates the old and the new rows together, whichever values repeat.
+
+   SAFEBOUND_BAD_RUN          `detail` is the element of `runs`
+   SAFEBOUND_BAD_OTHER_RUN    `detail` is the element of `others`
+   SAFEBOUND_BAD_SUM          all degrees of both sum to more than 2^48; `detail` is that sum
+   SAFEBOUND_NO_MEMORY
+   SAFEBOUND_ROOM             at most as many as both lists have
+   SAFEBOUND_OK
+
+   Example: (3, 1), (1, 2) and (2, 2) give (5, 1), (3, 1), (1, 1).
+
+       safebound_status status = safebound_append(old, 2, later, 1, both, 3, &detail); */
+safebound_status safebound_append(const safebound_run *runs, size_t runs_length, const safebound_run *others,
+                                  size_t others_length, safebound_run *into, size_t room, uint64_t *detail);
+
+/* The bounds of all sets of entries, in rows. A set is the number whose bit i is 1 where entry i is in it: of the n
+   entries there are 2^n sets, `into[set]` is its bound, and `into[0]` is 1.
+
+   `rows` has for each entry a number that it has at most of rows. `lists` has for each column that an equality names a
+   list that dominates its values: however different values are picked, they stand in no more rows than as many first
+   degrees sum to. What safebound_degrees gives dominates, and so does what safebound_compress and safebound_append make
+   of it. Where a list sums to less than the entry's row bound, the other rows are taken for rows without a value, which
+   join with nothing. Where it sums to more, it is cut at the row bound: the list of a whole table serves for some of its
+   rows. Of a column in which no row has a value the list is (1, 1). A list of a column that no equality names is checked
+   and not used. Runs that no list has aren't looked at.
+
+   Then the choices of one row of each entry of a set that satisfy all equalities between these entries are at most as
+   many as its bound says, or the bound is SAFEBOUND_NO_BOUND.
+
+   SAFEBOUND_BAD_ENTRIES       not from 1 to 12; `detail` is their number
+   SAFEBOUND_BAD_ROWS          more than 2^48; `detail` is the element of `rows`
+   SAFEBOUND_BAD_EQUALITIES    more than 256; `detail` is their number
+   SAFEBOUND_BAD_EQUALITY      an entry that isn't there, or one entry on both sides; `detail` is the element
+   SAFEBOUND_BAD_LIST          an entry that isn't there, no runs, runs that aren't there, or a column that an earlier list
+                               is of; `detail` is the element of `lists`
+   SAFEBOUND_BAD_RUN           `detail` is the element of `runs`, of the first list that has a wrong one
+   SAFEBOUND_MISSING_LIST      a column without a list; `detail` is the element of `equalities`
+   SAFEBOUND_ROOM              2^n
+   SAFEBOUND_NO_MEMORY
+   SAFEBOUND_OK
+
+   Example: two entries with 6 and 5 rows, joined by column 0 of each.
+
+       uint64_t rows[] = {6, 5}, bounds[4], detail;
+       safebound_equality equalities[] = {{0, 0, 1, 0}};
+       safebound_run runs[] = {{3, 2}, {2, 2}, {1, 1}};
+       safebound_list lists[] = {{0, 0, 0, 1}, {1, 0, 1, 2}};
+       safebound_status status =
+           safebound_bounds(rows, 2, equalities, 1, lists, 2, runs, 3, bounds, 4, &detail);
+       // SAFEBOUND_OK, and bounds are 1, 6, 5, 12 */
+safebound_status safebound_bounds(const uint64_t *rows, size_t entries, const safebound_equality *equalities,
+                                  size_t equalities_length, const safebound_list *lists, size_t lists_length,
+                                  const safebound_run *runs, size_t runs_length, uint64_t *into, size_t room,
+                                  uint64_t *detail);
+
+/* The best left-deep order over bounds of all sets, as safebound_bounds gives them: 2^n numbers, of which the first, that
+   of no entry, isn't looked at.
+
+   An order's levels are the bounds of its first entry, of its first two, and so on. The best order has the least greatest
+   level; among those the least sum of levels; among those the first entries of the least numbers. `into` gets its n
+   levels.
+
+   SAFEBOUND_BAD_BOUNDS    not 2^n of them, for an n from 1 to 12; `detail` is their number
+   SAFEBOUND_BAD_BUDGET    more than 2^59; `detail` is the budget
+   SAFEBOUND_ROOM          n
+   SAFEBOUND_NO_MEMORY
+   SAFEBOUND_PAST_BITS     the greatest level of each order is SAFEBOUND_NO_BOUND
+   SAFEBOUND_BUDGET        the greatest level of the best order is above the budget; `detail` is that level
+   SAFEBOUND_OK
+
+   Example: over the bounds 1, 2, 2, 9, 2, 5, 5, 6 of three entries the best order is 0, 2, 1 with the levels 2, 5, 6. With a
+   budget of 5 it is SAFEBOUND_BUDGET, and `detail` is 6.
+
+       safebound_level levels[3];
+       safebound_status status = safebound_order(bounds, 8, 1000000, levels, 3, &detail); */
+safebound_status safebound_order(const uint64_t *bounds, size_t bounds_length, uint64_t budget, safebound_level *into,
+                                 size_t room, uint64_t *detail);
+
+/* The best join tree of any shape over bounds of all sets.
+
+   A tree's levels are the bounds of its joins; that of one entry alone is its own bound. The best tree has the least
+   greatest level; among those the least sum; among those the left set of the root is the least number, each left set
+   having the first entry of what it splits, and so on in the left tree and then in the right one. `into` gets its n - 1
+   joins: each stands behind those below it, left before right, and the last one is the root.
+
+   SAFEBOUND_BAD_BOUNDS    not 2^n of them, for an n from 1 to 12; `detail` is their number
+   SAFEBOUND_BAD_BUDGET    more than 2^59; `detail` is the budget
+   SAFEBOUND_ROOM          n - 1
+   SAFEBOUND_NO_MEMORY
+   SAFEBOUND_PAST_BITS     the greatest level of each tree is SAFEBOUND_NO_BOUND
+   SAFEBOUND_BUDGET        the greatest level of the best tree is above the budget; `detail` is that level
+   SAFEBOUND_OK
+
+   Example: over the bounds 1, 3, 3, 5, 3, 5, 5, 9 of three entries the best tree joins 1 with 2, at most 5 rows, and 0 with
+   these, at most 9: the elements are (1, 2, 5), (0, 3, 9).
+
+       safebound_join joins[2];
+       safebound_status status = safebound_tree(bounds, 8, 1000000, joins, 2, &detail); */
+safebound_status safebound_tree(const uint64_t *bounds, size_t bounds_length, uint64_t budget, safebound_join *into,
+                                size_t room, uint64_t *detail);
+
+/* The library's version as text, such as 0.1.0, with a 0 at its end, which counts for the room.
+
+   SAFEBOUND_ROOM
+   SAFEBOUND_OK */
+safebound_status safebound_version(char *into, size_t room, uint64_t *detail);
+
+#ifdef __cplusplus
+}
+#endif
+
+#endif

@@ -1,0 +1,40 @@
+/* Memory for SafeBound's library, for who gives it an allocator of one's own.
+
+   libsafebound.a calls three functions for all of its memory, and has them itself, over malloc, as weak symbols. A program
+   that defines all three gets its own in their place: a planner's memory context, or a test's allocator that fails. In
+   libsafebound.so they are bound to malloc.
+
+   All three are of one allocator. It may be asked by each thread that calls the library at the same time. A call of the
+   library gives back all that it was given before it returns. */
+
+#ifndef SAFEBOUND_MEMORY_H
+#define SAFEBOUND_MEMORY_H
+
+#include <stdbool.h>
+#include <stddef.h>
+
+#ifdef __cplusplus
+extern "C" {
+#endif
+
+/* What a request gives: `given` is false where memory is wanting, and `at` then isn't looked at. */
+typedef struct rattle_memory {
+    bool given;
+    void *at;
+} rattle_memory;
+
+/* So many bytes, aligned to `align`, which is a power of two up to 16. `at` isn't NULL, also for 0 bytes. */
+rattle_memory rattle_alloc(size_t size, size_t align);
+
+/* The block at `at`, of `size` bytes, with `new_size` bytes, perhaps at another place. Where memory is wanting, the old
+   block stays as it was. */
+rattle_memory rattle_realloc(void *at, size_t size, size_t new_size, size_t align);
+
+/* Gives a block back. */
+void rattle_dealloc(void *at);
+
+#ifdef __cplusplus
+}
+#endif
+
+#endif

@@ -1,0 +1,235 @@
+/* Makes the calls that it reads, one a line, as C makes them, and writes one line for each: status, detail, elements.
+
+     degrees ROOM N KEY..             append ROOM N (DEGREE KEYS).. M (DEGREE KEYS)..
+     compress ACCURACY ROOM N (DEGREE KEYS)..
+     bounds ROOM N ROWS.. N (4 NUMBERS).. N (4 NUMBERS).. N (DEGREE KEYS)..
+     order BUDGET ROOM N BOUND..      tree BUDGET ROOM N BOUND..      version ROOM
+
+   Before a call `refuse N` lets its Nth request for memory fail. Each array ends where its page ends, and the next page
+   can't be touched, so that a step past a length ends the program. After a call nothing that was given has changed, no
+   memory is kept, nothing past the answer is written, and where the status isn't OK nothing at all but the detail. */
+#define _GNU_SOURCE
+#include "safebound.h"
+#include "safebound_memory.h"
+
+#include <inttypes.h>
+#include <stdio.h>
+#include <stdlib.h>
+#include <string.h>
+#include <sys/mman.h>
+#include <unistd.h>
+
+#define UNTOUCHED 0xA5
+#define NO_DETAIL UINT64_C(0xA5A5A5A5A5A5A5A5)
+#define MOST_ARRAYS 6
+
+/* ---- memory */
+
+static long requests, refused, kept;
+
+static bool is_refused(void) { return ++requests == refused; }
+
+rattle_memory rattle_alloc(size_t size, size_t align) {
+    (void)align;
+    if (is_refused()) return (rattle_memory){false, NULL};
+    kept++;
+    return (rattle_memory){true, malloc(size + 1)};
+}
+
+rattle_memory rattle_realloc(void *at, size_t size, size_t new_size, size_t align) {
+    (void)size;
+    (void)align;
+    if (is_refused()) return (rattle_memory){false, NULL};
+    return (rattle_memory){true, realloc(at, new_size + 1)};
+}
+
+void rattle_dealloc(void *at) {
+    kept--;
+    free(at);
+}
+
+/* ---- arrays before a page that can't be touched */
+
+typedef struct {
+    unsigned char *pages, *bytes, *copy;
+    size_t mapped, size;
+} array;
+
+static void stop(const char *why) {
+    fflush(stdout);
+    fprintf(stderr, "calls: %s\n", why);
+    exit(1);
+}
+
+static array array_of(size_t size) {
+    size_t page = (size_t)sysconf(_SC_PAGESIZE), mapped = (size / page + 2) * page;
+    unsigned char *pages = mmap(NULL, mapped, PROT_READ | PROT_WRITE, MAP_PRIVATE | MAP_ANONYMOUS, -1, 0);
+    if (pages == MAP_FAILED || mprotect(pages + mapped - page, page, PROT_NONE) != 0) stop("no pages");
+    array made = {pages, pages + mapped - page - size, NULL, mapped, size};
+    memset(made.bytes, UNTOUCHED, size);
+    return made;
+}
+
+static void drop(array *gone) {
+    munmap(gone->pages, gone->mapped);
+    free(gone->copy);
+}
+
+/* ---- the line that is read */
+
+static char *rest;
+static array given[MOST_ARRAYS];
+static size_t given_count;
+
+static uint64_t number(void) {
+    char *end;
+    uint64_t read = strtoull(rest, &end, 10);
+    if (end == rest) stop("a number is missing");
+    rest = end;
+    return read;
+}
+
+/* A length and so many elements, each of some numbers of 64 or of 32 bits. */
+static void *elements(size_t *length, size_t wide, size_t narrow) {
+    *length = number();
+    array made = array_of(*length * (8 * wide + 4 * narrow));
+    unsigned char *at = made.bytes;
+    for (size_t i = 0; i < *length; i++) {
+        for (size_t k = 0; k < narrow; k++, at += 4) {
+            uint32_t read = (uint32_t)number();
+            memcpy(at, &read, 4);
+        }
+        for (size_t k = 0; k < wide; k++, at += 8) {
+            uint64_t read = number();
+            memcpy(at, &read, 8);
+        }
+    }
+    made.copy = malloc(made.size + 1);
+    memcpy(made.copy, made.bytes, made.size);
+    given[given_count++] = made;
+    return made.bytes;
+}
+
+/* ---- the answer */
+
+static void look_at_rest(const array *into, size_t written) {
+    for (size_t i = written; i < into->size; i++)
+        if (into->bytes[i] != UNTOUCHED) stop("written where nothing may be written");
+    for (size_t i = 0; i < given_count; i++)
+        if (memcmp(given[i].bytes, given[i].copy, given[i].size) != 0) stop("an argument has changed");
+    if (kept != 0) stop("memory is kept");
+}
+
+static void tell(safebound_status status, const uint64_t *told, array *into, size_t element) {
+    uint64_t detail = *told;
+    look_at_rest(into, status == SAFEBOUND_OK ? detail * element : 0);
+    printf("%" PRIu32, status);
+    if (detail == NO_DETAIL) printf(" -");
+    else printf(" %" PRIu64, detail);
+    for (size_t i = 0; status == SAFEBOUND_OK && i < detail * element; i += element < 8 ? 1 : 8) {
+        uint64_t read = into->bytes[i];
+        if (element >= 8) memcpy(&read, into->bytes + i, 8);
+        printf(" %" PRIu64, read);
+    }
+    printf(" requests %ld\n", requests);
+    drop(into);
+    for (size_t i = 0; i < given_count; i++) drop(&given[i]);
+    given_count = 0;
+}
+
+/* ---- calls */
+
+static void degrees(uint64_t *detail) {
+    size_t room = number(), n;
+    array into = array_of(room * sizeof(safebound_run));
+    const uint64_t *keys = elements(&n, 1, 0);
+    tell(safebound_degrees(keys, n, (safebound_run *)into.bytes, room, detail), detail, &into, sizeof(safebound_run));
+}
+
+static void compress(uint64_t *detail) {
+    uint64_t accuracy = number();
+    size_t room = number(), n;
+    array into = array_of(room * sizeof(safebound_run));
+    const safebound_run *runs = elements(&n, 2, 0);
+    tell(safebound_compress(runs, n, accuracy, (safebound_run *)into.bytes, room, detail), detail, &into, sizeof(safebound_run));
+}
+
+static void append(uint64_t *detail) {
+    size_t room = number(), n, m;
+    array into = array_of(room * sizeof(safebound_run));
+    const safebound_run *runs = elements(&n, 2, 0), *others = elements(&m, 2, 0);
+    tell(safebound_append(runs, n, others, m, (safebound_run *)into.bytes, room, detail), detail, &into, sizeof(safebound_run));
+}
+
+static void bounds(uint64_t *detail) {
+    size_t room = number(), entries, equalities_length, lists_length, runs_length;
+    array into = array_of(room * 8);
+    const uint64_t *rows = elements(&entries, 1, 0);
+    const safebound_equality *equalities = elements(&equalities_length, 0, 4);
+    const safebound_list *lists = elements(&lists_length, 2, 2);
+    const safebound_run *runs = elements(&runs_length, 2, 0);
+    safebound_status status = safebound_bounds(rows, entries, equalities, equalities_length, lists, lists_length, runs,
+                                               runs_length, (uint64_t *)into.bytes, room, detail);
+    tell(status, detail, &into, 8);
+}
+
+static void order(uint64_t *detail) {
+    uint64_t budget = number();
+    size_t room = number(), n;
+    array into = array_of(room * sizeof(safebound_level));
+    const uint64_t *given_bounds = elements(&n, 1, 0);
+    tell(safebound_order(given_bounds, n, budget, (safebound_level *)into.bytes, room, detail), detail, &into, sizeof(safebound_level));
+}
+
+static void tree(uint64_t *detail) {
+    uint64_t budget = number();
+    size_t room = number(), n;
+    array into = array_of(room * sizeof(safebound_join));
+    const uint64_t *given_bounds = elements(&n, 1, 0);
+    tell(safebound_tree(given_bounds, n, budget, (safebound_join *)into.bytes, room, detail), detail, &into, sizeof(safebound_join));
+}
+
+static void version(uint64_t *detail) {
+    size_t room = number();
+    array into = array_of(room);
+    tell(safebound_version((char *)into.bytes, room, detail), detail, &into, 1);
+}
+
+static bool begins_with(const char *word) {
+    size_t length = strlen(word);
+    if (strncmp(rest, word, length) != 0 || rest[length] != ' ') return false;
+    rest += length;
+    return true;
+}
+
+static const struct {
+    const char *name;
+    void (*call)(uint64_t *detail);
+} CALLS[] = {{"degrees", degrees}, {"compress", compress}, {"append", append}, {"bounds", bounds},
+             {"order", order},     {"tree", tree},         {"version", version}};
+
+static void make_call(void) {
+    requests = 0;
+    refused = begins_with("refuse") ? (long)number() : 0;
+    while (*rest == ' ') rest++;
+    for (size_t i = 0; i < sizeof CALLS / sizeof *CALLS; i++) {
+        if (begins_with(CALLS[i].name)) {
+            uint64_t detail = NO_DETAIL;
+            CALLS[i].call(&detail);
+            return;
+        }
+    }
+    stop("no such call");
+}
+
+int main(void) {
+    char *line = NULL;
+    size_t room = 0;
+    while (getline(&line, &room, stdin) > 0) {
+        rest = line;
+        make_call();
+        fflush(stdout);
+    }
+    free(line);
+    return 0;
+}

@@ -1,0 +1,108 @@
+"""Calls as plain numbers, and what C and Python get for them.
+
+A call is made by the C program (calls.c) and through ctypes. Both must get the same.
+"""
+
+import ctypes
+import os
+import subprocess
+import sys
+from typing import NamedTuple, Optional
+
+HERE = os.path.dirname(os.path.abspath(__file__))
+ROOT = os.path.dirname(os.path.dirname(HERE))
+sys.dont_write_bytecode = True
+sys.path[:0] = [os.path.join(ROOT, "python"), os.path.join(ROOT, "cases")]
+os.environ.setdefault("PYTHONPATH", sys.path[0])
+
+from safebound import _library  # noqa: E402
+from safebound._library import NO_BOUND, Status  # noqa: E402,F401
+
+PROGRAM = os.environ.get("SAFEBOUND_CALLS", os.path.join(ROOT, "library", "out", "calls"))
+MOST_ROWS, MOST_BUDGET = 2**48, 2**59
+UNTOUCHED = 0xA5A5A5A5A5A5A5A5
+
+NUMBER, BYTE = ctypes.c_uint64, ctypes.c_char
+ELEMENTS = {"degrees": _library.Run, "compress": _library.Run, "append": _library.Run, "bounds": NUMBER, "order": _library.Level,
+            "tree": _library.Join, "version": BYTE}
+ARRAYS = {"degrees": [NUMBER], "compress": [_library.Run], "append": [_library.Run] * 2,
+          "bounds": [NUMBER, _library.Equality, _library.List, _library.Run], "order": [NUMBER], "tree": [NUMBER], "version": []}
+
+
+class Answer(NamedTuple):
+    status: int
+    detail: Optional[int]
+    elements: list
+
+
+class Call(NamedTuple):
+    """A call's name, its arrays, the room for its answer, and the accuracy or the budget."""
+
+    name: str
+    arrays: list
+    room: int
+    number: Optional[int] = None
+
+    def line(self):
+        parts = [self.name] + ([] if self.number is None else [self.number]) + [self.room]
+        for array in self.arrays:
+            parts += [len(array)] + [n for element in array for n in flat(element)]
+        return " ".join(map(str, parts))
+
+
+def flat(element):
+    return list(element) if isinstance(element, (tuple, list)) else [element]
+
+
+def fields(element):
+    if isinstance(element, ctypes.Structure):
+        return [getattr(element, name) for name, _ in element._fields_]
+    return [element[0] if isinstance(element, bytes) else element]
+
+
+def shaped(name, numbers):
+    """The numbers of an answer as elements: tuples, where they have several numbers."""
+    wide = len(getattr(ELEMENTS[name], "_fields_", [0]))
+    return [n if wide == 1 else tuple(numbers[at : at + wide]) for at, n in enumerate(numbers) if at % wide == 0]
+
+
+def by_ctypes(call):
+    given = []
+    for kind, array in zip(ARRAYS[call.name], call.arrays):
+        given += [(kind * len(array))(*array), len(array)]
+    given += [] if call.number is None else [call.number]
+    into, detail = (ELEMENTS[call.name] * call.room)(), NUMBER(UNTOUCHED)
+    status = getattr(_library._library(), "safebound_" + call.name)(*given, into, call.room, ctypes.byref(detail))
+    written = detail.value if status == Status.OK else 0
+    return Answer(status, None if detail.value == UNTOUCHED else detail.value,
+                  shaped(call.name, [n for element in into[:written] for n in fields(element)]))
+
+
+def by_c(lines):
+    """The answers of the C program, each with how many requests for memory there were."""
+    done = subprocess.run([PROGRAM], input="".join(line + "\n" for line in lines), capture_output=True, text=True, timeout=300)
+    if done.returncode != 0:
+        at = done.stdout.count("\n")
+        raise AssertionError(f"{done.stderr.strip()} (status {done.returncode}): {lines[at] if at < len(lines) else ''}"[:2000])
+    for line, told in zip(lines, done.stdout.splitlines()):
+        words = told.split()
+        name = next(word for word in line.split() if word in ELEMENTS)
+        elements = shaped(name, [int(word) for word in words[2:-2]])
+        yield Answer(int(words[0]), None if words[1] == "-" else int(words[1]), elements), int(words[-1])
+
+
+def answers(calls):
+    """What C and Python both get."""
+    found = []
+    for call, (answer, _) in zip(calls, by_c([call.line() for call in calls])):
+        other = by_ctypes(call)
+        if answer != other:
+            raise AssertionError(f"C gets {answer} and Python {other}: {call}")
+        found.append(answer)
+    if len(found) != len(calls):
+        raise AssertionError("the C program answers fewer calls than it is asked")
+    return found
+
+
+def answer(call):
+    return answers([call])[0]

@@ -1,0 +1,112 @@
+/* The examples of the header, each call of them, and then all of them from several threads at once. */
+#include "safebound.h"
+
+#include <pthread.h>
+#include <stdio.h>
+#include <stdlib.h>
+#include <string.h>
+
+#define THREADS 4
+#define TIMES 2000
+
+#define CHECK(fact)                                                        \
+    do {                                                                   \
+        if (!(fact)) {                                                     \
+            fprintf(stderr, "%s:%d: not so: %s\n", __FILE__, __LINE__, #fact); \
+            exit(1);                                                       \
+        }                                                                  \
+    } while (0)
+
+static void is_run(safebound_run run, uint64_t degree, uint64_t keys) {
+    CHECK(run.degree == degree);
+    CHECK(run.keys == keys);
+}
+
+static void degrees_of_a_column(void) {
+    uint64_t keys[] = {8, 8, 8, 8, 8, 2, 2, 2, 5}, detail;
+    safebound_run runs[64];
+    CHECK(safebound_degrees(keys, 9, runs, 64, &detail) == SAFEBOUND_OK);
+    CHECK(detail == 3);
+    is_run(runs[0], 5, 1);
+    is_run(runs[1], 3, 1);
+    is_run(runs[2], 1, 1);
+}
+
+static void few_runs(void) {
+    safebound_run runs[] = {{5, 1}, {4, 1}, {3, 1}, {1, 1}}, few[5];
+    uint64_t detail;
+    CHECK(safebound_compress(runs, 4, 1, few, 5, &detail) == SAFEBOUND_OK);
+    CHECK(detail == 2);
+    is_run(few[0], 5, 2);
+    is_run(few[1], 3, 1);
+}
+
+static void rows_that_came_later(void) {
+    safebound_run old[] = {{3, 1}, {1, 2}}, later[] = {{2, 2}}, both[3];
+    uint64_t detail;
+    CHECK(safebound_append(old, 2, later, 1, both, 3, &detail) == SAFEBOUND_OK);
+    CHECK(detail == 3);
+    is_run(both[0], 5, 1);
+    is_run(both[1], 3, 1);
+    is_run(both[2], 1, 1);
+}
+
+static void bounds_of_two_entries(void) {
+    uint64_t rows[] = {6, 5}, bounds[4], detail;
+    safebound_equality equalities[] = {{0, 0, 1, 0}};
+    safebound_run runs[] = {{3, 2}, {2, 2}, {1, 1}};
+    safebound_list lists[] = {{0, 0, 0, 1}, {1, 0, 1, 2}};
+    CHECK(safebound_bounds(rows, 2, equalities, 1, lists, 2, runs, 3, bounds, 4, &detail) == SAFEBOUND_OK);
+    CHECK(detail == 4);
+    uint64_t expected[] = {1, 6, 5, 12};
+    CHECK(memcmp(bounds, expected, sizeof expected) == 0);
+}
+
+static void best_order(void) {
+    uint64_t bounds[] = {1, 2, 2, 9, 2, 5, 5, 6}, detail;
+    safebound_level levels[3], expected[] = {{0, 2}, {2, 5}, {1, 6}};
+    CHECK(safebound_order(bounds, 8, 1000000, levels, 3, &detail) == SAFEBOUND_OK);
+    CHECK(detail == 3);
+    CHECK(memcmp(levels, expected, sizeof expected) == 0);
+    CHECK(safebound_order(bounds, 8, 5, levels, 3, &detail) == SAFEBOUND_BUDGET);
+    CHECK(detail == 6);
+}
+
+static void best_tree(void) {
+    uint64_t bounds[] = {1, 3, 3, 5, 3, 5, 5, 9}, detail;
+    safebound_join joins[2], expected[] = {{1, 2, 5}, {0, 3, 9}};
+    CHECK(safebound_tree(bounds, 8, 1000000, joins, 2, &detail) == SAFEBOUND_OK);
+    CHECK(detail == 2);
+    CHECK(memcmp(joins, expected, sizeof expected) == 0);
+}
+
+static void version(void) {
+    char text[64];
+    uint64_t detail;
+    CHECK(safebound_version(text, 64, &detail) == SAFEBOUND_OK);
+    CHECK(detail == strlen(text) + 1);
+    CHECK(safebound_version(text, 1, &detail) == SAFEBOUND_ROOM);
+}
+
+static void *all(void *times) {
+    for (int time = 0; time < *(int *)times; time++) {
+        degrees_of_a_column();
+        few_runs();
+        rows_that_came_later();
+        bounds_of_two_entries();
+        best_order();
+        best_tree();
+        version();
+    }
+    return NULL;
+}
+
+int main(int count, char **words) {
+    int once = 1, often = count > 1 ? atoi(words[1]) : TIMES;
+    all(&once);
+    pthread_t threads[THREADS];
+    for (int i = 0; i < THREADS; i++) CHECK(pthread_create(&threads[i], NULL, all, &often) == 0);
+    for (int i = 0; i < THREADS; i++) CHECK(pthread_join(threads[i], NULL) == 0);
+    puts("the header's examples: as it says, alone and from four threads");
+    return 0;
+}

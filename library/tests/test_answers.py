@@ -1,0 +1,282 @@
+"""Random calls beside the slow reading of the definitions (cases/reading.py), and bounds beside true counts."""
+
+import itertools
+import random
+import unittest
+from collections import Counter
+
+from calls import NO_BOUND, Call, Status, answers
+import reading
+
+RUNS = 150
+
+
+def runs_of(degrees):
+    return [(degree, len(list(group))) for degree, group in itertools.groupby(degrees)]
+
+
+def degrees_of(runs):
+    return [degree for degree, keys in runs for _ in range(keys)]
+
+
+def random_degrees(pick):
+    return sorted((pick.choice([1, 2, 3, 5, 40, 1000]) * pick.randint(1, 3) for _ in range(pick.randint(0, 12))), reverse=True)
+
+
+class Lists(unittest.TestCase):
+    def check(self, made):
+        """Pairs of a call and the list that its runs have to be of."""
+        for (call, expected), answer in zip(made, answers([call for call, _ in made])):
+            self.assertEqual(answer, (Status.OK, len(runs_of(expected)), runs_of(expected)), call)
+
+    def test_degrees(self):
+        made = []
+        for seed in range(RUNS):
+            pick = random.Random(seed)
+            spread = pick.choice([[0, 1, 2], range(20), [0, 2**63, 2**64 - 1], range(2**64 - 9, 2**64), [5]])
+            keys = [pick.choice(spread) for _ in range(pick.choice([0, 1, 9, 60, 400]))]
+            made.append((Call("degrees", [keys], 30), reading.falling(keys)))
+        self.check(made)
+
+    def test_compress(self):
+        made = []
+        for seed in range(RUNS):
+            pick = random.Random(seed)
+            degrees, accuracy = random_degrees(pick), pick.choice([1, 2, 3, 8, 64])
+            split = [(degree, 1) for degree in degrees] if pick.random() < 0.3 else runs_of(degrees)
+            made.append((Call("compress", [split], len(split) + 1, accuracy), reading.compressed(degrees, accuracy)))
+        self.check(made)
+
+    def test_append(self):
+        made = []
+        for seed in range(RUNS):
+            pick = random.Random(seed)
+            one, other = random_degrees(pick), random_degrees(pick)
+            made.append((Call("append", [runs_of(one), runs_of(other)], 24), reading.by_rank(sum, [one, other])))
+        self.check(made)
+
+    def test_numbers_at_the_limit(self):
+        most = 2**48
+        self.check_runs([
+            (Call("compress", [[(most, 1)]], 2, 64), [(most, 1)]),
+            (Call("compress", [[(2, 1), (1, most - 2)]], 3, 1), [(2, most // 2)]),
+            (Call("append", [[(1, most - 1)], [(1, 1)]], 2), [(2, 1), (1, most - 2)]),
+        ])
+
+    def test_ten_billion_rows(self):
+        """One value in 4,000,000,000 rows, one in 3,000,000,000, a thousand in 2,000,000 each, a billion in one row each.
+
+        At accuracy 1 the second degree isn't below half of the first, so the head stays: rows 1 to 8,000,000,000 have it, in
+        two elements. They lie within the first two values and 500 of the thousand, so 500 of these are left.
+        """
+        table = [(4_000_000_000, 1), (3_000_000_000, 1), (2_000_000, 1000), (1, 1_000_000_000)]
+        self.check_runs([
+            (Call("compress", [table], 8, 1), [(4_000_000_000, 2), (2_000_000, 500), (1, 1_000_000_000)]),
+            (Call("compress", [table], 8, 4), table),
+            (Call("append", [table, table], 8), [(2 * degree, keys) for degree, keys in table]),
+        ])
+
+    def check_runs(self, made):
+        for (call, expected), answer in zip(made, answers([call for call, _ in made])):
+            self.assertEqual(answer, (Status.OK, len(expected), expected), call)
+
+
+class GivenLists(reading.ListBounds):
+    """The bounds of the reading over lists that are given."""
+
+    def __init__(self, equalities, rows, lists):
+        self.all, self.rows, self.lists = equalities, rows, lists
+
+
+def fitted(degrees, rows):
+    """Rows without a value are keys of their own, and what passes the row bound is cut."""
+    cut = reading.cut(degrees, rows)
+    return cut + [1] * (rows - sum(cut))
+
+
+class RandomQuery:
+    """Small tables with values and rows without one, equalities, and lists that dominate the columns."""
+
+    def __init__(self, seed):
+        self.pick = pick = random.Random(seed)
+        self.entries = pick.choice([2, 2, 3, 3, 4, 5])
+        columns, spread = pick.randint(1, 3), pick.choice([1, 2, 3, 6])
+        nulls = pick.choice([0, 0, 0.3, 1])
+        value = lambda: None if pick.random() < nulls else pick.randint(1, spread)  # noqa: E731
+        most = 6 if self.entries < 5 else 4
+        self.tables = [[[value() for _ in range(columns)] for _ in range(pick.randint(0, most))] for _ in range(self.entries)]
+        if pick.random() < 0.2:
+            self.tables[1] = self.tables[0]
+        pairs = list(itertools.combinations(range(self.entries), 2))
+        place = lambda entry: (entry, pick.randrange(columns))  # noqa: E731
+        self.equalities = [tuple(map(place, pick.sample(pick.choice(pairs), 2))) for _ in range(pick.randint(0, self.entries + 1))]
+        self.whole = [self.tables[e] + ([[value() for _ in range(columns)]] if pick.random() < 0.3 else []) for e in range(self.entries)]
+        self.rows = [len(table) + pick.choice([0, 0, 1]) for table in self.tables]
+        self.lists = {side: self.list_of(*side) for equality in self.equalities for side in equality}
+
+    def list_of(self, entry, column):
+        """The column's degree list over the table or over one with more rows, as it is, compressed, or in two parts."""
+        values = [row[column] for row in self.whole[entry] if row[column] is not None]
+        shape, degrees = self.pick.random(), reading.falling(values)
+        if shape < 0.3:
+            return reading.compressed(degrees, self.pick.choice([1, 2, 8]))
+        if shape < 0.5:
+            at = self.pick.randint(0, len(values))
+            return reading.by_rank(sum, [reading.falling(values[:at]), reading.falling(values[at:])])
+        return degrees
+
+    def call(self):
+        """The call, with the lists in any order, and names of columns that are any numbers. No value at all is (1, 1)."""
+        name = lambda column: (column * 2_147_483_647 + 5) % 2**32  # noqa: E731
+        equalities = [(a, name(x), b, name(y)) for (a, x), (b, y) in self.equalities]
+        sides, runs, lists = list(self.lists), [(7, 1)], []
+        self.pick.shuffle(sides)
+        for entry, column in sides:
+            own = runs_of(self.lists[entry, column]) or [(1, 1)]
+            lists.append((entry, name(column), len(runs), len(own)))
+            runs += own + [(1, 1)]
+        return Call("bounds", [self.rows, equalities, lists, runs], 2**self.entries)
+
+    def read(self, entries):
+        """The bound of a set by the definitions."""
+        lists = {(e, c): fitted(degrees, self.rows[e]) for (e, c), degrees in self.lists.items()}
+        return GivenLists(self.equalities, self.rows, lists).of_set(entries)
+
+    def counted(self, entries):
+        """How many choices of one row of each entry of a set satisfy the equalities between them, by nested loops."""
+        inner = [e for e in self.equalities if e[0][0] in entries and e[1][0] in entries]
+        found = 0
+        for rows in itertools.product(*(self.tables[entry] for entry in entries)):
+            row = dict(zip(entries, rows))
+            found += all(row[a][x] is not None and row[a][x] == row[b][y] for (a, x), (b, y) in inner)
+        return found
+
+
+class Bounds(unittest.TestCase):
+    def test_random_queries(self):
+        queries = [RandomQuery(seed) for seed in range(3 * RUNS)]
+        calls = [query.call() for query in queries]
+        joined = equal = 0
+        for query, call, answer in zip(queries, calls, answers(calls)):
+            self.assertEqual((answer.status, answer.detail), (Status.OK, 2**query.entries), call)
+            for number, bound in enumerate(answer.elements):
+                entries = [e for e in range(query.entries) if number >> e & 1]
+                self.assertEqual(bound, query.read(entries) if entries else 1, (entries, call))
+                count = query.counted(entries)
+                self.assertLessEqual(count, bound, (entries, call))
+                joined, equal = joined + (count > 0 and len(entries) > 1), equal + (count == bound and len(entries) > 1)
+        self.assertGreater(joined, 100)
+        self.assertGreater(equal, 100)
+
+    def test_saturated_bounds(self):
+        """Two columns of one value each have the product of their rows; twelve of 2**48 rows are past every number."""
+        for rows, expected in [((2**31, 2**32), 2**63), ((2**32, 2**32), NO_BOUND), ((2**32 - 1, 2**32 + 1), NO_BOUND), ((2**48, 2**48), NO_BOUND)]:
+            lists, runs = [(0, 0, 0, 1), (1, 0, 1, 1)], [(rows[0], 1), (rows[1], 1)]
+            (answer,) = answers([Call("bounds", [rows, [(0, 0, 1, 0)], lists, runs], 4)])
+            self.assertEqual(answer.elements, [1, rows[0], rows[1], expected])
+        twelve = answers([Call("bounds", [[2**48] * 12, [], [], []], 4096)])[0].elements
+        self.assertEqual(Counter(min(n, NO_BOUND) for n in twelve), {1: 1, 2**48: 12, NO_BOUND: 4083})
+
+    def test_ten_billion_rows(self):
+        """Two tables joined by one column: rank by rank the products of degrees, summed."""
+        one, other = [(4_000_000_000, 1), (2, 3_000_000_000)], [(1000, 1_000_000), (1, 9_000_000_000)]
+        rows = [10_000_000_000, 10_000_000_000]
+        joined = 4_000_000_000 * 1000 + 2 * 1000 * 999_999 + 2 * (3_000_000_000 - 999_999)
+        lists, runs = [(0, 0, 0, 2), (1, 0, 2, 2)], one + other
+        (answer,) = answers([Call("bounds", [rows, [(0, 0, 1, 0)], lists, runs], 4)])
+        self.assertEqual(answer, (Status.OK, 4, [1, *rows, joined]))
+
+
+# ---- plans
+
+
+def orders(bounds, entries):
+    """All orders with their greatest level, their sum and their levels; the first of the least of these is best."""
+    for order in itertools.permutations(range(entries)):
+        levels = [bounds[sum(1 << e for e in order[: k + 1])] for k in range(entries)]
+        yield max(levels), sum(levels), order, levels
+
+
+def trees(entries):
+    """All trees over a set of entries: a leaf, or two trees, of which the left one has the first entry."""
+    if len(entries) == 1:
+        yield entries[0]
+    for size in range(1, len(entries)):
+        for rest in itertools.combinations(entries[1:], size - 1):
+            left = (entries[0], *rest)
+            right = tuple(e for e in entries if e not in left)
+            yield from itertools.product(trees(left), trees(right))
+
+
+def set_of(tree):
+    return set_of(tree[0]) | set_of(tree[1]) if isinstance(tree, tuple) else 1 << tree
+
+
+def place_of(tree):
+    """What decides between trees of one cost and one sum."""
+    return (set_of(tree[0]), place_of(tree[0]), place_of(tree[1])) if isinstance(tree, tuple) else (0, (), ())
+
+
+def joins_of(tree, bounds, joins, entries):
+    """The number of a tree's root, its joins behind the others."""
+    if not isinstance(tree, tuple):
+        return tree
+    left, right = joins_of(tree[0], bounds, joins, entries), joins_of(tree[1], bounds, joins, entries)
+    joins.append((left, right, bounds[set_of(tree)]))
+    return entries + len(joins) - 1
+
+
+def best_tree(bounds, entries):
+    found = []
+    for tree in trees(tuple(range(entries))):
+        joins = []
+        joins_of(tree, bounds, joins, entries)
+        levels = [bound for _, _, bound in joins] or [bounds[1]]
+        found.append((max(levels), sum(levels), place_of(tree), joins))
+    return min(found)
+
+
+def random_bounds(pick, entries):
+    kind = pick.choice(["few", "few", "many", "large", "none"])
+    least = {"few": [1, 2, 3], "many": range(1000), "large": range(2**58, 2**58 + 9), "none": [2**59, 2**60, NO_BOUND]}[kind]
+    bounds = [pick.choice(least) for _ in range(2**entries)]
+    if pick.random() < 0.3:
+        bounds[pick.randrange(1, 2**entries)] = NO_BOUND
+    return bounds
+
+
+class Plans(unittest.TestCase):
+    def check(self, name, best):
+        """Each with a budget that is just enough, one too small, and the greatest."""
+        calls, expected = [], []
+        for seed in range(2 * RUNS):
+            pick = random.Random(seed)
+            entries = pick.choice([1, 2, 3, 3, 4, 4, 5])
+            bounds = random_bounds(pick, entries)
+            cost, found = best(bounds, entries)
+            for budget in {min(cost, 2**59), max(min(cost, 2**59) - 1, 0), 2**59}:
+                calls.append(Call(name, [bounds], len(found), budget))
+                refusal = (Status.PAST_BITS, None, []) if cost == NO_BOUND else (Status.BUDGET, cost, [])
+                expected.append((Status.OK, len(found), found) if cost <= budget else refusal)
+        found = answers(calls)
+        for call, answer, wanted in zip(calls, found, expected):
+            self.assertEqual(answer, wanted, call)
+        self.assertEqual({answer.status for answer in found}, {Status.OK, Status.BUDGET, Status.PAST_BITS})
+
+    def test_orders(self):
+        def best(bounds, entries):
+            cost, _, order, levels = min(orders(bounds, entries))
+            return cost, list(zip(order, levels))
+
+        self.check("order", best)
+
+    def test_trees(self):
+        def best(bounds, entries):
+            cost, _, _, joins = best_tree(bounds, entries)
+            return cost, joins
+
+        self.check("tree", best)
+
+
+if __name__ == "__main__":
+    unittest.main()

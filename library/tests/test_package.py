@@ -1,0 +1,220 @@
+"""The Python package: what its pages show, its errors, several threads, and how it is installed and finds the library."""
+
+import doctest
+import os
+import random
+import shutil
+import subprocess
+import sys
+import tempfile
+import threading
+import unittest
+from array import array
+
+import calls
+import reading
+
+import safebound
+from safebound import _library, lists, query
+
+PAIR = [(("r", "x"), ("s", "x"))]
+
+
+def pair(**changed):
+    given = dict(entries=["r", "s"], equalities=PAIR, row_bounds={"r": 6, "s": 5}, lists={("r", "x"): [(3, 2)], ("s", "x"): [(2, 2), (1, 1)]})
+    return safebound.Query(**{**given, **changed})
+
+
+class Pages(unittest.TestCase):
+    def test_what_docstrings_show(self):
+        for module in (safebound, lists, query):
+            failed, tried = doctest.testmod(module)
+            self.assertEqual((failed, tried > 0), (0, True), module)
+
+    def test_statuses_are_the_header_s(self):
+        with open(os.path.join(calls.ROOT, "include", "safebound.h"), encoding="utf-8") as f:
+            header = f.read()
+        for name, number in vars(_library.Status).items():
+            if not name.startswith("_"):
+                self.assertIn(f"SAFEBOUND_{name} = {number}", header.replace(",", " ").replace("\n", " "))
+
+
+class Values(unittest.TestCase):
+    def test_of_any_kind(self):
+        nan = float("nan")
+        for values in ([], ["a", "b", "a"], ["é", "", None, ""], [1, 1.0, True, 2], [(1, 2), (1, 2), (2, 1)], [None, None], [-1, 2**64, -1, 2**70], [1.5, nan, float("nan"), nan]):
+            known = ["nan" if v != v else v for v in values if v is not None]
+            degrees = reading.falling(known)
+            self.assertEqual([d for d, keys in safebound.degree_sequence(values) for _ in range(keys)], degrees, values)
+
+    def test_where_they_lie(self):
+        pick = random.Random(1)
+        numbers = [pick.choice([-1, 0, 7, 2**62]) for _ in range(100)]
+        expected = safebound.degree_sequence(numbers)
+        held = array("q", numbers)
+        for values in (held, memoryview(held), memoryview(held.tobytes()).cast("q"), array("i", [n % 2**30 for n in numbers]), iter(numbers)):
+            self.assertEqual(sum(d * k for d, k in safebound.degree_sequence(values)), 100)
+        self.assertEqual(safebound.degree_sequence(held), expected)
+        self.assertEqual(safebound.degree_sequence(held[::2]), safebound.degree_sequence(numbers[::2]))
+        self.assertEqual(safebound.degree_sequence(memoryview(held)[::2]), safebound.degree_sequence(numbers[::2]))
+        self.assertEqual(safebound.degree_sequence(array("d", [0.0, -0.0, 1.0])), [(2, 1), (1, 1)])
+        self.assertEqual(safebound.degree_sequence(b"abca"), [(2, 1), (1, 2)])
+
+
+class Errors(unittest.TestCase):
+    def raises(self, kind, place, make, column=None):
+        with self.assertRaises(kind) as caught:
+            make()
+        self.assertIs(type(caught.exception), kind)
+        self.assertEqual((caught.exception.place, getattr(caught.exception, "column", None)), (place, column))
+        self.assertIsInstance(caught.exception, ValueError)
+
+    def test_lists(self):
+        for number in (0, 65, 2**64, 2**64 + 1, -1):
+            self.raises(safebound.BadAccuracy, number, lambda: safebound.compress([(1, 1)], number))
+        for wrong in [(0, 1), (1, 0), (-1, 1), (1, -1), (2**64 + 1, 1), (1, 2**64 + 1), (6, 1)]:
+            self.raises(safebound.BadRun, 1, lambda: safebound.compress([(5, 1), wrong], 1))
+            self.raises(safebound.BadRun, 1, lambda: safebound.append([(5, 1), wrong], []))
+            self.raises(safebound.BadOtherRun, 1, lambda: safebound.append([], [(5, 1), wrong]))
+        self.raises(safebound.BadSum, 2**48 + 1, lambda: safebound.append([(2**48, 1)], [(1, 1)]))
+
+    def test_queries(self):
+        one, other = ("r", "x"), ("s", "x")
+        runs = {one: [(3, 2)], other: [(2, 2), (1, 1)]}
+        for n in (0, 13, 64):
+            names = [f"e{i}" for i in range(n)]
+            self.raises(safebound.BadEntries, n, safebound.Query(names, [], dict.fromkeys(names, 1), {}).bounds)
+        self.raises(safebound.BadEntries, "r", lambda: pair(entries=["r", "s", "r"]))
+        for rows in ({"r": 6}, {"r": 6, "s": -1}, {"r": 6, "s": 2**64}):
+            self.raises(safebound.BadRows, "s", lambda: pair(row_bounds=rows))
+        self.raises(safebound.BadRows, "s", pair(row_bounds={"r": 6, "s": 2**48 + 1}).bounds)
+        self.raises(safebound.BadEqualities, 257, pair(equalities=PAIR * 257).bounds)
+        self.raises(safebound.BadEquality, 1, lambda: pair(equalities=PAIR + [(("r", "x"), ("t", "x"))]))
+        self.raises(safebound.BadEquality, 1, pair(equalities=PAIR + [(("r", "x"), ("r", "y"))]).bounds)
+        self.raises(safebound.BadList, ("t", "x"), lambda: pair(lists={**runs, ("t", "x"): []}))
+        self.raises(safebound.MissingList, 0, pair(lists={one: [(3, 2)]}).bounds)
+        for column, other_column in ((one, other), (other, one)):
+            self.raises(safebound.BadList, column, pair(lists={other_column: [(1, 1)], column: []}).bounds)
+        self.raises(safebound.BadRun, 1, pair(lists={one: [(3, 2)], other: [(2, 2), (3, 1)]}).bounds, other)
+        self.raises(safebound.BadRun, 0, lambda: pair(lists={one: [(3, 2)], other: [(-2, 2)]}), other)
+
+    def test_plans(self):
+        for best in (pair().best_order, pair().best_tree):
+            for budget in (-1, 2**59 + 1, 2**64, 2**64 + 100):
+                self.raises(safebound.BadBudget, budget, lambda: best(budget))
+            with self.assertRaises(safebound.BudgetExceeded) as caught:
+                best(11)
+            self.assertEqual(caught.exception.least, 12)
+        large = safebound.Query(["a", "b"], [], {"a": 2**40, "b": 2**40}, {})
+        for best in (large.best_order, large.best_tree):
+            self.assertRaises(safebound.PastBits, best, 2**59)
+        self.assertIsNone(large.bounds()[{"a", "b"}])
+
+    def test_what_is_no_number(self):
+        for make in (lambda: safebound.compress([(1, 1)], "1"), lambda: safebound.compress([(1.0, 1)], 1), lambda: pair(row_bounds={"r": "6", "s": 5})):
+            self.assertRaises(TypeError, make)
+
+
+class Answers(unittest.TestCase):
+    def test_by_name(self):
+        """A triangle: three equalities that close a cycle."""
+        columns = [(entry, column) for entry in "rst" for column in ("x", "y")]
+        asked = safebound.Query(list("rst"), [(("r", "x"), ("s", "x")), (("s", "y"), ("t", "x")), (("t", "y"), ("r", "y"))],
+                                dict.fromkeys("rst", 3), {column: [(2, 1), (1, 1)] for column in columns})
+        bounds = asked.bounds()
+        self.assertEqual({"".join(sorted(names)): bounds[names] for names in bounds}, {"": 1, "r": 3, "s": 3, "t": 3, "rs": 5, "rt": 5, "st": 5, "rst": 9})
+        self.assertEqual(bounds["r", "s", "r"], 5)
+        self.assertEqual(len(bounds), 8)
+        self.assertRaises(KeyError, lambda: bounds[{"u"}])
+        order = asked.best_order(9)
+        self.assertEqual((order, order.cost), ((("r", "s", "t"), (3, 5, 9)), 9))
+        tree = asked.best_tree(9)
+        self.assertEqual((tree.joins, tree.shape), (((1, 2, 5), (0, 3, 9)), ("r", ("s", "t"))))
+
+    def test_no_rows_and_no_values(self):
+        """An empty table has empty lists; a column in which no row has a value has (1, 1), and each row is a key of its own."""
+        empty = pair(row_bounds={"r": 0, "s": 5}, lists={("r", "x"): safebound.degree_sequence([]), ("s", "x"): [(2, 2), (1, 1)]})
+        self.assertEqual((empty.bounds()[{"r"}], empty.bounds()[{"r", "s"}]), (0, 0))
+        without = pair(lists={("r", "x"): [(1, 1)], ("s", "x"): [(2, 2), (1, 1)]})
+        self.assertEqual(without.bounds()[{"r", "s"}], 5)
+
+    def test_one_entry(self):
+        alone = safebound.Query(["r"], [], {"r": 7}, {})
+        self.assertEqual((alone.best_order(7), alone.best_tree(7)), ((("r",), (7,)), (("r",), ())))
+        self.assertEqual(alone.best_tree(7).shape, "r")
+
+    def test_threads(self):
+        """Four threads at once get what one gets."""
+        asked = [pair(row_bounds={"r": 6, "s": rows}, lists={("r", "x"): [(3, 2)], ("s", "x"): [(2, 2), (1, rows)]}) for rows in range(5, 205)]
+        alone = [(q.bounds()[{"r", "s"}], q.best_order(2**30)) for q in asked]
+        keys = [array("Q", [pick % 97 for pick in range(at, 20000 + at)]) for at in range(4)]
+        sequences = [safebound.degree_sequence(key) for key in keys]
+        wrong = []
+
+        def work(at):
+            for q, expected in zip(asked, alone):
+                other = safebound.Query(q.entries, PAIR, {"r": 6, "s": q._rows[1]}, {("r", "x"): [(3, 2)], ("s", "x"): [(2, 2), (1, q._rows[1])]})
+                if (other.bounds()[{"r", "s"}], other.best_order(2**30)) != expected or safebound.degree_sequence(keys[at]) != sequences[at]:
+                    wrong.append(at)
+
+        threads = [threading.Thread(target=work, args=(at,)) for at in range(4)]
+        for thread in threads:
+            thread.start()
+        for thread in threads:
+            thread.join()
+        self.assertEqual(wrong, [])
+
+
+SAY = "import safebound; print(safebound.version(), safebound.path())"
+
+
+class Installed(unittest.TestCase):
+    """The package away from the repository."""
+
+    def setUp(self):
+        self.folder = tempfile.mkdtemp()
+        self.addCleanup(shutil.rmtree, self.folder)
+        self.library = str(_library.path())
+
+    def run_python(self, *words, **variables):
+        clean = {name: value for name, value in os.environ.items() if name not in ("SAFEBOUND_LIBRARY", "PYTHONPATH")}
+        return subprocess.run([sys.executable, *words], cwd=self.folder, env={**clean, **variables}, capture_output=True, text=True, timeout=120)
+
+    def copy(self):
+        package = os.path.join(self.folder, "safebound")
+        shutil.copytree(os.path.join(calls.ROOT, "python", "safebound"), package, ignore=shutil.ignore_patterns("*.so", "__pycache__"))
+        return package
+
+    def test_where_it_looks(self):
+        package = self.copy()
+        beside = os.path.join(package, "libsafebound.so")
+        found = self.run_python("-c", SAY, SAFEBOUND_LIBRARY=self.library)
+        self.assertEqual(found.stdout.split(), [safebound.__version__, self.library], found.stderr)
+        shutil.copy(self.library, beside)
+        self.assertEqual(self.run_python("-c", SAY).stdout.split()[1:], [os.path.realpath(beside)])
+        missing = self.run_python("-c", SAY, SAFEBOUND_LIBRARY=beside + ".none")
+        self.assertIn("LibraryNotFound", missing.stderr)
+        self.assertIn(beside + ".none", missing.stderr)
+
+    def test_another_version(self):
+        package = self.copy()
+        with open(os.path.join(package, "_version.py"), "w", encoding="utf-8") as f:
+            f.write('VERSION = "0.0.1"\n')
+        done = self.run_python("-c", SAY, SAFEBOUND_LIBRARY=self.library)
+        self.assertIn("isn't of version 0.0.1", done.stderr)
+
+    def test_pip(self):
+        """As docs/EMBEDDING.md says, from a copy of the repository's folders, with the library where `make library` leaves it."""
+        shutil.copytree(os.path.join(calls.ROOT, "python"), os.path.join(self.folder, "python"), ignore=shutil.ignore_patterns("*.so", "__pycache__", "build", "*.egg-info"))
+        os.makedirs(os.path.join(self.folder, "library", "out"))
+        shutil.copy(self.library, os.path.join(self.folder, "library", "out"))
+        target = os.path.join(self.folder, "site")
+        done = self.run_python("-m", "pip", "install", "--quiet", "--no-index", "--target", target, "./python")
+        self.assertEqual(done.returncode, 0, done.stderr)
+        shutil.rmtree(os.path.join(self.folder, "library"))
+        found = self.run_python("-c", SAY, PYTHONPATH=target)
+        self.assertEqual(found.stdout.split(), [safebound.__version__, os.path.join(target, "safebound", "libsafebound.so")], found.stderr)
+
+
+if __name__ == "__main__":
+    unittest.main()

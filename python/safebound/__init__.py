@@ -1,0 +1,26 @@
+"""Row bounds of joins that are never too low, and the best plans by them.
+
+Python's side of SafeBound's library. What is known of a query is how many rows each entry has at most, and how often the
+values of each joined column repeat:
+
+>>> from safebound import Query, degree_sequence
+>>> query = Query(
+...     entries=["r", "s"],
+...     equalities=[(("r", "x"), ("s", "x"))],
+...     row_bounds={"r": 6, "s": 5},
+...     lists={("r", "x"): degree_sequence([1, 1, 1, 2, 2, 3]), ("s", "x"): degree_sequence([1, 1, 4, 5, 6])},
+... )
+>>> query.bounds()[{"r", "s"}]
+9
+"""
+
+from . import errors
+from ._library import VERSION as __version__
+from ._library import path, version
+from .errors import *  # noqa: F401,F403
+from .lists import Run, Runs, append, compress, degree_sequence
+from .query import Bounds, Column, Join, Order, Query, Tree
+
+__all__ = [name for name, value in vars(errors).items() if isinstance(value, type)]
+__all__ += ["Bounds", "Column", "Join", "Order", "Query", "Run", "Runs", "Tree"]
+__all__ += ["__version__", "append", "compress", "degree_sequence", "path", "version"]

@@ -1,0 +1,160 @@
+"""The shared object: where it is found, its calls, and what its statuses raise."""
+
+from __future__ import annotations
+
+import ctypes
+import ctypes.util
+import functools
+import os
+import sys
+from pathlib import Path
+from typing import Iterator
+
+from . import errors
+from ._version import VERSION
+
+NAME = "libsafebound.so"
+NO_BOUND = 2**64 - 1
+MOST = 2**64 - 1
+
+_Number = ctypes.c_uint64
+
+
+class Run(ctypes.Structure):
+    _fields_ = [("degree", _Number), ("keys", _Number)]
+
+
+class Equality(ctypes.Structure):
+    _fields_ = [(name, ctypes.c_uint32) for name in ("left_entry", "left_column", "right_entry", "right_column")]
+
+
+class List(ctypes.Structure):
+    _fields_ = [("entry", ctypes.c_uint32), ("column", ctypes.c_uint32), ("first", _Number), ("length", _Number)]
+
+
+class Level(ctypes.Structure):
+    _fields_ = [("entry", _Number), ("bound", _Number)]
+
+
+class Join(ctypes.Structure):
+    _fields_ = [("left", _Number), ("right", _Number), ("bound", _Number)]
+
+
+class Status:
+    """The numbers of safebound.h."""
+
+    OK, ROOM, NO_MEMORY, BUDGET, PAST_BITS = range(5)
+    (BAD_KEYS, BAD_ACCURACY, BAD_RUN, BAD_OTHER_RUN, BAD_SUM, BAD_ENTRIES, BAD_ROWS, BAD_EQUALITIES, BAD_EQUALITY, BAD_LIST,
+     MISSING_LIST, BAD_BOUNDS, BAD_BUDGET) = range(16, 29)
+
+
+WRONG = {
+    Status.BAD_KEYS: (errors.BadKeys, "{} keys are more than 2**48"),
+    Status.BAD_ACCURACY: (errors.BadAccuracy, "an accuracy is from 1 to 64, not {}"),
+    Status.BAD_RUN: (errors.BadRun, "run {} is of nothing, rises, or sums to more than 2**48"),
+    Status.BAD_OTHER_RUN: (errors.BadOtherRun, "run {} of the second list is of nothing, rises, or sums to more than 2**48"),
+    Status.BAD_SUM: (errors.BadSum, "both lists together have {} rows, more than 2**48"),
+    Status.BAD_ENTRIES: (errors.BadEntries, "a query has 1 to 12 entries, not {}"),
+    Status.BAD_ROWS: (errors.BadRows, "the row bound of entry {} isn't from 0 to 2**48"),
+    Status.BAD_EQUALITIES: (errors.BadEqualities, "a query has at most 256 equalities, not {}"),
+    Status.BAD_EQUALITY: (errors.BadEquality, "equality {} isn't of two different entries of the query"),
+    Status.BAD_LIST: (errors.BadList, "list {} is of an entry that isn't there, has no runs, or comes twice"),
+    Status.MISSING_LIST: (errors.MissingList, "a column of equality {} has no list"),
+    Status.BAD_BOUNDS: (errors.BadBounds, "there are 2**n bounds, n from 1 to 12, not {}"),
+    Status.BAD_BUDGET: (errors.BadBudget, "a budget is from 0 to 2**59, not {}"),
+}
+
+
+def _candidates() -> Iterator[Path]:
+    named = os.environ.get("SAFEBOUND_LIBRARY")
+    if named:
+        yield Path(named)
+        return
+    here = Path(__file__).resolve().parent
+    yield here / NAME
+    yield Path(sys.prefix) / "lib" / NAME
+    for prefix in ("/usr/local", "/usr"):
+        yield Path(prefix) / "lib" / NAME
+    yield here.parents[1] / "library" / "out" / NAME
+
+
+def path() -> Path:
+    """The shared object that is used.
+
+    It is looked for in this order: the file that the variable SAFEBOUND_LIBRARY names, and then no other; beside this
+    package; in lib/ of Python's prefix, of /usr/local and of /usr; and where `make library` leaves it, in a clone of the
+    repository.
+
+    Raises:
+        LibraryNotFound: none is there.
+    """
+    looked = list(_candidates())
+    for candidate in looked:
+        if candidate.is_file():
+            return candidate
+    raise errors.LibraryNotFound("no libsafebound.so: looked for " + ", ".join(map(str, looked)))
+
+
+@functools.lru_cache(maxsize=None)
+def _library() -> ctypes.CDLL:
+    found = ctypes.CDLL(str(path()))
+    numbers, size, detail = ctypes.POINTER(_Number), ctypes.c_size_t, ctypes.POINTER(_Number)
+    runs = ctypes.POINTER(Run)
+    forms = {
+        "degrees": [numbers, size, runs, size, detail],
+        "compress": [runs, size, _Number, runs, size, detail],
+        "append": [runs, size, runs, size, runs, size, detail],
+        "bounds": [numbers, size, ctypes.POINTER(Equality), size, ctypes.POINTER(List), size, runs, size, numbers, size, detail],
+        "order": [numbers, size, _Number, ctypes.POINTER(Level), size, detail],
+        "tree": [numbers, size, _Number, ctypes.POINTER(Join), size, detail],
+        "version": [ctypes.c_char_p, size, detail],
+    }
+    for name, form in forms.items():
+        function = getattr(found, "safebound_" + name)
+        function.argtypes, function.restype = form, ctypes.c_uint32
+    text, detail = ctypes.create_string_buffer(64), _Number()
+    if found.safebound_version(text, 64, ctypes.byref(detail)) != Status.OK or text.value.decode() != VERSION:
+        raise errors.LibraryNotFound(f"{path()} isn't of version {VERSION}")
+    return found
+
+
+def version() -> str:
+    """The version of the library that is used, as text, such as 0.1.0."""
+    status, detail, text = call("version", [], ctypes.c_char, 64)
+    raise_for(status, detail)
+    return text.value.decode()
+
+
+def call(name: str, given: list, element: type, room: int) -> tuple[int, int, ctypes.Array]:
+    """Calls with so much room for elements, and with more where more is needed. Its status, detail and room."""
+    function = getattr(_library(), "safebound_" + name)
+    while True:
+        into, detail = (element * room)(), _Number()
+        status = function(*given, into, room, ctypes.byref(detail))
+        if status != Status.ROOM:
+            return status, detail.value, into
+        room = detail.value
+
+
+def raise_for(status: int, detail: int) -> None:
+    """Raises what a status says, but for OK."""
+    if status == Status.OK:
+        return
+    if status == Status.NO_MEMORY:
+        raise errors.OutOfMemory("memory was wanting")
+    if status == Status.BUDGET:
+        raise errors.BudgetExceeded(detail)
+    if status == Status.PAST_BITS:
+        raise errors.PastBits("each plan has a part without a bound")
+    kind, message = WRONG[status]
+    raise kind(message.format(detail), detail)
+
+
+def whole(value: object) -> int | None:
+    """The number, or None where 64 bits don't hold it. What is no whole number is a TypeError."""
+    number = value.__index__() if hasattr(value, "__index__") else _no_number(value)
+    return number if 0 <= number <= MOST else None
+
+
+def _no_number(value: object) -> int:
+    raise TypeError(f"{value!r} is no whole number")

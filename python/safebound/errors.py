@@ -1,0 +1,102 @@
+"""What a call raises in place of an answer: one class for each status of the library."""
+
+from __future__ import annotations
+
+
+class SafeBoundError(Exception):
+    """What all errors of this package have in common."""
+
+
+class LibraryNotFound(SafeBoundError, ImportError):
+    """There is no libsafebound.so, or one of another version."""
+
+
+class OutOfMemory(SafeBoundError, MemoryError):
+    """Memory was wanting. Nothing has changed."""
+
+
+class PastBits(SafeBoundError):
+    """Each plan has a part without a bound: one that 64 bits don't tell."""
+
+
+class BudgetExceeded(SafeBoundError):
+    """The best plan passes the budget.
+
+    Attributes:
+        least: the least budget that would do, in rows.
+    """
+
+    def __init__(self, least: int) -> None:
+        super().__init__(f"the best plan has a part of at most {least} rows, which is the least budget that would do")
+        self.least = least
+
+
+class WrongValue(SafeBoundError, ValueError):
+    """A value that isn't right.
+
+    Attributes:
+        place: which one; the class says of what.
+    """
+
+    def __init__(self, message: str, place: object) -> None:
+        super().__init__(message)
+        self.place = place
+
+
+class BadKeys(WrongValue):
+    """There are more than 2**48 keys. `place` is their number."""
+
+
+class BadAccuracy(WrongValue):
+    """The accuracy isn't from 1 to 64. `place` is the accuracy."""
+
+
+class BadRun(WrongValue):
+    """A run's degree or number of keys is 0, its degree is above the one before it, or the sum so far is above 2**48.
+
+    `place` is the number of the run in its list; `column` is the entry and the column of a query's list, else None.
+    """
+
+    def __init__(self, message: str, place: int, column: object = None) -> None:
+        super().__init__(message, place)
+        self.column = column
+
+
+class BadOtherRun(BadRun):
+    """As `BadRun`, in the second of two lists."""
+
+
+class BadSum(WrongValue):
+    """Two lists together have more than 2**48 rows. `place` is how many."""
+
+
+class BadEntries(WrongValue):
+    """A query has none, more than twelve, or one twice. `place` is how many, or the entry."""
+
+
+class BadRows(WrongValue):
+    """An entry's row bound isn't there, or isn't from 0 to 2**48. `place` is the entry."""
+
+
+class BadEqualities(WrongValue):
+    """A query has more than 256 equalities. `place` is how many."""
+
+
+class BadEquality(WrongValue):
+    """An equality names an entry that isn't there, or one entry on both sides. `place` is the equality's number."""
+
+
+class BadList(WrongValue):
+    """A list is of an entry that isn't there, or has no runs. `place` is the entry and the column."""
+
+
+class MissingList(WrongValue):
+    """A column that an equality names has no list. `place` is the equality's number."""
+
+
+class BadBounds(WrongValue):
+    """There aren't 2**n bounds for an n from 1 to 12. `place` is their number."""
+
+
+class BadBudget(WrongValue):
+    """The budget isn't from 0 to 2**59. `place` is the budget."""
