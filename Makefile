@@ -9,13 +9,15 @@ EXAMPLE := trips
 DATA := examples/$(EXAMPLE)
 WORDS := run schema.sql query.sql
 
-.PHONY: help run build install library test edits bench memory limits clean
+.PHONY: help run build install library engines test edits bench memory limits clean
 
 ## make run       runs a query over examples/trips, or over a folder of yours: make run DATA=FOLDER
 ##                (2 seconds with the proved program; a minute without it, and then nothing is proved)
 ## make build     proves and builds the program (long the first time; it says how long is left)
 ## make install   puts program, command, man page and completion below PREFIX, /usr/local (2 seconds)
-## make test      the gate: every proof, the gate's own edits, every test (30 minutes from nothing; it says how far it is)
+## make library   proves and builds the library for C and Python (docs/EMBEDDING.md; under ten minutes the first time)
+## make engines   tests safebound-sql on SQLite and on a PostgreSQL of its own, over the library (docs/ENGINES.md; minutes)
+## make test      the gate: every proof, the gate's own edits, every test (about 40 minutes from nothing; it says how far it is)
 ## make edits     every wrong body that a contract must refuse (two hours); make edits CRATES="plans set_bounds" some of them
 ## make bench     measures beside plain Rust and databases (minutes, once built)
 ## make memory    runs with each request for memory refused in turn (minutes)
@@ -97,6 +99,11 @@ memory:
 # Runs at the limits of tables, texts and the budget, with their times and their peaks of memory. It takes minutes.
 limits: build
 	bench/limits
+
+# safebound-sql on SQLite and on a PostgreSQL of its own. What isn't installed is installed first (Debian; root or sudo).
+engines: library
+	engines/setup --server
+	engines/test --all
 
 clean:
 	rm -rf crates/*/out library/out

@@ -27,4 +27,4 @@ def explain(fault, run):
 
 
 def beyond():
-    return "Columns and rows that the query doesn't need can be left out of the file. Larger tables are for a database engine."
+    return "Columns and rows that the query doesn't need can be left out of the file. Larger tables stay in the engine that holds them: engines/safebound-sql bounds joins there."

@@ -1,9 +1,9 @@
 -- What right values make of a query: each set has what its bound needs, the bounds are those that are meant, and they are never under.
-use Rattle.std.proofs.Common.{◌≡◌, ◌≢◌, ◌⊎◌, inl, inr, ℕ, zero, suc, ◌+◌, ◌-◌, ◌<◌, ◌≤◌, ◌^◌, min, Bool, true, false, ◌&&◌, ◌||◌, cond, List, [], ◌∷◌, ◌++◌, map, length, take, drop, get_or, Option, Some, None, option_map, find, refl, ap, sym, ◌∙◌, subst, sum, arith}
+use Rattle.std.proofs.Common.{◌≡◌, ◌⊎◌, inl, inr, ℕ, zero, suc, ◌+◌, ◌-◌, ◌<◌, ◌≤◌, ◌^◌, Bool, true, false, cond, List, [], ◌∷◌, ◌++◌, map, length, drop, get_or, Option, Some, None, option_map, find, refl, ap, sym, ◌∙◌, subst, arith}
 use Rattle.std.specs.Prelude.{IsSome, IfOk, Result, Ok, Err, unwrap_or}
 use Rattle.std.specs.List.{AllByRecursion, list_any, range_with_len}
-use Rattle.std.proofs.lemmas.Bool.{and_parts, cases_lt, eq-eqb, eqb-true}
-use Rattle.std.proofs.lemmas.List.{get_or_append_left, length-map}
+use Rattle.std.proofs.lemmas.Bool.{and_parts, cases_lt}
+use Rattle.std.proofs.lemmas.List.{length-map}
 use Rattle.std.proofs.lemmas.List.FromFn.{get_or-map-range_with_len}
 use Rattle.std.proofs.lemmas.Nat.{pow_pos}
 use Rattle.std.proofs.lemmas.Nat.Bits.{bit_at_above}
@@ -14,24 +14,22 @@ use Rattle.degree_sequences.proofs.Minima.{length-range_with_len}
 use Rattle.degree_sequences.specs.Domination.{DominatesKeys}
 use Rattle.degree_sequences.specs.Saturation.{saturated}
 use Rattle.berge_tree.specs.declared.edges.Edge.{Edge}
-use Rattle.berge_tree.specs.declared.edges.Place.{Place}
-use Rattle.join_graph.specs.Kept.{equalities_within, joins_within}
-use Rattle.tree_bounds.specs.Columns.{EachNamedColumn}
+use Rattle.join_graph.specs.Kept.{equalities_within}
 use Rattle.tree_bounds.specs.SetBounds.{SetHasLists, bound_of_set}
 use Rattle.tree_bounds.specs.Tables.{KeyedTables, AreDifferent, Dominates, RowsFit, Satisfies, SetDominates}
 use Rattle.tree_bounds.specs.TreeBounds.{EntryBounds, HasList}
 use Rattle.tree_bounds.proofs.Turns.{within_set}
 use Rattle.bound_fold.specs.declared.lists.EntryLists.{EntryLists}
-use Rattle.bound_fold.specs.Lists.{bounds_of, list_of as list_held, rows_of}
+use Rattle.bound_fold.specs.Lists.{list_of as list_held, rows_of}
 use Rattle.bound_fold.specs.Sets.{SetIsListed}
 use Rattle.bound_fold.proofs.TestedSets.{each_in_set, each_named, entry_at, named_at}
-use Rattle.set_bounds.specs.AllSets.{bound_told, bounds_of_sets}
+use Rattle.set_bounds.specs.AllSets.{bounds_of_sets}
 use Rattle.safebound_lists.specs.declared.runs.Run.{Run}
 use Rattle.safebound_lists.specs.Runs.{AreRight, list_of}
 use Rattle.safebound_lists.specs.Written.{IsFilled}
 use Rattle.safebound_bounds.specs.declared.arguments.ColumnList.{ColumnList}
 use Rattle.safebound_bounds.specs.declared.arguments.Equality.{Equality}
-use Rattle.safebound_bounds.specs.Arguments.{AreListed, AreRunsRightAt, IsEqualityRight, equality_at, is_of, list_at, no_list, no_equality, runs_of}
+use Rattle.safebound_bounds.specs.Arguments.{equality_at, is_of, list_at, runs_of}
 use Rattle.safebound_bounds.specs.Causes.{IsRight}
 use Rattle.safebound_bounds.specs.Listed.{Holds}
 use Rattle.safebound_bounds.specs.Meaning.{all_bounds, edge_of, edges_of, fitted, fitted_if, given, known, list_if, narrowed, no_bound}

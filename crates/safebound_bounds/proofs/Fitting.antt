@@ -1,5 +1,5 @@
 -- Lists fitted to a number of rows: they fall, their elements are positive, and they sum to it.
-use Rattle.std.proofs.Common.{◌≡◌, ℕ, zero, suc, ◌+◌, ◌-◌, ◌*◌, ◌<◌, ◌≤◌, ◌^◌, min, List, [], ◌∷◌, ◌++◌, map, length, take, get_or, replicate, refl, ap, sym, ◌∙◌, subst, sum, arith}
+use Rattle.std.proofs.Common.{◌≡◌, ℕ, zero, suc, ◌+◌, ◌-◌, ◌<◌, ◌≤◌, min, List, [], ◌∷◌, ◌++◌, length, take, get_or, replicate, ap, sym, ◌∙◌, subst, sum, arith}
 use Rattle.std.specs.List.{AllByRecursion}
 use Rattle.std.proofs.lemmas.List.{append-nil, take_all, take_more}
 use Rattle.std.proofs.lemmas.List.Folds.{sum_by-replicate}

@@ -1,21 +1,19 @@
 -- From row bounds and lists to entries' lists, one after another.
-use Rattle.std.proofs.Common.{◌≡◌, ◌≢◌, ◌⊎◌, inl, inr, ℕ, zero, suc, ◌+◌, ◌-◌, ◌<◌, ◌≤◌, ◌^◌, Bool, true, false, ◌&&◌, ◌||◌, cond, eqb, ltb, List, [], ◌∷◌, ◌++◌, map, length, take, get_or, Option, Some, None, option_map, find, refl, ap, sym, ◌∙◌, subst, sum, arith}
+use Rattle.std.proofs.Common.{◌≡◌, ◌≢◌, ◌⊎◌, inl, inr, ℕ, ◌+◌, ◌-◌, ◌<◌, Bool, true, false, ◌||◌, cond, eqb, ltb, List, [], ◌∷◌, ◌++◌, length, get_or, Option, Some, None, option_map, find, refl, ap, sym, ◌∙◌, subst, arith}
 use Rattle.std.specs.Prelude.{IsSome, if◌then◌else◌, unwrap_or}
 use Rattle.std.specs.List.{list_any}
 use Rattle.std.proofs.Math.Path.{fun_ext}
-use Rattle.std.proofs.lemmas.Bool.{and_from, cases_Bool, cases_lt, eq-eqb, eqb-false, eqb-true, le-ltb, lt-ltb}
-use Rattle.std.proofs.lemmas.List.{get_or_past, take_more}
-use Rattle.berge_tree.specs.declared.edges.Edge.{Edge}
+use Rattle.std.proofs.lemmas.Bool.{and_from, cases_lt, eq-eqb, eqb-false, eqb-true, le-ltb, lt-ltb}
+use Rattle.std.proofs.lemmas.List.{get_or_past}
 use Rattle.tree_bounds.specs.TreeBounds.{EntryBounds}
 use Rattle.bound_fold.specs.declared.lists.EntryLists.{EntryLists}
 use Rattle.bound_fold.specs.Lists.{bounds_of, list_of as list_held, rows_of}
 use Rattle.safebound_lists.specs.declared.runs.Run.{Run}
 use Rattle.safebound_lists.specs.Runs.{list_of}
 use Rattle.safebound_bounds.specs.declared.arguments.ColumnList.{ColumnList}
-use Rattle.safebound_bounds.specs.Arguments.{is_of, list_at, no_list, runs_of}
+use Rattle.safebound_bounds.specs.Arguments.{is_of, runs_of}
 use Rattle.safebound_bounds.specs.Listed.{Holds}
 use Rattle.safebound_bounds.specs.Meaning.{fitted, fitted_if, given, known, list_if}
-use Rattle.safebound_bounds.proofs.Fitting.{fitted_sum}
 
 -- ---- row bounds
 

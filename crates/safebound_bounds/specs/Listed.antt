@@ -1,5 +1,5 @@
 -- When the entries' lists hold what is known of row bounds and lists. The call's own words; no public clause cites them.
-use Rattle.std.specs.Prelude.{◌≡◌, ℕ, nat_lt, if◌then◌else◌, List, length, slice_index, Option, Some, None, option_map}
+use Rattle.std.specs.Prelude.{◌≡◌, ℕ, nat_lt, if◌then◌else◌, List, slice_index, Some, None, option_map}
 use Rattle.bound_fold.specs.declared.lists.EntryLists.{EntryLists}
 use Rattle.bound_fold.specs.Lists.{list_of as list_held, rows_of}
 use Rattle.safebound_lists.specs.declared.runs.Run.{Run}

@@ -1,7 +1,6 @@
 //! Why rows without values are safe, as a law. The call does nothing.
-ghost use Rattle.std.specs.Prelude.{◌≤◌, ℕ, List, length, Option, slice_index};
+ghost use Rattle.std.specs.Prelude.{◌≤◌, ℕ, List, length, Option};
 ghost use Rattle.limits.specs.Profile.{greatest_rows};
-ghost use Rattle.std.specs.List.{All};
 ghost use Rattle.degree_sequences.specs.Domination.{DominatesKeys};
 ghost use Rattle.degree_sequences.specs.Falling.{IsFalling};
 ghost use Rattle.safebound_bounds.specs.Meaning.{fitted};

@@ -1,5 +1,5 @@
 -- A status of 0 tells that all was done.
-use Rattle.std.proofs.Common.{◌≡◌, ℕ, refl, sym, ◌∙◌, arith}
+use Rattle.std.proofs.Common.{◌≡◌, ℕ, sym, ◌∙◌, arith}
 use Rattle.std.specs.Prelude.{Result, Ok, Err, OnOk}
 use Rattle.safebound_lists.specs.declared.refusal.Refusal.{Refusal}
 use Rattle.safebound_lists.specs.declared.refusal.Refusal.TheVariants as refusal

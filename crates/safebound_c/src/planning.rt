@@ -18,7 +18,7 @@ pub extern "C" fn safebound_order(
     into: &mut [Level],
     detail: &mut u64,
 ) -> u32
-    ensures { Tells (IsBestOrder bounds.now budget into.old into.new) (IsOrderCause bounds.now budget (length into.old))
+    ensures exact { Tells (IsBestOrder bounds.now budget into.old into.new) (IsOrderCause bounds.now budget (length into.old))
         into.old into.new detail.old result detail.new }
 {
     told(order(alloc, bounds, budget, into), detail)
@@ -33,7 +33,7 @@ pub extern "C" fn safebound_tree(
     into: &mut [JoinNode],
     detail: &mut u64,
 ) -> u32
-    ensures { Tells (IsBestTree bounds.now budget into.old into.new) (IsTreeCause bounds.now budget (length into.old))
+    ensures exact { Tells (IsBestTree bounds.now budget into.old into.new) (IsTreeCause bounds.now budget (length into.old))
         into.old into.new detail.old result detail.new }
 {
     told(tree(alloc, bounds, budget, into), detail)

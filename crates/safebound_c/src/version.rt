@@ -28,7 +28,7 @@ fn version(into: &mut [u8]) -> Result<u64, Refusal>
 /// Writes the library's version as text, with a 0 at its end.
 #[unsafe(no_mangle)]
 pub extern "C" fn safebound_version(into: &mut [u8], detail: &mut u64) -> u32
-    ensures { Tells (IsFilled version_text into.old into.new) (NeedsRoom (length version_text) (length into.old))
+    ensures exact { Tells (IsFilled version_text into.old into.new) (NeedsRoom (length version_text) (length into.old))
         into.old into.new detail.old result detail.new }
 {
     told(version(into), detail)

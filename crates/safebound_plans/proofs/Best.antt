@@ -1,6 +1,5 @@
 -- What the searches promise, over bounds of 64 bits.
-use Rattle.std.proofs.Common.{◌≡◌, ℕ, ◌+◌, ◌-◌, ◌<◌, ◌≤◌, ◌^◌, List, map, length, get_or, ap, sym, ◌∙◌, subst, arith}
-use Rattle.plans.specs.LeftDeep.{IsOrder}
+use Rattle.std.proofs.Common.{◌≡◌, ℕ, ◌+◌, ◌<◌, ◌≤◌, ◌^◌, List, map, length, get_or, ap, sym, ◌∙◌, subst, arith}
 use Rattle.order_search.specs.Causes.{IsCause}
 use Rattle.order_search.specs.Orders.{IsBest, cost, levels as levels_of}
 use Rattle.order_search.specs.declared.refusal.PlanError.{PlanError}
@@ -8,7 +7,7 @@ use Rattle.order_search.specs.declared.refusal.PlanError.TheVariants as plan_err
 use Rattle.tree_plans.specs.declared.bushy.Join.{Join}
 use Rattle.bushy_plan.specs.BestTree.{AreOfBest, IsBest as IsBestOver, cost as tree_cost}
 use Rattle.bushy_plan.specs.Causes.{IsCause as IsTreeCauseOver}
-use Rattle.bushy_plan.specs.JoinTrees.{JoinTree, joins_from}
+use Rattle.bushy_plan.specs.JoinTrees.{joins_from}
 use Rattle.bushy_plan.specs.declared.refusal.BushyError.{BushyError}
 use Rattle.bushy_plan.specs.declared.refusal.BushyError.TheVariants as tree_error
 use Rattle.safebound_lists.specs.Written.{IsFilled}

@@ -1,8 +1,7 @@
-use Rattle.std.proofs.Common.{◌≡◌, ◌^◌, ◌≤◌, ℕ, List, length, map, refl, ap, sym, ◌∙◌, subst, arith}
+use Rattle.std.proofs.Common.{length, refl, ap, arith}
 use Rattle.std.proofs.lemmas.Grind.{one_shifted}
 use Rattle.std.proofs.lemmas.Result.{err_from_is_err_and}
-use Rattle.safebound_lists.specs.Written.{IsFilled}
-use Rattle.safebound_bounds.specs.Meaning.{all_bounds, edges_of, known, narrowed}
+use Rattle.safebound_bounds.specs.Meaning.{edges_of, known}
 use Rattle.safebound_bounds.proofs.Bounded.{how_many, room_never_under, whole_filled}
 use Rattle.safebound_bounds.proofs.bounding.bounds.Goals as goal
 

@@ -1,4 +1,4 @@
-use Rattle.std.proofs.Common.{◌<◌, length, arith}
+use Rattle.std.proofs.Common.{arith}
 use Rattle.safebound_lists.proofs.Writing.{all_made, filled_none, one_more_made}
 use Rattle.safebound_bounds.specs.Meaning.{narrowed}
 use Rattle.safebound_bounds.proofs.bounding.write_bounds.Goals as goal

@@ -1,10 +1,10 @@
-use Rattle.std.proofs.Common.{◌≡◌, ◌+◌, ◌<◌, ◌≤◌, ◌++◌, ◌∷◌, [], ℕ, List, length, take, get_or, refl, ap, sym, ◌∙◌, subst, arith}
+use Rattle.std.proofs.Common.{List, length, take, get_or, ap, sym, ◌∙◌, subst, arith}
 use Rattle.std.specs.Prelude.{Some}
 use Rattle.std.proofs.lemmas.List.{take_all, take_more}
 use Rattle.safebound_lists.specs.declared.runs.Run.{Run}
 use Rattle.safebound_lists.specs.Runs.{AreRight, list_of}
 use Rattle.safebound_bounds.specs.declared.arguments.ColumnList.{ColumnList}
-use Rattle.safebound_bounds.specs.Arguments.{AreRunsRightAt, IsRightListAt, list_at, no_list, runs_of}
+use Rattle.safebound_bounds.specs.Arguments.{IsRightListAt, list_at, no_list}
 use Rattle.safebound_bounds.specs.Listed.{Holds}
 use Rattle.safebound_bounds.specs.Meaning.{fitted}
 use Rattle.safebound_bounds.proofs.Holding.{list_more, not_held, rows_there, without_lists}

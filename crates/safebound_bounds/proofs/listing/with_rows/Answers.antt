@@ -1,4 +1,4 @@
-use Rattle.std.proofs.Common.{◌≡◌, ◌<◌, ℕ, [], length, refl, subst, arith}
+use Rattle.std.proofs.Common.{◌≡◌, ℕ, [], length, refl, subst, arith}
 use Rattle.safebound_bounds.specs.Listed.{Holds}
 use Rattle.safebound_bounds.proofs.Holding.{none_held, rows_more}
 use Rattle.safebound_bounds.proofs.listing.with_rows.Goals as goal

@@ -2,10 +2,12 @@ use Rattle.safebound_c.proofs.planning.safebound_order.Goals as goal
 
 pub returns : goal.returns
 returns c = record {
-  answer = c.order.result;
-  told = c.told.ensures.status;
-  detail = c.told.ensures.detail;
-  done = c.order.ensures.done;
-  refused = c.order.ensures.refused;
-  kept = c.order.ensures.kept;
+  exact = record {
+    answer = c.order.result;
+    told = c.told.ensures.status;
+    detail = c.told.ensures.detail;
+    done = c.order.ensures.done;
+    refused = c.order.ensures.refused;
+    kept = c.order.ensures.kept;
+  };
 }

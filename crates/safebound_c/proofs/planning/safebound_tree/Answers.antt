@@ -2,10 +2,12 @@ use Rattle.safebound_c.proofs.planning.safebound_tree.Goals as goal
 
 pub returns : goal.returns
 returns c = record {
-  answer = c.tree.result;
-  told = c.told.ensures.status;
-  detail = c.told.ensures.detail;
-  done = c.tree.ensures.done;
-  refused = c.tree.ensures.refused;
-  kept = c.tree.ensures.kept;
+  exact = record {
+    answer = c.tree.result;
+    told = c.told.ensures.status;
+    detail = c.told.ensures.detail;
+    done = c.tree.ensures.done;
+    refused = c.tree.ensures.refused;
+    kept = c.tree.ensures.kept;
+  };
 }

@@ -2,10 +2,12 @@ use Rattle.safebound_c.proofs.version.safebound_version.Goals as goal
 
 pub returns : goal.returns
 returns c = record {
-  answer = c.version.result;
-  told = c.told.ensures.status;
-  detail = c.told.ensures.detail;
-  done = c.version.ensures.done;
-  refused = c.version.ensures.refused;
-  kept = c.version.ensures.kept;
+  exact = record {
+    answer = c.version.result;
+    told = c.told.ensures.status;
+    detail = c.told.ensures.detail;
+    done = c.version.ensures.done;
+    refused = c.version.ensures.refused;
+    kept = c.version.ensures.kept;
+  };
 }

@@ -1,4 +1,4 @@
-use Rattle.std.proofs.Common.{ℕ, ◌+◌, ◌≤◌, Bool, cond, eqb, List, length, arith}
+use Rattle.std.proofs.Common.{ℕ, cond, eqb, length, arith}
 use Rattle.std.specs.List.{list_any}
 use Rattle.std.proofs.lemmas.List.Sums.{sum_by-append}
 use Rattle.degree_sequences.proofs.ByRank.{running_sum-rank_sum}

@@ -1,4 +1,4 @@
-use Rattle.std.proofs.Common.{◌≡◌, ◌<◌, List, length, refl, ap, subst, arith}
+use Rattle.std.proofs.Common.{◌<◌, List, length, refl, ap, subst, arith}
 use Rattle.safebound_plans.specs.Orders.{AreLevels}
 use Rattle.safebound_plans.proofs.Filling.{all_levels, none_so_far, one_more_level}
 use Rattle.safebound_plans.proofs.ordering.write_levels.Goals as goal

@@ -1,4 +1,4 @@
-use Rattle.std.proofs.Common.{◌≡◌, ◌<◌, length, arith}
+use Rattle.std.proofs.Common.{arith}
 use Rattle.tree_plans.specs.declared.bushy.Join.{Join}
 use Rattle.safebound_lists.proofs.Writing.{all_made, filled_none, one_more_made}
 use Rattle.safebound_plans.specs.declared.shaping.JoinNode.{JoinNode}

@@ -1,0 +1,141 @@
+"""The command line: from words to an exit status."""
+
+from __future__ import annotations
+
+import argparse
+import sys
+from typing import Sequence
+
+from . import output
+from .engine import Engine
+from .export import exported
+from .faults import Fault, Unreadable, Usage
+from .levels import MOST_BUDGET
+from .planner import Planner
+from .postgres import Postgres
+from .sqlite import Sqlite
+
+ABOUT = {
+    "plan": "the best order, each level's bound, and what the engine expects",
+    "sql": "the query with its joins in the planned order",
+    "run": "admit or refuse by the budget, then write the rows as CSV",
+    "audit": "each level's bound, what the engine expects, and its true rows",
+    "counts": "the counting statement, for those who run it themselves",
+    "export": "the query's tables as files for safebound_cli",
+}
+INTERRUPTED = 130
+
+
+class Words(argparse.ArgumentParser):
+    """A command line that isn't understood is a fault like others."""
+
+    def error(self, message: str):
+        raise Usage(f"{message} (safebound-sql --help tells more)")
+
+
+def number(least: int, most: int):
+    def read(word: str) -> int:
+        if not (word.isascii() and word.isdigit() and least <= int(word) <= most):
+            raise argparse.ArgumentTypeError(f"a number from {least} to {most}, not {word!r}")
+        return int(word)
+
+    return read
+
+
+def words() -> Words:
+    parser = Words(prog="safebound-sql", description="Proved row bounds for a query in PostgreSQL or SQLite.")
+    commands = parser.add_subparsers(dest="command", required=True, parser_class=Words)
+    for name, about in ABOUT.items():
+        command = commands.add_parser(name, help=about, description=about[0].upper() + about[1:] + ".")
+        command.add_argument("--db", required=True, metavar="DB", help="postgresql://.. or sqlite:FILE")
+        command.add_argument("--timeout", type=number(1, 10**6), metavar="SECONDS", help="ends a statement that takes longer")
+        if name == "export":
+            command.add_argument("folder", metavar="DIR", help="a folder that is new or empty")
+        else:
+            command.add_argument("--no-reduce", action="store_true", help="count under own conditions alone, without semi-joins")
+        if name in ("plan", "sql", "run", "audit"):
+            _plan_words(command, name)
+        command.add_argument("query", metavar="QUERY", help="a file with the query, or - for standard input")
+    return parser
+
+
+def _plan_words(command: argparse.ArgumentParser, name: str) -> None:
+    command.add_argument("--accuracy", type=number(1, 64), default=1, metavar="K", help="how closely degrees are kept, 1 to 64 (1)")
+    command.add_argument("--tree", action="store_true", help="the best join tree of any shape")
+    command.add_argument(
+        "--budget", type=number(0, MOST_BUDGET), required=name == "run", default=MOST_BUDGET, metavar="N",
+        help="the most rows that a bound of the plan may say",
+    )
+    if name in ("plan", "audit"):
+        command.add_argument("--json", action="store_true", help="for programs")
+    if name == "plan":
+        command.add_argument("--counts", metavar="FILE", help="the answer of the counting statement, as CSV")
+
+
+def opened(db: str, timeout: int | None) -> Engine:
+    kind, _, rest = db.partition(":")
+    if kind in ("postgresql", "postgres"):
+        return Postgres(db, timeout)
+    if kind == "sqlite" and rest:
+        return Sqlite(rest, timeout)
+    raise Usage(f"--db is postgresql://.. or sqlite:FILE, not {db!r}")
+
+
+def text_of(file: str) -> str:
+    try:
+        if file == "-":
+            return sys.stdin.read()
+        with open(file, encoding="utf-8-sig") as text:
+            return text.read()
+    except (OSError, UnicodeDecodeError) as error:
+        raise Unreadable(f"{file}: {error}") from None
+
+
+def _planned(given: argparse.Namespace, planner: Planner) -> None:
+    """The commands that need a plan."""
+    plan = planner.plan(given.accuracy, given.budget, given.tree, getattr(given, "counts", None))
+    if given.command == "sql":
+        setting = f"{planner.engine.keeps_order};\n" if planner.engine.keeps_order else ""
+        sys.stdout.write(f"{setting}{planner.sql(plan)};\n")
+        return
+    planner.expect(plan)
+    true_rows = planner.true_rows(plan) if given.command == "audit" else None
+    if getattr(given, "json", False):
+        sys.stdout.write(output.document(plan, planner.engine, planner.sql(plan), true_rows))
+        return
+    shown = output.table(plan, planner.engine, true_rows)
+    (sys.stderr if given.command == "run" else sys.stdout).write(shown)
+    if given.command == "run":
+        planner.run(plan, sys.stdout)
+
+
+def done(given: argparse.Namespace) -> None:
+    text = text_of(given.query)
+    engine = opened(given.db, given.timeout)
+    try:
+        planner = Planner(engine, text, not getattr(given, "no_reduce", False))
+        if given.command == "counts":
+            sys.stdout.write(planner.counting + ";\n")
+        elif given.command == "export":
+            exported(planner.meaning, engine, given.folder, planner.progress)
+        else:
+            _planned(given, planner)
+        sys.stdout.flush()
+    finally:
+        engine.close()
+
+
+def main(arguments: Sequence[str] | None = None) -> int:
+    """Runs a command. Answers the exit status."""
+    sys.stdout.reconfigure(encoding="utf-8", errors="surrogateescape")
+    try:
+        done(words().parse_args(arguments))
+    except Fault as fault:
+        print(f"safebound-sql: {fault.line()}", file=sys.stderr)
+        return fault.status
+    except BrokenPipeError:
+        sys.stderr.close()
+        return 10
+    except KeyboardInterrupt:
+        return INTERRUPTED
+    return 0

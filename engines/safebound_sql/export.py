@@ -1,0 +1,213 @@
+"""A query and its tables as files for safebound_cli: schema, query and one CSV file for each table.
+
+safebound_cli has whole numbers and texts, no NULL, and conditions of comparisons. What is outside of that is refused.
+"""
+
+from __future__ import annotations
+
+import csv
+import os
+import re
+from typing import Iterator
+
+from .engine import Engine
+from .faults import Refused, Unreadable
+from .meaning import Meaning
+from .progress import Progress
+from .query import Column, Entry, Named
+from .reading import Tokens
+from .tokens import Token
+
+MOST_ROWS = 4_000_000
+MOST_BYTES = 67_108_864
+MOST_CHARACTERS = 1_000_000
+
+RESERVED = set("""ALL AND ANY AS ASC BETWEEN BIGINT BY CASE CAST CHAR CHARACTER CHECK CONSTRAINT CREATE CROSS DEFAULT DELETE DESC
+DISTINCT EXCEPT EXISTS FOREIGN FROM FULL GROUP HAVING IN INNER INT INTEGER INTERSECT IS JOIN LEFT LIKE NATURAL NOT NULL ON OR ORDER
+OUTER PRIMARY REFERENCES RIGHT SELECT SET SMALLINT TABLE UNION UNIQUE UPDATE USING VALUES VARCHAR VARYING WHERE""".split())
+CONNECTING = ("AND", "OR", "NOT", "BETWEEN", "IN", "(", ")", ",", "+", "-", "=", "<>", "<", "<=", ">", ">=")
+SPELLED = {"==": "=", "!=": "<>"}
+ORDERING = ("<", "<=", ">", ">=", "BETWEEN")
+
+
+def upper(name: str) -> str:
+    return "".join(c.upper() if c.isascii() else c for c in name)
+
+
+def spelled(name: str) -> str:
+    """The name as safebound_cli reads it. It folds words to upper case, so all names are in upper case."""
+    name = upper(name)
+    if re.fullmatch(r"[A-Z][A-Z0-9_]*", name) and name not in RESERVED:
+        return name
+    return '"' + name.replace('"', '""') + '"'
+
+
+class Export:
+    """The files of one query."""
+
+    def __init__(self, meaning: Meaning, engine: Engine, folder: str, progress: Progress) -> None:
+        self.statement, self.names, self.query = meaning.statement, meaning.names, meaning.query
+        self.engine, self.folder, self.progress = engine, folder, progress
+        self.used: dict[int, set[Column]] = {entry.number: set() for entry in self.query.entries}
+        self.types: dict[Named, str] = {}
+
+    def write(self) -> None:
+        """Writes all files into the folder."""
+        text = self._query()
+        tables = self._tables()
+        try:
+            os.makedirs(self.folder, exist_ok=True)
+            if os.listdir(self.folder):
+                raise Unreadable(f"{self.folder} isn't empty")
+            self._files(text, tables)
+        except OSError as error:
+            raise Unreadable(str(error)) from None
+
+    def _files(self, text: str, tables: dict[str, list[Entry]]) -> None:
+        """Writes all files, or leaves none."""
+        try:
+            schema = [self._table(name, entries) for name, entries in tables.items()]
+            self._file("schema.sql", ";\n".join(schema) + ";\n")
+            self._file("query.sql", text)
+        except BaseException:
+            for file in os.listdir(self.folder):
+                os.unlink(os.path.join(self.folder, file))
+            raise
+
+    def _file(self, name: str, text: str) -> None:
+        with open(os.path.join(self.folder, name), "w", encoding="utf-8", newline="") as file:
+            file.write(text)
+
+    def _query(self) -> str:
+        for piece in (self.statement.distinct, self.statement.above):
+            if piece:
+                raise self._refuse(piece[0])
+        outputs = [output for piece in self.statement.outputs for output in self._output(piece)]
+        conditions = [condition for piece in self.statement.conditions for condition in self._condition(piece)]
+        conditions += [f"{self._column(one)} = {self._column(other)}" for one, other in self.names.usings]
+        entries = ", ".join(f"{self._name_of(entry)} {spelled(entry.name)}" for entry in self.query.entries)
+        where = f"\nWHERE {' AND '.join(conditions)}" if conditions else ""
+        return f"SELECT {', '.join(outputs)}\nFROM {entries}{where}\n"
+
+    def _refuse(self, token: Token) -> Refused:
+        return self.statement.refuse(token, "safebound_cli has no such part")
+
+    def _output(self, piece: Tokens) -> Iterator[str]:
+        star = self.names.star(piece)
+        if star is not None:
+            yield from map(self._column, star)
+            return
+        size = next((size for size in (3, 1) if len(piece) >= size and self.names.side(piece[:size])), None)
+        if size is None:
+            raise self._refuse(piece[0])
+        rest = piece[size + 1 :] if len(piece) > size and piece[size].says("AS") else piece[size:]
+        if len(rest) > 1 or (rest and not rest[0].names):
+            raise self._refuse(piece[size])
+        column = self._column(self.names.side(piece[:size]))
+        yield f"{column} AS {spelled(self.names.key(rest[0]))}" if rest else column
+
+    def _condition(self, piece: Tokens) -> Iterator[str]:
+        """The condition again. That a column is NOT NULL goes without saying, since no exported value is NULL."""
+        ends = [token.text.upper() for token in piece[-3:]]
+        if ends == ["IS", "NOT", "NULL"] and self.names.side(piece[:-3]):
+            self._column(self.names.side(piece[:-3]))
+            return
+        parts, at = [], 0
+        while at < len(piece):
+            word, size = self._word(piece, at)
+            parts.append(word)
+            at += size
+        if any(token.says(*ORDERING) for token in piece):
+            self._refuse_order_of_texts(piece)
+        yield f"({' '.join(parts)})"
+
+    def _word(self, piece: Tokens, at: int) -> tuple[str, int]:
+        """One operand or connecting word of a condition, and how many tokens it takes."""
+        token = piece[at]
+        text = SPELLED.get(token.text, token.text.upper())
+        if token.kind in ("word", "mark", "operator") and text in CONNECTING:
+            return text, 1
+        if token.kind == "number" and token.text.isdigit() and int(token.text) < 2**63:
+            return token.text, 1
+        if token.kind == "text" and token.text[0] == "'":
+            return token.text, 1
+        for size in (3, 1):
+            named = self.names.side(piece[at : at + size])
+            if named:
+                return self._column(named), size
+        raise self._refuse(token)
+
+    def _refuse_order_of_texts(self, piece: Tokens) -> None:
+        for named in self.names.named(piece):
+            if not self.engine.whole_numbers(named.column) and not self.engine.plain_order(named.column):
+                why = "safebound_cli orders texts by code points, and the column doesn't"
+                raise self.statement.refuse(piece[0], why, named.column.name)
+
+    def _column(self, named: Named) -> str:
+        self.used[named.entry].add(named.column)
+        return f"{spelled(self.query.entries[named.entry].name)}.{spelled(named.column.name)}"
+
+    def _name_of(self, entry: Entry) -> str:
+        name = self.names.key(self.statement.sources[entry.number].table[-1])
+        if not re.fullmatch(r"[A-Za-z0-9_]+", name):
+            raise self.statement.refuse(self.statement.sources[entry.number].table[-1], "a file can't be named so")
+        return spelled(name)
+
+    def _tables(self) -> dict[str, list[Entry]]:
+        tables: dict[str, list[Entry]] = {}
+        for entry in self.query.entries:
+            same = tables.setdefault(self._name_of(entry), [])
+            if same and same[0].about != entry.about:
+                raise self.statement.refuse(self.statement.sources[entry.number].table[-1], "two tables would have one file")
+            same.append(entry)
+        return tables
+
+    def _table(self, name: str, entries: list[Entry]) -> str:
+        """Writes a table's file. Answers its CREATE TABLE."""
+        used = set().union(*(self.used[entry.number] for entry in entries))
+        columns = [column for column in entries[0].about.by_key.values() if column in used] or list(entries[0].about.columns[:1])
+        if len({upper(column.name) for column in columns}) < len(columns):
+            raise Refused(f"columns of {name} differ in upper and lower case alone, which safebound_cli takes for one")
+        for column in columns:
+            if not self.engine.exports(column):
+                raise Refused(f"{name}.{column.name}: safebound_cli has no {column.type}")
+        met = set.intersection(*(set(self.query.joined(entry.number)) for entry in entries))
+        values = ", ".join(self.engine.quote(column.name) for column in columns)
+        present = " AND ".join(f"{self.engine.quote(column.name)} IS NOT NULL" for column in columns if column in met)
+        with self.progress.doing(f"writing {name}"):
+            rows = self.engine.stream(f"SELECT {values} FROM {entries[0].table}" + (f" WHERE {present}" if present else ""))
+            kinds = self._records(name.strip('"').lower() + ".csv", columns, rows)
+        declared = ", ".join(f"{spelled(column.name)} {kind} NOT NULL" for column, kind in zip(columns, kinds))
+        return f"CREATE TABLE {name} ({declared})"
+
+    def _records(self, file: str, columns: list[Column], rows: Iterator[tuple]) -> list[str]:
+        """Writes the rows, and finds the columns' types."""
+        kinds: list[type] = [int if self.engine.whole_numbers(column) else str for column in columns]
+        longest = [1] * len(columns)
+        next(rows)
+        with open(os.path.join(self.folder, file), "w", encoding="utf-8", newline="") as out:
+            writer = csv.writer(out)
+            writer.writerow([upper(column.name) for column in columns])
+            for number, row in enumerate(rows, 1):
+                _check(file, number, columns, row, kinds)
+                longest = [max(most, len(value)) if isinstance(value, str) else most for most, value in zip(longest, row)]
+                writer.writerow(row)
+            if out.tell() > MOST_BYTES:
+                raise Refused(f"{file} has more than {MOST_BYTES} bytes")
+        if max(longest) > MOST_CHARACTERS:
+            raise Refused(f"{file} has a text of more than {MOST_CHARACTERS} characters")
+        return ["INTEGER" if kind is int else f"VARCHAR({most})" for kind, most in zip(kinds, longest)]
+
+
+def _check(file: str, number: int, columns: list[Column], row: tuple, kinds: list[type]) -> None:
+    if number > MOST_ROWS:
+        raise Refused(f"{file} has more than {MOST_ROWS} rows")
+    for column, value, kind in zip(columns, row, kinds):
+        if value is None:
+            raise Refused(f"{file}: row {number} has no {column.name}, and safebound_cli has no NULL")
+        if type(value) is not kind:
+            raise Refused(f"{file}: {column.name} of row {number} is no {'whole number' if kind is int else 'text'}")
+
+
+def exported(meaning: Meaning, engine: Engine, folder: str, progress: Progress) -> None:
+    Export(meaning, engine, folder, progress).write()

@@ -1,0 +1,68 @@
+"""What ends a command: one line for the user, and an exit status."""
+
+from __future__ import annotations
+
+
+class Fault(Exception):
+    """What all faults have in common: the exit status, and a word that says whose fault it is."""
+
+    status = 1
+    word = "error"
+
+    def line(self) -> str:
+        return f"{self.word}: {self}"
+
+
+class Usage(Fault):
+    """The words of the command line are wrong."""
+
+    status, word = 2, "usage"
+
+
+class Unreadable(Fault):
+    """A file that was named can't be read or written."""
+
+    status, word = 3, "file"
+
+
+class Refused(Fault):
+    """The query has a part that isn't bounded here. The message names the part and its place."""
+
+    status, word = 5, "refused"
+
+
+class WrongCounts(Fault):
+    """The counts of a file aren't an answer to the counting statement."""
+
+    status, word = 6, "counts"
+
+
+class PastBudget(Fault):
+    """The best plan passes the budget."""
+
+    status, word = 8, "budget"
+
+    def __init__(self, budget: int, least: int) -> None:
+        super().__init__(f"{budget} rows are too few: the best plan has a part of at most {least} rows, so {least} would do")
+        self.least = least
+
+
+class NoBound(Fault):
+    """No plan has a bound below 2^64."""
+
+    status, word = 9, "no bound"
+
+    def __init__(self) -> None:
+        super().__init__("in every plan a part has a bound of 2^64 - 1 rows or more")
+
+
+class EngineFault(Fault):
+    """The engine said no: it can't be reached, it doesn't take a statement, or time has run out."""
+
+    status, word = 12, "engine"
+
+
+class Missing(Fault):
+    """Something that this program stands on isn't installed."""
+
+    status, word = 13, "missing"

@@ -1,0 +1,115 @@
+"""The plan: counts go to the proved library, and levels come back."""
+
+from __future__ import annotations
+
+import sys
+from dataclasses import dataclass
+from pathlib import Path
+from typing import Union
+
+from .counting import Counts
+from .faults import Missing, NoBound, PastBudget, WrongCounts
+from .query import Query
+
+MOST_BUDGET = 2**59
+
+# The list of a column in which no row has a value: it says more than there is.
+NO_VALUE = [(1, 1)]
+
+Shape = Union[int, "tuple[Shape, Shape]"]
+
+
+@dataclass
+class Level:
+    """A part of the plan: the entries that are joined in it, its bound, and what the engine expects, where it says."""
+
+    shape: Shape
+    bound: int
+    expected: int | None = None
+
+    @property
+    def factor(self) -> float | None:
+        """How many times what the engine expects the bound is."""
+        return None if self.expected is None else self.bound / max(self.expected, 1)
+
+
+@dataclass
+class Plan:
+    """A plan: the shape of its joins, and its levels from the first to that of all entries."""
+
+    query: Query
+    counts: Counts
+    shape: Shape
+    levels: list[Level]
+    tree: bool
+
+    @property
+    def cost(self) -> int:
+        return max(level.bound for level in self.levels)
+
+
+def entries_of(shape: Shape) -> list[int]:
+    """The entries of a shape from left to right."""
+    return [shape] if isinstance(shape, int) else entries_of(shape[0]) + entries_of(shape[1])
+
+
+def library():
+    """The package safebound: an installed one, or that of this repository."""
+    try:
+        import safebound
+    except ImportError:
+        sys.path.append(str(Path(__file__).resolve().parents[2] / "python"))
+        try:
+            import safebound
+        except ImportError as error:
+            raise Missing(f"the library isn't there: make library, or pip install ./python ({error})") from None
+    return safebound
+
+
+def planned(query: Query, counts: Counts, accuracy: int, budget: int, tree: bool) -> Plan:
+    """The best plan over the counts.
+
+    Raises:
+        PastBudget: the best one has a part above the budget.
+        NoBound: each one has a part without a bound.
+    """
+    proved = library()
+    try:
+        lists = {column: proved.compress(runs or NO_VALUE, accuracy) for column, runs in counts.runs.items()}
+        known = proved.Query([entry.name for entry in query.entries], _equalities(query), counts.rows, lists)
+        levels = _levels_of_tree(query, known.best_tree(budget), counts) if tree else _levels(query, known.best_order(budget))
+    except proved.BudgetExceeded as error:
+        raise PastBudget(budget, error.least) from None
+    except proved.PastBits:
+        raise NoBound from None
+    except proved.LibraryNotFound as error:
+        raise Missing(str(error)) from None
+    except proved.WrongValue as error:
+        raise WrongCounts(str(error)) from None
+    return Plan(query, counts, levels[-1].shape, levels, tree)
+
+
+def _equalities(query: Query) -> list:
+    return [tuple((query.entries[side.entry].name, side.column.name) for side in equality) for equality in query.equalities]
+
+
+def _levels(query: Query, order) -> list[Level]:
+    numbers = {entry.name: entry.number for entry in query.entries}
+    levels: list[Level] = []
+    for name, bound in zip(order.entries, order.levels):
+        shape = (levels[-1].shape, numbers[name]) if levels else numbers[name]
+        levels.append(Level(shape, bound))
+    return levels
+
+
+def _levels_of_tree(query: Query, tree, counts: Counts) -> list[Level]:
+    """The joins of a tree; of an entry alone its rows."""
+    if not tree.joins:
+        return [Level(0, counts.rows[query.entries[0].name])]
+    nodes: list[Shape] = [entry.number for entry in query.entries]
+    levels = []
+    for join in tree.joins:
+        nodes.append((nodes[join.left], nodes[join.right]))
+        levels.append(Level(nodes[-1], join.bound))
+    return levels
+

@@ -1,0 +1,90 @@
+"""Plans as a table for readers, and as JSON for programs."""
+
+from __future__ import annotations
+
+import json
+
+from .engine import Engine
+from .levels import Level, Plan, Shape, entries_of
+from .query import Named, Query
+
+
+def table(plan: Plan, engine: Engine, true_rows: list[int] | None = None) -> str:
+    """The plan as lines: a level each, and what is worth knowing below them."""
+    heads = ["level", "joined", "of", "scan", "bound", f"{engine.title} expects", "factor"]
+    rows = [_row(plan, number, level) for number, level in enumerate(plan.levels, 1)]
+    if all(level.expected is None for level in plan.levels):
+        heads, rows = heads[:5], [row[:5] for row in rows]
+    if true_rows is not None:
+        heads += ["rows", "bound / rows"]
+        rows = [row + [str(true), _times(level.bound / max(true, 1))] for row, level, true in zip(rows, plan.levels, true_rows)]
+    lines = _aligned([heads] + rows)
+    if plan.tree:
+        lines.append("scans: " + ", ".join(f"{entry.name} {plan.counts.rows[entry.name]}" for entry in plan.query.entries))
+    lines.append(f"budget {plan.cost} would do")
+    lines += [f"not used for bounds: {text} ({why})" for text, why in plan.query.no_edges]
+    return "\n".join(lines) + "\n"
+
+
+def _row(plan: Plan, number: int, level: Level) -> list[str]:
+    expected = "-" if level.expected is None else str(level.expected)
+    factor = "-" if level.factor is None else _times(level.factor)
+    return [str(number), *_joined(plan, level.shape), str(level.bound), expected, factor]
+
+
+def _joined(plan: Plan, shape: Shape) -> list[str]:
+    """What a level joins: the entry that is new, its table and its scan; or both sides of a tree's join."""
+    entries = plan.query.entries
+    if isinstance(shape, int) or (not plan.tree and isinstance(shape[1], int)):
+        new = entries[shape if isinstance(shape, int) else shape[1]]
+        return [new.name, new.table, str(plan.counts.rows[new.name])]
+    left, right = (", ".join(entries[number].name for number in entries_of(side)) for side in shape)
+    return [f"({left}) with ({right})", "", ""]
+
+
+def _times(factor: float) -> str:
+    return f"{factor:.2g}" if factor < 10 else f"{factor:.0f}"
+
+
+def _aligned(rows: list[list[str]]) -> list[str]:
+    """Columns side by side: words to the left, numbers to the right."""
+    widths = [max(map(len, column)) for column in zip(*rows)]
+    sides = [str.ljust if at in (1, 2) else str.rjust for at in range(len(widths))]
+    return ["  ".join(side(cell, width) for side, cell, width in zip(sides, row, widths)).rstrip() for row in rows]
+
+
+def document(plan: Plan, engine: Engine, sql: str, true_rows: list[int] | None = None) -> str:
+    """The plan as JSON."""
+    query = plan.query
+    levels = [_level(query, level) for level in plan.levels]
+    if true_rows is not None:
+        levels = [{**level, "rows": true} for level, true in zip(levels, true_rows)]
+    told = {
+        "entries": [
+            {"name": entry.name, "table": entry.table, "conditions": list(map(str, entry.own)), "scan": plan.counts.rows[entry.name]}
+            for entry in query.entries
+        ],
+        "equalities": [[_column(query, side) for side in equality] for equality in query.equalities],
+        "conditions": [str(condition.text) for condition in query.conditions],
+        "not used for bounds": [{"condition": str(text), "why": why} for text, why in query.no_edges],
+        "order": [query.entries[number].name for number in entries_of(plan.shape)],
+        "tree": _shape(query, plan.shape) if plan.tree else None,
+        "levels": levels,
+        "least budget": plan.cost,
+        "setting": engine.keeps_order,
+        "sql": sql,
+    }
+    return json.dumps(told, indent=2, ensure_ascii=False) + "\n"
+
+
+def _level(query: Query, level: Level) -> dict:
+    names = [query.entries[number].name for number in entries_of(level.shape)]
+    return {"entries": names, "bound": level.bound, "expected": level.expected, "factor": level.factor}
+
+
+def _column(query: Query, named: Named) -> dict:
+    return {"entry": query.entries[named.entry].name, "column": named.column.name}
+
+
+def _shape(query: Query, shape: Shape):
+    return query.entries[shape].name if isinstance(shape, int) else [_shape(query, side) for side in shape]

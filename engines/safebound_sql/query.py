@@ -1,0 +1,119 @@
+"""What a query means for its bounds: entries, the equalities that join them, and what else is tested where."""
+
+from __future__ import annotations
+
+from dataclasses import dataclass, field
+from typing import Callable, Hashable, NamedTuple
+
+MOST_ENTRIES = 12
+MOST_EQUALITIES = 256
+
+
+class Column(NamedTuple):
+    """A table's column. Columns of one `kind` are compared as they are grouped; None where that isn't known."""
+
+    name: str
+    type: str
+    kind: Hashable | None
+
+
+class Table(NamedTuple):
+    """A table or view: its columns in declared order, and by the key that the engine finds them by.
+
+    `columns` are those that a star stands for.
+    """
+
+    columns: tuple[Column, ...]
+    by_key: dict[str, Column]
+
+
+class Named(NamedTuple):
+    """A column of an entry."""
+
+    entry: int
+    column: Column
+
+
+class Reference(NamedTuple):
+    """A place of a text where a column is named, and how it is named there."""
+
+    named: Named
+    text: str
+
+
+class Text(NamedTuple):
+    """A part of the query as it was written. It knows where it names columns, so that they can be named in another way."""
+
+    parts: tuple[str | Reference, ...]
+
+    def __str__(self) -> str:
+        return self.naming(lambda named: None)
+
+    def naming(self, other: Callable[[Named], str | None]) -> str:
+        """The text with the columns named as the function says, and as they were where it says nothing."""
+        return "".join(part if isinstance(part, str) else other(part.named) or part.text for part in self.parts)
+
+
+@dataclass
+class Entry:
+    """An entry of FROM. `table` and `alias` are texts of SQL as the query has them, `name` is the alias as a name."""
+
+    number: int
+    name: str
+    alias: str
+    table: str
+    about: Table
+    own: list[Text] = field(default_factory=list)
+
+
+class Equality(NamedTuple):
+    """An equality of columns of two entries that is compared as it is grouped: an edge."""
+
+    left: Named
+    right: Named
+
+
+class Condition(NamedTuple):
+    """A conjunct: its text, and the entries that it names."""
+
+    text: Text
+    entries: frozenset[int]
+
+
+@dataclass
+class Query:
+    """A query. `conditions` are those of several entries or none, equalities among them, in the order of the text."""
+
+    entries: list[Entry]
+    distinct: Text = Text(())
+    outputs: list[Text] = field(default_factory=list)
+    above: Text = Text(())
+    conditions: list[Condition] = field(default_factory=list)
+    equalities: list[Equality] = field(default_factory=list)
+    no_edges: list[tuple[Text, str]] = field(default_factory=list)
+    needed: set[Named] = field(default_factory=set)
+
+    def joined(self, entry: int) -> list[Column]:
+        """The columns of an entry that equalities name, in the order of the table."""
+        named = {side.column for equality in self.equalities for side in equality if side.entry == entry}
+        return self._in_order(entry, named)
+
+    def used(self, entry: int) -> list[Column]:
+        """The columns of an entry that anything but its own conditions names."""
+        return self._in_order(entry, {named.column for named in self.needed if named.entry == entry})
+
+    def _in_order(self, entry: int, some: set[Column]) -> list[Column]:
+        return [column for column in self.entries[entry].about.by_key.values() if column in some]
+
+    def complete(self, entries: frozenset[int], before: tuple[frozenset[int], ...] = ()) -> list[Text]:
+        """The conditions that name some of these entries and no other, and that weren't complete in parts of them."""
+        return [
+            condition.text
+            for condition in self.conditions
+            if condition.entries and condition.entries <= entries and not any(condition.entries <= part for part in before)
+        ]
+
+    @property
+    def constants(self) -> list[Text]:
+        """The conditions that name no entry."""
+        return [condition.text for condition in self.conditions if not condition.entries]

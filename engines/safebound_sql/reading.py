@@ -1,0 +1,283 @@
+"""The parts of a query: outputs, entries, conditions, and what stands above the join. All as tokens, as they were written.
+
+Only the frame is read here: SELECT .. FROM .. WHERE .. and what follows. What is no inner join of named tables is refused
+by its name and place.
+"""
+
+from __future__ import annotations
+
+from dataclasses import dataclass, field
+
+from .faults import Refused
+from .tokens import Token, closing, part_of_name, place
+
+Tokens = list[Token]
+
+ABOVE = ("GROUP", "HAVING", "WINDOW", "ORDER", "LIMIT", "OFFSET", "FETCH")
+TOGETHER = ("UNION", "INTERSECT", "EXCEPT")
+OUTER = ("LEFT", "RIGHT", "FULL", "NATURAL", "OUTER")
+NO_TABLE = ("ONLY", "LATERAL")
+IN_FROM = (*OUTER, "JOIN", "INNER", "CROSS", "ON", "USING")
+BEHIND_FROM = ("WHERE", *ABOVE, *TOGETHER, "FOR")
+NO_ALIAS = (*IN_FROM, *BEHIND_FROM, "TABLESAMPLE", "INDEXED", "NOT", "INTO")
+
+
+@dataclass
+class Source:
+    """An entry as FROM has it: the table's name as tokens, and the alias, which is the table's where none is written."""
+
+    table: Tokens
+    alias: Token
+
+
+@dataclass
+class Using:
+    """USING: the names, how many sources stand before it on its left side, and the source on its right."""
+
+    names: Tokens
+    left: range
+    right: int
+
+
+@dataclass
+class Statement:
+    """A query's parts. A condition is a conjunct of WHERE or of an ON."""
+
+    text: str
+    distinct: Tokens = field(default_factory=list)
+    outputs: list[Tokens] = field(default_factory=list)
+    sources: list[Source] = field(default_factory=list)
+    usings: list[Using] = field(default_factory=list)
+    conditions: list[Tokens] = field(default_factory=list)
+    above: Tokens = field(default_factory=list)
+
+    def refuse(self, token: Token, why: str, name: str | None = None) -> Refused:
+        return Refused(f"{name or token.text} at {place(self.text, token.at)}: {why}")
+
+
+def conjuncts(condition: Tokens) -> list[Tokens]:
+    """The parts of a condition at AND, through parentheses. A condition with OR is one part."""
+    while condition and condition[0].says("(") and closing(condition, 0) == len(condition) - 1 and not _query(condition, 1):
+        condition = condition[1:-1]
+    parts: list[Tokens] = [[]]
+    between = 0
+    for word, run in _outside_parentheses(condition):
+        if word.says("OR"):
+            return [condition]
+        if word.says("BETWEEN"):
+            between += 1
+        if word.says("AND") and not between:
+            parts.append([])
+            continue
+        if word.says("AND"):
+            between -= 1
+        parts[-1] += run
+    return [parts[0]] if len(parts) == 1 else [inner for part in parts for inner in conjuncts(part)]
+
+
+def _query(pieces: Tokens, at: int) -> bool:
+    return at < len(pieces) and pieces[at].says("SELECT", "WITH", "VALUES")
+
+
+def _outside_parentheses(pieces: Tokens):
+    """Each token outside parentheses and CASE, with all that belongs to it: what it opens, or itself alone."""
+    at = 0
+    while at < len(pieces):
+        end = at
+        if pieces[at].says("(", "["):
+            end = closing(pieces, at)
+        elif pieces[at].says("CASE") and not part_of_name(pieces, at):
+            end = _end_of_case(pieces, at)
+        yield pieces[at], pieces[at : end + 1]
+        at = end + 1
+
+
+def _end_of_case(pieces: Tokens, start: int) -> int:
+    depth = 0
+    for at in range(start, len(pieces)):
+        if part_of_name(pieces, at):
+            continue
+        depth += pieces[at].says("CASE") - pieces[at].says("END")
+        if depth == 0:
+            return at
+    return len(pieces)
+
+
+class Reader:
+    """Reads one statement from its first token to its last."""
+
+    def __init__(self, text: str, pieces: Tokens, comma_binds_less: bool) -> None:
+        self.statement = Statement(text)
+        self.pieces = pieces
+        self.at = 0
+        self.comma_binds_less = comma_binds_less
+
+    def read(self) -> Statement:
+        while self.pieces and self.pieces[-1].says(";"):
+            self.pieces.pop()
+        for token in self.pieces:
+            if token.says(";"):
+                raise self.statement.refuse(token, "one statement, please", "a second statement")
+        self._select()
+        self._from_list()
+        if self._take("WHERE"):
+            self._conditions(self._until(BEHIND_FROM))
+        self._above()
+        return self.statement
+
+    def _peek(self, *words: str, ahead: int = 0) -> bool:
+        at = self.at + ahead
+        return at < len(self.pieces) and self.pieces[at].says(*words)
+
+    def _take(self, *words: str) -> bool:
+        found = self._peek(*words)
+        self.at += found
+        return found
+
+    def _refuse(self, why: str, name: str | None = None) -> Refused:
+        if self.at < len(self.pieces):
+            return self.statement.refuse(self.pieces[self.at], why, name)
+        return Refused(f"the query ends too early: {why}")
+
+    def _until(self, words: tuple[str, ...]) -> Tokens:
+        """The tokens up to one of these keywords outside parentheses."""
+        start = self.at
+        while self.at < len(self.pieces) and not self._keyword(words):
+            self.at = closing(self.pieces, self.at) if self._peek("(", "[") else self.at
+            self.at += 1
+        self.at = min(self.at, len(self.pieces))
+        return self.pieces[start : self.at]
+
+    def _keyword(self, words: tuple[str, ...]) -> bool:
+        if not self._peek(*words) or part_of_name(self.pieces, self.at):
+            return False
+        if self._peek("FROM") and self.at and self.pieces[self.at - 1].says("DISTINCT"):
+            return False
+        return not (self._peek("LEFT", "RIGHT") and self._peek("(", ahead=1))
+
+    def _select(self) -> None:
+        if self._peek("WITH"):
+            raise self._refuse("a query with a part before SELECT isn't read; make it a view")
+        if not self._take("SELECT"):
+            raise self._refuse("a query begins with SELECT", None if self.at < len(self.pieces) else "nothing")
+        start = self.at
+        if self._take("DISTINCT") and self._take("ON"):
+            self.at = closing(self.pieces, self.at) + 1
+        elif self.at == start:
+            self._take("ALL")
+        self.statement.distinct = self.pieces[start : self.at]
+        outputs = self._until(("FROM", "INTO", *BEHIND_FROM))
+        if not self._take("FROM"):
+            raise self._refuse("a query has FROM")
+        self.statement.outputs = list(_at_commas(outputs))
+
+    def _from_list(self) -> None:
+        first = 0
+        while True:
+            self._joined(first)
+            if not self._take(","):
+                break
+            if self.comma_binds_less:
+                first = len(self.statement.sources)
+
+    def _joined(self, first: int) -> None:
+        """One part of FROM: a source and what is joined to it. Its left side begins with the source numbered `first`."""
+        self._source()
+        while True:
+            cross = self._peek("CROSS")
+            if self._keyword(OUTER):
+                why = "write out its columns with USING" if self._peek("NATURAL") else "only inner joins are bounded"
+                raise self._refuse(why, f"{self.pieces[self.at].text.upper()} JOIN")
+            if not (self._take("JOIN") or (self._take("INNER", "CROSS") and self._take("JOIN"))):
+                return
+            right = len(self.statement.sources)
+            self._source()
+            if self._take("ON"):
+                self._conditions(self._until((*IN_FROM, *BEHIND_FROM, ",", ")")))
+            elif self._take("USING"):
+                self._using(first, right)
+            elif self.comma_binds_less and not cross:
+                raise self._refuse("each JOIN has its ON or USING right behind its table")
+
+    def _using(self, first: int, right: int) -> None:
+        end = closing(self.pieces, self.at)
+        names = [token for token in self.pieces[self.at + 1 : end] if not token.says(",")]
+        if len(self.statement.sources) != right + 1:
+            raise self._refuse("USING behind parentheses isn't read; write it out with ON", "USING")
+        self.statement.usings.append(Using(names, range(first, right), right))
+        self.at = end + 1
+
+    def _source(self) -> None:
+        if self._peek("(") and not _query(self.pieces, self.at + 1):
+            self.at += 1
+            self._joined(len(self.statement.sources))
+            if not self._take(")"):
+                raise self._refuse("a parenthesis of FROM isn't closed here")
+            if self._peek("AS") or (self.at < len(self.pieces) and self._alias_here()):
+                raise self._refuse("an alias of joined tables isn't read")
+            return
+        if self._peek("("):
+            raise self._refuse("a query within FROM isn't bounded; make it a view", "a subquery")
+        if self._peek(*NO_TABLE):
+            raise self._refuse("FROM has tables and views by their names")
+        table = self._table()
+        alias = self._alias() or table[-1]
+        if self._peek("(", "*", "TABLESAMPLE", "INDEXED", "NOT"):
+            name = f"{alias.text}(" if self._peek("(") else None
+            raise self._refuse("FROM has tables and views by their names, and an alias for each", name)
+        self.statement.sources.append(Source(table, alias))
+
+    def _table(self) -> Tokens:
+        start = self.at
+        while True:
+            if self.at >= len(self.pieces) or not self.pieces[self.at].names:
+                raise self._refuse("a table's name is needed")
+            self.at += 1
+            if not self._take("."):
+                return self.pieces[start : self.at]
+
+    def _alias_here(self) -> bool:
+        token = self.pieces[self.at]
+        return token.kind == "quoted" or (token.kind == "word" and not token.says(*NO_ALIAS))
+
+    def _alias(self) -> Token | None:
+        explicit = self._take("AS")
+        if self.at >= len(self.pieces) or not (explicit or self._alias_here()):
+            return None
+        if not self.pieces[self.at].names:
+            raise self._refuse("an alias is needed")
+        self.at += 1
+        return self.pieces[self.at - 1]
+
+    def _conditions(self, condition: Tokens) -> None:
+        parts = conjuncts(condition)
+        if not all(parts):
+            raise self._refuse("a condition is missing before this")
+        self.statement.conditions += parts
+
+    def _above(self) -> None:
+        if self._peek(*TOGETHER):
+            raise self._refuse("rows of several queries together aren't bounded")
+        if self._peek("FOR"):
+            raise self._refuse("rows are read, not locked")
+        if self.at < len(self.pieces) and not self._peek(*ABOVE):
+            raise self._refuse("this isn't expected here")
+        self.statement.above = self._until(TOGETHER + ("FOR",))
+        if self.at < len(self.pieces):
+            self._above()
+
+
+def _at_commas(pieces: Tokens):
+    part: Tokens = []
+    for token, run in _outside_parentheses(pieces):
+        if token.says(","):
+            yield part
+            part = []
+        else:
+            part += run
+    yield part
+
+
+def read(text: str, pieces: Tokens, comma_binds_less: bool) -> Statement:
+    """The parts of the query. In PostgreSQL a comma binds less than JOIN; in SQLite both bind alike."""
+    return Reader(text, pieces, comma_binds_less).read()

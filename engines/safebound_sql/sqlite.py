@@ -1,0 +1,204 @@
+"""SQLite, by Python's own sqlite3: the file is opened read-only, and one transaction holds its snapshot."""
+
+from __future__ import annotations
+
+import contextlib
+import csv
+import io
+import sqlite3
+import time
+from pathlib import Path
+from typing import Iterator
+
+from .engine import Engine, one_line, with_names
+from .faults import EngineFault
+from .query import Column, Table
+from .tokens import SQLITE, Token, unquoted
+
+DETERMINISTIC = 0x800
+TIMES = ("date", "time", "datetime", "julianday", "unixepoch", "strftime")
+ROW_NUMBERS = ("rowid", "oid", "_rowid_")
+
+
+class Sqlite(Engine):
+    dialect = "sqlite"
+    title = "SQLite"
+    rules = SQLITE
+    comma_binds_less = False
+    merged_columns_first = False
+    equals = ("=", "==")
+    calls_without_parentheses = ("CURRENT_DATE", "CURRENT_TIME", "CURRENT_TIMESTAMP")
+    keeps_order = ""
+    # SQLite reads a part again wherever it is named, and so the parts that it names in turn.
+    most_parts_of_a_part = 200
+    join_word = "CROSS JOIN"
+    keeps_trees = False
+    outputs_in_conditions = True
+    reserved = frozenset(("null", "current_date", "current_time", "current_timestamp"))
+
+    def __init__(self, file: str, timeout: int | None) -> None:
+        path = Path(file).absolute()
+        if not path.is_file():
+            raise EngineFault(f"there is no file {file}")
+        with self._told():
+            self.connection = sqlite3.connect(f"{path.as_uri()}?mode=ro", uri=True, isolation_level=None)
+            self.connection.text_factory = lambda raw: raw.decode("utf-8", "surrogateescape")
+            self.connection.execute("BEGIN")
+            self.connection.execute("SELECT count(*) FROM sqlite_master").fetchone()
+        self.timeout = timeout
+        self.ends = None
+        self.connection.set_progress_handler(self._is_late, 10_000)
+
+    def _is_late(self) -> bool:
+        return self.ends is not None and time.monotonic() > self.ends
+
+    @contextlib.contextmanager
+    def _told(self):
+        self.ends = time.monotonic() + self.timeout if getattr(self, "timeout", None) else None
+        try:
+            yield
+        except sqlite3.Error as error:
+            late = self.ends is not None and time.monotonic() > self.ends
+            raise EngineFault("canceled, since the time is over" if late else one_line(error)) from None
+
+    def key(self, name: str, quoted: bool) -> str:
+        return super().key(name, False)
+
+    def spelled(self, token: Token) -> str:
+        return self.key(unquoted(token) if token.kind == "quoted" else token.text, False)
+
+    def asks_for_now(self, pieces: list[Token], at: int) -> bool:
+        """date() and its like, without a time or with the text 'now'."""
+        if not (pieces[at].names and self.spelled(pieces[at]) in TIMES and at + 1 < len(pieces) and pieces[at + 1].says("(")):
+            return False
+        depth, given = 0, []
+        for token in pieces[at + 1 :]:
+            depth += token.says("(") - token.says(")")
+            if depth == 0:
+                break
+            given.append(token)
+        needed = 2 if self.spelled(pieces[at]) == "strftime" else 1
+        values = 0 if len(given) == 1 else 1 + sum(token.says(",") for token in given)
+        now = any(token.kind == "text" and token.text[1:-1].strip().lower() == "now" for token in given)
+        return now or values < needed
+
+    def table(self, name: list[Token]) -> Table | None:
+        parts = [unquoted(token) if token.kind == "quoted" else token.text for token in name if token.names]
+        if len(parts) > 2:
+            return None
+        schema = parts[0] if len(parts) == 2 else None
+        with self._told():
+            kind = self.connection.execute(
+                "SELECT schema, type, wr, strict FROM pragma_table_list WHERE name = ? COLLATE NOCASE"
+                " AND (?2 IS NULL OR schema = ?2 COLLATE NOCASE) ORDER BY schema <> 'temp', schema <> 'main' LIMIT 1",
+                (parts[-1], schema),
+            ).fetchone()
+            if kind is None:
+                return None
+            listed = self.connection.execute(
+                "SELECT name, type, hidden FROM pragma_table_xinfo(?, ?) ORDER BY cid", (parts[-1], kind[0])
+            ).fetchall()
+        where = f"{self.quote(kind[0])}.{self.quote(parts[-1])}"
+        found = [(self._column(where, name, declared, kind[1] == "table", kind[3]), hidden) for name, declared, hidden in listed]
+        by_key = {self.key(column.name, True): column for column, _ in found}
+        if kind[1] == "table" and not kind[2]:
+            for other in ROW_NUMBERS:
+                by_key.setdefault(other, Column(other, "INTEGER", ("INTEGER", "BINARY")))
+        return Table(tuple(column for column, hidden in found if hidden != 1), by_key)
+
+    def _column(self, table: str, name: str, declared: str, of_table: bool, strict: bool) -> Column:
+        """A column. What those of views and virtual tables are compared by isn't known."""
+        collation = self._collation(table, name) if of_table else None
+        kind = (affinity(declared, strict), collation) if collation else None
+        return Column(name, declared or "no type", kind)
+
+    def _collation(self, table: str, name: str) -> str | None:
+        """A column's collation, found by whether 'a' equals 'A' or 'a ' by it: UNION compares by its first part's."""
+        with self._told():
+            values = f"SELECT {self.quote(name)} FROM {table} WHERE 0 UNION SELECT 'a' UNION SELECT ?"
+            alike = tuple(
+                self.connection.execute(f"SELECT count(*) FROM ({values})", (other,)).fetchone()[0] for other in ("A", "a ")
+            )
+        return {(2, 2): "BINARY", (1, 2): "NOCASE", (2, 1): "RTRIM"}.get(alike)
+
+    def fickle(self, names: set[str]) -> list[str]:
+        with self._told():
+            found = {
+                row[0].lower()
+                for row in self.connection.execute(
+                    f"SELECT name FROM pragma_function_list WHERE type = 's' AND NOT flags & {DETERMINISTIC}"
+                )
+            }
+        return sorted(name for name in names if name.lstrip(".") in found)
+
+    def view_texts(self, names: set[str]) -> dict[str, str]:
+        with self._told():
+            views = self.connection.execute("SELECT name, sql FROM sqlite_master WHERE type = 'view'").fetchall()
+        return {name: text for name in names for view, text in views if self._last(name) == self.key(view, True)}
+
+    def _last(self, name: str) -> str:
+        return self.key(name.split(".")[-1].strip('"`[] '), True)
+
+    def takes(self, sql: str) -> None:
+        with self._told():
+            self.connection.execute(f"EXPLAIN {sql}").fetchall()
+
+    def stands_alone(self, inner: list[Token]) -> str | None:
+        """A name in double quotes that isn't found would be a text, so the quotes are others here."""
+        in_quotes = {token: f"[{unquoted(token)}]" for token in inner if token.text[0] == '"' and "]" not in token.text}
+        return super().stands_alone([token._replace(text=in_quotes.get(token, token.text)) for token in inner])
+
+    def complaint(self, sql: str) -> str | None:
+        try:
+            self.takes(sql)
+        except EngineFault as fault:
+            return str(fault)
+        return None
+
+    def expected(self, sql: str) -> int | None:
+        return None
+
+    def keep_order(self) -> None:
+        """CROSS JOIN keeps it."""
+
+    def rows(self, sql: str) -> list[tuple]:
+        with self._told():
+            return self.connection.execute(sql).fetchall()
+
+    def stream(self, sql: str) -> Iterator[tuple]:
+        with self._told():
+            cursor = self.connection.execute(sql)
+            yield from with_names(cursor, [column[0] for column in cursor.description])
+
+    def csv(self, sql: str) -> Iterator[str]:
+        line = io.StringIO()
+        writer = csv.writer(line, lineterminator="\n")
+        for row in self.stream(sql):
+            writer.writerow([f"x'{value.hex()}'" if isinstance(value, bytes) else value for value in row])
+            yield line.getvalue()
+            line.seek(0)
+            line.truncate()
+
+    def exports(self, column: Column) -> bool:
+        return column.kind in (("INTEGER", "BINARY"), ("TEXT", "BINARY"))
+
+    def whole_numbers(self, column: Column) -> bool:
+        return column.kind[0] == "INTEGER"
+
+    def plain_order(self, column: Column) -> bool:
+        return True
+
+    def close(self) -> None:
+        self.connection.close()
+
+
+def affinity(declared: str, strict: bool) -> str:
+    """The affinity of a declared type, by SQLite's rules."""
+    name = declared.upper()
+    if "INT" in name:
+        return "INTEGER"
+    if any(part in name for part in ("CHAR", "CLOB", "TEXT")):
+        return "TEXT"
+    if not name or "BLOB" in name or (strict and name == "ANY"):
+        return "BLOB"
+    return "REAL" if any(part in name for part in ("REAL", "FLOA", "DOUB")) else "NUMERIC"

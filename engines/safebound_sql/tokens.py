@@ -1,0 +1,140 @@
+"""The tokens of a text of SQL, by the engine's own rules, so that what is handed on is what was written.
+
+sqlglot's tokens don't tell where they stand, and its texts don't come back as they were: x'00ff' becomes x'FF'. A
+condition is passed to the engine in the user's own characters, so the text is cut here.
+"""
+
+from __future__ import annotations
+
+import re
+from typing import Iterable, NamedTuple
+
+from .faults import Refused
+
+
+class Token(NamedTuple):
+    """A token: what kind, its characters, where it begins, and what stands before it ("", " " or a line's end)."""
+
+    kind: str
+    text: str
+    at: int
+    gap: str
+
+    def says(self, *words: str) -> bool:
+        """Whether it is one of these words or marks, in whichever case."""
+        return self.kind in ("word", "mark", "operator") and self.text.upper() in words
+
+    @property
+    def names(self) -> bool:
+        return self.kind in ("word", "quoted")
+
+
+WORD = r"(?P<word>[^\W\d][\w$]*)"
+NUMBER = r"(?P<number>0[xX][0-9a-fA-F]+|(?:\d+\.?\d*|\.\d+)(?:[eE][+-]?\d+)?)"
+SPACE = r"(?P<space>[ \t\n\r\f\v]+|--[^\n]*)"
+
+POSTGRES = re.compile("|".join([
+    SPACE,
+    r"(?P<comment>/\*)",
+    r"(?P<text>[eE]'(?:[^'\\]|\\.|'')*'|[uU]&'(?:[^']|'')*'|[bBxXnN]?'(?:[^']|'')*'|\$(?P<tag>(?:[^\W\d]\w*)?)\$.*?\$(?P=tag)\$)",
+    r'(?P<quoted>"(?:[^"]|"")+")',
+    NUMBER, WORD,
+    r"(?P<mark>::|:=|[(),.;:\[\]])",
+    r"(?P<operator>(?:(?!--|/\*)[+\-*/<>=~!@#%^&|`?])+)",
+]), re.DOTALL)
+
+SQLITE = re.compile("|".join([
+    SPACE,
+    r"(?P<space_too>/\*.*?(?:\*/|\Z))",
+    r"(?P<text>[xX]?'(?:[^']|'')*')",
+    r'(?P<quoted>"(?:[^"]|"")+"|`(?:[^`]|``)+`|\[[^\]]+\])',
+    NUMBER, WORD,
+    r"(?P<mark>[(),.;])",
+    r"(?P<operator>\|\||->>?|<<|>>|<=|>=|<>|!=|==|[+\-*/%<>=&|~])",
+]), re.DOTALL)
+
+_COMMENT_ENDS = re.compile(r"/\*|\*/")
+
+
+def place(text: str, at: int) -> str:
+    """Where that is, for a reader."""
+    before = text[:at].split("\n")
+    return f"line {len(before)}, column {len(before[-1]) + 1}"
+
+
+def tokens(text: str, rules: re.Pattern) -> list[Token]:
+    """All tokens of the text. Comments and blanks are left out."""
+    found, at, gap = [], 0, ""
+    while at < len(text):
+        match = rules.match(text, at)
+        if not match:
+            raise Refused(f"{text[at]!r} at {place(text, at)} begins nothing that is known, or never ends")
+        kind, end = match.lastgroup, match.end()
+        if kind == "comment":
+            end = _end_of_comment(text, at)
+        if kind == "operator":
+            end = at + len(_operator(match.group()))
+        if kind in ("space", "space_too", "comment"):
+            gap = "\n" if "\n" in text[at:end] or gap == "\n" else " "
+        else:
+            found.append(Token(kind, text[at:end], at, gap))
+            gap = ""
+        at = end
+    return found
+
+
+def _end_of_comment(text: str, at: int) -> int:
+    """PostgreSQL's comments nest."""
+    depth = 0
+    for match in _COMMENT_ENDS.finditer(text, at):
+        depth += 1 if match.group() == "/*" else -1
+        if depth == 0:
+            return match.end()
+    raise Refused(f"the comment at {place(text, at)} never ends")
+
+
+def _operator(run: str) -> str:
+    """PostgreSQL's rule: an operator ends in + or - only where it has a character of those below too."""
+    while len(run) > 1 and run[-1] in "+-" and not set(run) & set("~!@#%^&|`?"):
+        run = run[:-1]
+    return run
+
+
+def written(pieces: Iterable[Token]) -> str:
+    """The tokens as text again."""
+    parts: list[str] = []
+    before = None
+    for token in pieces:
+        parts += [gap_between(before, token) if before else "", token.text]
+        before = token
+    return "".join(parts)
+
+
+def gap_between(before: Token, token: Token) -> str:
+    """What stands between two tokens: a line's end only between texts, which the engine reads as one text that goes on."""
+    return "\n" if token.gap == "\n" and token.kind == before.kind == "text" else token.gap and " "
+
+
+def unquoted(token: Token) -> str:
+    """The name that a quoted token stands for."""
+    quote = token.text[-1]
+    inner = token.text[1:-1]
+    return inner if quote == "]" else inner.replace(quote * 2, quote)
+
+
+def closing(pieces: list[Token], start: int) -> int:
+    """Where the parenthesis or bracket that opens at `start` closes; the end of the tokens where it doesn't."""
+    depth = 0
+    for at in range(start, len(pieces)):
+        if pieces[at].says("(", "["):
+            depth += 1
+        elif pieces[at].says(")", "]"):
+            depth -= 1
+            if depth == 0:
+                return at
+    return len(pieces)
+
+
+def part_of_name(pieces: list[Token], at: int) -> bool:
+    """Whether a word belongs to a name with a dot, so that it is no keyword."""
+    return (at > 0 and pieces[at - 1].says(".")) or (at + 1 < len(pieces) and pieces[at + 1].says("."))

@@ -1,0 +1,120 @@
+"""SQL in the planned order: for the query itself, for the true rows of its levels, and for what the engine expects of them."""
+
+from __future__ import annotations
+
+from .counting import Parts, bracketed, own_conditions, reduced, where
+from .engine import Engine
+from .levels import Level, Plan, Shape, entries_of
+from .query import Named, Query, Text
+
+
+class Writer:
+    """Writes statements over a query. Reduced, they join the rows that were counted."""
+
+    def __init__(self, query: Query, engine: Engine, prefix: str, reduce: bool) -> None:
+        self.query, self.engine, self.prefix = query, engine, prefix
+        self.columns = {entry.number: query.used(entry.number) for entry in query.entries}
+        self.parts = reduced(query, engine, self.columns, prefix) if reduce else Parts()
+
+    def query_in_order(self, plan: Plan) -> str:
+        """The query with its joins written in the planned order."""
+        writing = Writing(self)
+        joined = writing.joined(plan.shape)
+        outputs = ", ".join(map(writing.output, self.query.outputs))
+        distinct, above = writing.text(self.query.distinct), writing.text(self.query.above)
+        lines = [f"SELECT {distinct and distinct + ' '}{outputs}", joined, *filter(None, [above])]
+        return writing.before("\n".join(lines))
+
+    def true_rows(self, levels: list[Level]) -> str:
+        """For the number of each level, from 1, how many rows it has."""
+        writing = Writing(self)
+        counts = [f"SELECT {number}, COUNT(*) {writing.joined(level.shape)}" for number, level in enumerate(levels, 1)]
+        return writing.before("\nUNION ALL ".join(counts))
+
+    def plainly(self, shape: Shape) -> str:
+        """The entries of a shape with their conditions over the tables themselves, in an order that the engine chooses."""
+        numbers = sorted(entries_of(shape))
+        entries = [self.query.entries[number] for number in numbers]
+        conditions = [text for entry in entries for text in own_conditions(entry)]
+        conditions += [bracketed(str(text)) for text in self.query.complete(frozenset(numbers)) + self.query.constants]
+        return f"SELECT 1 FROM {', '.join(f'{entry.table} AS {entry.alias}' for entry in entries)}{where(conditions)}"
+
+
+class Writing:
+    """One statement while it is written. Where the engine keeps no trees, the right side of a join of several entries is
+    a part of its own, and `within` has the entries whose columns are those of a part."""
+
+    def __init__(self, writer: Writer) -> None:
+        self.query, self.engine, self.columns = writer.query, writer.engine, writer.columns
+        self.prefix, self.rows = writer.prefix, writer.parts.rows
+        self.texts = list(writer.parts.texts)
+        self.within: dict[int, str] = {}
+
+    def before(self, select: str) -> str:
+        """The statement with its parts before it."""
+        return Parts(self.texts).before(select)
+
+    def text(self, text: Text) -> str:
+        return text.naming(self._elsewhere)
+
+    def output(self, text: Text) -> str:
+        """An output; a column alone keeps its name."""
+        alone = len(text.parts) == 1 and not isinstance(text.parts[0], str) and self._elsewhere(text.parts[0].named)
+        return f"{self.text(text)} AS {self.engine.quote(text.parts[0].named.column.name)}" if alone else self.text(text)
+
+    def _elsewhere(self, named: Named) -> str | None:
+        """The column's name where it is one of a part with several entries."""
+        part = self.within.get(named.entry)
+        return f"{part}.{self._name_within(named)}" if part else None
+
+    def _name_within(self, named: Named) -> str:
+        return self.engine.quote(f"{named.entry}.{named.column.name}")
+
+    def joined(self, shape: Shape) -> str:
+        """FROM with the joins of this shape, and WHERE with what is left."""
+        self.within = {}
+        joins = self._from(shape)
+        return f"FROM {joins}{where(self._alone(shape) + list(map(self._condition, self.query.constants)))}"
+
+    def _condition(self, text: Text) -> str:
+        return bracketed(self.text(text))
+
+    def _alone(self, shape: Shape) -> list[str]:
+        """The own conditions of entries that are no parts yet, neither alone nor with others."""
+        numbers = [number for number in entries_of(shape) if number not in self.rows and number not in self.within]
+        return [text for number in numbers for text in own_conditions(self.query.entries[number])]
+
+    def _from(self, shape: Shape) -> str:
+        if isinstance(shape, int):
+            entry = self.query.entries[shape]
+            return f"{self.rows.get(shape, entry.table)} AS {entry.alias}"
+        left, right = shape
+        sides = frozenset(entries_of(left)), frozenset(entries_of(right))
+        joins = self._from(left), self._side(right)
+        conditions = " AND ".join(map(self._condition, self.query.complete(sides[0] | sides[1], sides)))
+        if conditions:
+            return f"{joins[0]}\n  {self.engine.join_word} {joins[1]} ON {conditions}"
+        return f"{joins[0]}\n  CROSS JOIN {joins[1]}"
+
+    def _side(self, shape: Shape) -> str:
+        """The right side of a join."""
+        if isinstance(shape, int):
+            return self._from(shape)
+        if self.engine.keeps_trees:
+            return f"({self._from(shape)})"
+        return self._part(shape)
+
+    def _part(self, shape: Shape) -> str:
+        """Makes the joins of this shape a part. Answers its name."""
+        outside, self.within = self.within, {}
+        joins, alone = self._from(shape), self._alone(shape)
+        needed = [Named(number, column) for number in entries_of(shape) for column in self.columns[number]]
+        outputs = ", ".join(f"{self._source(named)} AS {self._name_within(named)}" for named in needed) or "1 AS one"
+        name = f"{self.prefix}{len(self.texts) + 1}"
+        self.texts.append(f"{name} AS MATERIALIZED (SELECT {outputs} FROM {joins}{where(alone)})")
+        self.within = {**outside, **dict.fromkeys(entries_of(shape), name)}
+        return name
+
+    def _source(self, named: Named) -> str:
+        alias = self.query.entries[named.entry].alias
+        return self._elsewhere(named) or f"{alias}.{self.engine.quote(named.column.name)}"

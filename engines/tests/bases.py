@@ -1,0 +1,137 @@
+"""Databases of the tests, one on each engine, with a connection that writes and asks plainly."""
+
+from __future__ import annotations
+
+import csv
+import os
+import sqlite3
+import tempfile
+import unittest
+from collections import Counter
+from pathlib import Path
+
+from safebound_sql.command import opened
+from safebound_sql.levels import MOST_BUDGET
+from safebound_sql.planner import Planner
+
+ROOT = Path(__file__).resolve().parents[2]
+POSTGRES = os.environ.get("SAFEBOUND_SQL_POSTGRES")
+
+
+class SqliteBase:
+    """A file in a temporary folder. It keeps a log for writers beside readers, so that a snapshot can be told from none."""
+
+    engine = "sqlite"
+
+    def __init__(self) -> None:
+        self.folder = tempfile.TemporaryDirectory()
+        self.file = os.path.join(self.folder.name, "test.db")
+        self.url = f"sqlite:{self.file}"
+        self.connection = sqlite3.connect(self.file, isolation_level=None)
+        self.connection.execute("PRAGMA journal_mode = wal")
+
+    def script(self, text: str) -> None:
+        self.connection.executescript(text)
+
+    def fill(self, table: str, rows: list[tuple]) -> None:
+        if rows:
+            self.connection.execute("BEGIN")
+            self.connection.executemany(f"INSERT INTO {table} VALUES ({', '.join('?' * len(rows[0]))})", rows)
+            self.connection.execute("COMMIT")
+
+    def rows(self, sql: str) -> list[tuple]:
+        return self.connection.execute(sql).fetchall()
+
+    def close(self) -> None:
+        self.connection.close()
+        self.folder.cleanup()
+
+
+class PostgresBase:
+    """The server's database, emptied."""
+
+    engine = "postgres"
+
+    def __init__(self) -> None:
+        import psycopg
+
+        self.url = POSTGRES
+        self.connection = psycopg.connect(POSTGRES, autocommit=True)
+        self.script("DROP SCHEMA public CASCADE; CREATE SCHEMA public")
+
+    def script(self, text: str) -> None:
+        self.connection.execute(text)
+
+    def fill(self, table: str, rows: list[tuple]) -> None:
+        with self.connection.cursor() as cursor, cursor.copy(f"COPY {table} FROM STDIN") as into:
+            for row in rows:
+                into.write_row(row)
+
+    def rows(self, sql: str) -> list[tuple]:
+        return self.connection.execute(sql).fetchall()
+
+    def close(self) -> None:
+        self.connection.close()
+
+
+class OnEachEngine(unittest.TestCase):
+    """Tests that run on SQLite, and on PostgreSQL by a class below them. `schema` and `fill` make the tables."""
+
+    base_class: type = SqliteBase
+    schema = ""
+
+    @classmethod
+    def setUpClass(cls) -> None:
+        cls.base = cls.base_class()
+        cls.addClassCleanup(cls.base.close)
+        if cls.schema:
+            cls.base.script(cls.schema)
+        cls.fill()
+
+    @classmethod
+    def fill(cls) -> None:
+        """Puts rows into the tables."""
+
+    def opened(self, text: str, reduce: bool = True) -> Planner:
+        """A planner over the query."""
+        engine = opened(self.base.url, None)
+        self.addCleanup(engine.close)
+        return Planner(engine, text, reduce)
+
+    def planned(self, text: str, reduce: bool = True, accuracy: int = 1, tree: bool = False, budget: int = MOST_BUDGET):
+        planner = self.opened(text, reduce)
+        return planner, planner.plan(accuracy, budget, tree)
+
+    def same_rows(self, planner: Planner, plan, text: str) -> None:
+        """The rows of the planned SQL are those of the query itself, each as often."""
+        planner.engine.keep_order()
+        self.assertEqual(counted(planner.engine.rows(planner.sql(plan))), counted(self.base.rows(text)), text)
+
+    def never_under(self, planner: Planner, plan, text: str) -> list[int]:
+        """No level has more rows than its bound. Answers the rows of the levels."""
+        true = planner.true_rows(plan)
+        for level, rows in zip(plan.levels, true, strict=True):
+            self.assertLessEqual(rows, level.bound, f"{level.shape} of {text}\n{planner.sql(plan)}")
+        return true
+
+
+def counted(rows: list[tuple]) -> Counter:
+    return Counter(map(repr, rows))
+
+
+def on_postgres(test: type[OnEachEngine]) -> type[OnEachEngine]:
+    """The same tests on PostgreSQL, passed over where there is none."""
+    return unittest.skipUnless(POSTGRES, "no PostgreSQL")(
+        type(test.__name__ + "OnPostgres", (test,), {"base_class": PostgresBase, "__module__": test.__module__})
+    )
+
+
+def example(name: str) -> tuple[str, str, dict[str, list[tuple]]]:
+    """The schema, the query and the tables of an example of this repository."""
+    folder = ROOT / "examples" / name
+    tables = {}
+    for file in sorted(folder.glob("*.csv")):
+        with open(file, newline="", encoding="utf-8") as lines:
+            header, *records = csv.reader(lines)
+        tables[f"{file.stem} ({', '.join(header)})"] = [tuple(record) for record in records]
+    return (folder / "schema.sql").read_text(), (folder / "query.sql").read_text(), tables

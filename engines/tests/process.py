@@ -1,0 +1,17 @@
+"""safebound-sql as a process of its own."""
+
+from __future__ import annotations
+
+import subprocess
+
+from bases import ROOT
+
+PROGRAM = str(ROOT / "engines" / "safebound-sql")
+
+
+class Process:
+    """For tests that have a `base`: a command over its database, and a query on standard input."""
+
+    def tried(self, command: str, *words: str, text: str = "", db: str | None = None) -> subprocess.CompletedProcess:
+        line = [PROGRAM, command, "--db", self.base.url if db is None else db, *words, "-"]
+        return subprocess.run(line, input=text, text=True, capture_output=True, timeout=120)

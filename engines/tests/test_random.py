@@ -1,0 +1,56 @@
+"""Random queries on both engines: no level is above its bound, and the rows of the planned SQL are those of the query."""
+
+from __future__ import annotations
+
+import os
+import unittest
+
+from bases import OnEachEngine, on_postgres
+from random_queries import TABLES, Randomly
+from safebound_sql.levels import entries_of
+
+QUERIES = int(os.environ.get("SAFEBOUND_SQL_QUERIES", "20"))
+SEED = int(os.environ.get("SAFEBOUND_SQL_SEED", "1"))
+QUERIES_OF_A_DATABASE = 10
+
+
+class RandomQueries(OnEachEngine):
+    def test_random_queries(self) -> None:
+        done = joined = 0
+        for number in range(SEED, SEED + QUERIES):
+            randomly = Randomly(number, self.base.engine)
+            if (number - SEED) % QUERIES_OF_A_DATABASE == 0:
+                self.doCleanups()
+                self.base.script(randomly.schema())
+                for table in range(TABLES):
+                    self.base.fill(f"t{table}", randomly.rows())
+            found = randomly.query()
+            with self.subTest(number=number, query=found.text):
+                joined += self.check(randomly, found)
+                done += 1
+        self.assertEqual(done, QUERIES)
+        self.assertGreater(joined, QUERIES // 4)
+
+    def check(self, randomly: Randomly, found) -> bool:
+        """Checks one query. Answers whether bounds had an equality to go by."""
+        choose = randomly.random.choice
+        reduce, tree = choose((True, True, False)), choose((False, False, True))
+        planner, plan = self.planned(found.text, reduce, choose((1, 1, 8, 64)), tree)
+        true = self.never_under(planner, plan, found.text)
+        self.same_rows(planner, plan, found.text)
+        names = {name for name, _ in found.entries}
+        self.assertEqual(true[-1], self.base.rows(found.count_of(names))[0][0])
+        for level, rows in zip(plan.levels, true):
+            some = {planner.query.entries[entry].name for entry in entries_of(level.shape)}
+            plain = self.base.rows(found.count_of(some))[0][0]
+            self.assertLessEqual(rows, plain)
+            if not reduce:
+                self.assertEqual(rows, plain)
+        planner.engine.close()
+        return bool(planner.query.equalities)
+
+
+RandomQueriesOnPostgres = on_postgres(RandomQueries)
+
+if __name__ == "__main__":
+    unittest.main()
