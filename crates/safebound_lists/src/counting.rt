@@ -1,17 +1,48 @@
 //! The degree sequence of a column.
-ghost use Rattle.std.specs.Prelude.{◌≡◌, ◌≤◌, length, IfErr, IfOk, OnErr, OnOk};
+ghost use Rattle.std.specs.Prelude.{◌≡◌, ◌+◌, ◌<◌, ◌≤◌, length, slice_index, IfErr, IfOk, OnErr, OnOk};
+ghost use Rattle.std.specs.List.{All, AllWithin};
 ghost use Rattle.limits.specs.Profile.{greatest_rows};
 ghost use Rattle.degree_sequences.specs.Degrees.{degree_list};
+ghost use Rattle.degree_sequences.specs.Falling.{IsFalling};
 ghost use Rattle.safebound_lists.specs.Causes.{IsDegreesCause};
 ghost use Rattle.safebound_lists.specs.Written.{IsWritten};
 
 use crate::refusal::Refusal;
 use crate::runs::Run;
 use crate::written::write_runs;
+use base_io::NoMemory;
 use degree_lists::falling;
 use limits::GREATEST_ROWS;
 use piece_math::Pieces;
 use std::alloc::Global;
+
+// How many elements from a place on are equal to the one there.
+fn run_length(list: &[u64], start: usize) -> usize
+    requires falls { IsFalling list.now }
+    requires start { start < length list.now }
+    ensures some { 0 < result }
+    ensures within { start + result ≤ length list.now }
+    ensures equal { AllWithin (λ x. x ≡ slice_index list.now start) list.now start (start + result) }
+{
+    let first = list[start];
+    list[start..].partition_point(|next| *next == first)
+}
+
+// A falling list as pieces, a run at a time, since a long list of degrees has few runs.
+fn pieces_of_falling(alloc: Global, list: &[u64]) -> Result<Pieces, NoMemory>
+    requires falls { IsFalling list.now }
+    requires positive { All (λ x. 0 < x) list.now }
+    ensures { IfOk result (λ pieces. pieces ≡ list.now) }
+{
+    let mut pieces = Pieces::empty(alloc);
+    let mut start = 0;
+    'runs: while start < list.len() {
+        let count = run_length(list, start);
+        pieces.push_run(u128::from(list[start]), count as u64)?;
+        start += count;
+    }
+    Ok(pieces)
+}
 
 /// How often each key stands in the column, as runs whose degrees fall.
 pub fn degrees(alloc: Global, keys: &[u64], into: &mut [Run]) -> Result<u64, Refusal>
@@ -26,6 +57,6 @@ pub fn degrees(alloc: Global, keys: &[u64], into: &mut [Run]) -> Result<u64, Ref
         });
     }
     let degrees = falling(alloc, keys)?;
-    let list = Pieces::from_list(alloc, degrees.as_slice())?;
+    let list = pieces_of_falling(alloc, degrees.as_slice())?;
     write_runs(&list, into)
 }
