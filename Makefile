@@ -1,21 +1,25 @@
 PROGRAM := crates/safebound_cli/out/safebound_cli
+LIBRARY := library/out
 
-# Where `make install` puts the program, the command, its man page and its completion.
+# Where `make install` lays what was built, and `make uninstall` takes it away.
 PREFIX ?= /usr/local
-LAID := $(DESTDIR)$(PREFIX)
+
+# Where `make deb` leaves the package.
+PACKAGES := out
 
 # What `make run` runs: a folder of yours (DATA) or one of examples/, and the command line.
 EXAMPLE := trips
 DATA := examples/$(EXAMPLE)
 WORDS := run schema.sql query.sql
 
-.PHONY: help run build install library engines test edits bench memory limits clean
+.PHONY: help run build install uninstall deb library engines test edits bench memory limits clean
 
 ## make run       runs a query over examples/trips, or over a folder of yours: make run DATA=FOLDER
 ##                (2 seconds with the proved program; a minute without it, and then nothing is proved)
 ## make build     proves and builds the program (long the first time; it says how long is left)
-## make install   puts program, command, man page and completion below PREFIX, /usr/local (2 seconds)
-## make library   proves and builds the library for C and Python (docs/EMBEDDING.md; under ten minutes the first time)
+## make library   proves and builds the library for C, Python and Rust (docs/EMBEDDING.md; under ten minutes the first time)
+## make install   lays what was built, program and library, below PREFIX, /usr/local (2 seconds); make uninstall takes it away
+## make deb       makes a Debian package of both in out/ (2 seconds, once they are built)
 ## make engines   tests safebound-sql on SQLite and on a PostgreSQL of its own, over the library (docs/ENGINES.md; minutes)
 ## make test      the gate: every proof, the gate's own edits, every test (about 40 minutes from nothing; it says how far it is)
 ## make edits     every wrong body that a contract must refuse (two hours); make edits CRATES="plans set_bounds" some of them
@@ -37,21 +41,18 @@ build:
 	@tools/build
 
 install:
-	@test -f $(PROGRAM) || { echo "no program $(PROGRAM): make build"; exit 1; }
-	@install -d $(LAID)/bin $(LAID)/lib/safebound/safebound_lib/explain $(LAID)/share/safebound/trips $(LAID)/share/man/man1 \
-	    $(LAID)/share/bash-completion/completions $(LAID)/share/zsh/site-functions
-	@install -m 755 $(PROGRAM) $(LAID)/bin/safebound_cli
-	@install -m 755 bin/safebound $(LAID)/bin/safebound
-	@install -m 644 bin/safebound_lib/*.py $(LAID)/lib/safebound/safebound_lib
-	@install -m 644 bin/safebound_lib/explain/*.py $(LAID)/lib/safebound/safebound_lib/explain
-	@install -m 644 docs/ERRORS.md $(LAID)/share/safebound
-	@install -m 644 examples/trips/*.sql examples/trips/*.csv $(LAID)/share/safebound/trips
-	@bin/safebound help man > $(LAID)/share/man/man1/safebound.1
-	@bin/safebound completion bash > $(LAID)/share/bash-completion/completions/safebound
-	@bin/safebound completion zsh > $(LAID)/share/zsh/site-functions/_safebound
-	@echo "$(LAID)/bin/safebound"
+	@PROGRAM="$(PROGRAM)" LIBRARY="$(LIBRARY)" tools/install "$(PREFIX)" "$(DESTDIR)"
 
-# The library for C and Python, proved: library/out has it, docs/EMBEDDING.md says how it is used.
+uninstall:
+	@tools/install --remove "$(PREFIX)" "$(DESTDIR)"
+
+# What isn't built yet is built first.
+deb:
+	@test -f "$(PROGRAM)" || $(MAKE) build
+	@test -f "$(LIBRARY)/libsafebound.so" || $(MAKE) library
+	@PROGRAM="$(PROGRAM)" LIBRARY="$(LIBRARY)" tools/deb "$(PACKAGES)"
+
+# The library for C, Python and Rust, proved: library/out has it, docs/EMBEDDING.md says how it is used.
 library:
 	@echo "proving and building the library (long the first time: it proves each crate that it is made of)"
 	@cd crates/safebound_c && { rt lib > build.log 2>&1 || { cat build.log; exit 1; }; }
@@ -106,4 +107,4 @@ engines: library
 	engines/test --all
 
 clean:
-	rm -rf crates/*/out library/out
+	rm -rf crates/*/out library/out rust/target out

@@ -72,6 +72,7 @@ def _candidates() -> Iterator[Path]:
         return
     here = Path(__file__).resolve().parent
     yield here / NAME
+    yield from (folder / NAME for folder in here.parents if folder.name == "lib")
     yield Path(sys.prefix) / "lib" / NAME
     for prefix in ("/usr/local", "/usr"):
         yield Path(prefix) / "lib" / NAME
@@ -82,8 +83,8 @@ def path() -> Path:
     """The shared object that is used.
 
     It is looked for in this order: the file that the variable SAFEBOUND_LIBRARY names, and then no other; beside this
-    package; in lib/ of Python's prefix, of /usr/local and of /usr; and where `make library` leaves it, in a clone of the
-    repository.
+    package; in the folder lib that the package lies below, where `make install` lays it; in lib/ of Python's prefix, of
+    /usr/local and of /usr; and where `make library` leaves it, in a clone of the repository.
 
     Raises:
         LibraryNotFound: none is there.

@@ -1,0 +1,48 @@
+//! Finds the library: in the folder that SAFEBOUND_LIBRARY_DIR names, and then no other; by pkg-config, where `make install`
+//! laid it; or in a clone of the repository, where `make library` leaves it. The archive is taken where it is there, so
+//! that the program needs no library when it runs; else the shared object.
+
+use std::env;
+use std::path::{Path, PathBuf};
+use std::process::Command;
+
+const NAMED: &str = "SAFEBOUND_LIBRARY_DIR";
+
+fn main() {
+    for name in [NAMED, "PKG_CONFIG", "PKG_CONFIG_PATH", "PKG_CONFIG_LIBDIR", "PKG_CONFIG_SYSROOT_DIR"] {
+        println!("cargo:rerun-if-env-changed={name}");
+    }
+    let folder = folder();
+    let (archive, shared) = (folder.join("libsafebound.a"), folder.join("libsafebound.so"));
+    let (kind, file) = if archive.is_file() { ("static", archive) } else { ("dylib", shared) };
+    if !file.is_file() {
+        panic!("neither libsafebound.a nor libsafebound.so is in {}", folder.display());
+    }
+    println!("cargo:rerun-if-changed={}", file.display());
+    println!("cargo:rustc-link-search=native={}", folder.display());
+    println!("cargo:rustc-link-lib={kind}=safebound");
+}
+
+fn folder() -> PathBuf {
+    env::var_os(NAMED).map(PathBuf::from).or_else(installed).or_else(in_clone).unwrap_or_else(|| {
+        panic!("no library: neither pkg-config nor library/out of this repository has it, and {NAMED} names no folder")
+    })
+}
+
+/// What pkg-config says of this version. Another version's statuses may mean something else.
+fn installed() -> Option<PathBuf> {
+    let program = env::var_os("PKG_CONFIG").unwrap_or_else(|| "pkg-config".into());
+    let package = format!("safebound = {}", env!("CARGO_PKG_VERSION"));
+    let said = Command::new(program)
+        .args(["--libs-only-L", &package])
+        .env("PKG_CONFIG_ALLOW_SYSTEM_LIBS", "1")
+        .output()
+        .ok()?;
+    let folder = PathBuf::from(String::from_utf8(said.stdout).ok()?.trim().strip_prefix("-L")?);
+    said.status.success().then_some(folder)
+}
+
+fn in_clone() -> Option<PathBuf> {
+    let folder = Path::new(env!("CARGO_MANIFEST_DIR")).join("../../library/out").canonicalize().ok()?;
+    folder.join("libsafebound.a").is_file().then_some(folder)
+}

@@ -1,0 +1,197 @@
+//! The declarations of SafeBound's header. What a call does, its ranges and its statuses stand there, in safebound.h; the
+//! crate `safebound` has the same calls without `unsafe`.
+//!
+//! # Safety
+//!
+//! Of each call: a pointer is aligned and not null, also where its length is 0, and lies at as many elements as its length
+//! or its room says. What is written overlaps nothing else that the call gets, and no other thread changes what it reads.
+
+#![no_std]
+#![allow(non_camel_case_types)]
+
+use core::ffi::{c_char, c_void};
+
+/// The most entries of a query.
+pub const SAFEBOUND_MOST_ENTRIES: usize = 12;
+/// The most equalities of a query.
+pub const SAFEBOUND_MOST_EQUALITIES: usize = 256;
+/// The greatest accuracy.
+pub const SAFEBOUND_MOST_ACCURACY: u64 = 64;
+/// The most rows of an entry, keys of a column, and rows of a list.
+pub const SAFEBOUND_MOST_ROWS: u64 = 1 << 48;
+/// The greatest budget, in rows.
+pub const SAFEBOUND_MOST_BUDGET: u64 = 1 << 59;
+/// A bound that stands for itself and for all that 64 bits don't tell: no bound is known.
+pub const SAFEBOUND_NO_BOUND: u64 = u64::MAX;
+
+/// What a call answers; the number behind `detail` goes with it.
+pub type safebound_status = u32;
+
+macro_rules! statuses {
+    ($($name:ident = $number:literal, $meaning:literal;)*) => {
+        $(#[doc = $meaning] pub const $name: safebound_status = $number;)*
+        /// Each status by name, for tests beside the header.
+        pub const STATUSES: &[(&str, safebound_status)] = &[$((stringify!($name), $number)),*];
+    };
+}
+
+statuses! {
+    SAFEBOUND_OK = 0, "`detail` is how many elements were written.";
+    SAFEBOUND_ROOM = 1, "The room is too small; `detail` is what is needed.";
+    SAFEBOUND_NO_MEMORY = 2, "Memory was wanting.";
+    SAFEBOUND_BUDGET = 3, "The best plan passes the budget; `detail` is the least that would do.";
+    SAFEBOUND_PAST_BITS = 4, "Each plan has a part without a bound.";
+    SAFEBOUND_BAD_KEYS = 16, "`detail` is the number of keys.";
+    SAFEBOUND_BAD_ACCURACY = 17, "`detail` is the accuracy.";
+    SAFEBOUND_BAD_RUN = 18, "`detail` is an element of `runs`.";
+    SAFEBOUND_BAD_OTHER_RUN = 19, "`detail` is an element of `others`.";
+    SAFEBOUND_BAD_SUM = 20, "`detail` is the sum of two lists.";
+    SAFEBOUND_BAD_ENTRIES = 21, "`detail` is the number of entries.";
+    SAFEBOUND_BAD_ROWS = 22, "`detail` is an element of `rows`.";
+    SAFEBOUND_BAD_EQUALITIES = 23, "`detail` is the number of equalities.";
+    SAFEBOUND_BAD_EQUALITY = 24, "`detail` is an element of `equalities`.";
+    SAFEBOUND_BAD_LIST = 25, "`detail` is an element of `lists`.";
+    SAFEBOUND_MISSING_LIST = 26, "`detail` is an element of `equalities`, of which a column has no list.";
+    SAFEBOUND_BAD_BOUNDS = 27, "`detail` is the number of bounds.";
+    SAFEBOUND_BAD_BUDGET = 28, "`detail` is the budget.";
+}
+
+/// So many keys stand in `degree` rows each.
+#[repr(C)]
+#[derive(Clone, Copy, Debug, Default, PartialEq, Eq, Hash)]
+pub struct safebound_run {
+    /// In how many rows each key stands.
+    pub degree: u64,
+    /// How many keys these are.
+    pub keys: u64,
+}
+
+/// An equality between columns of two different entries.
+#[repr(C)]
+#[derive(Clone, Copy, Debug, Default, PartialEq, Eq, Hash)]
+pub struct safebound_equality {
+    /// From 0.
+    pub left_entry: u32,
+    /// Any number.
+    pub left_column: u32,
+    /// From 0.
+    pub right_entry: u32,
+    /// Any number.
+    pub right_column: u32,
+}
+
+/// The list of an entry's column: so many elements of `runs` of the call, from the element `first` on.
+#[repr(C)]
+#[derive(Clone, Copy, Debug, Default, PartialEq, Eq, Hash)]
+pub struct safebound_list {
+    /// From 0.
+    pub entry: u32,
+    /// As in the equalities.
+    pub column: u32,
+    /// Its first element of `runs`.
+    pub first: u64,
+    /// At least 1.
+    pub length: u64,
+}
+
+/// One level of an order.
+#[repr(C)]
+#[derive(Clone, Copy, Debug, Default, PartialEq, Eq, Hash)]
+pub struct safebound_level {
+    /// The entry that is joined there.
+    pub entry: u64,
+    /// The bound of all entries up to it, in rows.
+    pub bound: u64,
+}
+
+/// A node of a join tree.
+#[repr(C)]
+#[derive(Clone, Copy, Debug, Default, PartialEq, Eq, Hash)]
+pub struct safebound_join {
+    /// A node that it joins.
+    pub left: u64,
+    /// The other one.
+    pub right: u64,
+    /// Its bound in rows.
+    pub bound: u64,
+}
+
+/// What a request for memory gives (safebound_memory.h): `at` counts where `given` is true.
+#[repr(C)]
+#[derive(Clone, Copy, Debug)]
+pub struct rattle_memory {
+    /// Whether there was memory.
+    pub given: bool,
+    /// Where it is.
+    pub at: *mut c_void,
+}
+
+extern "C" {
+    /// The degree sequence of a column.
+    pub fn safebound_degrees(
+        keys: *const u64,
+        keys_length: usize,
+        into: *mut safebound_run,
+        room: usize,
+        detail: *mut u64,
+    ) -> safebound_status;
+
+    /// Few runs that dominate a list.
+    pub fn safebound_compress(
+        runs: *const safebound_run,
+        runs_length: usize,
+        accuracy: u64,
+        into: *mut safebound_run,
+        room: usize,
+        detail: *mut u64,
+    ) -> safebound_status;
+
+    /// The rank-wise sum of two lists.
+    pub fn safebound_append(
+        runs: *const safebound_run,
+        runs_length: usize,
+        others: *const safebound_run,
+        others_length: usize,
+        into: *mut safebound_run,
+        room: usize,
+        detail: *mut u64,
+    ) -> safebound_status;
+
+    /// The bounds of all sets of entries, in rows.
+    pub fn safebound_bounds(
+        rows: *const u64,
+        entries: usize,
+        equalities: *const safebound_equality,
+        equalities_length: usize,
+        lists: *const safebound_list,
+        lists_length: usize,
+        runs: *const safebound_run,
+        runs_length: usize,
+        into: *mut u64,
+        room: usize,
+        detail: *mut u64,
+    ) -> safebound_status;
+
+    /// The best left-deep order over bounds of all sets.
+    pub fn safebound_order(
+        bounds: *const u64,
+        bounds_length: usize,
+        budget: u64,
+        into: *mut safebound_level,
+        room: usize,
+        detail: *mut u64,
+    ) -> safebound_status;
+
+    /// The best join tree of any shape over bounds of all sets.
+    pub fn safebound_tree(
+        bounds: *const u64,
+        bounds_length: usize,
+        budget: u64,
+        into: *mut safebound_join,
+        room: usize,
+        detail: *mut u64,
+    ) -> safebound_status;
+
+    /// The library's version as text, with a 0 at its end.
+    pub fn safebound_version(into: *mut c_char, room: usize, detail: *mut u64) -> safebound_status;
+}

@@ -1,0 +1,144 @@
+//! Bounds of sets of entries.
+
+use crate::calls;
+use crate::errors::Error;
+use crate::plans::{Join, Order, Tree};
+use std::fmt;
+
+/// At most so many rows, or no bound: what 64 bits don't tell. No bound is the greatest, so that `bound <= Bound::Rows(n)` is
+/// true only where at most n rows are promised.
+#[derive(Clone, Copy, Debug, PartialEq, Eq, Hash, PartialOrd, Ord)]
+pub enum Bound {
+    /// At most so many rows.
+    Rows(u64),
+    /// Nothing is known.
+    NoBound,
+}
+
+impl Bound {
+    /// The number of rows, where there is one.
+    pub fn rows(self) -> Option<u64> {
+        match self {
+            Bound::Rows(rows) => Some(rows),
+            Bound::NoBound => None,
+        }
+    }
+
+    fn of_number(number: u64) -> Bound {
+        if number == safebound_sys::SAFEBOUND_NO_BOUND {
+            return Bound::NoBound;
+        }
+        Bound::Rows(number)
+    }
+}
+
+impl fmt::Display for Bound {
+    fn fmt(&self, f: &mut fmt::Formatter<'_>) -> fmt::Result {
+        match self {
+            Bound::Rows(rows) => write!(f, "{rows}"),
+            Bound::NoBound => write!(f, "no bound"),
+        }
+    }
+}
+
+/// The bounds of all sets of a query's entries: at most so many choices of one row of each entry of a set satisfy all
+/// equalities between them.
+#[derive(Clone, Debug, PartialEq, Eq)]
+pub struct Bounds {
+    entries: Vec<String>,
+    numbers: Vec<u64>,
+}
+
+impl Bounds {
+    pub(crate) fn new(entries: Vec<String>, numbers: Vec<u64>) -> Bounds {
+        Bounds { entries, numbers }
+    }
+
+    /// The names of the entries, in the query's order.
+    pub fn entries(&self) -> &[String] {
+        &self.entries
+    }
+
+    /// The bound of a set of entries by name; a name may come again.
+    ///
+    /// ```
+    /// # let mut query = safebound::Query::new();
+    /// # query.entry("film", 3).entry("person", 4);
+    /// let bound = query.bounds()?.of(["film", "person"])?;
+    /// assert_eq!(bound.rows(), Some(12));
+    /// # Ok::<(), safebound::Error>(())
+    /// ```
+    ///
+    /// # Errors
+    ///
+    /// [`Error::UnknownEntry`].
+    pub fn of<'a>(&self, names: impl IntoIterator<Item = &'a str>) -> Result<Bound, Error> {
+        let mut set = 0;
+        for name in names {
+            let at = self.entries.iter().position(|entry| entry == name);
+            set |= 1 << at.ok_or_else(|| Error::UnknownEntry { entry: name.into() })?;
+        }
+        Ok(self.of_set(set))
+    }
+
+    /// The bound of the set whose bit i is 1 where entry i is in it. The empty set has bound 1.
+    ///
+    /// A search for a join order asks this of each set that it looks at. It is no call of the library.
+    ///
+    /// ```
+    /// # use safebound::{Bound, Query};
+    /// # let mut query = Query::new();
+    /// # query.entry("film", 3).entry("person", 4);
+    /// # let (left, right, guess) = (1, 2, 50);
+    /// let bounds = query.bounds()?; // once for a query
+    /// let rows = bounds.of_set(left | right).min(Bound::Rows(guess)); // for each join that is tried
+    /// # assert_eq!(rows, Bound::Rows(12));
+    /// # Ok::<(), safebound::Error>(())
+    /// ```
+    ///
+    /// # Panics
+    ///
+    /// Where a bit is of no entry.
+    pub fn of_set(&self, set: usize) -> Bound {
+        Bound::of_number(self.numbers[set])
+    }
+
+    /// All sets with their bounds, from the empty one on.
+    pub fn sets(&self) -> impl ExactSizeIterator<Item = (usize, Bound)> + '_ {
+        self.numbers.iter().enumerate().map(|(set, &number)| (set, Bound::of_number(number)))
+    }
+
+    /// The best left-deep order: the least greatest level, then the least sum of levels, then the first by `entries`.
+    ///
+    /// `budget` is the most rows that the bound of a level may say, 0 to 2^59.
+    ///
+    /// # Errors
+    ///
+    /// [`Error::BudgetExceeded`] with the least budget that would do; [`Error::PastBits`] where each order has a level without
+    /// a bound; [`Error::BadBudget`], [`Error::OutOfMemory`].
+    pub fn best_order(&self, budget: u64) -> Result<Order, Error> {
+        let levels = calls::order(&self.numbers, budget).map_err(Error::from_refusal)?;
+        Ok(Order {
+            entries: levels.iter().map(|level| self.entries[level.entry as usize].clone()).collect(),
+            levels: levels.iter().map(|level| level.bound).collect(),
+        })
+    }
+
+    /// The best join tree of any shape: the least greatest bound of its joins, then their least sum. How ties end stands in
+    /// safebound.h.
+    ///
+    /// `budget` is the most rows that the bound of a join may say, 0 to 2^59.
+    ///
+    /// # Errors
+    ///
+    /// As [`best_order`](Bounds::best_order).
+    pub fn best_tree(&self, budget: u64) -> Result<Tree, Error> {
+        let joins = calls::tree(&self.numbers, budget).map_err(Error::from_refusal)?;
+        let join = |node: &safebound_sys::safebound_join| Join {
+            left: node.left as usize,
+            right: node.right as usize,
+            bound: node.bound,
+        };
+        Ok(Tree { entries: self.entries.clone(), joins: joins.iter().map(join).collect() })
+    }
+}

@@ -1,0 +1,133 @@
+//! The library's calls over slices. All `unsafe` of this crate is here.
+#![allow(unsafe_code)]
+
+use crate::errors::Error;
+use crate::lists::Run;
+use safebound_sys as sys;
+use std::mem::{align_of, size_of};
+
+/// What a call answered in place of elements.
+pub(crate) struct Refusal {
+    pub(crate) status: sys::safebound_status,
+    pub(crate) detail: u64,
+}
+
+/// A type of which the library writes elements: plain numbers, so that any bytes are right.
+pub(crate) trait Element: Copy {}
+impl Element for u8 {}
+impl Element for u64 {}
+impl Element for Run {}
+impl Element for sys::safebound_level {}
+impl Element for sys::safebound_join {}
+
+/// The elements that a call writes, with room for so many, and for more where the library asks for more.
+///
+/// # Safety
+///
+/// The call takes the place, the room and the place of the detail, and hands them to a function of the library with the
+/// pointers and lengths of slices that live.
+unsafe fn answer<E: Element>(
+    mut room: usize,
+    call: impl Fn(*mut E, usize, *mut u64) -> sys::safebound_status,
+) -> Result<Vec<E>, Refusal> {
+    let no_memory = |_| Refusal { status: sys::SAFEBOUND_NO_MEMORY, detail: 0 };
+    loop {
+        let mut into = Vec::new();
+        into.try_reserve_exact(room).map_err(no_memory)?;
+        let mut detail = 0;
+        match call(into.as_mut_ptr(), room, &mut detail) {
+            sys::SAFEBOUND_OK => {
+                assert!(detail <= room as u64);
+                // SAFETY: so many elements were written, and there is room for them.
+                unsafe { into.set_len(detail as usize) };
+                return Ok(into);
+            }
+            sys::SAFEBOUND_ROOM if detail > room as u64 => room = usize::try_from(detail).unwrap_or(usize::MAX),
+            status => return Err(Refusal { status, detail }),
+        }
+    }
+}
+
+// SAFETY, of each call below: pointers and lengths are of slices, which are aligned, not null, and borrowed for the call. A
+// `Run` lies as a `safebound_run` does.
+const _: () = assert!(size_of::<Run>() == size_of::<sys::safebound_run>());
+const _: () = assert!(align_of::<Run>() == align_of::<sys::safebound_run>());
+
+pub(crate) fn degrees(keys: &[u64], room: usize) -> Result<Vec<Run>, Refusal> {
+    unsafe {
+        answer(room, |into: *mut Run, room, detail| {
+            sys::safebound_degrees(keys.as_ptr(), keys.len(), into.cast(), room, detail)
+        })
+    }
+}
+
+pub(crate) fn compress(runs: &[Run], accuracy: u64) -> Result<Vec<Run>, Refusal> {
+    unsafe {
+        answer(runs.len() + 1, |into: *mut Run, room, detail| {
+            sys::safebound_compress(runs.as_ptr().cast(), runs.len(), accuracy, into.cast(), room, detail)
+        })
+    }
+}
+
+pub(crate) fn append(runs: &[Run], others: &[Run]) -> Result<Vec<Run>, Refusal> {
+    let (one, other) = (runs.as_ptr().cast(), others.as_ptr().cast());
+    unsafe {
+        answer(runs.len() + others.len(), |into: *mut Run, room, detail| {
+            sys::safebound_append(one, runs.len(), other, others.len(), into.cast(), room, detail)
+        })
+    }
+}
+
+/// A query as the library takes it.
+#[derive(Default)]
+pub(crate) struct Numbers {
+    pub(crate) rows: Vec<u64>,
+    pub(crate) equalities: Vec<sys::safebound_equality>,
+    pub(crate) lists: Vec<sys::safebound_list>,
+    pub(crate) runs: Vec<Run>,
+}
+
+pub(crate) fn bounds(query: &Numbers) -> Result<Vec<u64>, Refusal> {
+    let Numbers { rows, equalities, lists, runs } = query;
+    let room = 1 << rows.len().min(sys::SAFEBOUND_MOST_ENTRIES);
+    unsafe {
+        answer(room, |into, room, detail| {
+            sys::safebound_bounds(
+                rows.as_ptr(),
+                rows.len(),
+                equalities.as_ptr(),
+                equalities.len(),
+                lists.as_ptr(),
+                lists.len(),
+                runs.as_ptr().cast(),
+                runs.len(),
+                into,
+                room,
+                detail,
+            )
+        })
+    }
+}
+
+pub(crate) fn order(bounds: &[u64], budget: u64) -> Result<Vec<sys::safebound_level>, Refusal> {
+    unsafe {
+        answer(sys::SAFEBOUND_MOST_ENTRIES, |into, room, detail| {
+            sys::safebound_order(bounds.as_ptr(), bounds.len(), budget, into, room, detail)
+        })
+    }
+}
+
+pub(crate) fn tree(bounds: &[u64], budget: u64) -> Result<Vec<sys::safebound_join>, Refusal> {
+    unsafe {
+        answer(sys::SAFEBOUND_MOST_ENTRIES, |into, room, detail| {
+            sys::safebound_tree(bounds.as_ptr(), bounds.len(), budget, into, room, detail)
+        })
+    }
+}
+
+/// The version of the library that is linked, as text, such as `0.1.0`.
+pub fn version() -> Result<String, Error> {
+    let text = unsafe { answer(64, |into: *mut u8, room, detail| sys::safebound_version(into.cast(), room, detail)) };
+    let bytes = text.map_err(Error::from_refusal)?;
+    Ok(bytes.iter().take_while(|&&byte| byte != 0).map(|&byte| char::from(byte)).collect())
+}

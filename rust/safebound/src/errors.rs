@@ -1,0 +1,185 @@
+//! What a call answers in place of a result: one case for each status of the library.
+
+use crate::calls::Refusal;
+use safebound_sys as sys;
+use std::fmt;
+
+/// A column of an entry, both by name: `("film", "id").into()`.
+#[derive(Clone, Debug, PartialEq, Eq, Hash, PartialOrd, Ord)]
+pub struct Column {
+    /// The entry's name.
+    pub entry: String,
+    /// A name that tells the columns of one entry apart.
+    pub name: String,
+}
+
+impl<E: Into<String>, N: Into<String>> From<(E, N)> for Column {
+    fn from((entry, name): (E, N)) -> Column {
+        Column { entry: entry.into(), name: name.into() }
+    }
+}
+
+impl fmt::Display for Column {
+    fn fmt(&self, f: &mut fmt::Formatter<'_>) -> fmt::Result {
+        write!(f, "{}.{}", self.entry, self.name)
+    }
+}
+
+/// Why there is no result. Whatever it is, nothing has changed.
+#[non_exhaustive]
+#[derive(Clone, Debug, PartialEq, Eq, Hash)]
+pub enum Error {
+    /// The best plan passes the budget.
+    BudgetExceeded {
+        /// The least budget that would do, in rows. It may be above 2^59, which no budget is.
+        least: u64,
+    },
+    /// Each plan has a part without a bound: one that 64 bits don't tell.
+    PastBits,
+    /// Memory was wanting in the library, or for what it answers. Where Rust's own collections want it, as for the numbers
+    /// of values or the names of a query, the program ends as usual.
+    OutOfMemory,
+
+    /// There are more than 2^48 keys.
+    BadKeys {
+        /// How many.
+        count: u64,
+    },
+    /// The accuracy isn't from 1 to 64.
+    BadAccuracy {
+        /// What it is.
+        accuracy: u64,
+    },
+    /// A run's degree or number of keys is 0, its degree is above the one before it, or the sum so far is above 2^48.
+    BadRun {
+        /// The run's number in its list, from 0.
+        place: usize,
+        /// Which list of a query it is; nothing outside of a query.
+        column: Option<Column>,
+    },
+    /// As [`BadRun`](Error::BadRun), in the second of two lists.
+    BadOtherRun {
+        /// The run's number in the second list, from 0.
+        place: usize,
+    },
+    /// Two lists together have more than 2^48 rows.
+    BadSum {
+        /// How many.
+        sum: u64,
+    },
+    /// A query has no entry, or more than twelve.
+    BadEntries {
+        /// How many.
+        count: usize,
+    },
+    /// Two entries of a query have one name.
+    RepeatedEntry {
+        /// That name.
+        entry: String,
+    },
+    /// A set names an entry that the query doesn't have.
+    UnknownEntry {
+        /// That name.
+        entry: String,
+    },
+    /// An entry's row bound is above 2^48.
+    BadRows {
+        /// The entry's name.
+        entry: String,
+    },
+    /// A query has more than 256 equalities.
+    BadEqualities {
+        /// How many.
+        count: usize,
+    },
+    /// An equality names an entry that isn't there, or one entry on both sides.
+    BadEquality {
+        /// The equality's number, from 0.
+        place: usize,
+    },
+    /// A list is of an entry that isn't there, has no runs, or is the second of its column.
+    BadList {
+        /// The list's column.
+        column: Column,
+    },
+    /// A column that an equality names has no list.
+    MissingList {
+        /// The equality's number, from 0.
+        place: usize,
+    },
+    /// The budget is above 2^59.
+    BadBudget {
+        /// What it is.
+        budget: u64,
+    },
+    /// The library answers what this crate doesn't know, so it is of another version.
+    OtherVersion {
+        /// The status that it answered.
+        status: u32,
+    },
+}
+
+impl Error {
+    /// What a refusal says, where its place needs no names.
+    pub(crate) fn from_refusal(Refusal { status, detail }: Refusal) -> Error {
+        let place = detail as usize;
+        match status {
+            sys::SAFEBOUND_BUDGET => Error::BudgetExceeded { least: detail },
+            sys::SAFEBOUND_PAST_BITS => Error::PastBits,
+            sys::SAFEBOUND_NO_MEMORY => Error::OutOfMemory,
+            sys::SAFEBOUND_BAD_KEYS => Error::BadKeys { count: detail },
+            sys::SAFEBOUND_BAD_ACCURACY => Error::BadAccuracy { accuracy: detail },
+            sys::SAFEBOUND_BAD_RUN => Error::BadRun { place, column: None },
+            sys::SAFEBOUND_BAD_OTHER_RUN => Error::BadOtherRun { place },
+            sys::SAFEBOUND_BAD_SUM => Error::BadSum { sum: detail },
+            sys::SAFEBOUND_BAD_ENTRIES => Error::BadEntries { count: place },
+            sys::SAFEBOUND_BAD_EQUALITIES => Error::BadEqualities { count: place },
+            sys::SAFEBOUND_BAD_EQUALITY => Error::BadEquality { place },
+            sys::SAFEBOUND_MISSING_LIST => Error::MissingList { place },
+            sys::SAFEBOUND_BAD_BUDGET => Error::BadBudget { budget: detail },
+            _ => Error::OtherVersion { status },
+        }
+    }
+}
+
+impl fmt::Display for Error {
+    fn fmt(&self, f: &mut fmt::Formatter<'_>) -> fmt::Result {
+        match self {
+            Error::BudgetExceeded { least } => {
+                write!(f, "the best plan has a part of at most {least} rows, which is the least budget that would do")
+            }
+            Error::PastBits => write!(f, "each plan has a part without a bound"),
+            Error::OutOfMemory => write!(f, "memory was wanting"),
+            Error::BadKeys { count } => write!(f, "{count} keys are more than 2^48"),
+            Error::BadAccuracy { accuracy } => write!(f, "an accuracy is from 1 to 64, not {accuracy}"),
+            Error::BadRun { place, column: None } => {
+                write!(f, "run {place} is of nothing, rises, or sums to more than 2^48")
+            }
+            Error::BadRun { place, column: Some(column) } => {
+                write!(f, "run {place} of {column} is of nothing, rises, or sums to more than 2^48")
+            }
+            Error::BadOtherRun { place } => {
+                write!(f, "run {place} of the second list is of nothing, rises, or sums to more than 2^48")
+            }
+            Error::BadSum { sum } => write!(f, "both lists together have {sum} rows, more than 2^48"),
+            Error::BadEntries { count } => write!(f, "a query has 1 to 12 entries, not {count}"),
+            Error::RepeatedEntry { entry } => write!(f, "entry {entry} comes twice"),
+            Error::UnknownEntry { entry } => write!(f, "there is no entry {entry}"),
+            Error::BadRows { entry } => write!(f, "the row bound of entry {entry} is above 2^48"),
+            Error::BadEqualities { count } => write!(f, "a query has at most 256 equalities, not {count}"),
+            Error::BadEquality { place } => {
+                write!(f, "equality {place} isn't of two different entries of the query")
+            }
+            Error::BadList { column } => {
+                write!(f, "the list of {column} is of an entry that isn't there, has no runs, or comes twice")
+            }
+            Error::MissingList { place } => write!(f, "a column of equality {place} has no list"),
+            Error::BadBudget { budget } => write!(f, "a budget is from 0 to 2^59, not {budget}"),
+            Error::OtherVersion { status } => {
+                write!(f, "the library answers {status}: it is of another version than this crate")
+            }
+        }
+    }
+}
+
+impl std::error::Error for Error {}

@@ -1,0 +1,111 @@
+//! Lists of a column: how often its values repeat, as runs.
+
+use crate::calls;
+use crate::errors::Error;
+use std::collections::HashMap;
+use std::hash::Hash;
+
+/// So many keys of a column, each of which stands in so many rows.
+///
+/// A list of runs says how often the values of a column repeat, the most frequent first: (5, 1), (2, 3) is one value in five
+/// rows and three values in two rows each. It is right where each number is at least 1, no degree is above the one before
+/// it, and all degrees sum to at most 2^48.
+#[repr(C)]
+#[derive(Clone, Copy, Debug, Default, PartialEq, Eq, Hash, PartialOrd, Ord)]
+pub struct Run {
+    /// In how many rows each key stands.
+    pub degree: u64,
+    /// How many keys these are.
+    pub keys: u64,
+}
+
+impl From<(u64, u64)> for Run {
+    /// A degree and a number of keys.
+    fn from((degree, keys): (u64, u64)) -> Run {
+        Run { degree, keys }
+    }
+}
+
+/// The degree sequence of a column: how often each of its values stands there.
+///
+/// `values` are the column's values, one for each row that has one, in any order. Rows without a value (NULL) are left out:
+/// of a column of `Option`s give `column.iter().flatten()`. Floats aren't `Eq`: give each its bits, and one zero and one NaN.
+///
+/// The runs have different degrees, which sum to the number of values.
+///
+/// ```
+/// use safebound::{degree_sequence, Run};
+///
+/// let country = [Some("NO"), None, Some("FR"), Some("NO")];
+/// let runs = degree_sequence(country.iter().flatten())?;
+/// assert_eq!(runs, [Run { degree: 2, keys: 1 }, Run { degree: 1, keys: 1 }]);
+/// # Ok::<(), safebound::Error>(())
+/// ```
+///
+/// # Errors
+///
+/// [`Error::BadKeys`] for more than 2^48 values, [`Error::OutOfMemory`].
+pub fn degree_sequence<V: Hash + Eq>(values: impl IntoIterator<Item = V>) -> Result<Vec<Run>, Error> {
+    let mut numbers = HashMap::new();
+    let mut keys: Vec<u64> = Vec::new();
+    for value in values {
+        let next = numbers.len() as u64;
+        keys.push(*numbers.entry(value).or_insert(next));
+    }
+    degree_sequence_of_keys(&keys)
+}
+
+/// The degree sequence of a column whose values are numbers already: any 64 bits are a key. It is read where it lies.
+///
+/// ```
+/// let runs = safebound::degree_sequence_of_keys(&[8, 8, 8, 8, 8, 2, 2, 2, 5])?;
+/// assert_eq!(runs, [(5, 1), (3, 1), (1, 1)].map(safebound::Run::from));
+/// # Ok::<(), safebound::Error>(())
+/// ```
+///
+/// # Errors
+///
+/// As [`degree_sequence`].
+pub fn degree_sequence_of_keys(keys: &[u64]) -> Result<Vec<Run>, Error> {
+    // n different degrees are of n (n + 1) / 2 keys at least.
+    let room = (2.0 * keys.len() as f64).sqrt() as usize;
+    calls::degrees(keys, room).map_err(Error::from_refusal)
+}
+
+/// Few runs that dominate a list, so that bounds over them stay true and are made fast.
+///
+/// The sum of the list is kept. At `accuracy` K, from 1 to 64, each degree is at most (K + 1) / K times what stood at its
+/// rank, and there are at most K times as many runs as the first degree has binary digits, and one more.
+///
+/// ```
+/// use safebound::{compress, Run};
+///
+/// let few = compress(&[(5, 1), (4, 1), (3, 1), (1, 1)].map(Run::from), 1)?;
+/// assert_eq!(few, [(5, 2), (3, 1)].map(Run::from));
+/// # Ok::<(), safebound::Error>(())
+/// ```
+///
+/// # Errors
+///
+/// [`Error::BadAccuracy`], [`Error::BadRun`], [`Error::OutOfMemory`].
+pub fn compress(runs: &[Run], accuracy: u64) -> Result<Vec<Run>, Error> {
+    calls::compress(runs, accuracy).map_err(Error::from_refusal)
+}
+
+/// The rank-wise sum of two lists: a list of a column's old rows and of rows that came later, whichever values repeat.
+///
+/// ```
+/// use safebound::{append, Run};
+///
+/// let both = append(&[(3, 1), (1, 2)].map(Run::from), &[(2, 2)].map(Run::from))?;
+/// assert_eq!(both, [(5, 1), (3, 1), (1, 1)].map(Run::from));
+/// # Ok::<(), safebound::Error>(())
+/// ```
+///
+/// # Errors
+///
+/// [`Error::BadRun`] for a run of the first list, [`Error::BadOtherRun`] for one of the second, [`Error::BadSum`] where both
+/// together have more than 2^48 rows, [`Error::OutOfMemory`].
+pub fn append(runs: &[Run], others: &[Run]) -> Result<Vec<Run>, Error> {
+    calls::append(runs, others).map_err(Error::from_refusal)
+}

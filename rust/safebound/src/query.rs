@@ -1,0 +1,183 @@
+//! Queries: what is known of their rows.
+
+use crate::bounds::Bounds;
+use crate::calls::{self, Numbers, Refusal};
+use crate::errors::{Column, Error};
+use crate::lists::Run;
+use crate::plans::{Order, Tree};
+use safebound_sys as sys;
+use std::collections::HashMap;
+
+/// The list of a column in which no row has a value. It says more than there is.
+const NO_VALUE: Run = Run { degree: 1, keys: 1 };
+
+/// The number of an entry that isn't there; the library refuses it in its turn.
+const NO_ENTRY: u32 = u32::MAX;
+
+/// A query of up to twelve entries, by what is known of their rows: the entries with their row bounds, the equalities, and a
+/// list for each column that an equality names.
+///
+/// Other conditions aren't said: a condition on one entry shows in its row bound and its lists, and what is left out makes
+/// no bound too low. Whatever isn't right is told by [`bounds`](Query::bounds).
+///
+/// ```
+/// use safebound::{Error, Query, Run};
+///
+/// let mut query = Query::new();
+/// query
+///     .entry("r", 6)
+///     .entry("s", 5)
+///     .equality(("r", "x"), ("s", "x"))
+///     .list(("r", "x"), &[(3, 2)].map(Run::from))
+///     .list(("s", "x"), &[(2, 2), (1, 1)].map(Run::from));
+/// assert_eq!(query.best_order(12)?.entries, ["s", "r"]);
+/// assert_eq!(query.best_tree(11), Err(Error::BudgetExceeded { least: 12 }));
+/// # Ok::<(), Error>(())
+/// ```
+#[derive(Clone, Debug, Default)]
+pub struct Query {
+    entries: Vec<(String, u64)>,
+    equalities: Vec<(Column, Column)>,
+    lists: Vec<(Column, Vec<Run>)>,
+}
+
+impl Query {
+    /// A query without entries.
+    pub fn new() -> Query {
+        Query::default()
+    }
+
+    /// One more entry, and how many rows it has at most: 0 to 2^48. A table that is joined with itself is two entries.
+    ///
+    /// The row bound is no estimate: each promise stands on it. What is always true is the number of rows of the table.
+    pub fn entry(&mut self, name: impl Into<String>, row_bound: u64) -> &mut Query {
+        self.entries.push((name.into(), row_bound));
+        self
+    }
+
+    /// One more equality, of columns of two different entries; at most 256.
+    pub fn equality(&mut self, left: impl Into<Column>, right: impl Into<Column>) -> &mut Query {
+        self.equalities.push((left.into(), right.into()));
+        self
+    }
+
+    /// The list of a column: runs that dominate its values, as [`degree_sequence`](crate::degree_sequence),
+    /// [`compress`](crate::compress) and [`append`](crate::append) give them.
+    ///
+    /// Where it sums to less than the entry's row bound, the other rows are taken for rows without a value; where it sums to
+    /// more, it is cut there, so that the list of a whole table serves for some of its rows. Of a column in which no row has
+    /// a value it is (1, 1); one without runs is taken for forgotten, unless the row bound is 0.
+    pub fn list(&mut self, column: impl Into<Column>, runs: &[Run]) -> &mut Query {
+        self.lists.push((column.into(), runs.to_vec()));
+        self
+    }
+
+    /// The bounds of all sets of entries.
+    ///
+    /// # Errors
+    ///
+    /// `BadEntries`, `RepeatedEntry`, `BadRows`, `BadEqualities`, `BadEquality`, `BadList`, `BadRun`, `MissingList`: a value
+    /// isn't right. [`Error::OutOfMemory`].
+    pub fn bounds(&self) -> Result<Bounds, Error> {
+        let names: Vec<String> = self.entries.iter().map(|(name, _)| name.clone()).collect();
+        for (at, name) in names.iter().enumerate() {
+            if names[..at].contains(name) {
+                return Err(Error::RepeatedEntry { entry: name.clone() });
+            }
+        }
+        let numbers = calls::bounds(&self.numbers()).map_err(|refusal| self.error(refusal))?;
+        Ok(Bounds::new(names, numbers))
+    }
+
+    /// The best left-deep order: [`Bounds::best_order`]. Who wants a tree too asks [`bounds`](Query::bounds) once.
+    ///
+    /// # Errors
+    ///
+    /// As `bounds` and [`Bounds::best_order`].
+    pub fn best_order(&self, budget: u64) -> Result<Order, Error> {
+        self.bounds()?.best_order(budget)
+    }
+
+    /// The best join tree of any shape: [`Bounds::best_tree`].
+    ///
+    /// # Errors
+    ///
+    /// As `bounds` and [`Bounds::best_tree`].
+    pub fn best_tree(&self, budget: u64) -> Result<Tree, Error> {
+        self.bounds()?.best_tree(budget)
+    }
+
+    /// The query as the library takes it.
+    fn numbers(&self) -> Numbers {
+        let mut names = Names { entries: &self.entries, columns: HashMap::new() };
+        let mut made = Numbers { rows: self.entries.iter().map(|(_, rows)| *rows).collect(), ..Numbers::default() };
+        for (left, right) in &self.equalities {
+            made.equalities.push(sys::safebound_equality {
+                left_entry: names.entry(left),
+                left_column: names.column(left),
+                right_entry: names.entry(right),
+                right_column: names.column(right),
+            });
+        }
+        for (column, runs) in &self.lists {
+            let own = self.told(column, runs);
+            made.lists.push(sys::safebound_list {
+                entry: names.entry(column),
+                column: names.column(column),
+                first: made.runs.len() as u64,
+                length: own.len() as u64,
+            });
+            made.runs.extend_from_slice(own);
+        }
+        made
+    }
+
+    /// The runs that the library is told for a list. An entry without rows has lists without runs, which aren't forgotten.
+    fn told<'a>(&self, column: &Column, runs: &'a [Run]) -> &'a [Run] {
+        let is_empty = |entry: &(String, u64)| entry.0 == column.entry && entry.1 == 0;
+        if runs.is_empty() && self.entries.iter().any(is_empty) {
+            return &[NO_VALUE];
+        }
+        runs
+    }
+
+    /// What a refusal says, with the names of this query.
+    fn error(&self, refusal: Refusal) -> Error {
+        let at = refusal.detail as usize;
+        match refusal.status {
+            sys::SAFEBOUND_BAD_ROWS => Error::BadRows { entry: self.entries[at].0.clone() },
+            sys::SAFEBOUND_BAD_LIST => Error::BadList { column: self.lists[at].0.clone() },
+            sys::SAFEBOUND_BAD_RUN => self.bad_run(at),
+            _ => Error::from_refusal(refusal),
+        }
+    }
+
+    /// The list in which a run lies, and its number there.
+    fn bad_run(&self, mut place: usize) -> Error {
+        for (column, runs) in &self.lists {
+            let length = self.told(column, runs).len();
+            if place < length {
+                return Error::BadRun { place, column: Some(column.clone()) };
+            }
+            place -= length;
+        }
+        Error::BadRun { place, column: None }
+    }
+}
+
+/// Numbers for names. Those of columns are of the whole query, so each entry's are different.
+struct Names<'a> {
+    entries: &'a [(String, u64)],
+    columns: HashMap<&'a Column, u32>,
+}
+
+impl<'a> Names<'a> {
+    fn entry(&self, column: &Column) -> u32 {
+        self.entries.iter().position(|(name, _)| *name == column.entry).map_or(NO_ENTRY, |at| at as u32)
+    }
+
+    fn column(&mut self, column: &'a Column) -> u32 {
+        let next = self.columns.len() as u32;
+        *self.columns.entry(column).or_insert(next)
+    }
+}
