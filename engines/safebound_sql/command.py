@@ -7,9 +7,11 @@ import sys
 from typing import Sequence
 
 from . import output
+from .dialects import DIALECTS, Unreached
 from .engine import Engine
 from .export import exported
 from .faults import Fault, Unreadable, Usage
+from .kept import Kept
 from .levels import MOST_BUDGET
 from .planner import Planner
 from .postgres import Postgres
@@ -21,6 +23,7 @@ ABOUT = {
     "run": "admit or refuse by the budget, then write the rows as CSV",
     "audit": "each level's bound, what the engine expects, and its true rows",
     "counts": "the counting statement, for those who run it themselves",
+    "append": "add rows that came later to the kept counts of a table",
     "export": "the query's tables as files for safebound_cli",
 }
 INTERRUPTED = 130
@@ -47,12 +50,23 @@ def words() -> Words:
     commands = parser.add_subparsers(dest="command", required=True, parser_class=Words)
     for name, about in ABOUT.items():
         command = commands.add_parser(name, help=about, description=about[0].upper() + about[1:] + ".")
-        command.add_argument("--db", required=True, metavar="DB", help="postgresql://.. or sqlite:FILE")
+        unreached = name in ("plan", "sql", "counts")
+        command.add_argument("--db", required=not unreached, metavar="DB", help="postgresql://.. or sqlite:FILE")
+        if unreached:
+            command.add_argument("--dialect", choices=DIALECTS, help="in place of --db, of an engine that isn't reached from here")
+            command.add_argument("--schema", metavar="FILE", help="with --dialect: the CREATE TABLEs of the query's tables")
         command.add_argument("--timeout", type=number(1, 10**6), metavar="SECONDS", help="ends a statement that takes longer")
+        if name == "append":
+            command.add_argument("--kept", required=True, metavar="FILE", help="the kept counts")
+            command.add_argument("--where", required=True, metavar="CONDITION", help="true of the rows that came later alone")
+            command.add_argument("table", metavar="TABLE", help="the table, as a query names it")
+            continue
         if name == "export":
             command.add_argument("folder", metavar="DIR", help="a folder that is new or empty")
         else:
             command.add_argument("--no-reduce", action="store_true", help="count under own conditions alone, without semi-joins")
+        if name == "counts":
+            command.add_argument("--keep", metavar="FILE", help="count whole tables, and keep that in a file for later plans")
         if name in ("plan", "sql", "run", "audit"):
             _plan_words(command, name)
         command.add_argument("query", metavar="QUERY", help="a file with the query, or - for standard input")
@@ -68,8 +82,26 @@ def _plan_words(command: argparse.ArgumentParser, name: str) -> None:
     )
     if name in ("plan", "audit"):
         command.add_argument("--json", action="store_true", help="for programs")
-    if name == "plan":
+    if name in ("plan", "sql", "audit"):
+        command.add_argument("--kept", metavar="FILE", help="kept counts, for entries without conditions; no semi-joins")
+    if name in ("plan", "sql"):
         command.add_argument("--counts", metavar="FILE", help="the answer of the counting statement, as CSV")
+
+
+def _engine(given: argparse.Namespace) -> Engine:
+    """What `--db` or `--dialect` says."""
+    dialect = getattr(given, "dialect", None)
+    if (given.db is None) == (dialect is None):
+        raise Usage("either --db or --dialect is needed")
+    if given.db is not None:
+        return opened(given.db, given.timeout)
+    if given.schema is None:
+        raise Usage("--dialect needs --schema FILE, where the CREATE TABLEs of the query's tables are")
+    if given.command != "counts" and given.counts is None:
+        raise Usage("--dialect needs --counts FILE, the answer to what `counts` prints")
+    if getattr(given, "keep", None) or getattr(given, "kept", None):
+        raise Usage("counts are kept by --db, of an engine that is reached")
+    return Unreached(dialect, text_of(given.schema))
 
 
 def opened(db: str, timeout: int | None) -> Engine:
@@ -93,10 +125,13 @@ def text_of(file: str) -> str:
 
 def _planned(given: argparse.Namespace, planner: Planner) -> None:
     """The commands that need a plan."""
-    plan = planner.plan(given.accuracy, given.budget, given.tree, getattr(given, "counts", None))
+    kept = getattr(given, "kept", None)
+    if kept:
+        plan = planner.plan_by_kept(given.accuracy, given.budget, given.tree, Kept(kept))
+    else:
+        plan = planner.plan(given.accuracy, given.budget, given.tree, getattr(given, "counts", None))
     if given.command == "sql":
-        setting = f"{planner.engine.keeps_order};\n" if planner.engine.keeps_order else ""
-        sys.stdout.write(f"{setting}{planner.sql(plan)};\n")
+        sys.stdout.write(planner.script(plan))
         return
     planner.expect(plan)
     true_rows = planner.true_rows(plan) if given.command == "audit" else None
@@ -104,17 +139,41 @@ def _planned(given: argparse.Namespace, planner: Planner) -> None:
         sys.stdout.write(output.document(plan, planner.engine, planner.sql(plan), true_rows))
         return
     shown = output.table(plan, planner.engine, true_rows)
+    if given.command == "plan" and given.dialect:
+        shown = "".join(f"-- {line}\n" for line in shown.splitlines()) + planner.script(plan)
     (sys.stderr if given.command == "run" else sys.stdout).write(shown)
     if given.command == "run":
         planner.run(plan, sys.stdout)
 
 
+def _kept(given: argparse.Namespace, planner: Planner) -> None:
+    kept = Kept(given.keep, has_to_be_there=False)
+    with planner.progress.doing("counting whole tables"):
+        tables = kept.keep(planner.query, planner.engine)
+    kept.save()
+    for table in tables:
+        print(f"{table.name}: {table.rows} rows, {', '.join(table.runs) or 'no column'}")
+
+
+def _appended(given: argparse.Namespace, engine: Engine) -> None:
+    kept = Kept(given.kept)
+    table, new = kept.append(given.table, given.where, engine)
+    kept.save()
+    print(f"{table.name}: {table.rows} rows, {new} of them new")
+
+
 def done(given: argparse.Namespace) -> None:
-    text = text_of(given.query)
-    engine = opened(given.db, given.timeout)
+    text = text_of(given.query) if given.command != "append" else ""
+    if getattr(given, "kept", None) and getattr(given, "counts", None):
+        raise Usage("either --kept or --counts")
+    engine = _engine(given)
     try:
-        planner = Planner(engine, text, not getattr(given, "no_reduce", False))
-        if given.command == "counts":
+        if given.command == "append":
+            return _appended(given, engine)
+        planner = Planner(engine, text, not (getattr(given, "no_reduce", False) or getattr(given, "kept", None)))
+        if given.command == "counts" and given.keep:
+            _kept(given, planner)
+        elif given.command == "counts":
             sys.stdout.write(planner.counting + ";\n")
         elif given.command == "export":
             exported(planner.meaning, engine, given.folder, planner.progress)

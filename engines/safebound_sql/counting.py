@@ -10,7 +10,7 @@ from __future__ import annotations
 import csv
 import re
 from dataclasses import dataclass, field
-from typing import Iterable
+from typing import Collection, Iterable
 
 from .engine import Engine
 from .faults import Unreadable, WrongCounts
@@ -21,18 +21,14 @@ HEADER = ("entry", "column", "degree", "keys")
 
 @dataclass
 class Parts:
-    """Materialised parts of a statement, and for each entry where its rows are: a part, or its table.
+    """Materialised parts of a statement by their names, and for each entry where its rows are: a part, or its table.
 
     `sizes` are how many parts a part names, with all that these name in turn.
     """
 
-    texts: list[str] = field(default_factory=list)
+    texts: list[tuple[str, str]] = field(default_factory=list)
     rows: dict[int, str] = field(default_factory=dict)
     sizes: dict[int, int] = field(default_factory=dict)
-
-    def before(self, select: str) -> str:
-        """The statement with these parts before it."""
-        return "WITH\n  " + ",\n  ".join(self.texts) + f"\n{select}" if self.texts else select
 
     def within(self, entry: int, others: list[int], most: int | None) -> list[int]:
         """As many of the entries as a new part for this entry may name."""
@@ -116,13 +112,16 @@ def _add(parts: Parts, entry: Entry, engine: Engine, columns: list[Column], cond
     outputs = ", ".join(f"{entry.alias}.{engine.quote(column.name)}" for column in columns) or f"1 AS {engine.quote(prefix)}"
     rows = parts.rows.get(entry.number, entry.table)
     text = f"SELECT {outputs} FROM {rows} AS {entry.alias}{where(conditions)}"
-    parts.texts.append(f"{name} AS MATERIALIZED ({text})")
+    parts.texts.append((name, text))
     parts.rows[entry.number] = name
 
 
 def _semi_join(query: Query, engine: Engine, entry: int, other: int, pairs: list[tuple[Column, Column]], rows: str) -> str:
-    """By IN, for which SQLite makes an index once, and PostgreSQL a hash."""
+    """By IN, for which SQLite makes an index once, and PostgreSQL a hash. Not every engine takes several columns there."""
     mine, yours = query.entries[entry].alias, query.entries[other].alias
+    if len(pairs) > 1 and not engine.takes_rows_in:
+        meet = [f"{yours}.{engine.quote(right.name)} = {mine}.{engine.quote(left.name)}" for left, right in pairs]
+        return f"EXISTS (SELECT 1 FROM {rows} AS {yours}{where(meet)})"
     left = ", ".join(f"{mine}.{engine.quote(column.name)}" for column, _ in pairs)
     right = ", ".join(f"{yours}.{engine.quote(column.name)}" for _, column in pairs)
     return f"{left if len(pairs) == 1 else f'({left})'} IN (SELECT {right} FROM {rows} AS {yours})"
@@ -149,20 +148,26 @@ def prefix_for(texts: Iterable[str]) -> str:
     return prefix
 
 
-def counting(query: Query, engine: Engine, prefix: str, reduce: bool) -> str:
+def counting(query: Query, engine: Engine, prefix: str, reduce: bool, known: Collection[int] = ()) -> str:
     """The statement. Its rows are (entry, column, degree, keys): so many values of the column stand in `degree` rows each.
 
-    Degree 0 is that of rows without a value. A row with the column '' tells how many rows the entry has.
+    Degree 0 is that of rows without a value. A row with the column '' tells how many rows the entry has. Of entries whose
+    degrees are known only that is asked.
     """
-    columns = {entry.number: query.joined(entry.number) for entry in query.entries}
+    columns = {entry.number: [] if entry.number in known else query.joined(entry.number) for entry in query.entries}
     parts = reduced(query, engine, columns, prefix) if reduce else Parts()
     selects = []
     for entry in query.entries:
         kept = entry.number in parts.rows
         rows = f"FROM {parts.rows.get(entry.number, entry.table)} AS {entry.alias}{where([] if kept else own_conditions(entry))}"
-        selects.append(_line(engine, _text(entry.name), "''", "COUNT(*)", "1", rows))
-        selects += [_histogram(entry, column, engine, rows) for column in columns[entry.number]]
-    return parts.before("\nUNION ALL ".join(selects))
+        selects += histograms(entry, columns[entry.number], engine, rows)
+    return engine.with_parts(parts.texts, "\nUNION ALL ".join(selects))
+
+
+def histograms(entry: Entry, columns: list[Column], engine: Engine, rows: str) -> list[str]:
+    """The parts of a counting statement that are of one entry, over what `rows` says: its FROM and WHERE."""
+    total = _line(engine, _text(entry.name), "''", "COUNT(*)", "1", rows)
+    return [total] + [_histogram(entry, column, engine, rows) for column in columns]
 
 
 def _line(engine: Engine, entry: str, column: str, degree: str, keys: str, rows: str) -> str:
@@ -187,9 +192,14 @@ def counts_of(query: Query, rows: Iterable[tuple]) -> Counts:
     Raises:
         WrongCounts: it isn't an answer to the statement of this query.
     """
+    return counts_among({entry.name: query.joined(entry.number) for entry in query.entries}, rows)
+
+
+def counts_among(asked: dict[str, list[Column]], rows: Iterable[tuple]) -> Counts:
+    """The same for entries by their names, each with the columns that were counted."""
     counts = Counts({}, {})
     zeros: dict[tuple[str, str], int] = {}
-    wanted = {(entry.name, column.name) for entry in query.entries for column in query.joined(entry.number)}
+    wanted = {(entry, column.name) for entry, columns in asked.items() for column in columns}
     for entry, column, degree, keys in rows:
         if column == "" and keys == 1 and entry not in counts.rows:
             counts.rows[entry] = degree
@@ -199,7 +209,7 @@ def counts_of(query: Query, rows: Iterable[tuple]) -> Counts:
             counts.runs.setdefault((entry, column), []).append((degree, keys))
         else:
             raise WrongCounts(f"({entry}, {column}, {degree}, {keys}) is no count of this query")
-    if set(counts.rows) != {entry.name for entry in query.entries}:
+    if set(counts.rows) != set(asked):
         raise WrongCounts("the rows of an entry aren't counted, or an entry isn't of this query")
     for entry, column in wanted:
         runs = counts.runs.setdefault((entry, column), [])

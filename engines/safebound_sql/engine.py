@@ -28,10 +28,20 @@ class Engine(ABC):
     keeps_order: str
     join_word: str
     keeps_trees: bool = True
+    keeps_parts: str = "AS MATERIALIZED"
+    takes_rows_in: bool = True
+    star_over_using: bool = True
+    makes_tables: bool = False
+    why_fickle: str = "it may answer anew at each call"
 
     def quote(self, name: str) -> str:
         """The name as SQL, in quotes."""
         return exp.to_identifier(name.replace('"', '""'), quoted=True).sql(self.dialect)
+
+    def with_parts(self, parts: list[tuple[str, str]], select: str) -> str:
+        """The statement with named parts before it, each of which may name those before it."""
+        written = ",\n  ".join(f"{name} {self.keeps_parts} ({text})" for name, text in parts)
+        return f"WITH\n  {written}\n{select}" if parts else select
 
     def key(self, name: str, quoted: bool) -> str:
         """The name as the engine compares it with others."""

@@ -3,7 +3,7 @@
 from __future__ import annotations
 
 import sys
-from dataclasses import dataclass
+from dataclasses import dataclass, field
 from pathlib import Path
 from typing import Union
 
@@ -35,13 +35,19 @@ class Level:
 
 @dataclass
 class Plan:
-    """A plan: the shape of its joins, and its levels from the first to that of all entries."""
+    """A plan: the shape of its joins, and its levels from the first to that of all entries.
+
+    `kept` has the entries whose counts are kept ones, with their time; `changed` those whose kept counts weren't taken,
+    since there were so many rows then and are so many now.
+    """
 
     query: Query
     counts: Counts
     shape: Shape
     levels: list[Level]
     tree: bool
+    kept: dict[str, str] = field(default_factory=dict)
+    changed: dict[str, tuple[int, int]] = field(default_factory=dict)
 
     @property
     def cost(self) -> int:

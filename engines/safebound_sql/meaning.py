@@ -15,7 +15,7 @@ def _refuse_fickle(statement: Statement, pieces: Tokens, engine: Engine) -> None
     """Refuses what may answer anew at each call: functions, operators, and views that use them."""
     asked = _calls(pieces, engine)
     for name in engine.fickle(set(asked)):
-        raise statement.refuse(asked[name], "it may answer anew at each call")
+        raise statement.refuse(asked[name], engine.why_fickle)
     for at, token in enumerate(pieces):
         if engine.asks_for_now(pieces, at):
             raise statement.refuse(token, "the time may be another one at each statement")

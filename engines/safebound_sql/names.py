@@ -119,6 +119,8 @@ class Names:
     def star(self, piece: Tokens) -> list[Named] | None:
         """The columns of an output that is a star, of all entries or of one; None where it is no star."""
         if len(piece) == 1 and piece[0].says("*"):
+            if self.usings and not self.engine.star_over_using:
+                raise self.statement.refuse(piece[0], "write out which columns, since engines order those of USING in their own way")
             return self.columns
         if len(piece) != 3 or not (piece[0].names and piece[1].says(".") and piece[2].says("*")):
             return None
@@ -164,7 +166,7 @@ class Names:
                 parts.append("(SELECT 1)")
                 at = ends[at]
                 continue
-            parts.append(_mask(piece, at))
+            parts.append(self.engine.quote(f"#{at}") if piece[at].kind == "quoted" else _mask(piece, at))
             at += 1
         return " ".join(parts)
 
@@ -259,8 +261,6 @@ def _mask(piece: Tokens, at: int) -> str:
         return "'x'"
     if token.kind == "number":
         return "1"
-    if token.kind == "quoted":
-        return f'"#{at}"'
     if token.kind == "operator" and token.text not in PLAIN_OPERATORS:
         return "<"
     if token.kind == "word" and not part_of_name(piece, at):

@@ -22,8 +22,17 @@ def table(plan: Plan, engine: Engine, true_rows: list[int] | None = None) -> str
     if plan.tree:
         lines.append("scans: " + ", ".join(f"{entry.name} {plan.counts.rows[entry.name]}" for entry in plan.query.entries))
     lines.append(f"budget {plan.cost} would do")
+    lines += _of_kept(plan)
     lines += [f"not used for bounds: {text} ({why})" for text, why in plan.query.no_edges]
     return "\n".join(lines) + "\n"
+
+
+def _of_kept(plan: Plan) -> list[str]:
+    lines = [f"{name}: {then} rows were kept, and {now} are there now; counted anew" for name, (then, now) in plan.changed.items()]
+    for time in sorted(set(plan.kept.values())):
+        names = ", ".join(name for name, then in plan.kept.items() if then == time)
+        lines.append(f"counts of {time} are taken for {names}: bounds hold for the rows of then")
+    return lines
 
 
 def _row(plan: Plan, number: int, level: Level) -> list[str]:
@@ -71,6 +80,8 @@ def document(plan: Plan, engine: Engine, sql: str, true_rows: list[int] | None =
         "tree": _shape(query, plan.shape) if plan.tree else None,
         "levels": levels,
         "least budget": plan.cost,
+        "kept": plan.kept,
+        "counted anew": list(plan.changed),
         "setting": engine.keeps_order,
         "sql": sql,
     }

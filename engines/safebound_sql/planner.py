@@ -2,10 +2,11 @@
 
 from __future__ import annotations
 
-from typing import TextIO
+from typing import Collection, TextIO
 
-from .counting import counting, counts_of, counts_of_file, prefix_for
+from .counting import Counts, counting, counts_of, counts_of_file, prefix_for
 from .engine import Engine
+from .kept import Kept
 from .levels import Plan, planned
 from .meaning import Meaning
 from .progress import Progress
@@ -32,8 +33,33 @@ class Planner:
         if counts_file:
             counts = counts_of_file(self.query, counts_file)
         else:
-            with self.progress.doing(f"counting the rows of {len(self.query.entries)} entries"):
-                counts = counts_of(self.query, self.engine.rows(self.counting))
+            counts = counts_of(self.query, self._counted(()))
+        return self.planned(counts, accuracy, budget, tree)
+
+    def plan_by_kept(self, accuracy: int, budget: int, tree: bool, kept: Kept) -> Plan:
+        """Plans by kept counts where these are of as many rows as there are now, and counts the other entries."""
+        taken = kept.taken(self.query)
+        answer = self._counted(taken)
+        rows = {entry: degree for entry, column, degree, _ in answer if column == ""}
+        changed = {
+            entry.name: (taken.pop(entry.number).rows, rows[entry.name])
+            for entry in self.query.entries
+            if entry.number in taken and taken[entry.number].rows != rows[entry.name]
+        }
+        if changed:
+            answer = self._counted(taken)
+        for number, table in taken.items():
+            answer += table.answer(self.query.entries[number].name, self.query.joined(number))
+        plan = self.planned(counts_of(self.query, answer), accuracy, budget, tree)
+        plan.kept = {self.query.entries[number].name: table.time for number, table in taken.items()}
+        plan.changed = changed
+        return plan
+
+    def _counted(self, known: Collection[int]) -> list[tuple]:
+        with self.progress.doing(f"counting the rows of {len(self.query.entries) - len(known)} entries"):
+            return self.engine.rows(counting(self.query, self.engine, self.prefix, self.reduce, known))
+
+    def planned(self, counts: Counts, accuracy: int, budget: int, tree: bool) -> Plan:
         return planned(self.query, counts, accuracy, budget, tree)
 
     def expect(self, plan: Plan) -> None:
@@ -43,6 +69,11 @@ class Planner:
 
     def sql(self, plan: Plan) -> str:
         return self.writer.query_in_order(plan)
+
+    def script(self, plan: Plan) -> str:
+        """The same with the settings before it that make the engine keep the order."""
+        setting = f"{self.engine.keeps_order};\n" if self.engine.keeps_order else ""
+        return f"{setting}{self.sql(plan)};\n"
 
     def true_rows(self, plan: Plan) -> list[int]:
         self.engine.keep_order()

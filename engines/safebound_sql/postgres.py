@@ -4,6 +4,7 @@ from __future__ import annotations
 
 import codecs
 import contextlib
+import functools
 import json
 from typing import Iterator
 
@@ -43,7 +44,10 @@ VIEWS = """
 SELECT name, pg_get_viewdef(oid) FROM unnest(%s::text[]) AS name JOIN pg_class ON oid = to_regclass(name) WHERE relkind = 'v'
 """
 
-MOST_OF_A_NAME = 63
+TABLE = """
+SELECT c.oid, format('%%I %%I.%%I#%%s', current_database(), nspname, relname, c.oid)
+FROM pg_class c JOIN pg_namespace n ON n.oid = relnamespace WHERE c.oid = to_regclass(%s) AND relkind = ANY('{r,p,m,f,v}')
+"""
 
 
 class Postgres(Engine):
@@ -86,13 +90,18 @@ class Postgres(Engine):
 
     def table(self, name: list[Token]) -> Table | None:
         with self._told(), self.connection.transaction():
-            found = self.connection.execute(
-                "SELECT oid FROM pg_class WHERE oid = to_regclass(%s) AND relkind = ANY('{r,p,m,f,v}')", [written(name)]
-            ).fetchone()
+            found = self.connection.execute(TABLE, [written(name)]).fetchone()
             if found is None:
                 return None
-            columns = tuple(Column(*row) for row in self.connection.execute(COLUMNS, found))
-        return Table(columns, {column.name: column for column in columns})
+            columns = tuple(Column(*row) for row in self.connection.execute(COLUMNS, found[:1]))
+        return Table(columns, {column.name: column for column in columns}, f"{self.cluster} {found[1]}")
+
+    @functools.cached_property
+    def cluster(self) -> str:
+        """What tells this server's data from another's, where this user may ask."""
+        may = "SELECT has_function_privilege('pg_control_system()', 'execute')"
+        ask = "SELECT system_identifier::text FROM pg_control_system()"
+        return self.connection.execute(ask).fetchone()[0] if self.connection.execute(may).fetchone()[0] else "a server"
 
     def fickle(self, names: set[str]) -> list[str]:
         given = {"bare": [n for n in names if n[0] != "."], "qualified": [n[1:] for n in names if n[0] == "."]}

@@ -20,11 +20,13 @@ class Column(NamedTuple):
 class Table(NamedTuple):
     """A table or view: its columns in declared order, and by the key that the engine finds them by.
 
-    `columns` are those that a star stands for.
+    `columns` are those that a star stands for. `identity` tells it from all other tables, where that is known:
+    what it is called where, # and what is another number when it was made anew.
     """
 
     columns: tuple[Column, ...]
     by_key: dict[str, Column]
+    identity: str | None = None
 
 
 class Named(NamedTuple):

@@ -37,7 +37,7 @@ class Sqlite(Engine):
     reserved = frozenset(("null", "current_date", "current_time", "current_timestamp"))
 
     def __init__(self, file: str, timeout: int | None) -> None:
-        path = Path(file).absolute()
+        path = self.path = Path(file).resolve()
         if not path.is_file():
             raise EngineFault(f"there is no file {file}")
         with self._told():
@@ -89,7 +89,7 @@ class Sqlite(Engine):
         schema = parts[0] if len(parts) == 2 else None
         with self._told():
             kind = self.connection.execute(
-                "SELECT schema, type, wr, strict FROM pragma_table_list WHERE name = ? COLLATE NOCASE"
+                "SELECT schema, type, wr, strict, name FROM pragma_table_list WHERE name = ? COLLATE NOCASE"
                 " AND (?2 IS NULL OR schema = ?2 COLLATE NOCASE) ORDER BY schema <> 'temp', schema <> 'main' LIMIT 1",
                 (parts[-1], schema),
             ).fetchone()
@@ -104,7 +104,13 @@ class Sqlite(Engine):
         if kind[1] == "table" and not kind[2]:
             for other in ROW_NUMBERS:
                 by_key.setdefault(other, Column(other, "INTEGER", ("INTEGER", "BINARY")))
-        return Table(tuple(column for column, hidden in found if hidden != 1), by_key)
+        identity = f"{self.path} {kind[0]} {kind[4]}#{self._schema_version(kind[0])}"
+        return Table(tuple(column for column, hidden in found if hidden != 1), by_key, identity)
+
+    def _schema_version(self, schema: str) -> int:
+        """Another number after each change of a schema: a table has none of its own."""
+        with self._told():
+            return self.connection.execute(f"PRAGMA {self.quote(schema)}.schema_version").fetchone()[0]
 
     def _column(self, table: str, name: str, declared: str, of_table: bool, strict: bool) -> Column:
         """A column. What those of views and virtual tables are compared by isn't known."""

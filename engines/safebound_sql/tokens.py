@@ -53,6 +53,26 @@ SQLITE = re.compile("|".join([
     r"(?P<operator>\|\||->>?|<<|>>|<=|>=|<>|!=|==|[+\-*/%<>=&|~])",
 ]), re.DOTALL)
 
+DOUBLE_QUOTES = r'"(?:[^"\'\\]|"")+"'
+BACKTICKS = r"`[^`'\\.]+`"
+
+
+def dialect_rules(quoted: str, texts: str = "'", comments: str | None = None, suffixes: str = "(?!)") -> re.Pattern:
+    """Rules that hold however an engine reads backslashes in texts and comments within comments: where that would matter
+    nothing is matched, and the query is refused. `texts` are the marks of texts, `suffixes` those of numbers."""
+    text = "|".join(rf"(?!{mark * 3}){mark}(?:[^{mark}\\]|\\(?!{mark})|{mark}{mark})*{mark}" for mark in texts)
+    return re.compile("|".join([
+        rf"(?P<space>[ \t\n\r\f\v]+|(?:--{'|' + comments if comments else ''})[^\n\\]*)",
+        r"(?P<space_too>/\*(?:(?!/\*|\*/).)*\*/)",
+        rf"(?P<text>[xX]?(?:{text}))",
+        rf"(?P<quoted>{quoted})",
+        rf"(?P<number>0[xX][0-9a-fA-F]+|(?:\d+\.?\d*|\.\d+)(?:[eE][+-]?\d+)?(?:{suffixes})?(?![\w$]))",
+        r"(?P<word>(?!(?:[bBnNeErR]|[bB][rR]|[rR][bB]|[uU]&)['\"])[^\W\d][\w$]*)",
+        r"(?P<mark>::|[(),.;\[\]])",
+        r"(?P<operator>\|\||->>?|=>|<=>|<<|>>|<=|>=|<>|!=|==|\|(?!>)|/(?![*/])|-(?!-)|[+*%<>=&~^])",
+    ]), re.DOTALL)
+
+
 _COMMENT_ENDS = re.compile(r"/\*|\*/")
 
 

@@ -47,12 +47,12 @@ class Writing:
     def __init__(self, writer: Writer) -> None:
         self.query, self.engine, self.columns = writer.query, writer.engine, writer.columns
         self.prefix, self.rows = writer.prefix, writer.parts.rows
-        self.texts = list(writer.parts.texts)
+        self.texts: list[tuple[str, str]] = list(writer.parts.texts)
         self.within: dict[int, str] = {}
 
     def before(self, select: str) -> str:
         """The statement with its parts before it."""
-        return Parts(self.texts).before(select)
+        return self.engine.with_parts(self.texts, select)
 
     def text(self, text: Text) -> str:
         return text.naming(self._elsewhere)
@@ -68,7 +68,7 @@ class Writing:
         return f"{part}.{self._name_within(named)}" if part else None
 
     def _name_within(self, named: Named) -> str:
-        return self.engine.quote(f"{named.entry}.{named.column.name}")
+        return self.engine.quote(f"_{named.entry}_{named.column.name}")
 
     def joined(self, shape: Shape) -> str:
         """FROM with the joins of this shape, and WHERE with what is left."""
@@ -90,7 +90,7 @@ class Writing:
             return f"{self.rows.get(shape, entry.table)} AS {entry.alias}"
         left, right = shape
         sides = frozenset(entries_of(left)), frozenset(entries_of(right))
-        joins = self._from(left), self._side(right)
+        joins = (self._side if self.engine.makes_tables else self._from)(left), self._side(right)
         conditions = " AND ".join(map(self._condition, self.query.complete(sides[0] | sides[1], sides)))
         if conditions:
             return f"{joins[0]}\n  {self.engine.join_word} {joins[1]} ON {conditions}"
@@ -111,7 +111,7 @@ class Writing:
         needed = [Named(number, column) for number in entries_of(shape) for column in self.columns[number]]
         outputs = ", ".join(f"{self._source(named)} AS {self._name_within(named)}" for named in needed) or "1 AS one"
         name = f"{self.prefix}{len(self.texts) + 1}"
-        self.texts.append(f"{name} AS MATERIALIZED (SELECT {outputs} FROM {joins}{where(alone)})")
+        self.texts.append((name, f"SELECT {outputs} FROM {joins}{where(alone)}"))
         self.within = {**outside, **dict.fromkeys(entries_of(shape), name)}
         return name
 

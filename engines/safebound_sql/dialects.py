@@ -1,0 +1,220 @@
+"""Engines that can't be reached from here: their SQL is written, and whoever reaches them runs it.
+
+What a connection would tell comes from a schema file of CREATE TABLEs, and from a list of the functions that are known to
+answer alike at each call. What isn't known for sure is refused.
+"""
+
+from __future__ import annotations
+
+import re
+from typing import Iterator, NamedTuple
+
+import sqlglot
+from sqlglot import exp
+
+from .engine import Engine
+from .faults import EngineFault, Refused
+from .known import CALLED, PLAIN, TIMES
+from .query import Column, Table
+from .reading import Statement, Tokens, read
+from .schema_file import declared
+from .tokens import BACKTICKS, DOUBLE_QUOTES, Token, dialect_rules, part_of_name, tokens, unquoted, written
+
+# Words that no name is unless in quotes: by them rows are taken or left in another way than an inner join does.
+NO_INNER_JOIN = (
+    "QUALIFY", "PIVOT", "UNPIVOT", "LATERAL", "TABLESAMPLE", "SEMI", "ANTI", "ASOF", "POSITIONAL", "DIRECTED", "MATCH_RECOGNIZE",
+    "UNNEST", "EXPLODE", "MINUS",
+)
+BEFORE_BY = ("CLUSTER", "DISTRIBUTE", "SORT", "CONNECT")
+PARTS_OF_SELECT = {
+    "expressions", "from", "joins", "where", "group", "having", "order", "limit", "offset", "distinct", "windows",
+}
+
+
+class Dialect(NamedTuple):
+    """What is an engine's own. `settings` make it keep the order; without any, each level is a temporary table."""
+
+    title: str
+    quotes: str
+    rules: re.Pattern
+    settings: tuple[str, ...] = ()
+    keeps_parts: str = "AS"
+    equals: tuple[str, ...] = ("=",)
+    folds_up: bool = False
+    folds_tables: bool = True
+
+
+DIALECTS = {
+    "spark": Dialect(
+        "Spark", "`", dialect_rules(BACKTICKS, texts="'\"", suffixes="[lLsSyYfFdD]|[bB][dD]"),
+        ("SET spark.sql.cbo.joinReorder.enabled = false", "SET spark.sql.cbo.starSchemaDetection = false"), equals=("=", "=="),
+    ),
+    "trino": Dialect("Trino", '"', dialect_rules(DOUBLE_QUOTES), ("SET SESSION join_reordering_strategy = 'NONE'",)),
+    "duckdb": Dialect(
+        "DuckDB", '"', dialect_rules(DOUBLE_QUOTES), ("SET disabled_optimizers = 'join_order'",), "AS MATERIALIZED", ("=", "=="),
+    ),
+    "snowflake": Dialect("Snowflake", '"', dialect_rules(DOUBLE_QUOTES, comments="//"), folds_up=True),
+    "bigquery": Dialect("BigQuery", "`", dialect_rules(BACKTICKS, texts="'\"", comments="#"), folds_tables=False),
+}
+
+
+class Unreached(Engine):
+    """An engine of which only its dialect and the schema of its tables are known."""
+
+    comma_binds_less = True
+    merged_columns_first = True
+    calls_without_parentheses = TIMES
+    outputs_in_conditions = True
+    reserved = frozenset(word.lower() for word in (*TIMES, "NULL", "TRUE", "FALSE"))
+    join_word = "JOIN"
+    takes_rows_in = False
+    star_over_using = False
+    why_fickle = "it isn't known here to answer alike at each call"
+
+    def __init__(self, dialect: str, schema: str) -> None:
+        own = DIALECTS[dialect]
+        self.dialect, self.title, self.rules, self.own = dialect, own.title, own.rules, own
+        self.equals, self.keeps_parts = own.equals, own.keeps_parts
+        self.keeps_order = ";\n".join(own.settings)
+        self.makes_tables = not own.settings
+        self.keeps_trees = not self.makes_tables
+        # A part that isn't kept is read again wherever it is named, and so the parts that it names in turn.
+        self.most_parts_of_a_part = None if self.makes_tables or own.keeps_parts != "AS" else 200
+        self.reserved = frozenset(self.key(word, False) for word in self.reserved)
+        self.tables = declared(schema, self)
+
+    def with_parts(self, parts: list[tuple[str, str]], select: str) -> str:
+        """Where each level is a table, each part is one too, and the statement a script."""
+        if not self.makes_tables:
+            return super().with_parts(parts, select)
+        return "".join(f"CREATE OR REPLACE TEMPORARY TABLE {name} AS\n{text};\n" for name, text in parts) + select
+
+    def quote(self, name: str) -> str:
+        return self.own.quotes + name.replace(self.own.quotes, self.own.quotes * 2) + self.own.quotes
+
+    def key(self, name: str, quoted: bool) -> str:
+        if self.own.folds_up:
+            return name if quoted else name.upper()
+        return name.lower()
+
+    def name_key(self, token: Token) -> str:
+        return self.key(unquoted(token) if token.kind == "quoted" else token.text, token.kind == "quoted")
+
+    def table_key(self, name: list[Token]) -> tuple[str, ...]:
+        names = [token for token in name if token.names]
+        if self.own.folds_tables:
+            return tuple(map(self.name_key, names))
+        return tuple(unquoted(token) if token.kind == "quoted" else token.text for token in names)
+
+    def table(self, name: list[Token]) -> Table | None:
+        return self.tables.get(self.table_key(name))
+
+    def fickle(self, names: set[str]) -> list[str]:
+        """All that isn't known to answer alike at each call."""
+        called = [name for name in names if re.match(r"\.?\w", name)]
+        return sorted(name for name in called if name.lower() not in CALLED)
+
+    def asks_for_now(self, pieces: list[Token], at: int) -> bool:
+        """A text such as 'now' that is made a date or a time."""
+        token = pieces[at]
+        if token.kind != "text" or token.text[1:-1].split(" ")[0].lower() not in ("now", "today", "tomorrow", "yesterday"):
+            return False
+        before = pieces[at - 1].text.upper() if at else ""
+        return before.startswith(("DATE", "TIME")) or (at + 1 < len(pieces) and pieces[at + 1].says("AS", "::"))
+
+    def view_texts(self, names: set[str]) -> dict[str, str]:
+        return {}
+
+    def takes(self, sql: str) -> None:
+        """Refuses what would be read here in another way than by the engine."""
+        statement, pieces = Statement(sql), tokens(sql, self.rules)
+        for token in _no_inner_joins(pieces):
+            raise statement.refuse(token, "only inner joins of whole tables are bounded")
+        schemas = {key[0].lower() for key in self.tables if len(key) > 1}
+        for source in read(sql, list(pieces), True).sources:
+            if self.name_key(source.alias).lower() in schemas:
+                raise statement.refuse(source.alias, "it is the name of a schema too, and engines differ in which is meant")
+        try:
+            trees = sqlglot.parse(written(pieces), read=self.dialect)
+        except (sqlglot.errors.SqlglotError, RecursionError):
+            raise Refused(f"the query isn't read as {self.title}'s SQL by sqlglot {sqlglot.__version__}") from None
+        tree = trees[0]
+        odd = {name for name, part in tree.args.items() if part} - PARTS_OF_SELECT
+        if not isinstance(tree, exp.Select) or odd:
+            raise Refused(f"the query has a part that isn't bounded: {', '.join(sorted(odd)) or 'it is no SELECT'}")
+
+    def stands_alone(self, inner: list[Token]) -> str | None:
+        """None where each name in it is one of a table of its own, or no column's at all."""
+        if any(token.says("SELECT", "WITH", "VALUES") for token in inner[1:]):
+            return "there is a subquery within it"
+        try:
+            sources = read("", list(inner), True).sources
+        except Refused:
+            return "it isn't a plain query over tables by their names"
+        tables = [self.table(source.table) for source in sources]
+        if None in tables:
+            return "a table of it isn't in the schema file"
+        own = {token.at for source in sources for token in (*source.table, source.alias)}
+        aliases = {self.name_key(source.alias) for source in sources}
+        columns = {key for table in tables for key in table.by_key}
+        for at, token in enumerate(inner):
+            if token.names and token.at not in own and not self._known_within(inner, at, aliases, columns):
+                return f"{token.text} isn't known to be its own"
+        return None
+
+    def _known_within(self, inner: Tokens, at: int, aliases: set[str], columns: set[str]) -> bool:
+        token, behind = inner[at], inner[at + 1 : at + 2]
+        if at and inner[at - 1].says(".", "AS", "::"):
+            return True
+        if behind and behind[0].says("."):
+            return self.name_key(token) in aliases
+        if behind and (behind[0].says("(") or behind[0].kind == "text") and token.kind == "word":
+            return True
+        return self.name_key(token) in columns or (token.kind == "word" and token.text.upper() in PLAIN)
+
+    def complaint(self, sql: str) -> str | None:
+        return None
+
+    def expected(self, sql: str) -> int | None:
+        return None
+
+    def keep_order(self) -> None:
+        """Its settings are printed before the query."""
+
+    def _not_here(self) -> EngineFault:
+        return EngineFault(f"{self.title} isn't reached from here")
+
+    def rows(self, sql: str) -> list[tuple]:
+        raise self._not_here()
+
+    def stream(self, sql: str) -> Iterator[tuple]:
+        raise self._not_here()
+
+    def csv(self, sql: str) -> Iterator[str]:
+        raise self._not_here()
+
+    def exports(self, column: Column) -> bool:
+        raise self._not_here()
+
+    def whole_numbers(self, column: Column) -> bool:
+        raise self._not_here()
+
+    def plain_order(self, column: Column) -> bool:
+        raise self._not_here()
+
+    def close(self) -> None:
+        """There is no connection."""
+
+
+def _no_inner_joins(pieces: Tokens) -> Iterator[Token]:
+    """Words and stars that an engine reads in a way of its own."""
+    for at, token in enumerate(pieces):
+        if part_of_name(pieces, at) and not token.says("*"):
+            continue
+        before, behind = pieces[max(at - 1, 0)], pieces[min(at + 1, len(pieces) - 1)]
+        odd = token.says(*NO_INNER_JOIN) or (token.says(*BEFORE_BY) and behind.says("BY"))
+        odd = odd or (token.says("START") and behind.says("WITH")) or (token.says("SAMPLE") and before.says("USING"))
+        odd = odd or (token.says("TOP", "AS") and before.says("SELECT", "DISTINCT", "ALL"))
+        star = token.says("*") and before.says("SELECT", "DISTINCT", "ALL", ",", ".", "(")
+        if odd or (star and behind.kind == "word" and not behind.says("FROM")):
+            yield token

@@ -1,0 +1,179 @@
+"""Counts that last: how often values repeat in whole tables, kept in a file for later plans.
+
+A table is known by what its engine tells it from others by, and a column by its type too, so that another table of the same
+name isn't taken for it. Kept counts say nothing of rows that came later: whoever takes them looks at the number of rows.
+"""
+
+from __future__ import annotations
+
+import datetime
+import json
+import os
+from dataclasses import dataclass, field
+from typing import Iterable, List, Tuple
+
+from .counting import counts_among, histograms, own_conditions, where
+from .engine import Engine
+from .faults import Missing, Unreadable, WrongCounts
+from .levels import library
+from .meaning import Meaning
+from .query import Column, Entry, Query
+
+FORM = "safebound-sql kept counts 1"
+
+Runs = List[Tuple[int, int]]
+
+
+@dataclass
+class KeptTable:
+    """A table's rows when it was counted, and of each counted column its type and its runs, falling."""
+
+    name: str
+    time: str
+    rows: int
+    types: dict[str, str] = field(default_factory=dict)
+    runs: dict[str, Runs] = field(default_factory=dict)
+
+    def has(self, column: Column) -> bool:
+        return self.types.get(column.name) == type_of(column)
+
+    def answer(self, entry: str, columns: Iterable[Column]) -> list[tuple]:
+        """These columns' part of an answer to a counting statement."""
+        lines = [(entry, column.name, *run) for column in columns for run in self.runs[column.name]]
+        return lines + [(entry, column.name, 0, 1) for column in columns if _sum(self.runs[column.name]) < self.rows]
+
+
+def type_of(column: Column) -> str:
+    """All that its values are compared by."""
+    return f"{column.type}, {column.kind}"
+
+
+def _sum(runs: Runs) -> int:
+    return sum(degree * keys for degree, keys in runs)
+
+
+def now() -> str:
+    return datetime.datetime.now(datetime.timezone.utc).strftime("%Y-%m-%d %H:%M:%S UTC")
+
+
+class Kept:
+    """The tables of a file. One that isn't there has none."""
+
+    def __init__(self, file: str, has_to_be_there: bool = True) -> None:
+        self.file = file
+        self.tables: dict[str, KeptTable] = {}
+        if has_to_be_there or os.path.exists(file):
+            self._read()
+
+    def _read(self) -> None:
+        try:
+            with open(self.file, encoding="utf-8") as text:
+                told = json.load(text)
+            if told["form"] != FORM:
+                raise ValueError
+            for identity, about in told["tables"].items():
+                self.tables[identity] = _table(about)
+        except OSError as error:
+            raise Unreadable(f"{self.file}: {error}") from None
+        except (ValueError, KeyError, TypeError, AttributeError):
+            raise WrongCounts(f"{self.file} isn't a file of kept counts") from None
+
+    def save(self) -> None:
+        """Writes the file anew: the old one is there until the new one is whole."""
+        tables = ",\n".join(f"{json.dumps(identity)}: {json.dumps(vars(table))}" for identity, table in self.tables.items())
+        try:
+            with open(f"{self.file}.new", "w", encoding="utf-8") as out:
+                out.write(f'{{"form": "{FORM}", "tables": {{\n{tables}\n}}}}\n')
+            os.replace(f"{self.file}.new", self.file)
+        except OSError as error:
+            raise Unreadable(f"{self.file}: {error}") from None
+
+    def taken(self, query: Query) -> dict[int, KeptTable]:
+        """The entries without conditions of whose joined columns all counts are kept."""
+        found = {}
+        for entry in query.entries:
+            table = self.tables.get(entry.about.identity or "")
+            if table and not entry.own and all(map(table.has, query.joined(entry.number))):
+                found[entry.number] = table
+        return found
+
+    def keep(self, query: Query, engine: Engine) -> list[KeptTable]:
+        """Counts the query's tables without conditions: its joined columns, and those that were kept before."""
+        entries: dict[str, Entry] = {}
+        columns: dict[str, list[Column]] = {}
+        for entry in query.entries:
+            identity = entry.about.identity
+            before = self.tables[identity].types if identity in self.tables else ()
+            own = query.joined(entry.number) + columns.get(identity, [])
+            entries.setdefault(identity, entry)
+            columns[identity] = [c for c in entry.about.by_key.values() if c in own or (c.name in before and c.kind is not None)]
+        parts = [
+            part for identity, entry in entries.items()
+            for part in histograms(_called(entry, identity), columns[identity], engine, f"FROM {entry.table} AS {entry.alias}")
+        ]
+        counts = counts_among(columns, engine.rows("\nUNION ALL ".join(parts)))
+        for identity, entry in entries.items():
+            self._forget(identity)
+            kept = self.tables[identity] = KeptTable(entry.table, now(), counts.rows[identity])
+            for column in columns[identity]:
+                kept.types[column.name], kept.runs[column.name] = type_of(column), counts.runs[identity, column.name]
+        return [self.tables[identity] for identity in entries]
+
+    def _forget(self, identity: str) -> None:
+        """Forgets the table, and those of the same name that were there before it."""
+        place = identity.rpartition("#")[0]
+        self.tables = {other: table for other, table in self.tables.items() if other.rpartition("#")[0] != place}
+
+    def append(self, table: str, condition: str, engine: Engine) -> tuple[KeptTable, int]:
+        """Adds to a table's counts those of its rows under the condition, which came later. Answers how many these are."""
+        query = Meaning(f"SELECT 1 FROM {table} WHERE {condition}", engine).query
+        if len(query.entries) != 1 or str(query.above):
+            raise WrongCounts("one table is needed, and a condition for its rows")
+        entry = query.entries[0]
+        kept = self.tables.get(entry.about.identity or "")
+        columns = [column for column in entry.about.by_key.values() if kept and column.name in kept.types]
+        if kept is None or len(columns) < len(kept.types) or not all(map(kept.has, columns)):
+            raise WrongCounts(f"{self.file} has no counts of {table} as it is; keep them anew")
+        conditions = own_conditions(entry) + list(map(str, query.constants))
+        whole, new = _called(entry, "whole"), _called(entry, "new")
+        source = f"FROM {entry.table} AS {entry.alias}"
+        parts = histograms(whole, [], engine, source) + histograms(new, columns, engine, source + where(conditions))
+        counts = counts_among({"whole": [], "new": columns}, engine.rows("\nUNION ALL ".join(parts)))
+        if kept.rows + counts.rows["new"] != counts.rows["whole"]:
+            told = f"{kept.rows} rows are kept and {counts.rows['new']} come to them, but {table} has {counts.rows['whole']}"
+            raise WrongCounts(f"{told}; keep its counts anew")
+        for column in columns:
+            kept.runs[column.name] = _appended(kept.runs[column.name], counts.runs["new", column.name])
+        kept.rows, kept.time = counts.rows["whole"], now()
+        return kept, counts.rows["new"]
+
+
+def _called(entry: Entry, name: str) -> Entry:
+    return Entry(entry.number, name, entry.alias, entry.table, entry.about)
+
+
+def _appended(old: Runs, new: Runs) -> Runs:
+    """The library's rank-wise sum: it holds whichever of the values repeat."""
+    if not (old and new):
+        return old or new
+    proved = library()
+    try:
+        return [tuple(run) for run in proved.append(old, new)]
+    except proved.LibraryNotFound as error:
+        raise Missing(str(error)) from None
+    except proved.WrongValue as error:
+        raise WrongCounts(str(error)) from None
+
+
+def _table(about: dict) -> KeptTable:
+    """A table of a file, looked through."""
+    runs = {column: [(int(degree), int(keys)) for degree, keys in found] for column, found in about["runs"].items()}
+    table = KeptTable(str(about["name"]), str(about["time"]), int(about["rows"]), dict(about["types"]), runs)
+    if set(table.types) != set(runs) or any(_wrong(found, table.rows) for found in runs.values()):
+        raise ValueError
+    return table
+
+
+def _wrong(runs: Runs, rows: int) -> bool:
+    falls = all(before[0] >= behind[0] for before, behind in zip(runs, runs[1:]))
+    return not falls or any(degree < 1 or keys < 1 for degree, keys in runs) or _sum(runs) > rows

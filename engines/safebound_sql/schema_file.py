@@ -1,0 +1,128 @@
+"""A schema file: CREATE TABLEs of an engine that can't be reached, in its own dialect."""
+
+from __future__ import annotations
+
+import re
+from typing import Hashable, Iterator
+
+from .faults import Refused
+from .query import Column, Table
+from .reading import Tokens
+from .tokens import Token, closing, place, tokens, written
+
+NO_COLUMN = ("CONSTRAINT", "PRIMARY", "UNIQUE", "FOREIGN", "CHECK")
+BEHIND_TYPE = (
+    "NOT", "NULL", "PRIMARY", "UNIQUE", "REFERENCES", "DEFAULT", "CHECK", "CONSTRAINT", "COMMENT", "COLLATE", "OPTIONS", "WITH",
+    "GENERATED", "AS", "IDENTITY", "AUTOINCREMENT", "MASKING", "TAG",
+)
+BEFORE_TABLE = ("OR", "REPLACE", "TEMP", "TEMPORARY", "TRANSIENT", "EXTERNAL", "LOCAL", "GLOBAL")
+WHOLE = re.compile(r"(BIG|SMALL|TINY|HUGE|BYTE)?INT(EGER)?|INT(2|4|8|64)|LONG|SHORT|BYTE")
+TEXTS = re.compile(r"(VARCHAR|STRING|TEXT)(\(\d+\))?")
+DECIMALS = re.compile(r"(?:DECIMAL|NUMERIC|NUMBER|DEC)\((\d+)(?:,(\d+))?\)")
+EQUAL_AS_GROUPED = re.compile(r"DATE|BOOLEAN|BOOL|UUID|CHAR\(\d+\)|(BIG)?NUMERIC|DECIMAL|NUMBER|DATETIME")
+
+
+def kind_of(declared: str) -> Hashable | None:
+    """By what columns of this type meet. Whole numbers of any width do by their value; what has a floating point or a time zone does by nothing."""
+    name = declared.upper().replace(" ", "")
+    if WHOLE.fullmatch(name):
+        return "a whole number"
+    if TEXTS.fullmatch(name):
+        return "a text"
+    if match := DECIMALS.fullmatch(name):
+        return "a decimal", match[1], match[2] or "0"
+    return name if EQUAL_AS_GROUPED.fullmatch(name) else None
+
+
+def declared(text: str, engine) -> dict[tuple[str, ...], Table]:
+    """The tables of the text, by what the engine finds them by."""
+    found: dict[tuple[str, ...], Table] = {}
+    for pieces in _statements(tokens(text, engine.rules)):
+        name, columns = _table(text, pieces, engine)
+        key = engine.table_key(name)
+        if key in found:
+            raise _wrong(text, name[0], "this table is declared twice")
+        found[key] = columns
+    return found
+
+
+def _wrong(text: str, token: Token, why: str) -> Refused:
+    return Refused(f"{token.text} at {place(text, token.at)} of the schema file: {why}")
+
+
+def _statements(pieces: Tokens) -> Iterator[Tokens]:
+    statement: Tokens = []
+    for token in pieces:
+        if not token.says(";"):
+            statement.append(token)
+        elif statement:
+            yield statement
+            statement = []
+    if statement:
+        yield statement
+
+
+def _table(text: str, pieces: Tokens, engine) -> tuple[Tokens, Table]:
+    """The name of a CREATE TABLE, and its columns."""
+    at = 1
+    while at < len(pieces) and pieces[at].says(*BEFORE_TABLE):
+        at += 1
+    if not (pieces[0].says("CREATE") and at < len(pieces) and pieces[at].says("TABLE")):
+        raise _wrong(text, pieces[0], "it has CREATE TABLE and nothing else; a view is written as the table that it is to a query")
+    at += 1
+    if [token.text.upper() for token in pieces[at : at + 3]] == ["IF", "NOT", "EXISTS"]:
+        at += 3
+    start = at
+    while at < len(pieces) and not pieces[at].says("("):
+        at += 1
+    name, end = pieces[start:at], closing(pieces, at)
+    if not name or end >= len(pieces) or not all(token.names or token.says(".") for token in name):
+        raise _wrong(text, pieces[0], "a table has a name, and columns in parentheses")
+    table = _columns(text, pieces[at + 1 : end], engine)
+    return name, _of_unknown_kinds(table) if any("COLLAT" in token.text.upper() for token in pieces[end:]) else table
+
+
+def _of_unknown_kinds(table: Table) -> Table:
+    """The table where a collation stands behind its columns, for all of them."""
+    columns = {key: column._replace(kind=None) for key, column in table.by_key.items()}
+    return Table(tuple(columns.values()), columns)
+
+
+def _columns(text: str, pieces: Tokens, engine) -> Table:
+    columns: dict[str, Column] = {}
+    for item in _items(pieces):
+        if not item or item[0].says("LIKE"):
+            raise _wrong(text, (item or pieces or [Token("mark", "(", 0, "")])[0], "a column has a name and a type")
+        if item[0].kind == "word" and item[0].says(*NO_COLUMN):
+            continue
+        column = _column(text, item, engine)
+        if column.name in columns:
+            raise _wrong(text, item[0], "this column is declared twice")
+        columns[column.name] = column
+    return Table(tuple(columns.values()), columns)
+
+
+def _items(pieces: Tokens) -> Iterator[Tokens]:
+    """The parts between commas outside parentheses and angle brackets."""
+    item, depth, at = [], 0, 0
+    while at < len(pieces):
+        end = closing(pieces, at) if pieces[at].says("(", "[") else at
+        token = pieces[at]
+        if token.kind == "operator":
+            depth += token.text.count("<") - token.text.count(">")
+        if token.says(",") and depth == 0:
+            yield item
+            item = []
+        else:
+            item += pieces[at : end + 1]
+        at = end + 1
+    yield item
+
+
+def _column(text: str, item: Tokens, engine) -> Column:
+    """A column; one with a collation of its own meets nothing, since what it is grouped by isn't known."""
+    end = next((at for at, token in enumerate(item) if at and token.kind == "word" and token.says(*BEHIND_TYPE)), len(item))
+    if not item[0].names or end < 2:
+        raise _wrong(text, item[0], "a column has a name and a type")
+    kind = None if any(token.says("COLLATE") for token in item[end:]) else kind_of(written(item[1:end]))
+    return Column(engine.name_key(item[0]), written(item[1:end]), kind)
