@@ -68,6 +68,8 @@ EDITS = [
          "test_meaning.OrdersOnPostgres.test_the_sql_has_the_planned_order"),
     Edit("SQLite keeps no tree", "sqlite.py", "keeps_trees = False", "keeps_trees = True",
          "test_meaning.Trees.test_the_engine_joins_so"),
+    # A budget that is compared with the last level alone refuses the same plans: over bounds that the library makes, no level of a
+    # best plan was found above the last one (260,000 random queries). Over other bounds library/tests tells the two apart.
     Edit("a budget isn't compared with the levels", "levels.py",
          "_levels(query, known.best_order(budget))", "_levels(query, known.best_order(MOST_BUDGET))",
          "test_meaning.Orders.test_a_budget_is_for_every_level"),

@@ -109,6 +109,11 @@ class WrongValues(unittest.TestCase):
         for name in ("order", "tree"):
             self.check([(Call(name, [BOUNDS], 3, n), Status.BAD_BUDGET, n) for n in (MOST_BUDGET + 1, 2**63, 2**64 - 1)])
 
+    def test_a_level_in_the_middle(self):
+        """A budget is for the greatest level, wherever it is: two of these three entries have 9 rows in every plan, and all three have 6."""
+        bounds = [1, 2, 2, 9, 2, 9, 9, 6]
+        self.check([(Call(name, [bounds], 3, budget), Status.BUDGET, 9) for name in ("order", "tree") for budget in (6, 8)])
+
     def test_what_comes_first(self):
         """Where several statuses apply, the one that is told is the first of the header's list."""
         wrong = dict(rows=[MOST_ROWS + 1] * 13, equalities=[(0, 0, 0, 0)] * 257, lists=[(0, 0, 9, 9)], runs=[(0, 0)], room=0)
