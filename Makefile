@@ -16,7 +16,7 @@ WORDS := run schema.sql query.sql
 
 ## make run       runs a query over examples/trips, or over a folder of yours: make run DATA=FOLDER
 ##                (2 seconds with the proved program; a minute without it, and then nothing is proved)
-## make build     proves and builds the program (under 20 minutes the first time; it says how long is left)
+## make build     proves and builds the program (about 20 minutes the first time; it says how long is left)
 ## make library   proves and builds the library for C, Python and Rust (docs/EMBEDDING.md; under ten minutes the first time)
 ## make install   lays what was built, program and library, below PREFIX, /usr/local (2 seconds); make uninstall takes it away
 ## make deb       makes a Debian package of both in out/ (2 seconds, once they are built)
