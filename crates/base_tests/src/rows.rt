@@ -1,7 +1,7 @@
 //! Row buffers, chains, linked rows and what is reserved.
 use base_io::NoMemory;
 use link_index::{Chains, Link, RowForest};
-use reserve_plan::reserve;
+use reserve_plan::{reserve, row_buffers};
 use row_buf::RowBuf;
 use std::alloc::Global;
 use std::test::Fail;
@@ -59,10 +59,11 @@ fn a_row_leads_to_those_above_it(rt: HostRuntime) -> Result<(), Fail> {
     Ok(())
 }
 
-// How many scans and chains stand ready for two entries.
+// How many lists and chains stand ready for two entries.
 fn reserved(alloc: Global) -> Result<(usize, usize), NoMemory> {
+    let lists = row_buffers(alloc, &[6, 0])?;
     let reserved = reserve(alloc, &[1, 0], &[6, 0], &[0, 12])?;
-    Ok((reserved.scans.len(), reserved.chains.len()))
+    Ok((lists.len(), reserved.chains.len()))
 }
 
 #[test]

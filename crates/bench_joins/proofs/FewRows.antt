@@ -1,10 +1,10 @@
 -- A join has at most so many rows for each row of the left table as the right one has each key.
 use Rattle.std.proofs.Common.{◌≡◌, ℕ, zero, suc, ◌+◌, ◌-◌, ◌*◌, ◌/◌, ◌%◌, ◌<◌, ◌≤◌, ◌^◌, Bool, true, false, not, eqb, ◌||◌, Option, Some, None, List, [], ◌∷◌, ◌++◌, length, map, get_or, refl, ap, sym, ◌∙◌, subst, arith, inl, inr}
 use Rattle.std.specs.Prelude.{All, IsUtf8}
-use Rattle.std.specs.List.{filter, range_with_len, AllByRecursion, IsDistinct}
+use Rattle.std.specs.List.{filter, range_with_len, AllByRecursion, AllZip, IsDistinct}
 use Rattle.std.proofs.lemmas.Bool.{and_parts, cases_Bool, cases_lt, eqb-true}
 use Rattle.std.proofs.lemmas.List.{get_or-map, length-append, length-map}
-use Rattle.std.proofs.lemmas.List.Elements.{All-from_recursion, All-map, filter-append, recursion_from_All}
+use Rattle.std.proofs.lemmas.List.Elements.{All-contains_itself, All-from_recursion, All-map, filter-append, recursion_from_All}
 use Rattle.std.proofs.lemmas.List.FromFn.{get_or-range_with_len, length-range_with_len}
 use Rattle.std.proofs.lemmas.Nat.{div-add-mod'}
 use Rattle.std.proofs.Math.Nat.{mul-suc, suc-mul}
@@ -15,8 +15,9 @@ use Rattle.query_types.specs.declared.types.ColumnRef.{ColumnRef}
 use Rattle.query_types.specs.declared.types.Operand.TheVariants as operand
 use Rattle.query_types.specs.declared.types.Query.{Query}
 use Rattle.reserve_plan.specs.declared.reserved.Reserved.{Reserved}
-use Rattle.reserve_plan.specs.Rooms.{rooms, HasRooms}
-use Rattle.reserve_plan.proofs.Roomy.{less_room}
+use Rattle.row_buf.specs.Rows.{Rows}
+use Rattle.reserve_plan.specs.Rooms.{rooms, HasRooms, IsRoomFor}
+use Rattle.reserve_plan.proofs.Roomy.{less_buffers, less_room}
 use Rattle.sql_meaning.specs.Answers.{conjuncts_of}
 use Rattle.sql_meaning.specs.Choices.{extended, IsChoiceOf}
 use Rattle.sql_meaning.specs.Conditions.{cond_holds}
@@ -26,12 +27,11 @@ use Rattle.sql_meaning.specs.Tables.{row_counts, tables_of}
 use Rattle.sql_meaning.proofs.LoopFacts.{rows_are}
 use Rattle.sql_meaning.proofs.NamedFacts.{can_ask}
 use Rattle.join_steps.specs.declared.keys.Key.{Key}
-use Rattle.join_steps.specs.Lists.{scan_of, IsOfScan, IsOrderOf}
+use Rattle.join_steps.specs.Lists.{list_sizes, scan_of, scans_of, IsOfScan, IsOrderOf}
 use Rattle.join_steps.specs.Sides.{is_between}
 use Rattle.join_steps.proofs.KeyFacts.{key_holds, sides_between, IsKeyOf}
-use Rattle.hash_join.specs.Levels.{joined, level_sizes, query_level, scan_sizes}
+use Rattle.hash_join.specs.Levels.{joined, list_level_sizes}
 use Rattle.hash_join.proofs.AllLevels.{next_joined, placed_joined, scan_below}
-use Rattle.hash_join.proofs.PlanRooms.{are_of_scans, joined_scans}
 use Rattle.bench_joins.specs.Tables.{compared, join_of, repeated, table_of, tables_of_two, AreNumbers}
 
 -- ---- how many rows have a key
@@ -257,19 +257,16 @@ module _ (left right times : ℕ) (values : Option Op) (lk lv rv : List ℕ) (ar
   second_scan = omega (arith, scan_few 1, rows_are db 1)
 
   of_scans : All (IsOfScan conjuncts (row_counts (tables_of db)) (scan_of q db)) order
-  of_scans = are_of_scans q db (scan_of q db) order is_order (λ e low. refl)
+  of_scans k d low = All-contains_itself (scan_of q db (get_or order k d))
 
-  joined_is : (k : ℕ) → joined q db (scan_of q db) order k ≡ query_level q db order k
-  joined_is k = joined_scans q db (scan_of q db) order k is_order (λ e low. refl)
-
-  pub first_level : length (query_level q db order 1) ≤ left
+  pub first_level : length (joined q db (scan_of q db) order 1) ≤ left
   first_level =
       let above : List (List ℕ) = joined q db (scan_of q db) order 0 in
       let next = next_joined q db (scan_of q db) order is_order 0 (omega arith) (of_scans 0 0 (omega arith)) in
       let some_above : length above ≤ 1 = fewer (λ (choice : List ℕ). all_hold conjuncts [] (row_in [] choice)) ([] ∷ []) in
       let few_all = few_each (completed_hold conjuncts [] 0) (scan_of q db 0) (length (scan_of q db 0)) (λ choice. Unit {0})
       (λ choice p. omega (arith, fewer (completed_hold conjuncts [] 0) (map (λ row. choice ++ row ∷ []) (scan_of q db 0)), length-map (scan_of q db 0) (λ row. choice ++ row ∷ []))) above (nothing_asked above) in
-      omega (arith, ap (λ (s : List (List ℕ)). length s) (sym (joined_is 1) ∙ next), few_all, at_most_one (length (scan_of q db 0)) (length above) some_above, first_scan)
+      omega (arith, ap (λ (s : List (List ℕ)). length s) next, few_all, at_most_one (length (scan_of q db 0)) (length above) some_above, first_scan)
 
   -- a row that is joined has the key of the left row
   has_key : (x row : ℕ) → x < row_counts (tables_of db) 0 → row < row_counts (tables_of db) 1 → completed_hold conjuncts (0 ∷ []) 1 (x ∷ row ∷ []) ≡ true → eqb (get_or (repeated right times) row 0) (get_or lk x 0) ≡ true
@@ -297,20 +294,27 @@ module _ (left right times : ℕ) (values : Option Op) (lk lv rv : List ℕ) (ar
       (subst (λ (n : ℕ). length (filter (λ row. eqb (get_or (repeated right times) row 0) (get_or lk x 0)) (filter (passes_own conjuncts 1) (range_with_len 0 n))) ≤ times) (sym (rows_are db 1))
       (few_keys right times (get_or lk x 0) (passes_own conjuncts 1) some))
 
-  pub second_level : length (query_level q db order 2) ≤ times * left
+  pub second_level : length (joined q db (scan_of q db) order 2) ≤ times * left
   second_level =
       let above : List (List ℕ) = joined q db (scan_of q db) order 1 in
       let next = next_joined q db (scan_of q db) order is_order 1 (omega arith) (of_scans 1 0 (omega arith)) in
       let few_all = few_each (completed_hold conjuncts (0 ∷ []) 1) (scan_of q db 1) times (IsChoiceOf (row_counts (tables_of db)) (0 ∷ [])) below_choice above
       (recursion_from_All (IsChoiceOf (row_counts (tables_of db)) (0 ∷ [])) above (placed_joined q db (scan_of q db) order is_order 1 (omega arith) of_scans)) in
-      let few_above : length above ≤ left = omega (arith, ap (λ (s : List (List ℕ)). length s) (joined_is 1), first_level) in
-      omega (arith, ap (λ (s : List (List ℕ)). length s) (sym (joined_is 2) ∙ next), few_all, more_times times (length above) left few_above)
+      let few_above : length above ≤ left = first_level in
+      omega (arith, ap (λ (s : List (List ℕ)). length s) next, few_all, more_times times (length above) left few_above)
 
   -- ---- the rooms
 
-  pub small : times * left ≤ 20000000 → left ≤ 4000000 → All (λ rows. rows ≤ 20000000) (level_sizes q db order)
-  small most few_left = All-from_recursion (λ rows. rows ≤ 20000000) (level_sizes q db order) (omega (arith, first_level, few_left), (omega (arith, second_level, most), tt))
+  abbrev scans : List (List ℕ)
+  scans = scans_of q (tables_of db)
 
-  pub has_rooms : (reserved : Reserved) → HasRooms (rooms order (left ∷ right ∷ []) (left ∷ times * left ∷ [])) reserved → HasRooms (rooms order (scan_sizes q db) (level_sizes q db order)) reserved
+  pub small : times * left ≤ 20000000 → left ≤ 4000000 → All (λ rows. rows ≤ 20000000) (list_level_sizes q (tables_of db) (scans_of q (tables_of db)) order)
+  small most few_left = All-from_recursion (λ rows. rows ≤ 20000000) (list_level_sizes q (tables_of db) scans order) (omega (arith, first_level, few_left), (omega (arith, second_level, most), tt))
+
+  pub has_rooms : (reserved : Reserved) → HasRooms (rooms order (left ∷ right ∷ []) (left ∷ times * left ∷ [])) reserved
+      → HasRooms (rooms order (list_sizes q (scans_of q (tables_of db))) (list_level_sizes q (tables_of db) (scans_of q (tables_of db)) order)) reserved
   has_rooms reserved has =
-      less_room order (scan_sizes q db) (level_sizes q db order) (left ∷ right ∷ []) (left ∷ times * left ∷ []) reserved (first_scan, (second_scan, tt)) (first_level, (second_level, tt)) has
+      less_room order (list_sizes q scans) (list_level_sizes q (tables_of db) scans order) (left ∷ right ∷ []) (left ∷ times * left ∷ []) reserved (first_scan, (second_scan, tt)) (first_level, (second_level, tt)) has
+
+  pub has_lists : (buffers : List (Rows ℕ)) → AllZip IsRoomFor (left ∷ right ∷ []) buffers → AllZip IsRoomFor (list_sizes q (scans_of q (tables_of db))) buffers
+  has_lists buffers has = less_buffers (list_sizes q scans) (left ∷ right ∷ []) buffers (first_scan, (second_scan, tt)) has

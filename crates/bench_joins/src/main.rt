@@ -5,8 +5,9 @@
 //! the least of three.
 #![tactic(auto)]
 
-ghost use Rattle.std.specs.Prelude.{◌≡◌, ◌*◌, ◌<◌, ◌≤◌, IfOk, length};
-ghost use Rattle.reserve_plan.specs.Rooms.{HasRooms};
+ghost use Rattle.std.specs.Prelude.{◌≡◌, ◌*◌, ◌<◌, ◌≤◌, [], ◌∷◌, IfOk, length};
+ghost use Rattle.std.specs.List.{AllZip};
+ghost use Rattle.reserve_plan.specs.Rooms.{HasRooms, IsRoomFor};
 ghost use Rattle.bench_joins.specs.Tables.{join_of, rooms_for, AreTwo};
 
 mod tables;
@@ -14,8 +15,10 @@ mod tables;
 use base_io::NoMemory;
 use csv_tables::Database;
 use hash_join::{Executed, execute};
+use join_steps::scan_all;
 use query_types::{Op, Query};
-use reserve_plan::{Reserved, reserve};
+use reserve_plan::{Reserved, reserve, row_buffers};
+use row_buf::RowBuf;
 use std::alloc::Global;
 use std::rt::Clock;
 use std::time::Instant;
@@ -53,7 +56,14 @@ fn summed(executed: &Executed) -> Joined
     }
 }
 
-// Buffers with room for the scans, and for a join of at most so many rows for each row of the left table as the right one has each key.
+// Lists with room for the scans.
+fn lists_for(alloc: Global, sizes: Sizes) -> Result<Vec<RowBuf<u32>>, NoMemory>
+    ensures { IfOk result (λ lists. AllZip IsRoomFor (sizes.left ∷ sizes.right ∷ []) lists.items) }
+{
+    row_buffers(alloc, &[sizes.left as u64, sizes.right as u64])
+}
+
+// Buffers with room for a join of at most so many rows for each row of the left table as the right one has each key.
 fn reserved_for(alloc: Global, sizes: Sizes) -> Result<Reserved, NoMemory>
     requires left { sizes.left ≤ 4000000 }
     requires right { sizes.right ≤ 4000000 }
@@ -66,9 +76,10 @@ fn reserved_for(alloc: Global, sizes: Sizes) -> Result<Reserved, NoMemory>
     reserve(alloc, &[0, 1], &[left, right], &[left, most])
 }
 
-// One execution, without the reservation before it.
+// The scans and their join, without the reservation before it.
 fn execution(
     rt: &impl Clock,
+    mut lists: Vec<RowBuf<u32>>,
     reserved: Reserved,
     sizes: Sizes,
     values: Option<Op>,
@@ -81,10 +92,12 @@ fn execution(
     requires left { sizes.left ≤ 4000000 }
     requires right { sizes.right ≤ 4000000 }
     requires joined { sizes.times * sizes.left ≤ 20000000 }
+    requires lists { AllZip IsRoomFor (sizes.left ∷ sizes.right ∷ []) lists.items }
     requires rooms { HasRooms (rooms_for sizes.left sizes.right sizes.times) reserved }
 {
     let start = Instant::now(rt)?;
-    let executed = execute(reserved, &[0, 1], query, db);
+    scan_all(query, db, lists.as_mut_slice());
+    let executed = execute(reserved, lists.as_slice(), &[0, 1], query, db);
     let nanos = start.elapsed(rt)?.as_nanos();
     let Joined { rows, sum, .. } = summed(&executed);
     Ok(Joined { nanos, rows, sum })
@@ -105,8 +118,9 @@ fn timed(
     requires right { sizes.right ≤ 4000000 }
     requires joined { sizes.times * sizes.left ≤ 20000000 }
 {
+    let lists = lists_for(alloc, sizes).map_err(out_of_memory)?;
     let reserved = reserved_for(alloc, sizes).map_err(out_of_memory)?;
-    execution(rt, reserved, sizes, values, query, db)
+    execution(rt, lists, reserved, sizes, values, query, db)
 }
 
 // The least time of several executions. The right table has each key so many times, so the join has at most so many rows for each row of the

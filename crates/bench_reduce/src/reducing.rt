@@ -3,9 +3,7 @@ ghost use Rattle.std.specs.Prelude.{◌≡◌, ◌<◌, ◌≤◌, ℕ, IfOk, On
 ghost use Rattle.limits.specs.Profile.{most_conjuncts, most_rows};
 ghost use Rattle.sql_meaning.specs.Databases.{IsDatabaseOf};
 ghost use Rattle.sql_meaning.specs.Tables.{row_counts, tables_of};
-ghost use Rattle.join_steps.specs.Lists.{scan_of};
-ghost use Rattle.reduced_scans.specs.Families.{list_at};
-ghost use Rattle.reduced_scans.specs.Lists.{lists_of};
+ghost use Rattle.join_steps.specs.Lists.{scan_of, list_at, lists_of};
 
 use crate::failed::Failed;
 use base_io::NoMemory;

@@ -11,10 +11,11 @@ ghost use Rattle.join_tests.specs.Examples.{HasNodes};
 
 use crate::triangle::{database, query};
 use base_io::NoMemory;
-use bushy_join::execute_bushy;
+use bushy_join::{execute_bushy, reserve_leaves};
 use bushy_plan::BushyError;
 use bushy_planning::plan_bushy;
 use csv_tables::Database;
+use join_steps::scan_all;
 use limits::MOST_ROWS;
 use query_types::Query;
 use std::alloc::{AllocError, Global};
@@ -57,8 +58,10 @@ fn joined(alloc: Global, query: &Query, db: &Database) -> Result<JoinedTree, Fai
     ensures { IfOk result (λ joined. HasNodes (length query.now.from) joined.done) }
 {
     let plan = plan_bushy(alloc, query, db, 1, MOST_ROWS as u64)?;
+    let mut lists = reserve_leaves(alloc, &plan, query, db)?;
     let reserved = reserve_bushy(alloc, &plan)?;
-    let done = execute_bushy(reserved, &plan, query, db);
+    scan_all(query, db, lists.as_mut_slice());
+    let done = execute_bushy(reserved, lists, &plan, query, db);
     Ok(JoinedTree { plan, done })
 }
 

@@ -1,5 +1,5 @@
 -- What a plan's bounds say of the rooms that its run needs.
-use Rattle.std.proofs.Common.{◌≡◌, ℕ, suc, ◌<◌, ◌≤◌, List, [], ◌∷◌, length, get_or, sym, ◌∙◌, subst, arith}
+use Rattle.std.proofs.Common.{ℕ, ◌+◌, ◌<◌, ◌≤◌, List, length, get_or, sym, ◌∙◌, subst, arith}
 use Rattle.std.specs.Prelude.{All}
 use Rattle.std.specs.List.{AllZip}
 use Rattle.std.proofs.lemmas.List.{get_or_default}
@@ -9,26 +9,20 @@ use Rattle.plans.specs.declared.left_deep.Plan.{Plan}
 use Rattle.plans.specs.LeftDeep.{IsPlan}
 use Rattle.csv_tables.specs.declared.types.Database.{Database}
 use Rattle.query_types.specs.declared.types.Query.{Query}
+use Rattle.row_buf.specs.Rows.{Rows}
 use Rattle.sql_meaning.specs.Databases.{IsDatabaseOf}
 use Rattle.sql_meaning.specs.Tables.{row_counts, tables_of}
-use Rattle.join_steps.specs.Lists.{IsOrderOf}
+use Rattle.join_steps.specs.Lists.{list_sizes, IsOrderOf}
+use Rattle.join_steps.specs.Plans.{IsPlanOf}
+use Rattle.join_steps.proofs.WholeScans.{size_at, size_count}
 use Rattle.reserve_plan.specs.declared.reserved.Reserved.{Reserved}
-use Rattle.reserve_plan.specs.Rooms.{rooms, HasRooms}
-use Rattle.reserve_plan.proofs.Roomy.{less_room}
-use Rattle.hash_join.specs.Levels.{level_sizes, scan_sizes}
-use Rattle.hash_join.proofs.PlanRooms.{level_count, level_size, scan_count, scan_size}
-use Rattle.planned_joins.specs.PlansOf.{HaveFewRows, IsPlanOf, IsReadyFor}
+use Rattle.reserve_plan.specs.Rooms.{rooms, HasRooms, IsRoomFor}
+use Rattle.reserve_plan.proofs.Roomy.{less_buffers, less_room, zip_each}
+use Rattle.hash_join.specs.Levels.{list_level_sizes}
+use Rattle.hash_join.proofs.PlanRooms.{level_count, level_size}
+use Rattle.planned_joins.specs.PlansOf.{HaveFewRows, IsReadyFor}
 
--- ---- lists of numbers, one by one
-
-pub zip_each : (ns ms : List ℕ) → length ns ≡ length ms → ((i : ℕ) → i < length ns → get_or ns i 0 ≤ get_or ms i 0)
-    → AllZip ◌≤◌ ns ms
-zip_each [] [] long each = tt
-zip_each [] (m ∷ ms) long each = absurd (omega arith)
-zip_each (n ∷ ns) [] long each = absurd (omega arith)
-zip_each (n ∷ ns) (m ∷ ms) long each = (each 0 (omega arith), zip_each ns ms (omega arith) (λ i low. each (suc i) (omega arith)))
-
-pub all_at_most : (most : ℕ) (ns : List ℕ) → ((i : ℕ) → i < length ns → get_or ns i 0 ≤ most) → All (λ n. n ≤ most) ns
+all_at_most : (most : ℕ) (ns : List ℕ) → ((i : ℕ) → i < length ns → get_or ns i 0 ≤ most) → All (λ n. n ≤ most) ns
 all_at_most most ns each i d low = subst (λ (n : ℕ). n ≤ most) (get_or_default ns i 0 d low) (each i low)
 
 -- ---- a plan for the entries of a query
@@ -59,34 +53,37 @@ module _ (query : Query) (db : Database) (plan : Plan) (shape : IsPlan (length q
   pub small_levels : ((k : ℕ) → k < length query.from → get_or plan.levels k 0 ≤ most_budget) → All (λ rows. rows ≤ most_budget) plan.levels
   small_levels within_budget = all_at_most most_budget plan.levels (λ k low. within_budget k (omega (arith, low, shape.levels)))
 
--- ---- a plan of a query
+-- ---- a plan of a query over lists
 
-module _ (query : Query) (db : Database) (plan : Plan) (is : IsPlanOf query (tables_of db) plan) where
-  scans_fit : AllZip ◌≤◌ (scan_sizes query db) plan.scans
-  scans_fit = zip_each (scan_sizes query db) plan.scans (scan_count query db ∙ sym is.for_each_entry.scans)
+module _ (query : Query) (db : Database) (lists : List (List ℕ)) (plan : Plan) (is : IsPlanOf query (tables_of db) lists plan) where
+  lists_fit : AllZip ◌≤◌ (list_sizes query lists) plan.scans
+  lists_fit = zip_each (list_sizes query lists) plan.scans (size_count query lists ∙ sym is.for_each_entry.scans)
       (λ entry low.
-      let within : entry < length query.from = omega (arith, low, scan_count query db) in
-      omega (arith, scan_size query db entry within, is.scans entry within))
+      let within : entry < length query.from = omega (arith, low, size_count query lists) in
+      omega (arith, size_at query lists entry within, is.scans entry within))
 
-  levels_fit : AllZip ◌≤◌ (level_sizes query db plan.order) plan.levels
-  levels_fit = zip_each (level_sizes query db plan.order) plan.levels
-      (level_count query db plan.order ∙ is.for_each_entry.order.all ∙ sym is.for_each_entry.levels)
+  levels_fit : AllZip ◌≤◌ (list_level_sizes query (tables_of db) lists plan.order) plan.levels
+  levels_fit = zip_each (list_level_sizes query (tables_of db) lists plan.order) plan.levels
+      (level_count query db lists plan.order ∙ is.for_each_entry.order.all ∙ sym is.for_each_entry.levels)
       (λ k low.
-      let reached : k < length plan.order = omega (arith, low, level_count query db plan.order) in
+      let reached : k < length plan.order = omega (arith, low, level_count query db lists plan.order) in
       let within : k < length query.from = omega (arith, reached, is.for_each_entry.order.all) in
-      omega (arith, level_size query db plan.order k reached, is.levels k within))
+      omega (arith, level_size query db lists plan.order k reached, is.levels k within))
 
   -- room for what the plan says is room for what there is
   pub ready : (reserved : Reserved) → HasRooms (rooms plan.order plan.scans plan.levels) reserved
-      → IsReadyFor query db plan.order reserved
+      → IsReadyFor query (tables_of db) lists plan.order reserved
   ready reserved has =
-      less_room plan.order (scan_sizes query db) (level_sizes query db plan.order) plan.scans plan.levels reserved
-      scans_fit levels_fit has
+      less_room plan.order (list_sizes query lists) (list_level_sizes query (tables_of db) lists plan.order) plan.scans plan.levels reserved
+      lists_fit levels_fit has
+
+  pub rooms_for_lists : (buffers : List (Rows ℕ)) → AllZip IsRoomFor plan.scans buffers → AllZip IsRoomFor (list_sizes query lists) buffers
+  rooms_for_lists buffers has = less_buffers (list_sizes query lists) plan.scans buffers lists_fit has
 
   -- the levels themselves are no larger
-  pub few_in_levels : All (λ rows. rows ≤ most_budget) (level_sizes query db plan.order)
-  few_in_levels = all_at_most most_budget (level_sizes query db plan.order)
+  pub few_in_levels : All (λ rows. rows ≤ most_budget) (list_level_sizes query (tables_of db) lists plan.order)
+  few_in_levels = all_at_most most_budget (list_level_sizes query (tables_of db) lists plan.order)
       (λ k low.
-      let reached : k < length plan.order = omega (arith, low, level_count query db plan.order) in
+      let reached : k < length plan.order = omega (arith, low, level_count query db lists plan.order) in
       let within : k < length query.from = omega (arith, reached, is.for_each_entry.order.all) in
-      omega (arith, level_size query db plan.order k reached, is.levels k within, is.within_budget k within))
+      omega (arith, level_size query db lists plan.order k reached, is.levels k within, is.within_budget k within))

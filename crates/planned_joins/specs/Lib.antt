@@ -1,2 +1,1 @@
 pub mod PlansOf
-pub mod PlansOver

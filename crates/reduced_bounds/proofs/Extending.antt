@@ -6,7 +6,8 @@ use Rattle.std.proofs.lemmas.Bool.{cases_eq, eq-eqb, ne_eqb}
 use Rattle.berge_tree.specs.declared.edges.Edge.{Edge}
 use Rattle.berge_tree.specs.Equalities.{AreApart, ClosesNoCycle, ClosesNoCycleAfter}
 use Rattle.join_graph.specs.Kept.{AreConnected}
-use Rattle.reduced_scans.specs.Families.{HasPartner, HavePartners, list_at}
+use Rattle.join_steps.specs.Lists.{list_at}
+use Rattle.reduced_scans.specs.Families.{HasPartner, HavePartners}
 use Rattle.reduced_scans.proofs.Members.{behind, in_cases, in_front, not_in_none}
 use Rattle.reduced_bounds.proofs.Components.{closed_at, component, merged_cases, same_connects}
 

@@ -27,10 +27,9 @@ use Rattle.table_stats.specs.Columns.{first_row, numbered}
 use Rattle.table_stats.specs.Keys.{TellsValues}
 use Rattle.table_stats.proofs.EqualValues.{equal_itself, is_equal}
 use Rattle.table_stats.proofs.FirstRows.{equal_firsts, first_there, same_first}
-use Rattle.reduced_scans.specs.Families.{list_at}
+use Rattle.join_steps.specs.Lists.{list_at, AreOfScans}
 use Rattle.reduced_scans.proofs.FamilyRows.{row_low}
 use Rattle.reduced_bounds.specs.Bounds.{entry_bounds_over, listed_values}
-use Rattle.reduced_bounds.specs.Plans.{AreOfScans}
 
 module _ (tables : Tables) (lists : List (List ℕ)) (accuracy : ℕ) where
   abbrev bounds : EntryBounds

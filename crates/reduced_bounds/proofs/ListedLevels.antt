@@ -25,10 +25,9 @@ use Rattle.level_bounds.proofs.Choosing.{entry_in}
 use Rattle.level_bounds.proofs.Lists.{all_from, each_of, from_filter, from_map, in_map, in_true, is_in}
 use Rattle.level_bounds.proofs.NeverUnder.{differ, satisfies}
 use Rattle.level_bounds.proofs.Reordering.{stands}
-use Rattle.reduced_scans.specs.Families.{list_at}
+use Rattle.join_steps.specs.Lists.{list_at, AreOfScans}
 use Rattle.reduced_scans.proofs.Bridge.{has, has-contains}
 use Rattle.reduced_scans.proofs.FamilyRows.{family_level}
-use Rattle.reduced_bounds.specs.Plans.{AreOfScans}
 
 -- where all rows of a choice pass, so does that of each entry
 pass_at : (test : ℕ → ℕ → Bool) (rows : ℕ → ℕ) (order choice : List ℕ) → IsChoiceOf rows order choice → all_pass test order choice ≡ true

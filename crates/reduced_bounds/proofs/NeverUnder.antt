@@ -13,9 +13,8 @@ use Rattle.sql_meaning.specs.Levels.{level_over}
 use Rattle.level_bounds.specs.Orders.{IsOrderOfSet}
 use Rattle.level_bounds.specs.Scans.{equalities_in}
 use Rattle.table_stats.proofs.ValueNumbers.{have_keys}
-use Rattle.reduced_scans.specs.Families.{list_at}
+use Rattle.join_steps.specs.Lists.{list_at, AreOfScans}
 use Rattle.reduced_bounds.specs.Bounds.{entry_bounds_over, set_bounds_over}
-use Rattle.reduced_bounds.specs.Plans.{AreOfScans}
 use Rattle.reduced_bounds.proofs.ListBounds.{set_dominates, set_has_lists}
 use Rattle.reduced_bounds.proofs.ListedLevels.{level_within}
 

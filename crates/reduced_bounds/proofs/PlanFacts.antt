@@ -18,11 +18,12 @@ use Rattle.sql_meaning.specs.Tables.{Tables, row_counts}
 use Rattle.level_bounds.specs.Orders.{IsOrderOfSet}
 use Rattle.level_bounds.proofs.SetNumbers.{order_of_all}
 use Rattle.planning.proofs.Levels.{level_at, level_within_cost, prefix_below, prefix_of}
-use Rattle.reduced_scans.specs.Families.{list_at}
+use Rattle.join_steps.specs.Lists.{list_at, rows_listed, list_sizes, AreOfScans, list_levels}
 use Rattle.reduced_scans.proofs.ByRounds.{filter_shrinks}
 use Rattle.reduced_scans.proofs.FamilyRows.{family_list, stays}
-use Rattle.reduced_bounds.specs.Bounds.{rows_listed, scan_bounds_over, set_bounds_over}
-use Rattle.reduced_bounds.specs.Plans.{AreOfScans, IsPlanOver, list_levels, planned_over}
+use Rattle.reduced_bounds.specs.Bounds.{set_bounds_over}
+use Rattle.join_steps.specs.Plans.{IsPlanOf}
+use Rattle.reduced_bounds.specs.Plans.{planned_over}
 use Rattle.reduced_bounds.proofs.NeverUnder.{level_never_under}
 
 -- a list has at most as many rows as its table
@@ -40,7 +41,7 @@ module _ (query : Query) (tables : Tables) (lists : List (List ℕ)) (accuracy b
   bounds = set_bounds_over query tables lists accuracy
 
   abbrev scans : List ℕ
-  scans = scan_bounds_over query lists
+  scans = list_sizes query lists
 
   one_each : length scans ≡ length query.from
   one_each = length-map-range_with_len (rows_listed lists) 0 (length query.from)
@@ -87,7 +88,7 @@ module _ (query : Query) (tables : Tables) (lists : List (List ℕ)) (accuracy b
             | inr top ↦ absurd (omega (arith, level_is k low, level_within k))
           ]
 
-      pub is_plan_over : IsPlanOver query tables lists plan
+      pub is_plan_over : IsPlanOf query tables lists plan
       is_plan_over = record {
         for_each_entry = is_plan;
         scans = λ entry low. omega (arith, scan_is entry low);

@@ -26,7 +26,7 @@ use Rattle.level_bounds.proofs.SmallTriangle.{triangle_joined}
 use Rattle.query_bounds.specs.Examples.{pair}
 use Rattle.planning.specs.Examples.{small_tables}
 use Rattle.reduced_scans.specs.Rounds.{after_rounds, reduced_of}
-use Rattle.reduced_scans.specs.Scans.{scans_of}
+use Rattle.join_steps.specs.Lists.{scans_of}
 use Rattle.reduced_bounds.specs.Bounds.{set_bounds_over}
 use Rattle.reduced_bounds.specs.Examples.{crossed_tables, empty_first, never_true, with_another}
 use Rattle.reduced_bounds.specs.Plans.{planned_reduced}

@@ -28,8 +28,8 @@ use Rattle.level_bounds.proofs.SmallTriangle.{triangle_joined}
 use Rattle.query_bounds.specs.Examples.{pair}
 use Rattle.planning.specs.Examples.{small_tables}
 use Rattle.reduced_scans.specs.Rounds.{after_rounds, reduced_of, rows_in_all}
-use Rattle.reduced_scans.specs.Scans.{scans_of}
-use Rattle.reduced_bounds.specs.Bounds.{scan_bounds_over, set_bounds_over}
+use Rattle.join_steps.specs.Lists.{scans_of, list_sizes}
+use Rattle.reduced_bounds.specs.Bounds.{set_bounds_over}
 use Rattle.reduced_bounds.specs.Examples.{along, by_region, chain_tables, empty_first, never_true, region_tables, with_another}
 use Rattle.reduced_bounds.specs.Plans.{planned_over, planned_reduced}
 
@@ -43,11 +43,11 @@ reduced_from query tables es scans are_es are_scans =
     ∙ ap (λ (s : List (List ℕ)). after_rounds es (are_equal_at tables) (rows_in_all s + 1) s) are_scans
 
 pub planned_from : (query : Query) (tables : Tables) (lists : List (List ℕ)) (accuracy budget : ℕ) (sets scans : List ℕ) → reduced_of query tables ≡ lists
-    → set_bounds_over query tables lists accuracy ≡ sets → scan_bounds_over query lists ≡ scans → planned_reduced query tables accuracy budget ≡ plan_answer sets scans budget
+    → set_bounds_over query tables lists accuracy ≡ sets → list_sizes query lists ≡ scans → planned_reduced query tables accuracy budget ≡ plan_answer sets scans budget
 unfolding planned_over
 planned_from query tables lists accuracy budget sets scans are_lists are_sets are_scans =
     ap (λ (s : List (List ℕ)). planned_over query tables s accuracy budget) are_lists
-    ∙ ap (λ (s : List ℕ). plan_answer s (scan_bounds_over query lists) budget) are_sets
+    ∙ ap (λ (s : List ℕ). plan_answer s (list_sizes query lists) budget) are_sets
     ∙ ap (λ (s : List ℕ). plan_answer sets s budget) are_scans
 
 -- ---- R and S

@@ -21,10 +21,10 @@ use Rattle.level_bounds.specs.Keys.{are_equal_at}
 use Rattle.level_bounds.specs.Scans.{query_scan}
 use Rattle.level_bounds.proofs.EqualityFacts.{equality_holds, equality_names}
 use Rattle.level_bounds.proofs.Lists.{all_true, each_of, from_filter, in_filter_map, in_map, in_true}
-use Rattle.reduced_scans.specs.Families.{list_at}
-use Rattle.reduced_scans.specs.Scans.{AreConsistentScans, scans_of}
+use Rattle.join_steps.specs.Lists.{list_at, scans_of}
+use Rattle.reduced_scans.specs.Scans.{AreConsistentScans}
 use Rattle.reduced_scans.proofs.Members.{in_cases, not_in_none}
-use Rattle.reduced_scans.proofs.QueryScans.{scan_at, scan_past}
+use Rattle.join_steps.proofs.WholeScans.{scan_at, scan_past}
 use Rattle.reduced_bounds.specs.TakingPart.{JoinsByEqualitiesAlone, TakesPart}
 use Rattle.reduced_bounds.proofs.Components.{closed_at, component, connected_same}
 use Rattle.reduced_bounds.proofs.Extending.{Extends, come, come_too, extended, still_connected}

@@ -6,19 +6,14 @@ use Rattle.cond_stats.specs.Lists.{compressed_degrees}
 use Rattle.join_graph.specs.Conjuncts.{equalities_of}
 use Rattle.tree_bounds.specs.TreeBounds.{EntryBounds}
 use Rattle.set_bounds.specs.AllSets.{bounds_of_sets}
-use Rattle.sql_meaning.specs.Answers.{entries_of}
 use Rattle.sql_meaning.specs.Tables.{Tables}
 use Rattle.filtered_lists.specs.Standing.{value_in_row}
 use Rattle.table_stats.specs.Columns.{numbered}
-use Rattle.reduced_scans.specs.Families.{list_at}
+use Rattle.join_steps.specs.Lists.{list_at, rows_listed}
 
 -- the values of a column in the rows of its entry's list
 abbrev pub listed_values : Tables → List (List ℕ) → ℕ → ℕ → List Value
 listed_values tables lists entry column = map (value_in_row tables entry column) (list_at lists entry)
-
--- the number of an entry's rows
-abbrev pub rows_listed : List (List ℕ) → ℕ → ℕ
-rows_listed lists entry = length (list_at lists entry)
 
 -- of each entry the number of its rows, and of each column its degree list over these rows, compressed at an accuracy
 abbrev pub entry_bounds_over : Tables → List (List ℕ) → ℕ → EntryBounds
@@ -26,10 +21,6 @@ entry_bounds_over tables lists accuracy = record {
   rows = rows_listed lists;
   list = λ entry column. compressed_degrees accuracy (numbered (listed_values tables lists entry column));
 }
-
--- the bound of each entry, in FROM order
-abbrev pub scan_bounds_over : Query → List (List ℕ) → List ℕ
-scan_bounds_over query lists = map (rows_listed lists) (entries_of query)
 
 -- the bound of each set of entries, at the number whose bits are the set
 abbrev pub set_bounds_over : Query → Tables → List (List ℕ) → ℕ → List ℕ

@@ -10,7 +10,7 @@ use Rattle.join_graph.specs.Conjuncts.{equalities_of, equality_of}
 use Rattle.join_graph.specs.Kept.{AreConnected}
 use Rattle.sql_meaning.specs.Conditions.{cond_holds}
 use Rattle.sql_meaning.specs.Tables.{Tables}
-use Rattle.reduced_scans.specs.Families.{list_at}
+use Rattle.join_steps.specs.Lists.{list_at}
 
 -- each conjunct is an equality of columns of two entries, or names no two entries
 abbrev pub JoinsByEqualitiesAlone : Query → Type 0

@@ -14,11 +14,12 @@ ghost use Rattle.sql_meaning.specs.Answers.{answer, conjuncts_of, entries_of, se
 ghost use Rattle.sql_meaning.specs.Levels.{level, level_over, row_in};
 ghost use Rattle.sql_meaning.specs.Tables.{Tables, row_counts};
 ghost use Rattle.level_bounds.specs.Orders.{IsOrderOfSet};
-ghost use Rattle.reduced_scans.specs.Families.{list_at};
+ghost use Rattle.join_steps.specs.Lists.{list_at, scans_of, rows_listed, AreOfScans, list_levels};
 ghost use Rattle.reduced_scans.specs.Rounds.{reduced_of};
-ghost use Rattle.reduced_scans.specs.Scans.{AreConsistentScans, scans_of};
-ghost use Rattle.reduced_bounds.specs.Bounds.{rows_listed, set_bounds_over};
-ghost use Rattle.reduced_bounds.specs.Plans.{AreOfScans, IsPlanOver, list_levels, planned_over, planned_reduced};
+ghost use Rattle.reduced_scans.specs.Scans.{AreConsistentScans};
+ghost use Rattle.reduced_bounds.specs.Bounds.{set_bounds_over};
+ghost use Rattle.join_steps.specs.Plans.{IsPlanOf};
+ghost use Rattle.reduced_bounds.specs.Plans.{planned_over, planned_reduced};
 ghost use Rattle.reduced_bounds.specs.TakingPart.{JoinsByEqualitiesAlone, TakesPart};
 
 /// No level over lists of scanned rows has more rows than the bound of its set, in whatever order its entries stand. The top bound
@@ -36,7 +37,7 @@ pub fn bounds_over_lists_are_never_under()
 pub fn plans_over_lists_are_never_under()
     ensures plan { (query : Query) (tables : Tables) (lists : List (List ℕ)) (accuracy budget : ℕ) (plan : Plan)
         → AreOfScans query tables lists → length query.from ≤ most_entries → budget ≤ most_budget
-        → planned_over query tables lists accuracy budget ≡ Ok plan → IsPlanOver query tables lists plan }
+        → planned_over query tables lists accuracy budget ≡ Ok plan → IsPlanOf query tables lists plan }
     ensures best { (query : Query) (tables : Tables) (lists : List (List ℕ)) (accuracy budget : ℕ) (plan : Plan)
         → planned_over query tables lists accuracy budget ≡ Ok plan
         → IsBest (set_bounds_over query tables lists accuracy) (length query.from) plan.order }
@@ -55,7 +56,7 @@ pub fn reduced_plans_lose_no_row()
     ensures lists { (query : Query) (tables : Tables) → AreOfScans query tables (reduced_of query tables) }
     ensures plan { (query : Query) (tables : Tables) (accuracy budget : ℕ) (plan : Plan)
         → length query.from ≤ most_entries → budget ≤ most_budget
-        → planned_reduced query tables accuracy budget ≡ Ok plan → IsPlanOver query tables (reduced_of query tables) plan }
+        → planned_reduced query tables accuracy budget ≡ Ok plan → IsPlanOf query tables (reduced_of query tables) plan }
     ensures last { (query : Query) (tables : Tables) (accuracy budget : ℕ) (plan : Plan) → NamesItsEntries query
         → planned_reduced query tables accuracy budget ≡ Ok plan
         → IsPermutation (map (λ choice. selected query tables (row_in plan.order choice))

@@ -2,7 +2,7 @@
 //! Bernstein and Goodman 1981; lists of degrees, SafeBound, SIGMOD 2023).
 //!
 //! In: tables as lists of rows, and lists of scanned rows. Out: definitions and laws, and nothing that runs. Callers cite
-//! `entry_bounds_over` and `set_bounds_over` (in `specs/Bounds.antt`), and `planned_over`, `planned_reduced` and `IsPlanOver`
+//! `entry_bounds_over` and `set_bounds_over` (in `specs/Bounds.antt`), and `planned_over` and `planned_reduced`
 //! (in `specs/Plans.antt`).
 #![tactic(auto)]
 

@@ -19,7 +19,8 @@ use Rattle.bound_fold.specs.Sets.{HaveLists, SetIsListed}
 use Rattle.bound_fold.proofs.TestedSets.{each_in_set, each_named}
 use Rattle.set_bounds.specs.AllSets.{bounds_of_sets}
 use Rattle.sql_meaning.specs.Tables.{tables_of}
-use Rattle.reduced_bounds.specs.Bounds.{entry_bounds_over, rows_listed}
+use Rattle.join_steps.specs.Lists.{rows_listed}
+use Rattle.reduced_bounds.specs.Bounds.{entry_bounds_over}
 use Rattle.reduced_planning.specs.Known.{HasRows, IsKnown}
 use Rattle.reduced_planning.proofs.SameBounds.{sets_same}
 

@@ -20,18 +20,17 @@ use Rattle.set_bounds.specs.AllSets.{bound_told}
 use Rattle.sql_meaning.specs.Databases.{IsDatabaseOf}
 use Rattle.sql_meaning.specs.Tables.{Tables, cells_of, row_counts, tables_of}
 use Rattle.sql_meaning.proofs.LoopFacts.{rows_are}
-use Rattle.reduced_scans.specs.Families.{IsAscending, IsFamily, list_at}
-use Rattle.reduced_scans.specs.Lists.{AreListsOf, lists_of}
-use Rattle.reduced_scans.specs.Scans.{scans_of}
+use Rattle.join_steps.specs.Lists.{IsAscending, IsFamily, list_at, lists_of, scans_of, rows_listed, list_sizes}
+use Rattle.reduced_scans.specs.Lists.{AreListsOf}
 use Rattle.reduced_scans.proofs.Members.{all_has, behind, in_front}
-use Rattle.reduced_scans.proofs.OfQuery.{length-lists_of}
-use Rattle.reduced_scans.proofs.QueryScans.{count_of, scan_at, scanned_low}
-use Rattle.reduced_bounds.specs.Bounds.{entry_bounds_over, rows_listed, scan_bounds_over, set_bounds_over}
+use Rattle.join_steps.proofs.WholeScans.{length-lists_of, count_of, scan_at}
+use Rattle.reduced_scans.proofs.QueryScans.{scanned_low}
+use Rattle.reduced_bounds.specs.Bounds.{entry_bounds_over, set_bounds_over}
 use Rattle.reduced_bounds.specs.Plans.{planned_over}
 
 -- ---- the answer
 
-pub rows_counted : (query : Query) (lists : List (List ℕ)) (rows : List ℕ) → rows ≡ scan_bounds_over query lists → length rows ≡ length query.from
+pub rows_counted : (query : Query) (lists : List (List ℕ)) (rows : List ℕ) → rows ≡ list_sizes query lists → length rows ≡ length query.from
 rows_counted query lists rows is = ap (λ (s : List ℕ). length s) is ∙ length-map-range_with_len (rows_listed lists) 0 (length query.from)
 
 pub sets_counted : (query : Query) (tables : Tables) (lists : List (List ℕ)) (accuracy : ℕ) (bounds : List ℕ) → bounds ≡ set_bounds_over query tables lists accuracy
@@ -41,12 +40,12 @@ sets_counted query tables lists accuracy bounds is =
 
 -- a choice over these bounds is the planned one
 pub chosen_is_planned : (query : Query) (tables : Tables) (lists : List (List ℕ)) (accuracy budget : ℕ) (bounds rows : List ℕ) (answer : Result Plan PlanError) → budget ≤ most_budget
-    → bounds ≡ set_bounds_over query tables lists accuracy → rows ≡ scan_bounds_over query lists → IsPromised bounds rows budget answer
+    → bounds ≡ set_bounds_over query tables lists accuracy → rows ≡ list_sizes query lists → IsPromised bounds rows budget answer
     → (answer ≡ Err error.NoMemory) ⊎ (answer ≡ planned_over query tables lists accuracy budget)
 unfolding planned_over
 chosen_is_planned query tables lists accuracy budget bounds rows answer few same like is =
-    only (set_bounds_over query tables lists accuracy) (scan_bounds_over query lists) budget answer few
-    (subst (λ (b : List ℕ). IsPromised b (scan_bounds_over query lists) budget answer) same
+    only (set_bounds_over query tables lists accuracy) (list_sizes query lists) budget answer few
+    (subst (λ (b : List ℕ). IsPromised b (list_sizes query lists) budget answer) same
     (subst (λ (s : List ℕ). IsPromised bounds s budget answer) like is))
 
 -- ---- lists of scanned rows

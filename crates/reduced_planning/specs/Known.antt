@@ -4,7 +4,8 @@ use Rattle.csv_tables.specs.declared.types.Database.{Database}
 use Rattle.bound_fold.specs.declared.lists.EntryLists.{EntryLists}
 use Rattle.bound_fold.specs.Lists.{list_of, rows_of}
 use Rattle.sql_meaning.specs.Tables.{tables_of}
-use Rattle.reduced_bounds.specs.Bounds.{entry_bounds_over, rows_listed}
+use Rattle.join_steps.specs.Lists.{rows_listed}
+use Rattle.reduced_bounds.specs.Bounds.{entry_bounds_over}
 
 -- the row bound of each of the first so many entries is there, and no other one
 pub record HasRows (lists : List (List ℕ)) (count : ℕ) (known : EntryLists) : Type 0 where

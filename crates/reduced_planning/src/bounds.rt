@@ -4,7 +4,8 @@ ghost use Rattle.limits.specs.Profile.{most_accuracy};
 ghost use Rattle.level_bounds.specs.Keys.{HaveDifferentCharacters};
 ghost use Rattle.sql_meaning.specs.Databases.{IsDatabaseOf};
 ghost use Rattle.sql_meaning.specs.Tables.{tables_of};
-ghost use Rattle.reduced_scans.specs.Lists.{AreListsOf, lists_of};
+ghost use Rattle.join_steps.specs.Lists.{lists_of};
+ghost use Rattle.reduced_scans.specs.Lists.{AreListsOf};
 ghost use Rattle.reduced_bounds.specs.Bounds.{set_bounds_over};
 
 use crate::lists::entry_lists;

@@ -10,7 +10,8 @@
 //!
 //! ```text
 //! let reduced = plan_reduced(alloc, &query, &db, accuracy, budget)?;
-//! let reserved = reserve_over(alloc, &query, &db, &reduced.plan, &reduced.lists)?;
+//! let reserved = reserve_plan(alloc, &query, &db, &reduced.plan)?;
+//! let executed = execute_plan(reserved, &reduced.plan, &query, &db, &reduced.lists);
 //! ```
 #![tactic(auto)]
 

@@ -10,7 +10,8 @@ ghost use Rattle.level_bounds.specs.Keys.{HaveDifferentCharacters};
 ghost use Rattle.sql_meaning.specs.Databases.{AreTables, IsColumnOf};
 ghost use Rattle.sql_meaning.specs.Tables.{cells_of, tables_of};
 ghost use Rattle.table_stats.specs.Columns.{numbered};
-ghost use Rattle.reduced_scans.specs.Lists.{AreListsOf, JoinsColumns, column_of, lists_of};
+ghost use Rattle.join_steps.specs.Lists.{lists_of};
+ghost use Rattle.reduced_scans.specs.Lists.{AreListsOf, JoinsColumns, column_of};
 ghost use Rattle.reduced_planning.specs.Known.{IsKnown};
 
 use crate::rows::row_bounds;

@@ -5,7 +5,8 @@ ghost use Rattle.order_search.specs.declared.refusal.PlanError.TheVariants as er
 ghost use Rattle.level_bounds.specs.Keys.{HaveDifferentCharacters};
 ghost use Rattle.sql_meaning.specs.Databases.{IsDatabaseOf};
 ghost use Rattle.sql_meaning.specs.Tables.{row_counts, tables_of};
-ghost use Rattle.reduced_scans.specs.Lists.{AreListsOf, HaveNoSpare, lists_of};
+ghost use Rattle.join_steps.specs.Lists.{lists_of};
+ghost use Rattle.reduced_scans.specs.Lists.{AreListsOf, HaveNoSpare};
 ghost use Rattle.reduced_scans.specs.Rounds.{reduced_of};
 ghost use Rattle.reduced_bounds.specs.Plans.{planned_over, planned_reduced};
 

@@ -3,9 +3,7 @@ ghost use Rattle.std.specs.Prelude.{◌≡◌, ◌≤◌, ℕ, IfOk, None, lengt
 ghost use Rattle.std.specs.List.{range_with_len};
 ghost use Rattle.limits.specs.Profile.{most_entries, most_rows};
 ghost use Rattle.bound_fold.specs.Lists.{list_of as list_known};
-ghost use Rattle.reduced_scans.specs.Families.{list_at};
-ghost use Rattle.reduced_scans.specs.Lists.{lists_of};
-ghost use Rattle.reduced_bounds.specs.Bounds.{rows_listed};
+ghost use Rattle.join_steps.specs.Lists.{list_at, lists_of, rows_listed};
 ghost use Rattle.reduced_planning.specs.Known.{HasRows};
 
 use base_io::{NoMemory, Seq};

@@ -1,16 +1,16 @@
 //! The scans of a query, before they are reduced.
-ghost use Rattle.std.specs.Prelude.{◌≡◌, ◌<◌, ◌≤◌, ℕ, IfOk, OnOk, length};
+ghost use Rattle.std.specs.Prelude.{◌≡◌, ◌<◌, ◌≤◌, ℕ, IfOk, length, map};
 ghost use Rattle.limits.specs.Profile.{most_conjuncts};
+ghost use Rattle.sql_meaning.specs.Answers.{entries_of};
 ghost use Rattle.sql_meaning.specs.Databases.{AreTables, IsDatabaseOf};
 ghost use Rattle.sql_meaning.specs.Tables.{row_counts, tables_of};
-ghost use Rattle.join_steps.specs.Lists.{scan_of};
-ghost use Rattle.reduced_scans.specs.Families.{list_at};
-ghost use Rattle.reduced_scans.specs.Lists.{lists_of};
+ghost use Rattle.join_steps.specs.Lists.{list_at, lists_of, scan_of};
 
 use base_io::NoMemory;
 use csv_tables::Database;
-use join_steps::scan;
+use join_steps::scan_all;
 use query_types::Query;
+use reserve_plan::row_buffers;
 use row_buf::RowBuf;
 use std::alloc::Global;
 
@@ -24,28 +24,19 @@ fn rows_of_table(db: &Database, entry: u8) -> u32
     db.cells.as_slice()[slot].rows
 }
 
-// An entry's rows for which its own conjuncts hold, in a buffer with room for its table.
-fn scan_entry(
-    alloc: Global,
-    query: &Query,
-    db: &Database,
-    entry: u8,
-    row: &mut RowBuf<u32>,
-) -> Result<RowBuf<u32>, NoMemory>
-    requires database { IsDatabaseOf query.now db.now }
-    requires few { length query.now.conjuncts ≤ most_conjuncts }
-    requires entry { entry < length query.now.from }
-    requires places { length row.old.items ≡ length query.now.from }
-    ensures list { IfOk result (λ list. list.items ≡ scan_of query.now db.now entry) }
-    ensures places { OnOk result (length row.new.items ≡ length query.now.from) }
+// How many rows the table of each entry has, in FROM order.
+fn table_sizes(alloc: Global, query: &Query, db: &Database) -> Result<Vec<u64>, NoMemory>
+    requires { IsDatabaseOf query.now db.now }
+    ensures { IfOk result (λ sizes. sizes.items ≡ map (row_counts (tables_of db.now)) (entries_of query.now)) }
 {
-    let mut list = RowBuf::new(alloc);
-    list.reserve(u64::from(rows_of_table(db, entry)))?;
-    scan(query, db, entry, row, &mut list);
-    Ok(list)
+    let mut sizes = Vec::new(alloc);
+    'entries: for entry in 0..query.from.len() as u8 {
+        sizes.push(u64::from(rows_of_table(db, entry)))?;
+    }
+    Ok(sizes)
 }
 
-/// The scan of each FROM entry, as `reduce_scans` takes them.
+/// The scan of each FROM entry, as `reduce_scans` takes them, in buffers with room for its table.
 pub fn scan_entries(
     alloc: Global,
     query: &Query,
@@ -57,13 +48,8 @@ pub fn scan_entries(
     ensures scans { IfOk result (λ scans. (entry : ℕ) → entry < length query.now.from
         → list_at (lists_of scans.items) entry ≡ scan_of query.now db.now entry) }
 {
-    let mut row = RowBuf::new(alloc);
-    row.reserve(query.from.len() as u64)?;
-    row.fill(query.from.len() as u64, 0);
-    let mut scans = Vec::new(alloc);
-    'entries: for entry in 0..query.from.len() as u8 {
-        let scan = scan_entry(alloc, query, db, entry, &mut row)?;
-        scans.push(scan)?;
-    }
+    let sizes = table_sizes(alloc, query, db)?;
+    let mut scans = row_buffers(alloc, sizes.as_slice())?;
+    scan_all(query, db, scans.as_mut_slice());
     Ok(scans)
 }

@@ -11,7 +11,8 @@ use Rattle.counted_sets.specs.declared.uses.Use.{Use}
 use Rattle.counted_sets.specs.Sets.{IsGiven, IsGreatest}
 use Rattle.counted_sets.specs.Sets as sets
 use Rattle.level_bounds.specs.Keys.{Keys}
-use Rattle.reduced_scans.specs.Families.{AreAscending, HasPartner, HavePartners, IsConsistent, IsFamily, IsReduced, list_at}
+use Rattle.join_steps.specs.Lists.{IsFamily, list_at}
+use Rattle.reduced_scans.specs.Families.{AreAscending, HasPartner, HavePartners, IsConsistent, IsReduced}
 use Rattle.reduced_scans.specs.Wiring.{AreDifferent, AreWired, Classes, IsNumbered, IsUseFor, StandsFor, TellsByKey, first_item, key_on, marked_family, near, opposite, row_at, slot_of}
 use Rattle.reduced_scans.proofs.Members.{behind, in_cases, in_front, not_in_none}
 use Rattle.reduced_scans.proofs.MarkedRows.{MarkedAt, at_place, from_family, is_family, place_in, to_family}

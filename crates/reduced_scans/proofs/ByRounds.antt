@@ -9,11 +9,12 @@ use Rattle.join_graph.specs.Conjuncts.{equalities_of}
 use Rattle.level_bounds.specs.Keys.{are_equal_at}
 use Rattle.level_bounds.proofs.Lists.{all_true, from_filter, in_filter, true_for_all}
 use Rattle.sql_meaning.specs.Tables.{Tables}
-use Rattle.reduced_scans.specs.Families.{AreAscending, HasPartner, IsAscending, IsConsistent, IsFamily, IsReduced, list_at}
+use Rattle.join_steps.specs.Lists.{IsAscending, IsFamily, list_at, scans_of}
+use Rattle.reduced_scans.specs.Families.{AreAscending, HasPartner, IsConsistent, IsReduced}
 use Rattle.reduced_scans.specs.Rounds.{after_rounds, finds_all, finds_partners, reduced_of, round_from, rows_in_all}
-use Rattle.reduced_scans.specs.Scans.{AreReducedScans, scans_of}
+use Rattle.reduced_scans.specs.Scans.{AreReducedScans}
 use Rattle.reduced_scans.proofs.Members.{behind, in_cases, in_front, not_in_none}
-use Rattle.reduced_scans.proofs.QueryScans.{ascending, filter_ascends}
+use Rattle.join_steps.proofs.WholeScans.{ascending, filter_ascends}
 
 -- ---- tests of any, read and made
 

@@ -10,12 +10,12 @@ use Rattle.sql_meaning.specs.Tables.{Tables, row_counts}
 use Rattle.sql_meaning.proofs.LevelsOver.{over_restricted}
 use Rattle.level_bounds.specs.Scans.{query_level}
 use Rattle.level_bounds.proofs.Lists.{from_filter, in_filter, in_range, map_alike}
-use Rattle.reduced_scans.specs.Families.{IsFamily, list_at}
-use Rattle.reduced_scans.specs.Scans.{scans_of}
+use Rattle.join_steps.specs.Lists.{IsFamily, list_at, scans_of}
 use Rattle.reduced_scans.proofs.Bridge.{contains-has, has, has-contains}
 use Rattle.reduced_scans.proofs.Members.{not_in_none}
 use Rattle.reduced_scans.proofs.OneReduced.{same_members}
-use Rattle.reduced_scans.proofs.QueryScans.{filter_ascends, range_ascends, scan_at, scan_past, scanned_low}
+use Rattle.join_steps.proofs.WholeScans.{scan_at, filter_ascends, range_ascends, scan_past}
+use Rattle.reduced_scans.proofs.QueryScans.{scanned_low}
 
 module _ (query : Query) (tables : Tables) (family : List (List ℕ)) (is : IsFamily (scans_of query tables) family) where
   -- whether the row is one of its entry's list

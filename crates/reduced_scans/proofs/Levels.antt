@@ -23,10 +23,12 @@ use Rattle.level_bounds.proofs.Choosing.{choice_row, entry_in}
 use Rattle.level_bounds.proofs.EqualityFacts.{equality_holds}
 use Rattle.level_bounds.proofs.Lists.{all_true, each_of, from_filter_map, in_filter, in_map, in_range, in_true, is_in, true_for_all, true_in}
 use Rattle.level_bounds.proofs.Reordering.{stands}
-use Rattle.reduced_scans.specs.Families.{IsMatch, list_at}
-use Rattle.reduced_scans.specs.Scans.{AreReducedScans, SatisfiesEqualities, scans_of}
+use Rattle.join_steps.specs.Lists.{list_at, scans_of}
+use Rattle.reduced_scans.specs.Families.{IsMatch}
+use Rattle.reduced_scans.specs.Scans.{AreReducedScans, SatisfiesEqualities}
 use Rattle.reduced_scans.proofs.Matches.{match_stays}
-use Rattle.reduced_scans.proofs.QueryScans.{count_of, name_entries, scan_at}
+use Rattle.join_steps.proofs.WholeScans.{count_of, scan_at}
+use Rattle.reduced_scans.proofs.QueryScans.{name_entries}
 
 implied : (a b : Bool) → (not a || b) ≡ true → a ≡ true → b ≡ true
 implied true b h e = h

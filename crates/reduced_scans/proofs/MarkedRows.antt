@@ -3,7 +3,8 @@ use Rattle.std.proofs.Common.{◌≡◌, ℕ, zero, suc, ◌+◌, ◌<◌, ◌�
 use Rattle.std.specs.Prelude.{◌⊎◌, if◌then◌else◌}
 use Rattle.std.specs.List.{Contains}
 use Rattle.std.proofs.lemmas.Bool.{cases_Bool}
-use Rattle.reduced_scans.specs.Families.{AreAscending, IsAscending, IsFamily, list_at}
+use Rattle.join_steps.specs.Lists.{IsAscending, IsFamily, list_at}
+use Rattle.reduced_scans.specs.Families.{AreAscending}
 use Rattle.reduced_scans.specs.Wiring.{first_item, marked_family, marked_rows, row_at}
 use Rattle.reduced_scans.proofs.Members.{all_has, behind, has_all, in_cases, in_front, not_in_none}
 

@@ -4,7 +4,8 @@ use Rattle.std.specs.List.{Contains}
 use Rattle.std.proofs.lemmas.Bool.{cases_lt}
 use Rattle.std.proofs.lemmas.List.{get_or_past}
 use Rattle.berge_tree.specs.declared.edges.Edge.{Edge}
-use Rattle.reduced_scans.specs.Families.{HavePartners, IsAscending, IsConsistent, IsMatch, IsReduced, NameEntries, list_at}
+use Rattle.join_steps.specs.Lists.{IsAscending, list_at}
+use Rattle.reduced_scans.specs.Families.{HavePartners, IsConsistent, IsMatch, IsReduced, NameEntries}
 use Rattle.reduced_scans.proofs.Members.{not_in_none, in_front, in_cases}
 
 abbrev pub singles : List ℕ → List (List ℕ)

@@ -4,7 +4,7 @@ use Rattle.std.specs.Prelude.{◌==◌, All, IsUtf8, slice_get, slice_index}
 use Rattle.std.specs.List.{Contains, cons_option, filter, filter_map, list_all, range_with_len}
 use Rattle.std.specs.Ordering.{is_eq}
 use Rattle.std.proofs.lemmas.Bool.{cases_Bool, cases_lt}
-use Rattle.std.proofs.lemmas.List.{get_or-map, get_or_past, length-map, map-append}
+use Rattle.std.proofs.lemmas.List.{get_or-map, get_or_past, map-append}
 use Rattle.std.proofs.lemmas.List.Elements.{All-contains, Contains-get_or}
 use Rattle.std.proofs.lemmas.List.FromFn.{length-range_with_len}
 use Rattle.berge_tree.specs.declared.edges.Edge.{Edge}
@@ -28,26 +28,22 @@ use Rattle.sql_meaning.specs.Levels.{names_just}
 use Rattle.sql_meaning.specs.Tables.{cells_of, row_counts, tables_of}
 use Rattle.sql_meaning.proofs.LoopFacts.{rows_are}
 use Rattle.join_steps.specs.Columns.{column_cells}
-use Rattle.join_steps.specs.Lists.{scan_of}
+use Rattle.join_steps.specs.Lists.{scan_of, list_at, lists_of, scans_of}
 use Rattle.join_steps.proofs.Cells.{cell_of_row, same_cells, value_by_cell}
 use Rattle.level_bounds.specs.Keys.{are_equal_at, cell_at, value_at}
 use Rattle.level_bounds.specs.Scans.{query_scan}
 use Rattle.level_bounds.proofs.EqualityFacts.{IsJoin, is_join}
 use Rattle.level_bounds.proofs.Lists.{from_filter_map}
-use Rattle.reduced_scans.specs.Families.{list_at}
 use Rattle.limits.specs.Profile.{most_rows}
-use Rattle.reduced_scans.specs.Lists.{AreListsOf, JoinsColumns, column_of, lists_of}
-use Rattle.reduced_scans.specs.Scans.{scans_of}
+use Rattle.reduced_scans.specs.Lists.{AreListsOf, JoinsColumns, column_of}
 use Rattle.reduced_scans.specs.Wiring.{TellsByKey, first_item, marked_family, marked_rows}
 use Rattle.reduced_scans.proofs.MarkedRows.{family-take}
 use Rattle.reduced_scans.proofs.Members.{has_all}
 use Rattle.reduced_scans.proofs.OneReduced.{same_lists}
-use Rattle.reduced_scans.proofs.QueryScans.{count_of, scan_at, scan_past, scanned_low}
+use Rattle.join_steps.proofs.WholeScans.{count_of, length-lists_of, scan_at, scan_past}
+use Rattle.reduced_scans.proofs.QueryScans.{scanned_low}
 
 -- ---- lists in buffers
-
-pub length-lists_of : (lists : List (Rows ℕ)) → length (lists_of lists) ≡ length lists
-length-lists_of lists = length-map lists (λ (list : Rows ℕ). list.items)
 
 -- a list as the code reads it
 pub read_list : (lists : List (Rows ℕ)) (entry : ℕ) (list : Rows ℕ) → entry < length lists → list ≡ get_or lists entry list → list.items ≡ list_at (lists_of lists) entry

@@ -2,7 +2,8 @@
 use Rattle.std.proofs.Common.{◌≡◌, ℕ, suc, Bool, ◌<◌, List, [], ◌∷◌, length, refl, sym, ◌∙◌, arith, inl, inr}
 use Rattle.std.specs.List.{Contains}
 use Rattle.berge_tree.specs.declared.edges.Edge.{Edge}
-use Rattle.reduced_scans.specs.Families.{IsAscending, IsReduced, list_at}
+use Rattle.join_steps.specs.Lists.{IsAscending, list_at}
+use Rattle.reduced_scans.specs.Families.{IsReduced}
 use Rattle.reduced_scans.proofs.Members.{not_in_none, in_front, behind, in_cases, all_has}
 
 pub same_members : (a b : List ℕ) → IsAscending a → IsAscending b → ((x : ℕ) → Contains a x → Contains b x) → ((x : ℕ) → Contains b x → Contains a x) → a ≡ b

@@ -12,7 +12,7 @@ use Rattle.level_bounds.specs.Scans.{query_level}
 use Rattle.level_bounds.proofs.Choosing.{entry_of}
 use Rattle.level_bounds.proofs.Lists.{range_within}
 use Rattle.level_bounds.proofs.Reordering.{back}
-use Rattle.reduced_scans.specs.Families.{list_at}
+use Rattle.join_steps.specs.Lists.{list_at}
 use Rattle.reduced_scans.specs.Scans.{AreReducedScans}
 use Rattle.reduced_scans.proofs.Bridge.{contains-has, has}
 use Rattle.reduced_scans.proofs.FamilyRows.{family_level}

@@ -12,12 +12,13 @@ use Rattle.limits.specs.Profile.{most_rows}
 use Rattle.row_buf.specs.Rows.{Rows}
 use Rattle.sql_meaning.specs.Tables.{cells_of}
 use Rattle.level_bounds.specs.Keys.{Keys}
-use Rattle.reduced_scans.specs.Families.{list_at}
-use Rattle.reduced_scans.specs.Lists.{AreListsOf, lists_of}
+use Rattle.join_steps.specs.Lists.{list_at, lists_of}
+use Rattle.reduced_scans.specs.Lists.{AreListsOf}
 use Rattle.reduced_scans.specs.SemiJoins.{IsJoinedAt, IsSemiJoin}
 use Rattle.reduced_scans.specs.Wiring.{key_on}
 use Rattle.reduced_scans.proofs.ByRounds.{filter_shrinks}
-use Rattle.reduced_scans.proofs.OfQuery.{length-lists_of, read_list}
+use Rattle.join_steps.proofs.WholeScans.{length-lists_of}
+use Rattle.reduced_scans.proofs.OfQuery.{read_list}
 
 -- a list as the code gets it
 pub got_list : (lists : List (Rows ℕ)) (entry : ℕ) (list : Rows ℕ) → slice_get lists entry ≡ Some list → list.items ≡ list_at (lists_of lists) entry

@@ -5,11 +5,12 @@ use Rattle.std.proofs.lemmas.Bool.{cases_eq}
 use Rattle.berge_tree.specs.declared.edges.Edge.{Edge}
 use Rattle.level_bounds.specs.Keys.{Keys}
 use Rattle.level_bounds.proofs.Lists.{from_filter, in_filter}
-use Rattle.reduced_scans.specs.Families.{AreAscending, HasPartner, IsAscending, IsConsistent, IsReduced, list_at}
+use Rattle.join_steps.specs.Lists.{IsAscending, list_at}
+use Rattle.reduced_scans.specs.Families.{AreAscending, HasPartner, IsConsistent, IsReduced}
 use Rattle.reduced_scans.specs.SemiJoins.{IsJoinedAt, IsSifted, StaySifted}
 use Rattle.reduced_scans.specs.Wiring.{TellsByKey, key_on, near, opposite}
 use Rattle.reduced_scans.proofs.Bridge.{equal_from, partners, same_key}
-use Rattle.reduced_scans.proofs.QueryScans.{filter_ascends}
+use Rattle.join_steps.proofs.WholeScans.{filter_ascends}
 
 module _ (scans : List (List ℕ)) (equalities : List Edge) (equal : Edge → ℕ → ℕ → Bool) where
   pub scans_are_sifted : AreAscending scans → IsSifted scans equalities equal scans

@@ -5,7 +5,8 @@ use Rattle.std.specs.List.{Contains}
 use Rattle.std.proofs.lemmas.Bool.{cases_eq, cases_lt, cases_Bool, eq-eqb, ne_eqb, false≢true}
 use Rattle.std.proofs.lemmas.List.{get_or_past, get_or-set_same, get_or-set_other, length-set}
 use Rattle.berge_tree.specs.declared.edges.Edge.{Edge}
-use Rattle.reduced_scans.specs.Families.{AreAscending, HasPartner, HavePartners, IsAscending, IsConsistent, IsFamily, IsReduced, list_at}
+use Rattle.join_steps.specs.Lists.{IsAscending, IsFamily, list_at}
+use Rattle.reduced_scans.specs.Families.{AreAscending, HasPartner, HavePartners, IsConsistent, IsReduced}
 use Rattle.reduced_scans.proofs.Members.{not_in_none, in_front, behind, in_cases, each_or_some, all_has, has_all}
 
 abbrev pub without : ℕ → List ℕ → List ℕ

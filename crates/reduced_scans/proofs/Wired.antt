@@ -13,9 +13,8 @@ use Rattle.counted_sets.specs.declared.uses.Use.{Use}
 use Rattle.counted_sets.specs.Sets.{IsUseOf}
 use Rattle.row_buf.specs.Rows.{Rows}
 use Rattle.level_bounds.specs.Keys.{Keys}
-use Rattle.reduced_scans.specs.Families.{list_at}
+use Rattle.join_steps.specs.Lists.{list_at, lists_of}
 use Rattle.limits.specs.Profile.{most_rows}
-use Rattle.reduced_scans.specs.Lists.{lists_of}
 use Rattle.reduced_scans.specs.Wiring.{AddsUses, AreWired, BeginsWith, Classes, IsNumbered, IsUseFor, StandsFor, first_item, key_on, near, opposite, row_at, slot_of}
 use Rattle.reduced_scans.proofs.MarkedRows.{items_within}
 use Rattle.reduced_scans.proofs.Members.{in_front, not_in_none}

@@ -1,22 +1,8 @@
 -- Families of lists of rows in which each row has its partners, and the greatest of them.
-use Rattle.std.specs.Prelude.{◌≡◌, ℕ, ◌<◌, Bool, true, List, [], ◌∷◌, length, slice_index, slice_index_or, ⊤}
-use Rattle.std.specs.List.{AllByRecursion, Contains}
+use Rattle.std.specs.Prelude.{◌≡◌, ℕ, ◌<◌, Bool, true, List, length, slice_index}
+use Rattle.std.specs.List.{Contains}
 use Rattle.berge_tree.specs.declared.edges.Edge.{Edge}
-
--- the list of an entry, and no row past the end
-abbrev pub list_at : List (List ℕ) → ℕ → List ℕ
-list_at lists entry = slice_index_or lists entry []
-
--- each row stands in the file behind those before it
-abbrev pub IsAscending : List ℕ → Type 0
-IsAscending [] = ⊤
-IsAscending (row ∷ rows) = AllByRecursion (λ later. row < later) rows × IsAscending rows
-
--- a list for each entry, of rows of its scan in file order
-pub record IsFamily (scans family : List (List ℕ)) : Type 0 where
-  pub count : length family ≡ length scans
-  pub scanned : (entry row : ℕ) → Contains (list_at family entry) row → Contains (list_at scans entry) row
-  pub ascending : (entry : ℕ) → IsAscending (list_at family entry)
+use Rattle.join_steps.specs.Lists.{list_at, IsAscending, IsFamily}
 
 -- one of these rows goes with the row
 abbrev pub HasPartner : (ℕ → ℕ → Bool) → List ℕ → ℕ → Type 0

@@ -1,5 +1,5 @@
 -- Lists of rows in buffers, one for each FROM entry of a database.
-use Rattle.std.specs.Prelude.{◌≡◌, ℕ, ◌<◌, ◌≤◌, All, List, length, map}
+use Rattle.std.specs.Prelude.{◌≡◌, ℕ, ◌<◌, ◌≤◌, All, List, length}
 use Rattle.limits.specs.Profile.{most_entries, most_rows}
 use Rattle.berge_tree.specs.declared.edges.Edge.{Edge}
 use Rattle.berge_tree.specs.declared.edges.Place.{Place}
@@ -8,11 +8,7 @@ use Rattle.query_types.specs.declared.types.ColumnRef.{ColumnRef}
 use Rattle.row_buf.specs.Rows.{Rows}
 use Rattle.sql_meaning.specs.Databases.{AreTables, IsColumnOf}
 use Rattle.sql_meaning.specs.Tables.{cells_of}
-use Rattle.reduced_scans.specs.Families.{list_at}
-
--- the rows of each list
-abbrev pub lists_of : List (Rows ℕ) → List (List ℕ)
-lists_of lists = map (λ list. list.items) lists
+use Rattle.join_steps.specs.Lists.{list_at, lists_of}
 
 -- none of them has room for a further row
 abbrev pub HaveNoSpare : List (Rows ℕ) → Type 0

@@ -6,8 +6,7 @@ use Rattle.query_types.specs.declared.types.Query.{Query}
 use Rattle.join_graph.specs.Conjuncts.{equalities_of}
 use Rattle.sql_meaning.specs.Tables.{Tables}
 use Rattle.level_bounds.specs.Keys.{are_equal_at}
-use Rattle.reduced_scans.specs.Families.{list_at}
-use Rattle.reduced_scans.specs.Scans.{scans_of}
+use Rattle.join_steps.specs.Lists.{list_at, scans_of}
 
 -- where a column of the equality is one of the entry's, the row has a partner in the list of the entry across
 abbrev pub finds_partners : (Edge → ℕ → ℕ → Bool) → List (List ℕ) → ℕ → ℕ → Edge → Bool

@@ -4,7 +4,8 @@ use Rattle.std.specs.List.{Contains, filter}
 use Rattle.berge_tree.specs.declared.edges.Edge.{Edge}
 use Rattle.berge_tree.specs.declared.edges.Place.{Place}
 use Rattle.level_bounds.specs.Keys.{Keys}
-use Rattle.reduced_scans.specs.Families.{IsConsistent, IsFamily, list_at}
+use Rattle.join_steps.specs.Lists.{IsFamily, list_at}
+use Rattle.reduced_scans.specs.Families.{IsConsistent}
 use Rattle.reduced_scans.specs.Wiring.{TellsByKey, key_on}
 
 -- of the rows of the scans some are put aside, none of which stands in a consistent family

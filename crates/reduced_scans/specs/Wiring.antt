@@ -5,7 +5,7 @@ use Rattle.berge_tree.specs.declared.edges.Edge.{Edge}
 use Rattle.berge_tree.specs.declared.edges.Place.{Place}
 use Rattle.counted_sets.specs.declared.uses.Use.{Use}
 use Rattle.level_bounds.specs.Keys.{Keys}
-use Rattle.reduced_scans.specs.Families.{list_at}
+use Rattle.join_steps.specs.Lists.{list_at}
 
 -- ---- items: the rows of the lists, list by list in their order
 

@@ -8,7 +8,7 @@ ghost use Rattle.sql_meaning.specs.Levels.{level_over, row_in};
 ghost use Rattle.sql_meaning.specs.Tables.{Tables};
 ghost use Rattle.level_bounds.specs.Orders.{IsOrderOfSet};
 ghost use Rattle.level_bounds.specs.Scans.{query_level};
-ghost use Rattle.reduced_scans.specs.Families.{list_at};
+ghost use Rattle.join_steps.specs.Lists.{list_at};
 ghost use Rattle.reduced_scans.specs.Rounds.{reduced_of};
 ghost use Rattle.reduced_scans.specs.Scans.{AreReducedScans, SatisfiesEqualities};
 

@@ -5,10 +5,10 @@ ghost use Rattle.berge_tree.specs.declared.edges.Edge.{Edge};
 ghost use Rattle.counted_sets.specs.Sets.{marked};
 ghost use Rattle.sql_meaning.specs.Databases.{IsDatabaseOf};
 ghost use Rattle.sql_meaning.specs.Tables.{row_counts, tables_of};
-ghost use Rattle.join_steps.specs.Lists.{scan_of};
+ghost use Rattle.join_steps.specs.Lists.{scan_of, list_at, lists_of};
 ghost use Rattle.level_bounds.specs.Keys.{cell_at};
-ghost use Rattle.reduced_scans.specs.Families.{list_at, AreAscending, IsReduced};
-ghost use Rattle.reduced_scans.specs.Lists.{lists_of, AreListsOf, HaveNoSpare, JoinsColumns};
+ghost use Rattle.reduced_scans.specs.Families.{AreAscending, IsReduced};
+ghost use Rattle.reduced_scans.specs.Lists.{AreListsOf, HaveNoSpare, JoinsColumns};
 ghost use Rattle.reduced_scans.specs.Scans.{AreReducedScans};
 ghost use Rattle.reduced_scans.specs.Wiring.{first_item, marked_family, marked_rows, TellsByKey};
 

@@ -8,7 +8,8 @@ ghost use Rattle.sql_meaning.specs.Tables.{cells_of};
 ghost use Rattle.join_steps.specs.Columns.{column_cells};
 ghost use Rattle.level_bounds.specs.Keys.{cell_at};
 ghost use Rattle.reduced_scans.specs.Families.{AreAscending};
-ghost use Rattle.reduced_scans.specs.Lists.{column_of, lists_of, AreListsOf, JoinsColumns};
+ghost use Rattle.join_steps.specs.Lists.{lists_of};
+ghost use Rattle.reduced_scans.specs.Lists.{column_of, AreListsOf, JoinsColumns};
 ghost use Rattle.reduced_scans.specs.SemiJoins.{is_marked, IsJoinedAt, IsSemiJoin, IsSifted, StaySifted};
 ghost use Rattle.reduced_scans.specs.Wiring.{TellsByKey};
 

@@ -6,8 +6,8 @@ ghost use Rattle.counted_sets.specs.declared.uses.Use.{Use};
 ghost use Rattle.sql_meaning.specs.Databases.{IsColumnOf};
 ghost use Rattle.join_steps.specs.Columns.{column_cells};
 ghost use Rattle.level_bounds.specs.Keys.{cell_at};
-ghost use Rattle.reduced_scans.specs.Families.{list_at};
-ghost use Rattle.reduced_scans.specs.Lists.{column_of, lists_of, AreListsOf, JoinsColumns};
+ghost use Rattle.join_steps.specs.Lists.{list_at, lists_of};
+ghost use Rattle.reduced_scans.specs.Lists.{column_of, AreListsOf, JoinsColumns};
 ghost use Rattle.reduced_scans.specs.Wiring.{first_item, slot_of, AddsUses, AreWired, BeginsWith, IsNumbered, IsUseFor};
 
 use crate::classes::ClassSet;

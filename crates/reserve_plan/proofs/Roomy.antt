@@ -25,6 +25,24 @@ zip_more R xs i d ys new y so_far low one pushed =
 pub zip_all : {A B : Type 0} (R : A → B → Type 0) (xs : List A) (i : ℕ) (ys : List B) → AllZip R (take i xs) ys → length xs ≤ i → AllZip R xs ys
 zip_all R xs i ys so_far end = subst (λ s. AllZip R s ys) (take_all i xs end) so_far
 
+pub zip_long : {A B : Type 0} (R : A → B → Type 0) (xs : List A) (ys : List B) → AllZip R xs ys → length xs ≡ length ys
+zip_long R [] [] all = refl
+zip_long R [] (y ∷ ys) all = absurd all
+zip_long R (x ∷ xs) [] all = absurd all
+zip_long R (x ∷ xs) (y ∷ ys) all = ap suc (zip_long R xs ys all.1)
+
+pub zip_at : {A B : Type 0} (R : A → B → Type 0) (xs : List A) (ys : List B) (i : ℕ) (d : A) (e : B) → AllZip R xs ys → i < length xs → R (get_or xs i d) (get_or ys i e)
+zip_at R [] ys i d e all low = absurd (omega arith)
+zip_at R (x ∷ xs) [] i d e all low = absurd all
+zip_at R (x ∷ xs) (y ∷ ys) zero d e all low = all.0
+zip_at R (x ∷ xs) (y ∷ ys) (suc i) d e all low = zip_at R xs ys i d e all.1 (omega arith)
+
+pub zip_each : (ns ms : List ℕ) → length ns ≡ length ms → ((i : ℕ) → i < length ns → get_or ns i 0 ≤ get_or ms i 0) → AllZip ◌≤◌ ns ms
+zip_each [] [] long each = tt
+zip_each [] (m ∷ ms) long each = absurd (omega arith)
+zip_each (n ∷ ns) [] long each = absurd (omega arith)
+zip_each (n ∷ ns) (m ∷ ms) long each = (each 0 (omega arith), zip_each ns ms (omega arith) (λ i low. each (suc i) (omega arith)))
+
 -- the items of a mapped list
 pub zip_mapped : {A B C : Type 0} (R : A → B → Type 0) (f : C → A) (xs : List C) (ys : List B) → AllZip (λ x y. R (f x) y) xs ys → AllZip R (map f xs) ys
 zip_mapped R f [] [] all = tt
@@ -89,13 +107,15 @@ keys_less n m chains low has = record { empty = has.empty; room = omega (arith, 
 level_less : (n m : ℕ) (level : Level) → n ≤ m → IsRoomForLevel m level → IsRoomForLevel n level
 level_less n m level low has = record { empty = has.empty; room = omega (arith, low, has.room) }
 
-pub less_room : (order scans levels more_scans more_levels : List ℕ) (reserved : Reserved) → AllZip ◌≤◌ scans more_scans → AllZip ◌≤◌ levels more_levels
-    → HasRooms (rooms order more_scans more_levels) reserved → HasRooms (rooms order scans levels) reserved
-less_room order scans levels more_scans more_levels reserved low_scans low_levels has = record {
-  scans = zip_less IsRoomFor room_less scans more_scans reserved.scans.items low_scans has.scans;
-  chains = zip_less IsRoomForKeys keys_less (map (λ entry. get_or scans entry 0) (drop 1 order)) (map (λ entry. get_or more_scans entry 0) (drop 1 order)) reserved.chains.items
-      (less_mapped scans more_scans (drop 1 order) low_scans) has.chains;
-  levels = zip_less IsRoomForLevel level_less levels more_levels reserved.levels low_levels has.levels;
+pub less_room : (order lists levels more_in_lists more_in_levels : List ℕ) (reserved : Reserved) → AllZip ◌≤◌ lists more_in_lists → AllZip ◌≤◌ levels more_in_levels
+    → HasRooms (rooms order more_in_lists more_in_levels) reserved → HasRooms (rooms order lists levels) reserved
+less_room order lists levels more_in_lists more_in_levels reserved low_lists low_levels has = record {
+  chains = zip_less IsRoomForKeys keys_less (map (λ entry. get_or lists entry 0) (drop 1 order)) (map (λ entry. get_or more_in_lists entry 0) (drop 1 order)) reserved.chains.items
+      (less_mapped lists more_in_lists (drop 1 order) low_lists) has.chains;
+  levels = zip_less IsRoomForLevel level_less levels more_in_levels reserved.levels low_levels has.levels;
   row = has.row;
-  keys = room_less (greatest scans) (greatest more_scans) reserved.keys (less_greatest scans more_scans low_scans) has.keys;
+  keys = room_less (greatest lists) (greatest more_in_lists) reserved.keys (less_greatest lists more_in_lists low_lists) has.keys;
 }
+
+pub less_buffers : (sizes more : List ℕ) (buffers : List (Rows ℕ)) → AllZip ◌≤◌ sizes more → AllZip IsRoomFor more buffers → AllZip IsRoomFor sizes buffers
+less_buffers sizes more buffers low has = zip_less IsRoomFor room_less sizes more buffers low has

@@ -6,31 +6,28 @@ use Rattle.link_index.specs.Places.{Loaded}
 use Rattle.link_index.specs.Forest.{Level}
 use Rattle.reserve_plan.specs.declared.reserved.Reserved.{Reserved}
 
--- entries are numbered in FROM order, levels in the order of the plan
+-- levels are numbered in the order of the plan
 pub record Rooms : Type 0 where
-  -- for each entry, the rows of its scan
-  pub scans : List ℕ
   -- for each level after the first, the rows in its chains
   pub chains : List ℕ
   -- for each level, its rows
   pub levels : List ℕ
   -- one row number of each entry
   pub row : ℕ
-  -- the keys of one level's chains: as many as the greatest scan has rows
+  -- the keys of one level's chains: as many as the longest list has rows
   pub keys : ℕ
 
 abbrev pub greatest : List ℕ → ℕ
 greatest [] = 0
 greatest (n ∷ ns) = max n (greatest ns)
 
--- the rooms of an order, where each entry's scan has at most so many rows, and each level
+-- the rooms of an order, where each entry's list has at most so many rows, in FROM order, and each level
 abbrev pub rooms : List ℕ → List ℕ → List ℕ → Rooms
-rooms order scans levels = record {
-  scans = scans;
-  chains = map (λ entry. slice_index scans entry) (drop 1 order);
+rooms order lists levels = record {
+  chains = map (λ entry. slice_index lists entry) (drop 1 order);
   levels = levels;
   row = length order;
-  keys = greatest scans;
+  keys = greatest lists;
 }
 
 -- an empty buffer that takes at least so many items
@@ -51,7 +48,6 @@ pub record IsRoomForLevel (count : ℕ) (level : Level) : Type 0 where
 
 -- every buffer is empty, and takes at least as many items as the rooms say
 pub record HasRooms (rooms : Rooms) (reserved : Reserved) : Type 0 where
-  pub scans : AllZip IsRoomFor rooms.scans reserved.scans.items
   pub chains : AllZip IsRoomForKeys rooms.chains reserved.chains.items
   pub levels : AllZip IsRoomForLevel rooms.levels reserved.levels
   pub row : IsRoomFor rooms.row reserved.row

@@ -1,12 +1,13 @@
 //! All memory of a plan, taken before its first row is looked at.
 //!
-//! The stage after the order is chosen. In: an order of the FROM entries, and how many rows each entry's scan and each level have at most.
+//! The stage after the order is chosen. In: an order of the FROM entries, and how many rows each entry's list and each level have at most.
 //! Out: buffers with room for so many. `reserve` is the last step of a query that can want memory: whoever fills the buffers needs none.
+//! `row_buffers` makes the lists themselves, where their rows aren't there yet.
 //!
 //! Callers cite `rooms`, which says how many items each buffer of a plan has to take, and `HasRooms`. Where the bounds of a plan are above
 //! what is true, `less_needs_less_room` says that there is room for what is true.
 //!
-//! Of the greatest plan, the levels take 1.92 GB, the chains 0.70 GB, and scans and keys 0.23 GB.
+//! Of the greatest plan, the levels take 1.92 GB, the chains 0.70 GB, and lists and keys 0.23 GB.
 #![tactic(auto)]
 
 ghost use Rattle.std.specs.Prelude.{◌≡◌, ◌≤◌, List, ℕ, [], ◌∷◌};
@@ -23,14 +24,13 @@ pub use reserving::{empty_chains, reserve, row_buffers};
 
 /// Buffers that take more rows take fewer, too. It does nothing.
 pub fn less_needs_less_room()
-    ensures { (order scans levels more_scans more_levels : List ℕ) (reserved : Reserved)
-        → AllZip ◌≤◌ scans more_scans → AllZip ◌≤◌ levels more_levels
-        → HasRooms (rooms order more_scans more_levels) reserved → HasRooms (rooms order scans levels) reserved }
+    ensures { (order lists levels more_in_lists more_in_levels : List ℕ) (reserved : Reserved)
+        → AllZip ◌≤◌ lists more_in_lists → AllZip ◌≤◌ levels more_in_levels
+        → HasRooms (rooms order more_in_lists more_in_levels) reserved → HasRooms (rooms order lists levels) reserved }
 {}
 
 /// The rooms of a plan of two entries. It does nothing.
 pub fn examples()
-    ensures scans { two_entries.scans ≡ 6 ∷ 0 ∷ [] }
     ensures chains { two_entries.chains ≡ 6 ∷ [] }
     ensures levels { two_entries.levels ≡ 0 ∷ 12 ∷ [] }
     ensures row { two_entries.row ≡ 2 }

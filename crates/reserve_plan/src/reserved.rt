@@ -4,8 +4,6 @@ use row_buf::RowBuf;
 /// The buffers of a plan.
 #[derive(Drop)]
 pub struct Reserved {
-    /// For each FROM entry, the rows of its scan, by their numbers.
-    pub scans: Vec<RowBuf<u32>>,
     /// For each level after the first, the chains of its entry's rows.
     pub chains: Vec<Chains>,
     /// The levels, in the order of the plan.

@@ -2,6 +2,7 @@ pub mod Answered
 pub mod Courses
 pub mod DemoWords
 pub mod LastLevels
+pub mod ListedBy
 mod NamedEntries
 pub mod Plans
 pub mod Ranges

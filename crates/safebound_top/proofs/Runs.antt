@@ -1,5 +1,5 @@
 -- What holds of every run that the verdict gives.
-use Rattle.std.proofs.Common.{◌≡◌, ℕ, ◌<◌, ◌≤◌, Bool, false, true, if◌then◌else◌, List, Result, Ok, Err, length, map, get_or, refl, ap, sym, subst}
+use Rattle.std.proofs.Common.{◌≡◌, ℕ, ◌+◌, ◌<◌, ◌≤◌, Bool, false, true, if◌then◌else◌, List, Result, Ok, Err, length, map, get_or, refl, ap, sym, ◌∙◌, subst, arith}
 use Rattle.std.specs.Prelude.{IfOk, IsPermutation}
 use Rattle.std.proofs.Math.Seq.{take-length}
 use Rattle.std.proofs.lemmas.Bool.{false≢true}
@@ -24,17 +24,17 @@ use Rattle.outcomes.specs.declared.refusal.Refusal.{Refusal}
 use Rattle.table_files.specs.EntryTables.{tables_in}
 use Rattle.table_files.specs.Stage.{tables_stage}
 use Rattle.table_files.specs.TableFile.{read}
-use Rattle.reduced_scans.specs.Rounds.{reduced_of}
-use Rattle.reduced_bounds.specs.Bounds.{rows_listed}
-use Rattle.reduced_bounds.specs.Plans.{IsPlanOver, planned_reduced}
-use Rattle.planned_joins.specs.PlansOf.{IsPlanOf}
+use Rattle.join_steps.specs.Plans.{IsPlanOf}
+use Rattle.reduced_bounds.specs.Plans.{planned_reduced}
 use Rattle.planning.specs.Plans.{planned}
-use Rattle.safebound_top.specs.Accepted.{Accepted, BoundsHold, RowsAreTheAnswer, tables}
+use Rattle.safebound_top.specs.Accepted.{Accepted, BoundsHold, RowsAreTheAnswer, scan_by, tables}
 use Rattle.safebound_top.specs.Asks.{Ask, command_stage}
 use Rattle.safebound_top.specs.declared.task.OutText.{OutText}
 use Rattle.safebound_top.specs.Verdict.{ask_run, plan_asked, plan_stage, query_of_text, query_run, query_stage, schema_run, schema_stage, verdict}
 use Rattle.safebound_top.proofs.NamedEntries.{names_own}
-use Rattle.safebound_top.proofs.LastLevels.{last_reduced, order_is}
+use Rattle.safebound_top.specs.Prepared.{lists_by}
+use Rattle.safebound_top.proofs.LastLevels.{order_is}
+use Rattle.safebound_top.proofs.ListedBy.{last_by, level_rows_by, scan_rows_by}
 use Rattle.safebound_top.proofs.Plans.{plan_holds, reduced_exact, reduced_holds}
 use Rattle.safebound_top.proofs.Ranges.{InRange, in_range}
 
@@ -62,18 +62,17 @@ query_ok name schema files =
     any_ok (IsOf schema) (read file.Query 1048576 name files) (query_of_text schema)
     (λ text. ok_so (IsOf schema) query_refusal (query_answer schema text) (λ query e. queries.of_schema schema text query e))
 
--- no scan and no level has more rows than the plan says, and a reduced scan has just as many
-abbrev HoldsBy : Bool → Query → Tables → Plan → Type 0
-HoldsBy false query ts plan = IsPlanOf query ts plan
-HoldsBy true query ts plan =
-    IsPlanOver query ts (reduced_of query ts) plan
-    × ((entry : ℕ) → entry < length query.from → get_or plan.scans entry 0 ≡ rows_listed (reduced_of query ts) entry)
+-- no list and no level has more rows than the plan says, and a reduced scan has just as many
+pub record HoldsBy (reduce : Bool) (query : Query) (ts : Tables) (plan : Plan) : Type 0 where
+  pub bounds : IsPlanOf query ts (lists_by reduce query ts) plan
+  pub exact : reduce ≡ true → (entry : ℕ) → entry < length query.from → get_or plan.scans entry 0 ≡ length (scan_by reduce query ts entry)
 
 asked_holds : (reduce : Bool) (query : Query) (ts : Tables) (accuracy budget : ℕ) (plan : Plan) → length query.from ≤ 12 → budget ≤ 20000000
     → (if reduce then planned_reduced query ts accuracy budget else planned query ts accuracy budget) ≡ Ok plan → HoldsBy reduce query ts plan
-asked_holds false query ts accuracy budget plan few small made = plan_holds query ts accuracy budget plan few small made
+asked_holds false query ts accuracy budget plan few small made =
+    record { bounds = plan_holds query ts accuracy budget plan few small made; exact = λ h. absurd (false≢true h) }
 asked_holds true query ts accuracy budget plan few small made =
-    (reduced_holds query ts accuracy budget plan few small made, reduced_exact query ts accuracy budget plan made)
+    record { bounds = reduced_holds query ts accuracy budget plan few small made; exact = λ h. reduced_exact query ts accuracy budget plan made }
 
 -- a query that names its own entries, and its plan
 pub record IsRun (run : Accepted) : Type 0 where
@@ -111,10 +110,18 @@ verdict_ok words files =
 -- ---- two sentences
 
 module _ (query : Query) (rows : List (List Row)) (plan : Plan) where
-  bounds_by : (reduce : Bool) (out : OutText) → HoldsBy reduce query (tables_in rows) plan
+  bounds_by : (reduce : Bool) (out : OutText) → NamesItsEntries query → HoldsBy reduce query (tables_in rows) plan
       → BoundsHold (record { query = query; rows = rows; plan = plan; reduce = reduce; out = out })
-  bounds_by false out is = record { plan = is.for_each_entry; scans = is.scans; reduced = λ h. absurd (false≢true h); levels = is.levels }
-  bounds_by true out is = record { plan = is.0.for_each_entry; scans = is.0.scans; reduced = λ h. is.1; levels = is.0.levels }
+  bounds_by reduce out own holds = record {
+    plan = holds.bounds.for_each_entry;
+    scans = λ entry low. omega (arith, ap (λ (s : List ℕ). length s) (scan_rows_by reduce query (tables_in rows) entry low), holds.bounds.scans entry low);
+    reduced = holds.exact;
+    levels = λ k low. omega (
+      arith,
+      ap (λ (s : List (List ℕ)). length s) (level_rows_by reduce query (tables_in rows) plan.order (k + 1) (order_is query (tables_in rows) own plan holds.bounds.for_each_entry)),
+      holds.bounds.levels k low,
+    );
+  }
 
   -- the outputs of each choice of a level that is the last one
   rows_of_level : NamesItsEntries query → IsPlan (length query.from) plan → (last : List (List ℕ))
@@ -126,13 +133,13 @@ module _ (query : Query) (rows : List (List Row)) (plan : Plan) where
 
   rows_by : (reduce : Bool) (out : OutText) → NamesItsEntries query → HoldsBy reduce query (tables_in rows) plan
       → RowsAreTheAnswer (record { query = query; rows = rows; plan = plan; reduce = reduce; out = out })
-  rows_by false out own is =
-      rows_of_level own is.for_each_entry _
-      (ap (λ (placed : List ℕ). level_of (conjuncts_of query (tables_in rows)) (row_counts (tables_in rows)) placed) (take-length plan.order))
-  rows_by true out own is = rows_of_level own is.0.for_each_entry _ (last_reduced query (tables_in rows) own plan is.0.for_each_entry)
+  rows_by reduce out own holds =
+      rows_of_level own holds.bounds.for_each_entry _
+      (last_by reduce query (tables_in rows) own plan holds.bounds.for_each_entry
+      ∙ ap (λ (placed : List ℕ). level_of (conjuncts_of query (tables_in rows)) (row_counts (tables_in rows)) placed) (take-length plan.order))
 
 run_bounds : (run : Accepted) → IsRun run → BoundsHold run
-run_bounds run is = bounds_by run.query run.rows run.plan run.reduce run.out is.plan
+run_bounds run is = bounds_by run.query run.rows run.plan run.reduce run.out is.own is.plan
 
 run_rows : (run : Accepted) → IsRun run → RowsAreTheAnswer run
 run_rows run is = rows_by run.query run.rows run.plan run.reduce run.out is.own is.plan

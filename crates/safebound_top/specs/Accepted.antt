@@ -8,9 +8,8 @@ use Rattle.query_types.specs.declared.types.Query.{Query}
 use Rattle.sql_meaning.specs.Answers.{answer, conjuncts_of, selected}
 use Rattle.sql_meaning.specs.Levels.{level, row_in, scan}
 use Rattle.sql_meaning.specs.Tables.{Tables, row_counts}
-use Rattle.reduced_scans.specs.Families.{list_at}
+use Rattle.join_steps.specs.Lists.{list_at, list_levels}
 use Rattle.reduced_scans.specs.Rounds.{reduced_of}
-use Rattle.reduced_bounds.specs.Plans.{list_levels}
 use Rattle.table_files.specs.EntryTables.{tables_in}
 use Rattle.safebound_top.specs.declared.task.OutText.{OutText}
 

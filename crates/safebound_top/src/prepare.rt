@@ -9,21 +9,21 @@ ghost use Rattle.query_types.specs.Validity.{IsOf};
 ghost use Rattle.schema_types.specs.Validity.{IsValid};
 ghost use Rattle.sql_meaning.specs.Databases.{IsDatabaseOf};
 ghost use Rattle.sql_meaning.specs.Tables.{tables_of};
+ghost use Rattle.join_steps.specs.Plans.{IsPlanOf};
 ghost use Rattle.table_files.specs.EntryTables.{entry_rows, tables_in};
 ghost use Rattle.table_files.specs.Stage.{IsReached, tables_of_query};
 ghost use Rattle.safebound_top.specs.Asks.{asked};
-ghost use Rattle.safebound_top.specs.Prepared.{HasRoom, IsPlanBy, IsReady, accepted_of, text_left};
+ghost use Rattle.safebound_top.specs.Prepared.{AreListed, HasLists, HasRoom, IsReady, accepted_of, are_reduced, lists_by, text_left};
 ghost use Rattle.safebound_top.specs.Verdict.{IsTableOf, plan_stage, query_from, query_run, schema_run};
 
 use crate::files::load_query;
-use crate::scans::{Planned, Scans, plan_task, reserve_joins};
+use crate::scans::{Joins, Planned, Scans, plan_task, prepare_joins};
 use crate::task::{OutText, Task};
 use base_io::{NoMemory, Store};
 use csv_tables::Database;
 use outcomes::{Ending, FileId};
 use plans::Plan;
 use query_types::Query;
-use reserve_plan::Reserved;
 use schema_types::Schema;
 use std::alloc::Global;
 use table_files::read_tables;
@@ -31,21 +31,21 @@ use table_files::read_tables;
 /// What is left to do once the plan text is written, with all memory for it.
 #[derive(Drop)]
 pub enum Rest {
-    /// Lists the rows and writes them.
-    Rows(Reserved),
-    /// Lists the rows, and writes how many each level has.
-    Audit(Reserved),
+    /// Lists the levels, and writes the rows of the last one.
+    Rows(Joins),
+    /// Lists the levels, and writes how many rows each has.
+    Audit(Joins),
     /// Nothing.
     Nothing,
 }
 
-/// A query, the database of its tables, its plan, the rows from which its levels are chosen, and what is left to do.
+/// A query, the database of its tables, its plan, whether that is over reduced scans, and what is left to do.
 #[derive(Drop)]
 pub struct Prepared {
     pub query: Query,
     pub db: Database,
     pub plan: Plan,
-    pub scans: Scans,
+    pub reduce: bool,
     pub rest: Rest,
 }
 
@@ -56,17 +56,20 @@ fn make_room(
     query: &Query,
     db: &Database,
     plan: &Plan,
-    scans: &Scans,
+    scans: Scans,
 ) -> Result<Rest, NoMemory>
     requires database { IsDatabaseOf query.now db.now }
+    requires few { length query.now.conjuncts ≤ most_conjuncts }
     requires few_rows { HaveFewRows (tables_of db.now) (length query.now.from) }
-    requires plan { IsPlanBy scans.now query.now (tables_of db.now) plan.now }
-    ensures room { IfOk result (HasRoom query.now db.now plan.now scans.now) }
+    requires plan { IsPlanOf query.now (tables_of db.now) (lists_by (are_reduced scans) query.now (tables_of db.now)) plan.now }
+    requires lists { HasLists scans query.now (tables_of db.now) }
+    ensures room { IfOk result (HasRoom query.now db.now plan.now) }
+    ensures lists { IfOk result (AreListed (are_reduced scans) query.now (tables_of db.now)) }
     ensures out { IfOk result (λ rest. text_left rest ≡ out) }
 {
     match out {
-        OutText::Rows => Ok(Rest::Rows(reserve_joins(alloc, scans, query, db, plan)?)),
-        OutText::Audit => Ok(Rest::Audit(reserve_joins(alloc, scans, query, db, plan)?)),
+        OutText::Rows => Ok(Rest::Rows(prepare_joins(alloc, scans, query, db, plan)?)),
+        OutText::Audit => Ok(Rest::Audit(prepare_joins(alloc, scans, query, db, plan)?)),
         OutText::Nothing => Ok(Rest::Nothing),
     }
 }
@@ -85,12 +88,12 @@ fn prepare_plan(alloc: Global, task: &Task, query: Query, db: Database) -> Resul
     ensures refused { IfErr result (Tells (plan_stage (asked task.now) query (entry_rows db))) }
 {
     let Planned { plan, scans } = plan_task(alloc, task, &query, &db)?;
-    let rest = make_room(alloc, task.out, &query, &db, &plan, &scans)?;
+    let rest = make_room(alloc, task.out, &query, &db, &plan, scans)?;
     Ok(Prepared {
         query,
         db,
         plan,
-        scans,
+        reduce: task.reduce,
         rest,
     })
 }

@@ -1,22 +1,23 @@
-//! The rows from which the levels of a run are chosen.
-ghost use Rattle.std.specs.Prelude.{◌≡◌, ◌⊎◌, ◌<◌, ◌≤◌, ℕ, ◌+◌, Err, IfErr, IfOk, Ok, length};
+//! The lists of rows from which the levels of a run are chosen, and the memory of the levels.
+ghost use Rattle.std.specs.Prelude.{◌≡◌, ◌⊎◌, ◌<◌, ◌≤◌, Err, IfErr, IfOk, Ok, length};
 ghost use Rattle.limits.specs.Profile.{most_accuracy, most_budget, most_conjuncts};
-ghost use Rattle.link_index.specs.Forest.{rows_at};
 ghost use Rattle.order_search.specs.declared.refusal.PlanError.TheVariants as error;
 ghost use Rattle.level_bounds.specs.Keys.{HaveDifferentCharacters};
 ghost use Rattle.planned_joins.specs.PlansOf.{HaveFewRows};
 ghost use Rattle.sql_meaning.specs.Databases.{IsDatabaseOf};
 ghost use Rattle.sql_meaning.specs.Tables.{tables_of};
+ghost use Rattle.join_steps.specs.Lists.{lists_of, scans_of};
+ghost use Rattle.join_steps.specs.Plans.{IsPlanOf};
 ghost use Rattle.safebound_top.specs.Asks.{asked};
-ghost use Rattle.safebound_top.specs.Prepared.{IsPlanBy, IsReadyBy, are_reduced, levels_by};
+ghost use Rattle.safebound_top.specs.Prepared.{CanJoin, HasLists, are_reduced, lists_by};
 ghost use Rattle.safebound_top.specs.Verdict.{plan_asked};
 
 use crate::task::Task;
 use base_io::NoMemory;
 use csv_tables::Database;
-use hash_join::Executed;
+use join_steps::scan_all;
 use order_search::PlanError;
-use planned_joins::{execute_over, execute_plan, reserve_over, reserve_plan};
+use planned_joins::{reserve_plan, reserve_scans};
 use planning::plan_query;
 use plans::Plan;
 use query_types::Query;
@@ -28,7 +29,7 @@ use std::alloc::Global;
 /// The rows from which levels are chosen.
 #[derive(Drop)]
 pub enum Scans {
-    /// Those of each entry's scan, which a run lists first.
+    /// Those of each entry's scan, which aren't listed yet.
     Whole,
     /// Those of each entry's reduced scan, by their numbers and in file order.
     Reduced(Vec<RowBuf<u32>>),
@@ -39,6 +40,13 @@ pub enum Scans {
 pub struct Planned {
     pub plan: Plan,
     pub scans: Scans,
+}
+
+/// All that the joins of a plan need: a list of rows for each entry, and the buffers for the levels over them.
+#[derive(Drop)]
+pub struct Joins {
+    pub lists: Vec<RowBuf<u32>>,
+    pub reserved: Reserved,
 }
 
 /// Plans a query over its database, from statistics or, where the task asks for it, from reduced scans.
@@ -55,7 +63,8 @@ pub fn plan_task(
     requires accuracy { (0 < task.now.accuracy) × (task.now.accuracy ≤ most_accuracy) }
     requires budget { task.now.budget ≤ most_budget }
     ensures planned { IfOk result (λ p. plan_asked (asked task.now) query.now (tables_of db.now) ≡ Ok p.plan) }
-    ensures bounds { IfOk result (λ p. IsPlanBy p.scans query.now (tables_of db.now) p.plan) }
+    ensures bounds { IfOk result (λ p. IsPlanOf query.now (tables_of db.now) (lists_by (are_reduced p.scans) query.now (tables_of db.now)) p.plan) }
+    ensures lists { IfOk result (λ p. HasLists p.scans query.now (tables_of db.now)) }
     ensures reduced { IfOk result (λ p. are_reduced p.scans ≡ task.now.reduce) }
     ensures refused { IfErr result (λ e. (e ≡ error.NoMemory) ⊎ (plan_asked (asked task.now) query.now (tables_of db.now) ≡ Err e)) }
 {
@@ -74,43 +83,60 @@ pub fn plan_task(
     }
 }
 
-/// Takes all memory that the joins of a plan need.
-pub fn reserve_joins(
+// Lists the rows of each entry's scan, in memory that is taken by the plan's bounds.
+fn list_scans(
     alloc: Global,
-    scans: &Scans,
     query: &Query,
     db: &Database,
     plan: &Plan,
-) -> Result<Reserved, NoMemory>
+) -> Result<Vec<RowBuf<u32>>, NoMemory>
     requires database { IsDatabaseOf query.now db.now }
-    requires few_rows { HaveFewRows (tables_of db.now) (length query.now.from) }
-    requires plan { IsPlanBy scans.now query.now (tables_of db.now) plan.now }
-    ensures { IfOk result (IsReadyBy scans.now query.now db.now plan.now.order) }
+    requires few { length query.now.conjuncts ≤ most_conjuncts }
+    requires plan { IsPlanOf query.now (tables_of db.now) (scans_of query.now (tables_of db.now)) plan.now }
+    ensures { IfOk result (λ lists. lists_of lists.items ≡ scans_of query.now (tables_of db.now)) }
+{
+    let mut lists = reserve_scans(alloc, query, db, plan)?;
+    scan_all(query, db, lists.as_mut_slice());
+    Ok(lists)
+}
+
+// The list of each entry's rows. Reduced scans are there.
+fn list_rows(
+    alloc: Global,
+    scans: Scans,
+    query: &Query,
+    db: &Database,
+    plan: &Plan,
+) -> Result<Vec<RowBuf<u32>>, NoMemory>
+    requires database { IsDatabaseOf query.now db.now }
+    requires few { length query.now.conjuncts ≤ most_conjuncts }
+    requires plan { IsPlanOf query.now (tables_of db.now) (lists_by (are_reduced scans) query.now (tables_of db.now)) plan.now }
+    requires lists { HasLists scans query.now (tables_of db.now) }
+    ensures { IfOk result (λ lists. lists_of lists.items ≡ lists_by (are_reduced scans) query.now (tables_of db.now)) }
 {
     match scans {
-        Scans::Whole => reserve_plan(alloc, query, db, plan),
-        Scans::Reduced(lists) => reserve_over(alloc, query, db, plan, lists.as_slice()),
+        Scans::Whole => list_scans(alloc, query, db, plan),
+        Scans::Reduced(lists) => Ok(lists),
     }
 }
 
-/// Lists every level of a plan. It takes no memory.
-pub fn execute_joins(
-    reserved: Reserved,
-    scans: &Scans,
-    plan: &Plan,
+/// Takes all memory that the joins of a plan need, and lists the rows from which levels are chosen.
+pub fn prepare_joins(
+    alloc: Global,
+    scans: Scans,
     query: &Query,
     db: &Database,
-) -> Executed
+    plan: &Plan,
+) -> Result<Joins, NoMemory>
     requires database { IsDatabaseOf query.now db.now }
     requires few { length query.now.conjuncts ≤ most_conjuncts }
-    requires plan { IsPlanBy scans.now query.now (tables_of db.now) plan.now }
-    requires ready { IsReadyBy scans.now query.now db.now plan.now.order reserved }
-    ensures levels { (k : ℕ) → k < length plan.now.order
-        → rows_at result k ≡ levels_by scans.now query.now db.now plan.now.order (k + 1) }
-    ensures count { length result ≡ length plan.now.order }
+    requires few_rows { HaveFewRows (tables_of db.now) (length query.now.from) }
+    requires plan { IsPlanOf query.now (tables_of db.now) (lists_by (are_reduced scans) query.now (tables_of db.now)) plan.now }
+    requires lists { HasLists scans query.now (tables_of db.now) }
+    ensures room { IfOk result (CanJoin query.now db.now plan.now) }
+    ensures lists { IfOk result (λ joins. lists_of joins.lists.items ≡ lists_by (are_reduced scans) query.now (tables_of db.now)) }
 {
-    match scans {
-        Scans::Whole => execute_plan(reserved, plan, query, db),
-        Scans::Reduced(lists) => execute_over(reserved, plan, query, db, lists.as_slice()),
-    }
+    let reserved = reserve_plan(alloc, query, db, plan)?;
+    let lists = list_rows(alloc, scans, query, db, plan)?;
+    Ok(Joins { lists, reserved })
 }

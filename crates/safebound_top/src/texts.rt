@@ -7,25 +7,26 @@ ghost use Rattle.printed_texts.specs.Plans.{audit_lines};
 ghost use Rattle.printed_texts.specs.Texts.{rows_lines};
 ghost use Rattle.sql_meaning.specs.Databases.{IsDatabaseOf};
 ghost use Rattle.sql_meaning.specs.Tables.{tables_of};
+ghost use Rattle.join_steps.specs.Lists.{lists_of};
+ghost use Rattle.hash_join.specs.Levels.{list_level_sizes};
 ghost use Rattle.joined_texts.specs.Printed.{printed_rows};
 ghost use Rattle.safebound_top.specs.Course.{Written, WroteIfAny};
-ghost use Rattle.safebound_top.specs.Prepared.{HasRoom, IsPlanBy, IsReady, IsReadyBy, accepted_of, sizes_by, text_from};
+ghost use Rattle.safebound_top.specs.Prepared.{CanJoin, HasRoom, IsReady, accepted_of, text_from};
 
 use crate::prepare::{Prepared, Rest};
-use crate::scans::{Scans, execute_joins};
+use crate::scans::Joins;
 use base_io::{Failed, Sink};
 use csv_tables::Database;
 use joined_texts::{write_audit, write_rows};
 use outcomes::SinkId;
+use planned_joins::execute_plan;
 use plans::Plan;
 use printed_texts::write_plan;
 use query_types::Query;
-use reserve_plan::Reserved;
 
-// Lists the rows of a plan, and writes them.
-fn list_rows<O: Sink>(
-    reserved: Reserved,
-    scans: &Scans,
+// Lists the levels of a plan, and writes the rows of the last one.
+fn write_last<O: Sink>(
+    joins: Joins,
     plan: &Plan,
     query: &Query,
     db: &Database,
@@ -33,19 +34,18 @@ fn list_rows<O: Sink>(
 ) -> Result<(), Failed>
     requires database { IsDatabaseOf query.now db.now }
     requires few { length query.now.conjuncts ≤ most_conjuncts }
-    requires plan { IsPlanBy scans.now query.now (tables_of db.now) plan.now }
-    requires ready { IsReadyBy scans.now query.now db.now plan.now.order reserved }
+    requires joins { CanJoin query.now db.now plan.now joins }
     ensures { Wrote (growth O.taken O.faults out.old out.new)
         (rows_lines query.now.select (printed_rows query.now db.now plan.now.order)) result }
 {
-    let executed = execute_joins(reserved, scans, plan, query, db);
+    let Joins { lists, reserved } = joins;
+    let executed = execute_plan(reserved, plan, query, db, lists.as_slice());
     write_rows(&executed, plan.order.as_slice(), query, db, out)
 }
 
 // Lists the levels of a plan, and writes how many rows each has.
-fn audit_levels<O: Sink>(
-    reserved: Reserved,
-    scans: &Scans,
+fn write_sizes<O: Sink>(
+    joins: Joins,
     plan: &Plan,
     query: &Query,
     db: &Database,
@@ -53,19 +53,19 @@ fn audit_levels<O: Sink>(
 ) -> Result<(), Failed>
     requires database { IsDatabaseOf query.now db.now }
     requires few { length query.now.conjuncts ≤ most_conjuncts }
-    requires plan { IsPlanBy scans.now query.now (tables_of db.now) plan.now }
-    requires ready { IsReadyBy scans.now query.now db.now plan.now.order reserved }
+    requires joins { CanJoin query.now db.now plan.now joins }
     ensures { Wrote (growth O.taken O.faults out.old out.new)
-        (audit_lines query.now.from plan.now (sizes_by scans.now query.now db.now plan.now.order)) result }
+        (audit_lines query.now.from plan.now (list_level_sizes query.now (tables_of db.now) (lists_of joins.lists.items) plan.now.order))
+        result }
 {
-    let executed = execute_joins(reserved, scans, plan, query, db);
+    let Joins { lists, reserved } = joins;
+    let executed = execute_plan(reserved, plan, query, db, lists.as_slice());
     write_audit(&executed, plan, query.from.as_slice(), out)
 }
 
 // Does what is left to do.
 fn write_rest<O: Sink>(
     rest: Rest,
-    scans: &Scans,
     plan: &Plan,
     query: &Query,
     db: &Database,
@@ -73,13 +73,12 @@ fn write_rest<O: Sink>(
 ) -> Result<(), Failed>
     requires database { IsDatabaseOf query.now db.now }
     requires few { length query.now.conjuncts ≤ most_conjuncts }
-    requires plan { IsPlanBy scans.now query.now (tables_of db.now) plan.now }
-    requires room { HasRoom query.now db.now plan.now scans.now rest }
-    ensures { WroteIfAny (growth O.taken O.faults out.old out.new) (text_from rest scans.now query.now db.now plan.now) result }
+    requires room { HasRoom query.now db.now plan.now rest }
+    ensures { WroteIfAny (growth O.taken O.faults out.old out.new) (text_from rest query.now db.now plan.now) result }
 {
     match rest {
-        Rest::Rows(reserved) => list_rows(reserved, scans, plan, query, db, out),
-        Rest::Audit(reserved) => audit_levels(reserved, scans, plan, query, db, out),
+        Rest::Rows(joins) => write_last(joins, plan, query, db, out),
+        Rest::Audit(joins) => write_sizes(joins, plan, query, db, out),
         Rest::Nothing => Ok(()),
     }
 }
@@ -98,14 +97,14 @@ pub fn write_texts<O: Sink, N: Sink>(
         query,
         db,
         plan,
-        scans,
+        reduce: _,
         rest,
     } = prepared;
     match write_plan(&plan, query.from.as_slice(), notes) {
         Ok(()) => {}
         Err(Failed) => return Err(SinkId::Notes),
     }
-    match write_rest(rest, &scans, &plan, &query, &db, out) {
+    match write_rest(rest, &plan, &query, &db, out) {
         Ok(()) => Ok(()),
         Err(Failed) => Err(SinkId::Out),
     }

@@ -1,4 +1,5 @@
-use Rattle.reduced_bounds.proofs.ReducedPlans.{levels_of_scans, whole_of_scans}
+use Rattle.join_steps.proofs.WholeScans.{whole_of_scans}
+use Rattle.reduced_bounds.proofs.ReducedPlans.{levels_of_scans}
 use Rattle.reduced_bounds.proofs.laws.levels_over_whole_scans.Goals as goal
 
 pub returns-clause-lists : goal.returns-clause-lists

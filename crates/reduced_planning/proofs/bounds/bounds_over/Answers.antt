@@ -7,8 +7,10 @@ use Rattle.bound_fold.specs.Lists.{bounds_of}
 use Rattle.bound_fold.specs.Sets.{HaveLists}
 use Rattle.set_bounds.specs.AllSets.{bounds_of_sets}
 use Rattle.sql_meaning.specs.Tables.{tables_of}
-use Rattle.reduced_scans.specs.Lists.{JoinsColumns, lists_of}
-use Rattle.reduced_scans.proofs.OfQuery.{joins_columns, length-lists_of}
+use Rattle.join_steps.specs.Lists.{lists_of}
+use Rattle.reduced_scans.specs.Lists.{JoinsColumns}
+use Rattle.join_steps.proofs.WholeScans.{length-lists_of}
+use Rattle.reduced_scans.proofs.OfQuery.{joins_columns}
 use Rattle.reduced_bounds.specs.Bounds.{entry_bounds_over, set_bounds_over}
 use Rattle.reduced_planning.proofs.Knowing.{all_listed, sets_are}
 use Rattle.reduced_planning.proofs.bounds.bounds_over.Goals as goal

@@ -4,9 +4,9 @@ use Rattle.cond_stats.specs.Lists.{compressed_degrees}
 use Rattle.filtered_lists.specs.Standing.{value_in_row}
 use Rattle.sql_meaning.specs.Tables.{cells_of, tables_of}
 use Rattle.table_stats.specs.Columns.{numbered}
-use Rattle.reduced_scans.specs.Families.{list_at}
-use Rattle.reduced_scans.specs.Lists.{lists_of}
-use Rattle.reduced_scans.proofs.OfQuery.{length-lists_of, read_list, read_short}
+use Rattle.join_steps.specs.Lists.{list_at, lists_of}
+use Rattle.join_steps.proofs.WholeScans.{length-lists_of}
+use Rattle.reduced_scans.proofs.OfQuery.{read_list, read_short}
 use Rattle.reduced_planning.proofs.Knowing.{is_some, kept_there, known_more}
 use Rattle.reduced_planning.proofs.lists.add_new.Goals as goal
 

@@ -2,8 +2,8 @@ use Rattle.std.proofs.Common.{get_or, length, sym, arith}
 use Rattle.berge_tree.specs.declared.edges.Edge.{Edge}
 use Rattle.bound_fold.specs.Sets.{HaveLists}
 use Rattle.bound_fold.proofs.TestedSets.{edge_more}
-use Rattle.reduced_scans.specs.Lists.{lists_of}
-use Rattle.reduced_scans.proofs.OfQuery.{length-lists_of}
+use Rattle.join_steps.specs.Lists.{lists_of}
+use Rattle.join_steps.proofs.WholeScans.{length-lists_of}
 use Rattle.reduced_planning.proofs.Knowing.{known_first, no_edge}
 use Rattle.reduced_planning.proofs.lists.entry_lists.Goals as goal
 

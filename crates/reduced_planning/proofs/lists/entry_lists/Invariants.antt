@@ -1,7 +1,7 @@
 use Rattle.std.proofs.Common.{◌<◌, ℕ, get_or}
 use Rattle.berge_tree.specs.declared.edges.Edge.{Edge}
 use Rattle.bound_fold.specs.Sets.{HaveLists}
-use Rattle.reduced_scans.specs.Lists.{lists_of}
+use Rattle.join_steps.specs.Lists.{lists_of}
 use Rattle.reduced_planning.specs.Known.{IsKnown}
 use Rattle.reduced_planning.proofs.lists.entry_lists.Given as goal
 

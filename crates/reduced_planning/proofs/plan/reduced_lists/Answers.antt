@@ -4,10 +4,10 @@ use Rattle.row_buf.specs.Rows.{Rows}
 use Rattle.join_graph.specs.Conjuncts.{equalities_of}
 use Rattle.sql_meaning.specs.Tables.{tables_of}
 use Rattle.level_bounds.specs.Keys.{are_equal_at}
-use Rattle.reduced_scans.specs.Families.{list_at}
-use Rattle.reduced_scans.specs.Lists.{AreListsOf, lists_of}
+use Rattle.join_steps.specs.Lists.{list_at, lists_of, scans_of}
+use Rattle.reduced_scans.specs.Lists.{AreListsOf}
 use Rattle.reduced_scans.specs.Rounds.{reduced_of}
-use Rattle.reduced_scans.specs.Scans.{AreReducedScans, scans_of}
+use Rattle.reduced_scans.specs.Scans.{AreReducedScans}
 use Rattle.reduced_scans.proofs.ByRounds.{reduced_scans_by_rounds}
 use Rattle.reduced_scans.proofs.OneReduced.{one_reduced}
 use Rattle.reduced_planning.proofs.Reduced.{lists_of_db}

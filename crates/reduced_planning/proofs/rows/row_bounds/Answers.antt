@@ -1,5 +1,5 @@
 use Rattle.std.proofs.Common.{◌<◌, ℕ, List, length, ap, ◌∙◌, arith}
-use Rattle.reduced_scans.specs.Lists.{lists_of}
+use Rattle.join_steps.specs.Lists.{lists_of}
 use Rattle.reduced_scans.proofs.OfQuery.{read_list}
 use Rattle.reduced_planning.proofs.Knowing.{rows_more, rows_none}
 use Rattle.reduced_planning.proofs.rows.row_bounds.Goals as goal

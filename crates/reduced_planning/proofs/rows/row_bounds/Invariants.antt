@@ -1,6 +1,6 @@
 use Rattle.std.proofs.Common.{◌≡◌, ℕ, None}
 use Rattle.bound_fold.specs.Lists.{list_of}
-use Rattle.reduced_scans.specs.Lists.{lists_of}
+use Rattle.join_steps.specs.Lists.{lists_of}
 use Rattle.reduced_planning.specs.Known.{HasRows}
 use Rattle.reduced_planning.proofs.rows.row_bounds.Given as goal
 

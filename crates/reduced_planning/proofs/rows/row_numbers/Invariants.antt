@@ -1,7 +1,6 @@
 use Rattle.std.proofs.Common.{◌≡◌, map}
 use Rattle.std.specs.List.{range_with_len}
-use Rattle.reduced_scans.specs.Lists.{lists_of}
-use Rattle.reduced_bounds.specs.Bounds.{rows_listed}
+use Rattle.join_steps.specs.Lists.{lists_of, rows_listed}
 use Rattle.reduced_planning.proofs.rows.row_numbers.Given as goal
 
 abbrev pub invariant-lists : goal.invariant-lists

@@ -6,10 +6,11 @@ use Rattle.level_bounds.proofs.LastLevel.{last_level_is_answer}
 use Rattle.join_graph.specs.Conjuncts.{equalities_of}
 use Rattle.level_bounds.specs.Keys.{are_equal_at}
 use Rattle.sql_meaning.proofs.AskFacts.{asks_only}
-use Rattle.reduced_scans.specs.Scans.{scans_of}
+use Rattle.join_steps.specs.Lists.{scans_of}
 use Rattle.reduced_scans.proofs.Levels.{rows_stay}
 use Rattle.reduced_scans.proofs.Matches.{match_stays}
-use Rattle.reduced_scans.proofs.QueryScans.{count_of, name_entries}
+use Rattle.join_steps.proofs.WholeScans.{count_of}
+use Rattle.reduced_scans.proofs.QueryScans.{name_entries}
 use Rattle.reduced_scans.proofs.SameLevel.{same_level}
 use Rattle.reduced_scans.proofs.laws.no_row_of_the_answer_is_lost.Goals as goal
 

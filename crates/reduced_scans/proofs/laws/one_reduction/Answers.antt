@@ -1,8 +1,8 @@
 use Rattle.join_graph.specs.Conjuncts.{equalities_of}
 use Rattle.level_bounds.specs.Keys.{are_equal_at}
-use Rattle.reduced_scans.specs.Scans.{scans_of}
+use Rattle.join_steps.specs.Lists.{scans_of}
 use Rattle.reduced_scans.proofs.OneReduced.{one_reduced}
-use Rattle.reduced_scans.proofs.QueryScans.{ascending}
+use Rattle.join_steps.proofs.WholeScans.{ascending}
 use Rattle.reduced_scans.proofs.SomeReduced.{some_reduced}
 use Rattle.reduced_scans.proofs.laws.one_reduction.Goals as goal
 

@@ -1,7 +1,7 @@
 use Rattle.join_graph.specs.Conjuncts.{equalities_of}
 use Rattle.level_bounds.specs.Keys.{are_equal_at}
 use Rattle.reduced_scans.specs.Rounds.{reduced_of}
-use Rattle.reduced_scans.specs.Scans.{scans_of}
+use Rattle.join_steps.specs.Lists.{scans_of}
 use Rattle.reduced_scans.proofs.ByRounds.{reduced_scans_by_rounds}
 use Rattle.reduced_scans.proofs.OneReduced.{one_reduced}
 use Rattle.reduced_scans.proofs.laws.reduced_scans_are_by_rounds.Goals as goal

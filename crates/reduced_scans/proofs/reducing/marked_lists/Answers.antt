@@ -1,12 +1,13 @@
 use Rattle.std.proofs.Common.{arith, ap, sym, subst, ◌∙◌, ◌≡◌, ◌<◌, ℕ, List, [], ◌∷◌, length}
 use Rattle.std.proofs.lemmas.List.Elements.{All-append, All-from_recursion}
 use Rattle.counted_sets.specs.Sets.{marked}
-use Rattle.reduced_scans.specs.Families.{list_at}
+use Rattle.join_steps.specs.Lists.{list_at, lists_of}
 use Rattle.row_buf.specs.Rows.{Rows}
-use Rattle.reduced_scans.specs.Lists.{HaveNoSpare, lists_of}
+use Rattle.reduced_scans.specs.Lists.{HaveNoSpare}
 use Rattle.reduced_scans.specs.Wiring.{first_item}
 use Rattle.reduced_scans.proofs.MarkedRows.{items_within}
-use Rattle.reduced_scans.proofs.OfQuery.{length-lists_of, marked_more, read_list}
+use Rattle.join_steps.proofs.WholeScans.{length-lists_of}
+use Rattle.reduced_scans.proofs.OfQuery.{marked_more, read_list}
 use Rattle.reduced_scans.proofs.reducing.marked_lists.Goals as goal
 
 pub marked_rows-requires-clause-marks : goal.marked_rows-requires-clause-marks

@@ -1,6 +1,7 @@
 use Rattle.std.proofs.Common.{◌≡◌, take}
 use Rattle.counted_sets.specs.Sets.{marked}
-use Rattle.reduced_scans.specs.Lists.{HaveNoSpare, lists_of}
+use Rattle.join_steps.specs.Lists.{lists_of}
+use Rattle.reduced_scans.specs.Lists.{HaveNoSpare}
 use Rattle.reduced_scans.specs.Wiring.{marked_family}
 use Rattle.reduced_scans.proofs.reducing.marked_lists.Given as goal
 

@@ -3,10 +3,10 @@ use Rattle.std.specs.Prelude.{All}
 use Rattle.counted_sets.specs.declared.uses.Use.{Use}
 use Rattle.counted_sets.specs.Sets.{IsGreatest, IsUseOf, marked}
 use Rattle.level_bounds.specs.Keys.{cell_at}
-use Rattle.reduced_scans.specs.Lists.{lists_of}
+use Rattle.join_steps.specs.Lists.{lists_of}
 use Rattle.reduced_scans.specs.Wiring.{first_item}
 use Rattle.reduced_scans.proofs.Bridge.{marks_reduce}
-use Rattle.reduced_scans.proofs.OfQuery.{length-lists_of}
+use Rattle.join_steps.proofs.WholeScans.{length-lists_of}
 use Rattle.reduced_scans.proofs.Wired.{uses_are_of}
 use Rattle.reduced_scans.proofs.reducing.marks_of.Goals as goal
 

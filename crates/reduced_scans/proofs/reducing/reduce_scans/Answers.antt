@@ -7,12 +7,12 @@ use Rattle.row_buf.specs.Rows.{Rows}
 use Rattle.sql_meaning.specs.Tables.{tables_of}
 use Rattle.level_bounds.specs.Keys.{are_equal_at, cell_at}
 use Rattle.reduced_scans.specs.Families.{AreAscending, IsReduced}
-use Rattle.reduced_scans.specs.Lists.{AreListsOf, JoinsColumns, lists_of}
-use Rattle.reduced_scans.specs.Scans.{scans_of}
+use Rattle.join_steps.specs.Lists.{lists_of, scans_of}
+use Rattle.reduced_scans.specs.Lists.{AreListsOf, JoinsColumns}
 use Rattle.reduced_scans.specs.SemiJoins.{IsSifted}
 use Rattle.reduced_scans.specs.Wiring.{TellsByKey, marked_family}
 use Rattle.reduced_scans.proofs.OfQuery.{are_lists, few_equalities, joins_columns, lists_are, tells}
-use Rattle.reduced_scans.proofs.QueryScans.{ascending}
+use Rattle.join_steps.proofs.WholeScans.{ascending}
 use Rattle.reduced_scans.proofs.Sifting.{reduced_of_sifted, sifted_tell}
 use Rattle.reduced_scans.proofs.Wired.{few_items}
 use Rattle.reduced_scans.proofs.reducing.reduce_scans.Goals as goal

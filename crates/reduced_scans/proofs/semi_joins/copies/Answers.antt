@@ -1,9 +1,9 @@
 use Rattle.std.proofs.Common.{arith, ap, sym, ◌∙◌, ◌≡◌, ◌<◌, ◌++◌, ℕ, List, [], ◌∷◌, length, take}
 use Rattle.std.proofs.lemmas.List.{map-append, take_more}
 use Rattle.row_buf.specs.Rows.{Rows}
-use Rattle.reduced_scans.specs.Families.{list_at}
-use Rattle.reduced_scans.specs.Lists.{lists_of}
-use Rattle.reduced_scans.proofs.OfQuery.{length-lists_of, read_list}
+use Rattle.join_steps.specs.Lists.{list_at, lists_of}
+use Rattle.join_steps.proofs.WholeScans.{length-lists_of}
+use Rattle.reduced_scans.proofs.OfQuery.{read_list}
 use Rattle.reduced_scans.proofs.semi_joins.copies.Goals as goal
 
 pub scans-preserved : goal.scans-preserved

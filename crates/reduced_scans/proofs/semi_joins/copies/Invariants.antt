@@ -1,5 +1,5 @@
 use Rattle.std.proofs.Common.{◌≡◌, take}
-use Rattle.reduced_scans.specs.Lists.{lists_of}
+use Rattle.join_steps.specs.Lists.{lists_of}
 use Rattle.reduced_scans.proofs.semi_joins.copies.Given as goal
 
 abbrev pub invariant-scans : goal.invariant-scans

@@ -1,6 +1,6 @@
 use Rattle.std.proofs.Common.{false, true}
 use Rattle.level_bounds.specs.Keys.{cell_at}
-use Rattle.reduced_scans.specs.Lists.{lists_of}
+use Rattle.join_steps.specs.Lists.{lists_of}
 use Rattle.reduced_scans.proofs.Sifting.{stay_both, stay_one}
 use Rattle.reduced_scans.proofs.semi_joins.sift_equality.Goals as goal
 

@@ -1,6 +1,6 @@
 use Rattle.std.proofs.lemmas.List.Elements.{Contains-get_or}
 use Rattle.level_bounds.specs.Keys.{cell_at}
-use Rattle.reduced_scans.specs.Lists.{lists_of}
+use Rattle.join_steps.specs.Lists.{lists_of}
 use Rattle.reduced_scans.proofs.Sifting.{stay_both}
 use Rattle.reduced_scans.proofs.semi_joins.sift_forward.Goals as goal
 

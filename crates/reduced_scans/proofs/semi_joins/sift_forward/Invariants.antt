@@ -1,5 +1,6 @@
 use Rattle.level_bounds.specs.Keys.{cell_at}
-use Rattle.reduced_scans.specs.Lists.{AreListsOf, lists_of}
+use Rattle.join_steps.specs.Lists.{lists_of}
+use Rattle.reduced_scans.specs.Lists.{AreListsOf}
 use Rattle.reduced_scans.specs.SemiJoins.{StaySifted}
 use Rattle.reduced_scans.proofs.semi_joins.sift_forward.Given as goal
 

@@ -3,8 +3,8 @@ use Rattle.std.specs.Prelude.{All}
 use Rattle.join_steps.specs.Columns.{column_cells}
 use Rattle.level_bounds.specs.Keys.{cell_at}
 use Rattle.sql_meaning.specs.Tables.{cells_of}
-use Rattle.reduced_scans.specs.Families.{list_at}
-use Rattle.reduced_scans.specs.Lists.{column_of, lists_of}
+use Rattle.join_steps.specs.Lists.{list_at, lists_of}
+use Rattle.reduced_scans.specs.Lists.{column_of}
 use Rattle.reduced_scans.specs.SemiJoins.{IsSemiJoin}
 use Rattle.reduced_scans.proofs.SiftedLists.{got_list, joined_at, joined_lists, joined_not}
 use Rattle.reduced_scans.proofs.semi_joins.sift_side.Goals as goal

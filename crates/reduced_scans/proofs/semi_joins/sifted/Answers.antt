@@ -1,6 +1,6 @@
 use Rattle.std.proofs.Common.{sym, subst}
 use Rattle.level_bounds.specs.Keys.{cell_at}
-use Rattle.reduced_scans.specs.Lists.{lists_of}
+use Rattle.join_steps.specs.Lists.{lists_of}
 use Rattle.reduced_scans.specs.SemiJoins.{IsSifted}
 use Rattle.reduced_scans.proofs.SiftedLists.{lists_alike}
 use Rattle.reduced_scans.proofs.Sifting.{scans_are_sifted, stay_both}

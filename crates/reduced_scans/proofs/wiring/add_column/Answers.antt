@@ -1,9 +1,9 @@
 use Rattle.std.proofs.Common.{arith, ap, sym, subst, ◌∙◌, ◌≡◌, ◌<◌, ℕ, List, length}
 use Rattle.std.specs.Prelude.{All}
 use Rattle.sql_meaning.specs.Tables.{cells_of}
-use Rattle.reduced_scans.specs.Families.{list_at}
+use Rattle.join_steps.specs.Lists.{list_at, lists_of}
 use Rattle.join_steps.specs.Columns.{column_cells}
-use Rattle.reduced_scans.specs.Lists.{column_of, lists_of}
+use Rattle.reduced_scans.specs.Lists.{column_of}
 use Rattle.reduced_scans.specs.Wiring.{AddsUses}
 use Rattle.reduced_scans.proofs.OfQuery.{read_list, read_short}
 use Rattle.reduced_scans.proofs.wiring.add_column.Goals as goal

@@ -2,8 +2,8 @@ use Rattle.std.proofs.Common.{arith, ap, refl, sym, ◌∙◌, ◌≡◌, ◌≤
 use Rattle.berge_tree.specs.declared.edges.Edge.{Edge}
 use Rattle.level_bounds.specs.Keys.{cell_at}
 use Rattle.join_steps.specs.Columns.{column_cells}
-use Rattle.reduced_scans.specs.Families.{list_at}
-use Rattle.reduced_scans.specs.Lists.{column_of, lists_of}
+use Rattle.join_steps.specs.Lists.{list_at, lists_of}
+use Rattle.reduced_scans.specs.Lists.{column_of}
 use Rattle.reduced_scans.proofs.Wired.{wired_one}
 use Rattle.reduced_scans.proofs.wiring.add_equality.Goals as goal
 

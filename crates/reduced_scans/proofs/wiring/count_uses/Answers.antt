@@ -3,8 +3,7 @@ use Rattle.std.specs.Prelude.{All}
 use Rattle.limits.specs.Profile.{most_rows}
 use Rattle.berge_tree.specs.declared.edges.Edge.{Edge}
 use Rattle.row_buf.specs.Rows.{Rows}
-use Rattle.reduced_scans.specs.Families.{list_at}
-use Rattle.reduced_scans.specs.Lists.{lists_of}
+use Rattle.join_steps.specs.Lists.{list_at, lists_of}
 use Rattle.reduced_scans.proofs.OfQuery.{read_short}
 use Rattle.reduced_scans.proofs.wiring.count_uses.Goals as goal
 

@@ -1,8 +1,8 @@
 use Rattle.std.proofs.Common.{arith, ap, sym, ◌∙◌, ◌≡◌, ◌<◌, ℕ, List, length}
-use Rattle.reduced_scans.specs.Families.{list_at}
-use Rattle.reduced_scans.specs.Lists.{lists_of}
+use Rattle.join_steps.specs.Lists.{list_at, lists_of}
 use Rattle.reduced_scans.proofs.MarkedRows.{first-take, first_none}
-use Rattle.reduced_scans.proofs.OfQuery.{length-lists_of, read_list, read_short}
+use Rattle.join_steps.proofs.WholeScans.{length-lists_of}
+use Rattle.reduced_scans.proofs.OfQuery.{read_list, read_short}
 use Rattle.reduced_scans.proofs.wiring.first_item.Goals as goal
 
 pub lists-init : goal.lists-init

@@ -1,6 +1,6 @@
 use Rattle.std.proofs.Common.{◌≡◌, ◌≤◌, ◌*◌}
 use Rattle.limits.specs.Profile.{most_rows}
-use Rattle.reduced_scans.specs.Lists.{lists_of}
+use Rattle.join_steps.specs.Lists.{lists_of}
 use Rattle.reduced_scans.specs.Wiring.{first_item}
 use Rattle.reduced_scans.proofs.wiring.first_item.Given as goal
 

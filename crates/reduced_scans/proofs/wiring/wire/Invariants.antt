@@ -1,7 +1,7 @@
 use Rattle.std.proofs.Common.{◌≡◌, ◌≤◌, ◌*◌, length}
 use Rattle.limits.specs.Profile.{most_rows}
 use Rattle.level_bounds.specs.Keys.{cell_at}
-use Rattle.reduced_scans.specs.Lists.{lists_of}
+use Rattle.join_steps.specs.Lists.{lists_of}
 use Rattle.reduced_scans.specs.Wiring.{AreWired}
 use Rattle.reduced_scans.proofs.wiring.wire.Given as goal
 

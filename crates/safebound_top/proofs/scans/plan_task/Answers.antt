@@ -1,15 +1,13 @@
 use Rattle.sql_meaning.specs.Tables.{tables_of}
-use Rattle.reduced_scans.specs.Lists.{lists_of}
 use Rattle.safebound_top.proofs.Answered.{was_made}
-use Rattle.safebound_top.proofs.Plans.{lists_hold, plan_holds}
+use Rattle.safebound_top.proofs.Plans.{plan_holds, reduced_holds}
 use Rattle.safebound_top.proofs.scans.plan_task.Goals as goal
 
 pub returns-in_ok-reduced-clause-bounds : goal.returns-in_ok-reduced-clause-bounds
 returns-in_ok-reduced-clause-bounds c =
     let task = c.args.task.now in
     let made = c.in_ok-reduced.reduced in
-    lists_hold c.args.query.now (tables_of c.args.db.now) (lists_of made.lists.items) task.accuracy task.budget made.plan c.requires.database.few c.requires.budget
-    c.in_ok-reduced.ensures.lists c.in_ok-reduced.ensures.plan
+    reduced_holds c.args.query.now (tables_of c.args.db.now) task.accuracy task.budget made.plan c.requires.database.few c.requires.budget c.in_ok-reduced.ensures.plan
 
 pub returns-in_ok-plan-clause-bounds : goal.returns-in_ok-plan-clause-bounds
 returns-in_ok-plan-clause-bounds c =

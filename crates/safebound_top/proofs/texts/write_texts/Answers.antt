@@ -1,10 +1,8 @@
 use Rattle.std.proofs.Common.{List, ap}
 use Rattle.query_types.specs.declared.types.Source.{Source}
 use Rattle.printed_texts.specs.Plans.{plan_lines}
-use Rattle.sql_meaning.specs.Tables.{tables_of}
 use Rattle.sql_meaning.proofs.AnswerFacts.{own_entries}
 use Rattle.safebound_top.specs.Prepared.{accepted_of}
-use Rattle.safebound_top.proofs.Plans.{for_each}
 use Rattle.safebound_top.proofs.RestTexts.{rest_is}
 use Rattle.safebound_top.proofs.TextSteps.{both_wrote, notes_cut, out_cut}
 use Rattle.safebound_top.proofs.texts.write_texts.Goals as goal
@@ -12,7 +10,7 @@ use Rattle.safebound_top.proofs.texts.write_texts.Goals as goal
 pub write_plan-requires : goal.write_plan-requires
 write_plan-requires g c =
     let p = c.args.prepared in
-    rw c.as_slice.ensures (for_each p.scans p.query (tables_of p.db) p.plan c.requires.plan)
+    rw c.as_slice.ensures c.requires.plan
 
 pub returns-in-Err : goal.returns-in-Err
 returns-in-Err g c =
@@ -23,10 +21,10 @@ pub returns-in-Ok-write_rest : goal.returns-in-Ok-write_rest
 returns-in-Ok-write_rest g c =
     let p = c.args.prepared in
     both_wrote _ _ _ _ _ _ _ _ (accepted_of p) _ _ tt tt (ap (λ (from : List Source). plan_lines from p.plan) c.as_slice.ensures)
-    (rest_is p.query p.db p.plan p.scans p.rest (own_entries p.query p.db c.requires.database) c.requires.plan c.requires.tables) c.in-Ok.ensures c.in-Ok-write_rest.ensures
+    (rest_is p.query p.db p.plan p.reduce p.rest (own_entries p.query p.db c.requires.database) c.requires.plan c.requires.tables c.requires.lists) c.in-Ok.ensures c.in-Ok-write_rest.ensures
 
 pub returns : goal.returns
 returns g c =
     let p = c.args.prepared in
     out_cut _ _ _ _ _ _ _ _ (accepted_of p) _ _ tt _ (ap (λ (from : List Source). plan_lines from p.plan) c.as_slice.ensures)
-    (rest_is p.query p.db p.plan p.scans p.rest (own_entries p.query p.db c.requires.database) c.requires.plan c.requires.tables) c.in-Ok.ensures c.in-Err-write_rest.ensures
+    (rest_is p.query p.db p.plan p.reduce p.rest (own_entries p.query p.db c.requires.database) c.requires.plan c.requires.tables c.requires.lists) c.in-Ok.ensures c.in-Err-write_rest.ensures
