@@ -8,8 +8,9 @@ ghost use Rattle.join_steps.specs.Lists.{scan_of, list_at, lists_of};
 use crate::failed::Failed;
 use base_io::NoMemory;
 use csv_tables::Database;
+use join_graph::split;
+use planning::scan_entries;
 use query_types::Query;
-use reduced_planning::scan_entries;
 use reduced_scans::reduce_scans;
 use row_buf::RowBuf;
 use std::alloc::Global;
@@ -29,8 +30,9 @@ fn reduce_query(alloc: Global, query: &Query, db: &Database) -> Result<Vec<RowBu
     requires few { length query.now.conjuncts ≤ most_conjuncts }
     requires sizes { (entry : ℕ) → entry < length query.now.from → row_counts (tables_of db.now) entry ≤ most_rows }
 {
+    let parts = split(alloc, query)?;
     let scans = scan_entries(alloc, query, db)?;
-    reduce_scans(alloc, query, db, &scans)
+    reduce_scans(alloc, query, parts.equalities.as_slice(), db, &scans)
 }
 
 fn summed(nanos: u128, lists: &[RowBuf<u32>]) -> Reduced {

@@ -13,8 +13,7 @@ use Rattle.bushy_plan.specs.Causes.{IsCause}
 use Rattle.bushy_plan.specs.declared.refusal.BushyError.{BushyError}
 use Rattle.bushy_join.specs.Trees.{IsTreePlanOf}
 use Rattle.planning.specs.Bounds.{scan_bounds_of, set_bounds_of}
-use Rattle.planning.proofs.NeverUnder.{scan_small}
-use Rattle.planning.proofs.PlanFacts.{one_scan_each}
+use Rattle.planning.proofs.NeverUnder.{one_scan_each, scan_small}
 use Rattle.bushy_planning.proofs.NeverUnder.{planned_never_under}
 
 each_small : (most : ℕ) (xs : List ℕ) → ((i : ℕ) → i < length xs → get_or xs i 0 ≤ most) → AllByRecursion (λ rows. rows ≤ most) xs

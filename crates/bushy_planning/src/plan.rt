@@ -11,8 +11,7 @@ ghost use Rattle.bushy_join.specs.Trees.{IsTreePlanOf};
 
 use bushy_plan::{BushyError, choose_bushy};
 use csv_tables::Database;
-use gathered_stats::gather_query;
-use query_bounds::{bounds_of, scans_of};
+use planning::from_statistics;
 use query_types::Query;
 use std::alloc::Global;
 use tree_plans::BushyPlan;
@@ -42,8 +41,6 @@ pub fn plan_bushy(
     ensures within { IfOk result (λ plan. plan.cost ≤ budget) }
     ensures refused { IfErr result (IsCause (set_bounds_of query.now (tables_of db.now) accuracy) (length query.now.from) budget) }
 {
-    let stats = gather_query(alloc, query, db, accuracy)?;
-    let scans = scans_of(alloc, query, &stats)?;
-    let bounds = bounds_of(alloc, query, &stats)?;
-    choose_bushy(alloc, &bounds, &scans, budget)
+    let known = from_statistics(alloc, query, db, accuracy)?;
+    choose_bushy(alloc, &known.sets, &known.scans, budget)
 }

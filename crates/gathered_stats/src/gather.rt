@@ -1,6 +1,6 @@
 //! The statistics of each column, of each entry, and of a query.
 ghost use Rattle.std.specs.Prelude.{◌≡◌, ◌<◌, ◌≤◌, All, length, map, replicate, IfOk};
-ghost use Rattle.join_graph.specs.Conjuncts.{equalities_of};
+ghost use Rattle.join_graph.specs.Conjuncts.{equalities_of, local_of};
 ghost use Rattle.level_bounds.specs.Keys.{HaveDifferentCharacters};
 ghost use Rattle.query_bounds.specs.Statistics.{Tells};
 ghost use Rattle.sql_meaning.specs.Databases.{IsDatabaseOf};
@@ -13,9 +13,8 @@ use crate::columns::asked_columns;
 use crate::entry_table::{EntryTable, row_count};
 use crate::filters::filters_of;
 use base_io::{NoMemory, Seq};
-use berge_tree::Edge;
 use csv_tables::{Cells, Database};
-use join_graph::split;
+use join_graph::Parts;
 use predicate_bounds::{ColumnSteps, EntryStats, QueryStats, Step, read_steps};
 use query_types::Query;
 use std::alloc::Global;
@@ -74,18 +73,19 @@ fn gather_columns(
 fn gather_entry(
     alloc: Global,
     query: &Query,
+    parts: &Parts,
     db: &Database,
-    equalities: &[Edge],
     entry: u8,
     accuracy: u8,
 ) -> Result<EntryStats, NoMemory>
+    requires local { parts.now.local ≡ local_of query.now }
+    requires equalities { parts.now.equalities ≡ equalities_of query.now }
     requires database { IsDatabaseOf query.now db.now }
-    requires equalities { equalities.now ≡ equalities_of query.now }
     requires entry { entry < length query.now.from }
     requires accuracy { (0 < accuracy) × (accuracy ≤ 64) }
     ensures { IfOk result (IsGathered query.now db.now accuracy entry) }
 {
-    let steps = read_steps(alloc, query, entry)?;
+    let steps = read_steps(alloc, query, parts, entry)?;
     let steps = steps.as_slice();
     let slot = *db.slots.get(usize::from(entry));
     let cells = db.cells.get(slot as usize);
@@ -96,35 +96,30 @@ fn gather_entry(
         filters: filters_of(alloc, &db.pool, cells, steps)?,
         accuracy,
     };
-    let columns = asked_columns(alloc, equalities, entry)?;
+    let columns = asked_columns(alloc, parts.equalities.as_slice(), entry)?;
     gather_columns(alloc, &table, steps, columns.as_slice())
 }
 
 /// The statistics that the bounds of a query ask for (SafeBound, SIGMOD 2023): for each FROM entry and each column that it joins,
-/// the steps of the entry's own conjuncts, each with its list. The accuracy is that of compression, from 1 to 64: the larger it is,
-/// the nearer are the lists and the more runs they have. Where memory is wanting nothing is kept.
+/// the steps of the entry's own conjuncts, each with its list. The parts are those of `split`. The accuracy is that of compression, from 1
+/// to 64: the larger it is, the nearer are the lists and the more runs they have. Where memory is wanting nothing is kept.
 pub fn gather_query(
     alloc: Global,
     query: &Query,
+    parts: &Parts,
     db: &Database,
     accuracy: u8,
 ) -> Result<QueryStats, NoMemory>
+    requires local { parts.now.local ≡ local_of query.now }
+    requires equalities { parts.now.equalities ≡ equalities_of query.now }
     requires database { IsDatabaseOf query.now db.now }
     requires texts { HaveDifferentCharacters db.now.pool }
     requires accuracy { (0 < accuracy) × (accuracy ≤ 64) }
     ensures tells { IfOk result (λ stats. Tells query.now stats (statistics_of (tables_of db.now) accuracy)) }
 {
-    let parts = split(alloc, query)?;
     let mut entries = Seq::new(alloc);
     for entry in 0..query.from.len() as u8 {
-        let stats = gather_entry(
-            alloc,
-            query,
-            db,
-            parts.equalities.as_slice(),
-            entry,
-            accuracy,
-        )?;
+        let stats = gather_entry(alloc, query, parts, db, entry, accuracy)?;
         entries.push(stats)?;
     }
     Ok(QueryStats { entries })

@@ -8,7 +8,8 @@
 //! Callers cite `statistics_of` (in `specs/Statistics.antt`) for what the answer tells.
 //!
 //! ```text
-//! let stats = gather_query(alloc, &query, &db, 1)?;    // Tells query stats (statistics_of (tables_of db) 1)
+//! let parts = split(alloc, &query)?;
+//! let stats = gather_query(alloc, &query, &parts, &db, 1)?;    // Tells query stats (statistics_of (tables_of db) 1)
 //! let rows = stats.row_bound(alloc, 0)?;
 //! ```
 #![tactic(auto)]

@@ -1,33 +1,51 @@
--- No scan passes its bound, and no level the bound of its set.
-use Rattle.std.proofs.Common.{◌≡◌, ◌⊎◌, inl, inr, ℕ, ◌-◌, ◌<◌, ◌≤◌, ◌^◌, List, min, length, get_or, refl, arith}
-use Rattle.std.proofs.lemmas.Bool.{cases_lt}
+-- No scan passes its bound, and no level the bound of its set: what statistics of the tables tell stands for the scans.
+use Rattle.std.proofs.Common.{◌≡◌, ◌⊎◌, ℕ, ◌<◌, ◌≤◌, ◌^◌, List, length, get_or, refl, sym, subst, arith}
+use Rattle.std.specs.List.{Contains}
+use Rattle.std.proofs.lemmas.List.{take_all}
+use Rattle.std.proofs.lemmas.List.FromFn.{length-map-range_with_len}
+use Rattle.limits.specs.Profile.{top_bound}
 use Rattle.entry_sets.specs.Sets.{entries_of_set}
+use Rattle.entry_sets.proofs.Listing.{set_entries}
 use Rattle.query_types.specs.declared.types.Query.{Query}
 use Rattle.join_graph.specs.Conjuncts.{equalities_of}
-use Rattle.tree_bounds.specs.SetBounds.{bound_of_set}
-use Rattle.set_bounds.proofs.Telling.{told_at}
+use Rattle.tree_bounds.specs.TreeBounds.{EntryBounds}
+use Rattle.set_bounds.specs.AllSets.{in_every_set}
+use Rattle.sql_meaning.specs.Answers.{conjuncts_of}
+use Rattle.sql_meaning.specs.Levels.{level_over}
 use Rattle.sql_meaning.specs.Tables.{Tables, row_counts}
+use Rattle.join_steps.specs.Lists.{list_at, scans_of}
+use Rattle.join_steps.proofs.WholeScans.{levels_of_scans, scan_at, whole_of_scans}
+use Rattle.level_bounds.specs.Keys.{Keys}
 use Rattle.level_bounds.specs.Orders.{IsOrderOfSet}
-use Rattle.level_bounds.specs.Scans.{equalities_in, query_level, query_scan}
-use Rattle.level_bounds.proofs.NeverUnder.{within}
+use Rattle.level_bounds.specs.Scans.{query_level, query_scan}
+use Rattle.level_bounds.proofs.Lists.{all_from, each_of}
 use Rattle.filtered_lists.proofs.Lists.{rows_within}
-use Rattle.query_bounds.specs.Bounds.{entry_bounds}
+use Rattle.query_bounds.specs.Bounds.{entry_bounds, scan_rows}
 use Rattle.query_bounds.proofs.Levels.{scan_within}
-use Rattle.query_bounds.proofs.Sets.{scan_at}
+use Rattle.query_bounds.proofs.Sets.{entry_below}
+use Rattle.query_bounds.proofs.Sets as sets
 use Rattle.table_stats.specs.Statistics.{entry_counts}
 use Rattle.gathered_stats.specs.Statistics.{statistics_of}
 use Rattle.planning.specs.Bounds.{scan_bounds_of, set_bounds_of}
+use Rattle.planning.specs.Standing.{BoundLevels, BoundLists, EntriesStand}
 use Rattle.planning.proofs.Facts.{Facts, facts, stand_for}
-use Rattle.planning.proofs.ScanBounds.{bounds_scans}
+use Rattle.planning.proofs.FromLists.{levels_bound, stand_in_every_set}
+use Rattle.planning.proofs.ScanBounds.{have_lists, stand_for_scans}
 
--- a bound through 128 bits
-capped : (rows bound told : ℕ) → rows ≤ bound → told ≡ min bound (2 ^ 128 - 1) → (rows ≤ told) ⊎ (told ≡ 2 ^ 128 - 1)
-capped rows bound told fits is = elim (cases_lt bound (2 ^ 128 - 1)) [
-  | inl below ↦ inl (omega arith)
-  | inr above ↦ inr (omega arith)
-]
+-- as many scans as entries
+pub one_scan_each : (query : Query) (tables : Tables) (accuracy : ℕ) → length (scan_bounds_of query tables accuracy) ≡ length query.from
+one_scan_each query tables accuracy = length-map-range_with_len (scan_rows query (statistics_of tables accuracy)) 0 (length query.from)
 
 module _ (query : Query) (tables : Tables) (accuracy : ℕ) where
+  abbrev bounds : EntryBounds
+  bounds = entry_bounds query (statistics_of tables accuracy)
+
+  entries_stand : EntriesStand query tables (scans_of query tables) (facts tables accuracy).key (entry_bounds query (statistics_of tables accuracy))
+  entries_stand =
+      let f : Facts tables accuracy = facts tables accuracy in
+      stand_for_scans query (statistics_of tables accuracy) tables f.key (stand_for query tables accuracy f) (have_lists query (statistics_of tables accuracy) f.falls f.sums)
+      (f.joins (equalities_of query))
+
   pub scan_never_under : (entry : ℕ) → entry < length query.from
       → length (query_scan query tables entry) ≤ get_or (scan_bounds_of query tables accuracy) entry 0
   scan_never_under entry low =
@@ -41,19 +59,39 @@ module _ (query : Query) (tables : Tables) (accuracy : ℕ) where
   scan_small entry low =
       omega (
         arith,
-        scan_at query (statistics_of tables accuracy) (length query.from) entry (scan_bounds_of query tables accuracy) refl low,
+        sets.scan_at query (statistics_of tables accuracy) (length query.from) entry (scan_bounds_of query tables accuracy) refl low,
         rows_within (entry_counts tables entry) entry query.conjuncts,
       )
 
+  pub told_bound : BoundLists query tables (scans_of query tables) (scan_bounds_of query tables accuracy)
+  told_bound = record {
+    one_each = one_scan_each query tables accuracy;
+    fit = λ entry low.
+        subst (λ (s : List ℕ). length s ≤ get_or (scan_bounds_of query tables accuracy) entry 0) (sym (scan_at query tables entry low)) (scan_never_under entry low);
+    within = scan_small;
+  }
+
+  pub told_levels : BoundLevels query tables (scans_of query tables) (set_bounds_of query tables accuracy)
+  told_levels =
+      let key : Keys = (facts tables accuracy).key in
+      levels_bound query tables (scans_of query tables) key (in_every_set bounds)
+      (stand_in_every_set query tables (scans_of query tables) key bounds (whole_of_scans query tables) entries_stand)
+
+  -- levels over the scans are the query's
+  level_is : (subset : ℕ) (order : List ℕ) → subset < 2 ^ length query.from → IsOrderOfSet (entries_of_set subset) order
+      → level_over (conjuncts_of query tables) (list_at (scans_of query tables)) order ≡ query_level query tables order
+  level_is subset order fits o =
+      subst (λ (s : List ℕ). level_over (conjuncts_of query tables) (list_at (scans_of query tables)) s ≡ query_level query tables s)
+      (take_all (length order) order (omega arith))
+      (levels_of_scans query tables order (length order) (all_from (λ entry. entry < length query.from) order low) o.once)
+    where
+      low : (entry : ℕ) → Contains order entry → entry < length query.from
+      low entry here = entry_below (length query.from) subset entry fits (set_entries subset entry (each_of (Contains (entries_of_set subset)) order o.within entry here))
+
   pub level_never_under : (subset : ℕ) (order : List ℕ) → subset < 2 ^ length query.from → IsOrderOfSet (entries_of_set subset) order
       → (length (query_level query tables order) ≤ get_or (set_bounds_of query tables accuracy) subset 0)
-      ⊎ (get_or (set_bounds_of query tables accuracy) subset 0 ≡ 2 ^ 128 - 1)
+      ⊎ (get_or (set_bounds_of query tables accuracy) subset 0 ≡ top_bound)
   level_never_under subset order fits o =
-      let f : Facts tables accuracy = facts tables accuracy in
-      capped (length (query_level query tables order))
-      (bound_of_set (entry_bounds query (statistics_of tables accuracy)) (equalities_of query) subset)
-      (get_or (set_bounds_of query tables accuracy) subset 0)
-      (within query tables f.key (entry_bounds query (statistics_of tables accuracy)) subset order (f.joins (equalities_in query subset))
-      (bounds_scans query (statistics_of tables accuracy) tables f.key (stand_for query tables accuracy f) f.falls f.sums subset fits) o)
-      (told_at (entry_bounds query (statistics_of tables accuracy)) (equalities_of query) (length query.from) subset
-      (set_bounds_of query tables accuracy) refl fits)
+      subst (λ (level : List (List ℕ)). (length level ≤ get_or (set_bounds_of query tables accuracy) subset 0) ⊎ (get_or (set_bounds_of query tables accuracy) subset 0 ≡ top_bound))
+      (level_is subset order fits o)
+      (told_levels subset order fits o)

@@ -1,20 +1,19 @@
--- What the bounds of entries know of the scans, where statistics stand for tables.
-use Rattle.std.proofs.Common.{◌≡◌, ℕ, ◌<◌, ◌≤◌, ◌^◌, Bool, true, List, [], length, map, get_or, ap, sym, ◌∙◌, subst, sum}
+-- The bounds of entries stand for the scans, where statistics stand for tables.
+use Rattle.std.proofs.Common.{◌≡◌, ℕ, suc, ◌<◌, ◌≤◌, Bool, true, List, [], ◌∷◌, length, map, get_or, ap, sym, ◌∙◌, subst, sum, arith}
 use Rattle.std.specs.Prelude.{if◌then◌else◌}
-use Rattle.std.proofs.lemmas.Bool.{and_parts, lt-ltb}
+use Rattle.std.proofs.lemmas.Bool.{lt-ltb}
 use Rattle.degree_sequences.specs.Domination.{DominatesKeys}
 use Rattle.degree_sequences.specs.Falling.{IsFalling}
-use Rattle.entry_sets.specs.Sets.{has_entry}
 use Rattle.berge_tree.specs.declared.edges.Edge.{Edge}
 use Rattle.berge_tree.specs.declared.edges.Place.{Place}
 use Rattle.query_types.specs.declared.types.Query.{Query}
 use Rattle.join_graph.specs.Conjuncts.{equalities_of}
-use Rattle.join_graph.specs.Kept.{joins_within}
+use Rattle.tree_bounds.specs.Columns.{EachNamedColumn}
 use Rattle.tree_bounds.specs.TreeBounds.{HasList}
-use Rattle.bound_fold.proofs.TestedSets.{each_in_set, each_named}
 use Rattle.sql_meaning.specs.Tables.{Tables}
-use Rattle.level_bounds.specs.Keys.{Keys}
-use Rattle.level_bounds.specs.Scans.{BoundsScans, DominatesScan, ScanFits, query_scan}
+use Rattle.join_steps.specs.Lists.{list_at, scans_of}
+use Rattle.join_steps.proofs.WholeScans.{scan_at}
+use Rattle.level_bounds.specs.Keys.{AreKeys, Keys}
 use Rattle.filtered_lists.specs.Standing.{ListsFall, ListsStandFor, SumTo}
 use Rattle.filtered_lists.proofs.Counting.{list_dominates}
 use Rattle.filtered_lists.proofs.Lists.{filtered_falls, sum-filtered}
@@ -22,65 +21,77 @@ use Rattle.query_bounds.specs.Bounds.{entry_bounds, is_among, joined_columns, sc
 use Rattle.query_bounds.specs.Statistics.{StandFor, Statistics}
 use Rattle.query_bounds.proofs.Holding.{pair_at}
 use Rattle.query_bounds.proofs.Levels.{scan_fits}
-use Rattle.query_bounds.proofs.Sets.{both_among, entry_below}
+use Rattle.query_bounds.proofs.Sets.{both_among}
+use Rattle.planning.specs.Standing.{ColumnStands, EntriesStand, JoinedHaveLists}
+
+-- what holds of both columns of each equality
+pub named_all : (Q : ℕ → ℕ → Type 0) (es : List Edge)
+    → ((k : ℕ) (d : Edge) → k < length es → Q (get_or es k d).left.entry (get_or es k d).left.column × Q (get_or es k d).right.entry (get_or es k d).right.column)
+    → EachNamedColumn Q es
+named_all Q [] both = tt
+named_all Q (e ∷ es) both =
+    let here : Q e.left.entry e.left.column × Q e.right.entry e.right.column = both 0 e (omega arith) in
+    (here.0, (here.1, named_all Q es (λ k d low. both (suc k) d (omega arith))))
 
 module _ (query : Query) (known : Statistics) where
   rows_at : (entry : ℕ) → entry < length query.from → (entry_bounds query known).rows entry ≡ scan_rows query known entry
   rows_at entry low = ap (λ (t : Bool). if t then scan_rows query known entry else 0) (lt-ltb entry (length query.from) low)
 
-  list_at : (entry column : ℕ) → is_among (joined_columns query) entry column ≡ true
+  joined_list : (entry column : ℕ) → is_among (joined_columns query) entry column ≡ true
       → (entry_bounds query known).list entry column ≡ scan_list query known entry column
-  list_at entry column among = ap (λ (t : Bool). if t then scan_list query known entry column else []) among
+  joined_list entry column among = ap (λ (t : Bool). if t then scan_list query known entry column else []) among
 
   has_list : (entry column : ℕ) → ListsFall (known.lists entry column) → SumTo (known.lists entry column) (known.counts entry)
       → entry < length query.from
       → is_among (joined_columns query) entry column ≡ true → HasList (entry_bounds query known) entry column
   has_list entry column falls sums low among = record {
-    falls = subst IsFalling (sym (list_at entry column among)) (filtered_falls (known.lists entry column) entry query.conjuncts falls);
+    falls = subst IsFalling (sym (joined_list entry column among)) (filtered_falls (known.lists entry column) entry query.conjuncts falls);
     total =
-        ap (λ (s : List ℕ). sum s) (list_at entry column among)
+        ap (λ (s : List ℕ). sum s) (joined_list entry column among)
         ∙ sum-filtered (known.lists entry column) (known.counts entry) entry query.conjuncts sums ∙ sym (rows_at entry low);
   }
 
-  -- the entries of an equality of a set of FROM entries
-  both_below : (subset : ℕ) (e : Edge) → subset < 2 ^ length query.from → joins_within subset e ≡ true
-      → (e.left.entry < length query.from) × (e.right.entry < length query.from)
-  both_below subset e fits joins =
-      let both = and_parts (has_entry subset e.left.entry) (has_entry subset e.right.entry) joins in
-      (entry_below (length query.from) subset e.left.entry fits both.0, entry_below (length query.from) subset e.right.entry fits both.1)
-
   module _ (tables : Tables) (key : Keys) (stands : StandFor query known tables key) where
-    dominates : (entry column : ℕ) → is_among (joined_columns query) entry column ≡ true
-        → ListsStandFor (known.lists entry column) tables entry (key entry column)
-        → DominatesScan (entry_bounds query known) query tables key entry column
-    dominates entry column among stand =
-        subst (λ (s : List ℕ). DominatesKeys s (map (key entry column) (query_scan query tables entry))) (sym (list_at entry column among))
-        (list_dominates (known.lists entry column) tables entry (key entry column) query.conjuncts stand)
+    scan_stands : (entry : ℕ) → entry < length query.from → length (list_at (scans_of query tables) entry) ≤ (entry_bounds query known).rows entry
+    scan_stands entry low =
+        subst (λ (n : ℕ). length (list_at (scans_of query tables) entry) ≤ n) (sym (rows_at entry low))
+        (subst (λ (s : List ℕ). length s ≤ scan_rows query known entry) (sym (scan_at query tables entry low))
+        (scan_fits query known tables key entry stands low))
 
-    pub bounds_scans : ((entry column : ℕ) → ListsFall (known.lists entry column))
-        → ((entry column : ℕ) → SumTo (known.lists entry column) (known.counts entry))
-        → (subset : ℕ) → subset < 2 ^ length query.from → BoundsScans (entry_bounds query known) query tables key subset
-    bounds_scans falls sums subset fits = record {
-      rows = each_in_set (ScanFits (entry_bounds query known) query tables) subset (λ k low has.
-          let there : k < length query.from = entry_below (length query.from) subset k fits has in
-          subst (λ (n : ℕ). length (query_scan query tables k) ≤ n) (sym (rows_at k there))
-          (scan_fits query known tables key k stands there));
-      lists = each_named (HasList (entry_bounds query known)) subset (equalities_of query) (λ k d low joins.
-          let among = both_among (equalities_of query) k d low in
-          let below = both_below subset (get_or (equalities_of query) k d) fits joins in
-          let l : Place = (get_or (equalities_of query) k d).left in
-          let r : Place = (get_or (equalities_of query) k d).right in (
-            has_list l.entry l.column (falls l.entry l.column) (sums l.entry l.column) below.0 among.0,
-            has_list r.entry r.column (falls r.entry r.column) (sums r.entry r.column) below.1 among.1,
-          ));
-      columns = each_named (DominatesScan (entry_bounds query known) query tables key) subset (equalities_of query) (λ k d low joins.
+    dominates : (entry column : ℕ) → is_among (joined_columns query) entry column ≡ true
+        → ListsStandFor (known.lists entry column) tables entry (key entry column) → entry < length query.from
+        → DominatesKeys ((entry_bounds query known).list entry column) (map (key entry column) (list_at (scans_of query tables) entry))
+    dominates entry column among stand low =
+        subst (λ (s : List ℕ). DominatesKeys s (map (key entry column) (list_at (scans_of query tables) entry))) (sym (joined_list entry column among))
+        (subst (λ (s : List ℕ). DominatesKeys (scan_list query known entry column) (map (key entry column) s)) (sym (scan_at query tables entry low))
+        (list_dominates (known.lists entry column) tables entry (key entry column) query.conjuncts stand))
+
+    pub stand_for_scans : JoinedHaveLists query (entry_bounds query known) → AreKeys tables key (equalities_of query)
+        → EntriesStand query tables (scans_of query tables) key (entry_bounds query known)
+    stand_for_scans have keys = record {
+      keys = keys;
+      rows = scan_stands;
+      columns = named_all (λ entry column. entry < length query.from → ColumnStands (scans_of query tables) key (entry_bounds query known) entry column) (equalities_of query) (λ k d low.
           let among = both_among (equalities_of query) k d low in
           let stand =
           pair_at (λ entry column. ListsStandFor (known.lists entry column) tables entry (key entry column))
           (equalities_of query) stands.lists k d low in
+          let has = pair_at (λ entry column. entry < length query.from → HasList (entry_bounds query known) entry column) (equalities_of query) have k d low in
           let l : Place = (get_or (equalities_of query) k d).left in
           let r : Place = (get_or (equalities_of query) k d).right in (
-            dominates l.entry l.column among.0 stand.0,
-            dominates r.entry r.column among.1 stand.1,
+            (λ below. record { has = has.0 below; dominates = dominates l.entry l.column among.0 stand.0 below }),
+            (λ below. record { has = has.1 below; dominates = dominates r.entry r.column among.1 stand.1 below }),
           ));
     }
+
+  -- lists that fall and sum to the numbers of rows give each joined column its list
+  pub have_lists : ((entry column : ℕ) → ListsFall (known.lists entry column)) → ((entry column : ℕ) → SumTo (known.lists entry column) (known.counts entry))
+      → JoinedHaveLists query (entry_bounds query known)
+  have_lists falls sums =
+      named_all (λ entry column. entry < length query.from → HasList (entry_bounds query known) entry column) (equalities_of query) (λ k d low.
+      let among = both_among (equalities_of query) k d low in
+      let l : Place = (get_or (equalities_of query) k d).left in
+      let r : Place = (get_or (equalities_of query) k d).right in (
+        (λ below. has_list l.entry l.column (falls l.entry l.column) (sums l.entry l.column) below among.0),
+        (λ below. has_list r.entry r.column (falls r.entry r.column) (sums r.entry r.column) below among.1),
+      ))

@@ -1,3 +1,9 @@
 pub mod Bounds
+pub mod ListedBounds
+pub mod Standing
 pub mod Plans
+pub mod Gives
+pub mod Known
+pub mod TakingPart
 pub mod Examples
+pub mod ReducedExamples

@@ -9,17 +9,19 @@ ghost use Rattle.level_bounds.specs.Orders.{IsOrderOfSet};
 ghost use Rattle.level_bounds.specs.Scans.{query_level, query_scan};
 ghost use Rattle.planning.specs.Bounds.{scan_bounds_of, set_bounds_of};
 
+use crate::sources::from_statistics;
 use base_io::{NoMemory, Seq};
 use csv_tables::Database;
 use gathered_stats::gather_query;
-use query_bounds::{bounds_of, scans_of};
+use join_graph::split;
+use query_bounds::{entry_lists, scans_of};
 use query_types::Query;
 use std::alloc::Global;
 
 /// The bound of the scan of each entry, in FROM order, in rows. No scan has more.
 ///
 /// The accuracy of compressed lists is from 1 to 64 (SafeBound, SIGMOD 2023).
-#[tactic(auto, using(crate::proofs::Stages::is_told))]
+#[tactic(auto, using(crate::proofs::Giving::is_told))]
 pub fn scan_bounds(
     alloc: Global,
     query: &Query,
@@ -33,15 +35,17 @@ pub fn scan_bounds(
     ensures never_under { IfOk result (λ scans. (entry : ℕ) → entry < length query.now.from
         → length (query_scan query.now (tables_of db.now) entry) ≤ slice_index scans entry) }
 {
-    let stats = gather_query(alloc, query, db, accuracy)?;
-    scans_of(alloc, query, &stats)
+    let parts = split(alloc, query)?;
+    let stats = gather_query(alloc, query, &parts, db, accuracy)?;
+    let lists = entry_lists(alloc, query, &parts, &stats)?;
+    let scans = scans_of(alloc, &lists, query.from.len() as u8)?;
+    Ok(scans)
 }
 
 /// The bound of each set of entries, at the number whose bits are the set, in rows; `u128::MAX` where it is larger, and 1 for the empty
 /// set. No level over just these entries has more rows, in whatever order they stand.
 ///
 /// The accuracy of compressed lists is from 1 to 64 (SafeBound, SIGMOD 2023).
-#[tactic(auto, using(crate::proofs::Stages::is_told))]
 pub fn subset_bounds(
     alloc: Global,
     query: &Query,
@@ -52,11 +56,13 @@ pub fn subset_bounds(
     requires texts { HaveDifferentCharacters db.now.pool }
     requires accuracy { (0 < accuracy) × (accuracy ≤ 64) }
     ensures exact { IfOk result (λ bounds. bounds ≡ set_bounds_of query.now (tables_of db.now) accuracy) }
+    ensures count { IfOk result (λ bounds. length bounds ≡ 2 ^ length query.now.from) }
+    ensures of_nothing { IfOk result (λ bounds. slice_index bounds 0 ≡ 1) }
     ensures never_under { IfOk result (λ bounds. (subset : ℕ) (order : List ℕ)
         → subset < 2 ^ length query.now.from → IsOrderOfSet (entries_of_set subset) order
         → (length (query_level query.now (tables_of db.now) order) ≤ slice_index bounds subset)
         ⊎ (slice_index bounds subset ≡ top_bound)) }
 {
-    let stats = gather_query(alloc, query, db, accuracy)?;
-    bounds_of(alloc, query, &stats)
+    let known = from_statistics(alloc, query, db, accuracy)?;
+    Ok(known.sets)
 }

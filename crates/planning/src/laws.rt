@@ -1,27 +1,36 @@
-//! What holds of the bounds and plans of a query over its tables: no law computes anything, and the contract is the law.
+//! What holds of the bounds and plans of a query over its tables, whatever bounds of entries they are from: no law computes anything, and the
+//! contract is the law.
 //!
 //! The tables are plain rows, with no cells and no pool of texts.
 ghost use Rattle.std.specs.Prelude.{◌≡◌, ◌≢◌, ◌⊎◌, ◌+◌, ◌*◌, ◌^◌, ◌<◌, ◌≤◌, ℕ, List, [], Ok, Err, length, slice_index, take};
 ghost use Rattle.limits.specs.Profile.{most_budget, most_entries, top_bound};
 ghost use Rattle.entry_sets.specs.Sets.{entries_of_set};
+ghost use Rattle.berge_tree.specs.declared.edges.Edge.{Edge};
 ghost use Rattle.plans.specs.declared.left_deep.Plan.{Plan};
 ghost use Rattle.plans.specs.LeftDeep.{IsPlan};
 ghost use Rattle.order_search.specs.Orders.{IsBest};
 ghost use Rattle.order_search.specs.declared.refusal.PlanError.TheVariants as error;
+ghost use Rattle.plan_answers.specs.PlanAnswer.{plan_answer};
 ghost use Rattle.query_types.specs.declared.types.Query.{Query};
 ghost use Rattle.join_graph.specs.Conjuncts.{equalities_of};
 ghost use Rattle.tree_bounds.specs.SetBounds.{bound_of_set};
+ghost use Rattle.tree_bounds.specs.TreeBounds.{EntryBounds};
+ghost use Rattle.set_bounds.specs.AllSets.{bounds_in_sets, in_every_set};
 ghost use Rattle.sql_meaning.specs.Answers.{conjuncts_of};
 ghost use Rattle.sql_meaning.specs.Levels.{level};
 ghost use Rattle.sql_meaning.specs.Tables.{Tables, row_counts};
+ghost use Rattle.join_steps.specs.Lists.{scans_of, AreOfScans};
+ghost use Rattle.join_steps.specs.Plans.{IsPlanOf};
 ghost use Rattle.level_bounds.specs.Keys.{AreKeys, Keys};
 ghost use Rattle.level_bounds.specs.Orders.{IsOrderOfSet};
 ghost use Rattle.level_bounds.specs.Scans.{query_level, query_scan};
 ghost use Rattle.filtered_lists.specs.Filters.{own_conjuncts};
-ghost use Rattle.query_bounds.specs.Statistics.{StandFor};
+ghost use Rattle.query_bounds.specs.Bounds.{entry_bounds, scan_bounds};
+ghost use Rattle.query_bounds.specs.Statistics.{StandFor, Statistics};
 ghost use Rattle.gathered_stats.specs.Statistics.{statistics_of};
 ghost use Rattle.planning.specs.Bounds.{scan_bounds_of, set_bounds_of, whole_columns};
-ghost use Rattle.planning.specs.Plans.{planned};
+ghost use Rattle.planning.specs.Plans.{planned, planned_from};
+ghost use Rattle.planning.specs.Standing.{BoundLevels, BoundLists, EntriesStand, JoinedHaveLists, StandForLists};
 
 /// The statistics of any tables stand for them, over keys that rows share where an equality joins them.
 pub fn statistics_stand()
@@ -81,4 +90,39 @@ pub fn plans_are_never_under()
     ensures small_levels { (query : Query) (tables : Tables) (accuracy budget : ℕ) (plan : Plan) (k : ℕ)
         → planned query tables accuracy budget ≡ Ok plan → k < length query.from
         → slice_index plan.levels k ≤ budget }
+{}
+
+/// The law of all plans, whatever bounds they are from. Where no bound of a set is below a level over lists of scanned rows, and each scan's
+/// bound is at least the number of its listed rows and at most that of its table, the plan is one over these lists, so no bound in it is too
+/// low. So it is where what is known of the entries in each set stands for the lists, as statistics of the tables do for the scans, and
+/// degree lists of listed rows for these.
+pub fn plans_from_lists_are_never_under()
+    ensures sets { (query : Query) (tables : Tables) (lists : List (List ℕ)) (key : Keys) (bounds : ℕ → EntryBounds)
+        → StandForLists query tables lists key bounds
+        → BoundLevels query tables lists (bounds_in_sets bounds (equalities_of query) (length query.from)) }
+    // what is the same in every set
+    ensures everywhere { (query : Query) (tables : Tables) (lists : List (List ℕ)) (key : Keys) (bounds : EntryBounds)
+        → AreOfScans query tables lists → EntriesStand query tables lists key bounds
+        → StandForLists query tables lists key (in_every_set bounds) }
+    // statistics that stand for the tables stand for the scans
+    ensures statistics { (query : Query) (known : Statistics) (tables : Tables) (key : Keys) → StandFor query known tables key
+        → JoinedHaveLists query (entry_bounds query known) → AreKeys tables key (equalities_of query)
+        → EntriesStand query tables (scans_of query tables) key (entry_bounds query known) }
+    ensures of_scans { (query : Query) (known : Statistics) (tables : Tables) (key : Keys) (entry : ℕ) → StandFor query known tables key
+        → entry < length query.from → length (query_scan query tables entry) ≤ slice_index (scan_bounds query known) entry }
+    ensures over_bounds { (query : Query) (tables : Tables) (lists : List (List ℕ)) (sets scans : List ℕ) (budget : ℕ) (plan : Plan)
+        → BoundLevels query tables lists sets → BoundLists query tables lists scans
+        → length query.from ≤ most_entries → budget ≤ most_budget
+        → plan_answer sets scans budget ≡ Ok plan → IsPlanOf query tables lists plan }
+    ensures plan { (query : Query) (tables : Tables) (lists : List (List ℕ)) (key : Keys) (bounds : ℕ → EntryBounds) (scans : List ℕ)
+        (budget : ℕ) (plan : Plan)
+        → StandForLists query tables lists key bounds → BoundLists query tables lists scans
+        → length query.from ≤ most_entries → budget ≤ most_budget
+        → planned_from bounds scans (equalities_of query) (length query.from) budget ≡ Ok plan
+        → IsPlanOf query tables lists plan }
+    ensures no_memory { (bounds : ℕ → EntryBounds) (scans : List ℕ) (es : List Edge) (count budget : ℕ)
+        → planned_from bounds scans es count budget ≢ Err error.NoMemory }
+    ensures over_scans { (query : Query) (tables : Tables) (accuracy budget : ℕ) (plan : Plan)
+        → length query.from ≤ most_entries → budget ≤ most_budget
+        → planned query tables accuracy budget ≡ Ok plan → IsPlanOf query tables (scans_of query tables) plan }
 {}

@@ -7,11 +7,11 @@ ghost use Rattle.sql_meaning.specs.Tables.{tables_of};
 ghost use Rattle.level_bounds.specs.Keys.{HaveDifferentCharacters};
 ghost use Rattle.planning.specs.Plans.{planned};
 
+use crate::known::plan_from;
+use crate::sources::from_statistics;
 use csv_tables::Database;
-use gathered_stats::gather_query;
-use order_search::{PlanError, choose};
+use order_search::PlanError;
 use plans::Plan;
-use query_bounds::{bounds_of, scans_of};
 use query_types::Query;
 use std::alloc::Global;
 
@@ -21,7 +21,6 @@ use std::alloc::Global;
 /// gathered once.
 ///
 /// `Budget` and `PastBits` come exactly where `planned` says; `NoMemory` where memory is wanting.
-#[tactic(auto, using(crate::proofs::Stages::is_told))]
 pub fn plan_query(
     alloc: Global,
     query: &Query,
@@ -35,8 +34,6 @@ pub fn plan_query(
     requires budget { budget ≤ most_budget }
     ensures { (result ≡ Err error.NoMemory) ⊎ (result ≡ planned query.now (tables_of db.now) accuracy budget) }
 {
-    let stats = gather_query(alloc, query, db, accuracy)?;
-    let scans = scans_of(alloc, query, &stats)?;
-    let bounds = bounds_of(alloc, query, &stats)?;
-    choose(alloc, &bounds, &scans, budget)
+    let known = from_statistics(alloc, query, db, accuracy)?;
+    plan_from(alloc, &known, budget)
 }

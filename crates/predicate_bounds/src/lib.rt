@@ -10,7 +10,7 @@
 //! what statistics hold, and `filtered_list` and `row_bound` of `filtered_lists` for the answers.
 //!
 //! ```text
-//! let steps = read_steps(alloc, &query, 0, own)?;      // steps ≡ steps_of 0 query.conjuncts
+//! let steps = read_steps(alloc, &query, &parts, 0)?;   // steps ≡ steps_of 0 query.conjuncts
 //! let list = stats.bound_list(alloc, 0, column)?;      // list ≡ filtered_list lists 0 query.conjuncts
 //! ```
 #![tactic(auto)]

@@ -1,18 +1,18 @@
 //! From an entry's own conjuncts to steps. NOT is pushed down as conditions are read: `holds` is false where the opposite of
 //! a condition is read. The recursion is as deep as the condition.
-ghost use Rattle.std.specs.Prelude.{◌≡◌, ◌^◌, ◌<◌, ◌++◌, ◌∷◌, [], false, true, map, length, IfOk, OnOk};
+ghost use Rattle.std.specs.Prelude.{◌≡◌, ◌<◌, ◌++◌, ◌∷◌, [], false, true, map, length, IfOk, OnOk};
 ghost use Rattle.filtered_lists.specs.Comparisons.{comparison_of};
 ghost use Rattle.filtered_lists.specs.Filters.{and_answer, conjunction_of, joined, or_answer};
 ghost use Rattle.filtered_lists.specs.Filters.{of_answer, of_comparison, of_comparison_or_whole};
 ghost use Rattle.predicate_bounds.specs.Added.{AreAdded, closing, ending};
 ghost use Rattle.predicate_bounds.specs.Steps.{range_of, step_answers, steps_of, value_of};
-ghost use Rattle.join_graph.specs.Conjuncts.{names_just, numbers_where};
+ghost use Rattle.join_graph.specs.Conjuncts.{local_of, names_just, numbers_where};
 
 use crate::comparing::{Compared, compared_of, opposite};
 use crate::ranges::{has_column, one_range};
 use crate::steps::{Literal, Range, Step};
 use base_io::{NoMemory, Seq};
-use join_graph::split;
+use join_graph::Parts;
 use query_grammar::Op;
 use query_types::{Cond, Operand, Query};
 use std::alloc::Global;
@@ -243,14 +243,18 @@ fn read_own(alloc: Global, query: &Query, from: u8, own: &[u32]) -> Result<Seq<S
     Ok(steps)
 }
 
-/// The steps of an entry's own conjuncts: what a bound asks of statistics, and how it puts their lists together.
-pub fn read_steps(alloc: Global, query: &Query, from: u8) -> Result<Seq<Step>, NoMemory>
+/// The steps of an entry's own conjuncts: what a bound asks of statistics, and how it puts their lists together. The parts are those of
+/// `split`.
+pub fn read_steps(
+    alloc: Global,
+    query: &Query,
+    parts: &Parts,
+    from: u8,
+) -> Result<Seq<Step>, NoMemory>
     requires entry { from < length query.now.from }
-    requires entries { length query.now.from < 2 ^ 8 }
-    requires conjuncts { length query.now.conjuncts < 2 ^ 32 }
+    requires local { parts.now.local ≡ local_of query.now }
     ensures { IfOk result (λ steps. steps ≡ steps_of from query.now.conjuncts) }
 {
-    let parts = split(alloc, query)?;
     let own = parts.local.get(from as usize);
     read_own(alloc, query, from, own.as_slice())
 }

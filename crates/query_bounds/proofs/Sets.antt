@@ -1,22 +1,21 @@
 -- The bounds of scans and of sets, as what statistics tell.
-use Rattle.std.proofs.Common.{◌≡◌, inl, inr, ℕ, zero, suc, ◌+◌, ◌-◌, ◌<◌, ◌≤◌, ◌^◌, Bool, true, false, ◌&&◌, ◌||◌, eqb, ltb, List, [], ◌∷◌, ◌++◌, map, min, length, get_or, Option, Some, None, refl, ap, sym, ◌∙◌, subst, arith}
+use Rattle.std.proofs.Common.{◌≡◌, inl, inr, ℕ, zero, suc, ◌-◌, ◌<◌, ◌^◌, Bool, true, false, ◌||◌, eqb, List, [], ◌∷◌, map, length, get_or, Some, None, refl, ap, ◌∙◌, arith}
 use Rattle.std.specs.Prelude.{IsSome, if◌then◌else◌}
 use Rattle.std.specs.Int.{bit_at}
-use Rattle.std.specs.List.{list_any, range_with_len}
+use Rattle.std.specs.List.{range_with_len}
 use Rattle.std.proofs.lemmas.Bool.{and_from, cases_lt, eq-eqb, lt-ltb}
 use Rattle.std.proofs.lemmas.List.{length-map}
-use Rattle.std.proofs.lemmas.List.FromFn.{get_or-map-range_with_len, map-range_with_len_more}
+use Rattle.std.proofs.lemmas.List.FromFn.{get_or-map-range_with_len}
 use Rattle.std.proofs.lemmas.Nat.{pow_pos}
 use Rattle.std.proofs.lemmas.Nat.Bits.{bit_at_above}
 use Rattle.degree_sequences.proofs.Minima.{length-range_with_len}
 use Rattle.degree_sequences.specs.Saturation.{saturated}
-use Rattle.entry_sets.specs.Sets.{entries_of_set, has_entry}
+use Rattle.entry_sets.specs.Sets.{has_entry}
 use Rattle.entry_sets.proofs.Listing.{has_bit}
 use Rattle.berge_tree.specs.declared.edges.Edge.{Edge}
 use Rattle.berge_tree.specs.declared.edges.Place.{Place}
 use Rattle.berge_tree.specs.Equalities.{places_of}
 use Rattle.query_types.specs.declared.types.Query.{Query}
-use Rattle.join_graph.specs.Conjuncts.{equalities_of}
 use Rattle.tree_bounds.specs.TreeBounds.{EntryBounds}
 use Rattle.tree_bounds.proofs.SmallSets.{empty_is}
 use Rattle.bound_fold.specs.declared.lists.EntryLists.{EntryLists}
@@ -93,12 +92,6 @@ all_listed query known n es lists held = record {
 }
 
 -- ---- scans
-
-pub scans_more : (query : Query) (known : Statistics) (i rows : ℕ) (scans longer : List ℕ) → scans ≡ map (scan_rows query known) (range_with_len 0 i) → rows ≡ scan_rows query known i
-    → longer ≡ scans ++ rows ∷ [] → longer ≡ map (scan_rows query known) (range_with_len 0 (i + 1))
-scans_more query known i rows scans longer before is pushed =
-    pushed ∙ ap (λ (s : List ℕ). s ++ rows ∷ []) before ∙ ap (λ (m : ℕ). map (scan_rows query known) (range_with_len 0 i) ++ m ∷ []) is
-    ∙ sym (map-range_with_len_more (scan_rows query known) 0 i i (omega arith))
 
 pub scan_at : (query : Query) (known : Statistics) (n entry : ℕ) (scans : List ℕ) → scans ≡ map (scan_rows query known) (range_with_len 0 n) → entry < n → get_or scans entry 0 ≡ scan_rows query known entry
 scan_at query known n entry scans is low = ap (λ (s : List ℕ). get_or s entry 0) is ∙ get_or-map-range_with_len (scan_rows query known) 0 n entry entry 0 low (omega arith)

@@ -1,5 +1,5 @@
 -- Two tables joined by one column, by computation.
-use Rattle.std.proofs.Common.{◌≡◌, ℕ, List, [], ◌∷◌, refl, arith}
+use Rattle.std.proofs.Common.{◌≡◌, [], ◌∷◌, refl, arith}
 use Rattle.entry_sets.specs.Sets.{entries_of_set}
 use Rattle.query_grammar.specs.declared.tree.Op.TheVariants as op
 use Rattle.join_graph.specs.Conjuncts.{column_operand}

@@ -1,7 +1,7 @@
-//! The bounds of a query: of the scan of each entry, and of each set of entries.
+//! What statistics tell of the entries of a query: row bounds, and lists of joined columns.
 //!
-//! In: a query, and the statistics of its entries. Out: for each FROM entry a number of rows that its scan does not pass, and for each set
-//! of entries one that no level over just these entries passes.
+//! In: a query in parts, and the statistics of its entries. Out: for each FROM entry a number of rows that its scan does not pass, and for
+//! each of its joined columns a list, once each, of which the bounds of all sets of entries are folded.
 //!
 //! Callers cite `Tells` for what statistics tell of a query, `StandFor` for when that stands for tables, and `scan_bounds` and `set_bounds`
 //! for the answers.
@@ -12,7 +12,7 @@ mod examples;
 mod laws;
 mod lists;
 
-pub use bounds::{bounds_of, scans_of};
+pub use bounds::scans_of;
 pub use examples::pairs;
 pub use laws::unfiltered_bounds_are_near;
 pub use lists::entry_lists;

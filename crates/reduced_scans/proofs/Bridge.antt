@@ -1,6 +1,6 @@
 -- The rows of the greatest consistent set of items are the reduced family.
-use Rattle.std.proofs.Common.{◌≡◌, ℕ, zero, suc, ◌+◌, ◌-◌, ◌*◌, ◌<◌, ◌≤◌, Bool, true, false, List, [], ◌∷◌, Some, length, get_or, drop, refl, ap, sym, ◌∙◌, subst, arith, inl, inr}
-use Rattle.std.specs.Prelude.{◌⊎◌, ◌==◌, ◌≢◌, nat_lt, if◌then◌else◌, AllPairs, slice_get}
+use Rattle.std.proofs.Common.{◌≡◌, ℕ, zero, suc, ◌+◌, ◌-◌, ◌<◌, ◌≤◌, Bool, true, false, List, [], ◌∷◌, Some, length, get_or, drop, refl, ap, sym, ◌∙◌, subst, arith, inl, inr}
+use Rattle.std.specs.Prelude.{◌==◌, nat_lt, if◌then◌else◌, slice_get}
 use Rattle.std.specs.List.{Contains}
 use Rattle.std.proofs.lemmas.Bool.{cases_eq, cases_lt, eq-eqb, eqb-true, false≢true, le-ltb, lt-ltb, ne_eqb}
 use Rattle.std.proofs.lemmas.Option.{get_or_from_slice_get, slice_get_within}
@@ -11,7 +11,7 @@ use Rattle.counted_sets.specs.declared.uses.Use.{Use}
 use Rattle.counted_sets.specs.Sets.{IsGiven, IsGreatest}
 use Rattle.counted_sets.specs.Sets as sets
 use Rattle.level_bounds.specs.Keys.{Keys}
-use Rattle.join_steps.specs.Lists.{IsFamily, list_at}
+use Rattle.join_steps.specs.Lists.{list_at}
 use Rattle.reduced_scans.specs.Families.{AreAscending, HasPartner, HavePartners, IsConsistent, IsReduced}
 use Rattle.reduced_scans.specs.Wiring.{AreDifferent, AreWired, Classes, IsNumbered, IsUseFor, StandsFor, TellsByKey, first_item, key_on, marked_family, near, opposite, row_at, slot_of}
 use Rattle.reduced_scans.proofs.Members.{behind, in_cases, in_front, not_in_none}

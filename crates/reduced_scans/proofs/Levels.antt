@@ -1,19 +1,17 @@
 -- The choices of a level over all entries are matches of scanned rows, so their rows are reduced ones.
-use Rattle.std.proofs.Common.{◌≡◌, ℕ, zero, suc, ◌+◌, ◌<◌, ◌≤◌, Bool, true, false, not, ◌||◌, ◌&&◌, eqb, List, [], ◌∷◌, length, get_or, map, refl, ap, sym, ◌∙◌, subst, arith, inl, inr}
-use Rattle.std.specs.Prelude.{◌⊎◌, ◌==◌, All, Some}
-use Rattle.std.specs.List.{AllByRecursion, Contains, filter, list_all, range_with_len}
-use Rattle.std.proofs.lemmas.Bool.{and_parts, cases_Bool, cases_lt, eqb-true, false≢true, or_cases}
-use Rattle.std.proofs.lemmas.List.{get_or-map, length-map}
+use Rattle.std.proofs.Common.{◌≡◌, ℕ, ◌<◌, Bool, true, false, not, ◌||◌, eqb, List, [], ◌∷◌, length, get_or, map, refl, ap, sym, ◌∙◌, subst, arith, inl, inr}
+use Rattle.std.specs.Prelude.{All, Some}
+use Rattle.std.specs.List.{AllByRecursion, Contains, list_all, range_with_len}
+use Rattle.std.proofs.lemmas.Bool.{and_parts, eqb-true, false≢true, or_cases}
 use Rattle.std.proofs.lemmas.List.Elements.{All-contains}
 use Rattle.std.proofs.lemmas.List.FromFn.{get_or-map-range_with_len, length-map-range_with_len}
-use Rattle.berge_tree.specs.declared.edges.Edge.{Edge}
 use Rattle.query_types.specs.declared.types.Cond.{Cond}
 use Rattle.query_types.specs.declared.types.Query.{Query}
 use Rattle.query_types.specs.Named.{NamesItsEntries, entries_named}
 use Rattle.join_graph.specs.Conjuncts.{equalities_of, equality_of}
 use Rattle.sql_meaning.specs.Answers.{conjunct_of, conjuncts_of, entries_of}
 use Rattle.sql_meaning.specs.Conditions.{cond_holds}
-use Rattle.sql_meaning.specs.Levels.{AsksOnly, Conjunct, level_of, names_just, names_only, row_in, scan}
+use Rattle.sql_meaning.specs.Levels.{AsksOnly, Conjunct, names_just, names_only, row_in}
 use Rattle.sql_meaning.specs.Tables.{Tables, row_counts}
 use Rattle.sql_meaning.proofs.LevelFacts.{names_at}
 use Rattle.level_bounds.specs.Keys.{are_equal_at}
@@ -21,10 +19,9 @@ use Rattle.level_bounds.specs.Orders.{IsOrderOfSet}
 use Rattle.level_bounds.specs.Scans.{query_level, query_scan}
 use Rattle.level_bounds.proofs.Choosing.{choice_row, entry_in}
 use Rattle.level_bounds.proofs.EqualityFacts.{equality_holds}
-use Rattle.level_bounds.proofs.Lists.{all_true, each_of, from_filter_map, in_filter, in_map, in_range, in_true, is_in, true_for_all, true_in}
+use Rattle.level_bounds.proofs.Lists.{all_true, each_of, from_filter_map, in_filter, in_map, in_range, in_true, is_in, true_for_all}
 use Rattle.level_bounds.proofs.Reordering.{stands}
 use Rattle.join_steps.specs.Lists.{list_at, scans_of}
-use Rattle.reduced_scans.specs.Families.{IsMatch}
 use Rattle.reduced_scans.specs.Scans.{AreReducedScans, SatisfiesEqualities}
 use Rattle.reduced_scans.proofs.Matches.{match_stays}
 use Rattle.join_steps.proofs.WholeScans.{count_of, scan_at}

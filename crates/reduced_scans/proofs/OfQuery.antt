@@ -1,14 +1,13 @@
 -- The lists of a query's scans, and why its equalities hold just where cells are equal.
-use Rattle.std.proofs.Common.{◌≡◌, ℕ, zero, suc, ◌+◌, ◌<◌, ◌≤◌, Bool, true, not, ◌||◌, List, [], ◌∷◌, ◌++◌, Option, None, Some, option_map, length, get_or, map, take, refl, ap, sym, ◌∙◌, subst, arith, inl, inr}
-use Rattle.std.specs.Prelude.{◌==◌, All, IsUtf8, slice_get, slice_index}
+use Rattle.std.proofs.Common.{◌≡◌, ℕ, zero, suc, ◌+◌, ◌<◌, ◌≤◌, Bool, not, ◌||◌, List, [], ◌∷◌, ◌++◌, Option, None, Some, option_map, length, get_or, take, ap, sym, ◌∙◌, subst, arith, inl, inr}
+use Rattle.std.specs.Prelude.{◌==◌, All, IsUtf8, slice_get}
 use Rattle.std.specs.List.{Contains, cons_option, filter, filter_map, list_all, range_with_len}
 use Rattle.std.specs.Ordering.{is_eq}
 use Rattle.std.proofs.lemmas.Bool.{cases_Bool, cases_lt}
-use Rattle.std.proofs.lemmas.List.{get_or-map, get_or_past, map-append}
+use Rattle.std.proofs.lemmas.List.{get_or_past, map-append}
 use Rattle.std.proofs.lemmas.List.Elements.{All-contains, Contains-get_or}
 use Rattle.std.proofs.lemmas.List.FromFn.{length-range_with_len}
 use Rattle.berge_tree.specs.declared.edges.Edge.{Edge}
-use Rattle.berge_tree.specs.Equalities.{place}
 use Rattle.csv_tables.specs.declared.types.Database.{Database}
 use Rattle.csv_tables.specs.Pools.{AreDifferent}
 use Rattle.csv_tables.specs.Values.{value_cmp}
@@ -23,7 +22,7 @@ use Rattle.query_types.specs.declared.types.Query.{Query}
 use Rattle.row_buf.specs.Rows.{Rows}
 use Rattle.join_graph.specs.Conjuncts.{equalities_of, equality_of}
 use Rattle.sql_meaning.specs.Answers.{conjuncts_of}
-use Rattle.sql_meaning.specs.Databases.{AreTables, CanAskLayer, CanCompare, IsAskable, IsColumnOf, IsColumnOfKind, IsDatabaseOf}
+use Rattle.sql_meaning.specs.Databases.{AreTables, CanAskLayer, CanCompare, IsAskable, IsColumnOfKind, IsDatabaseOf}
 use Rattle.sql_meaning.specs.Levels.{names_just}
 use Rattle.sql_meaning.specs.Tables.{cells_of, row_counts, tables_of}
 use Rattle.sql_meaning.proofs.LoopFacts.{rows_are}
@@ -31,14 +30,12 @@ use Rattle.join_steps.specs.Columns.{column_cells}
 use Rattle.join_steps.specs.Lists.{scan_of, list_at, lists_of, scans_of}
 use Rattle.join_steps.proofs.Cells.{cell_of_row, same_cells, value_by_cell}
 use Rattle.level_bounds.specs.Keys.{are_equal_at, cell_at, value_at}
-use Rattle.level_bounds.specs.Scans.{query_scan}
 use Rattle.level_bounds.proofs.EqualityFacts.{IsJoin, is_join}
 use Rattle.level_bounds.proofs.Lists.{from_filter_map}
 use Rattle.limits.specs.Profile.{most_rows}
 use Rattle.reduced_scans.specs.Lists.{AreListsOf, JoinsColumns, column_of}
 use Rattle.reduced_scans.specs.Wiring.{TellsByKey, first_item, marked_family, marked_rows}
 use Rattle.reduced_scans.proofs.MarkedRows.{family-take}
-use Rattle.reduced_scans.proofs.Members.{has_all}
 use Rattle.reduced_scans.proofs.OneReduced.{same_lists}
 use Rattle.join_steps.proofs.WholeScans.{count_of, length-lists_of, scan_at, scan_past}
 use Rattle.reduced_scans.proofs.QueryScans.{scanned_low}

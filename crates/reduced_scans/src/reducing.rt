@@ -3,6 +3,7 @@ ghost use Rattle.std.specs.Prelude.{◌≡◌, ◌+◌, ◌*◌, ◌<◌, ◌≤
 ghost use Rattle.limits.specs.Profile.{most_conjuncts, most_entries, most_rows};
 ghost use Rattle.berge_tree.specs.declared.edges.Edge.{Edge};
 ghost use Rattle.counted_sets.specs.Sets.{marked};
+ghost use Rattle.join_graph.specs.Conjuncts.{equalities_of};
 ghost use Rattle.sql_meaning.specs.Databases.{IsDatabaseOf};
 ghost use Rattle.sql_meaning.specs.Tables.{row_counts, tables_of};
 ghost use Rattle.join_steps.specs.Lists.{scan_of, list_at, lists_of};
@@ -19,7 +20,6 @@ use base_io::NoMemory;
 use berge_tree::Edge;
 use counted_sets::reduce;
 use csv_tables::Database;
-use join_graph::split;
 use join_steps::texts_are_different;
 use query_types::Query;
 use row_buf::RowBuf;
@@ -115,17 +115,19 @@ fn marked_lists(
 /// The reduced scans of a query: of each entry's scan the most rows such that each finds, for each equality of one of the entry's
 /// columns with a column of another entry, a row with the same value among those of that entry; in file order.
 ///
-/// `scans` has the scan of each FROM entry. Semi-joins along the equalities, from the first to the last and back, first put rows aside
-/// whose value the other side doesn't have: where values lie in a short range each is looked up by its place. Of the rows that are left
-/// values are numbered by one hash of each cell, and a worklist takes out what lacks a partner. So the time is on average linear in the
-/// rows times their equalities, and so is the memory; all of it but the answer is let go before the call returns, and each list of the
-/// answer has room for its own rows alone.
+/// `scans` has the scan of each FROM entry, and the equalities are those of `split`. Semi-joins along the equalities, from the first to
+/// the last and back, first put rows aside whose value the other side doesn't have: where values lie in a short range each is looked up by
+/// its place. Of the rows that are left values are numbered by one hash of each cell, and a worklist takes out what lacks a partner. So the
+/// time is on average linear in the rows times their equalities, and so is the memory; all of it but the answer is let go before the call
+/// returns, and each list of the answer has room for its own rows alone.
 pub fn reduce_scans(
     alloc: Global,
     query: &Query,
+    equalities: &[Edge],
     db: &Database,
     scans: &[RowBuf<u32>],
 ) -> Result<Vec<RowBuf<u32>>, NoMemory>
+    requires equalities { equalities.now ≡ equalities_of query.now }
     requires database { IsDatabaseOf query.now db.now }
     requires few { length query.now.conjuncts ≤ most_conjuncts }
     requires sizes { (entry : ℕ) → entry < length query.now.from → row_counts (tables_of db.now) entry ≤ most_rows }
@@ -135,8 +137,6 @@ pub fn reduce_scans(
     ensures no_spare { IfOk result (λ reduced. HaveNoSpare reduced.items) }
 {
     texts_are_different(&db.pool);
-    let parts = split(alloc, query)?;
-    let equalities = parts.equalities.as_slice();
     let lists = sifted(alloc, db, scans, equalities)?;
     let left = lists.as_slice();
     let marks = marks_of(alloc, db, left, equalities)?;

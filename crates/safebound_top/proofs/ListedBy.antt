@@ -18,7 +18,7 @@ use Rattle.join_steps.proofs.WholeScans.{scan_at, whole_of_scans}
 use Rattle.hash_join.specs.Levels.{list_level_sizes, query_level}
 use Rattle.level_bounds.specs.Orders.{IsOrderOfSet}
 use Rattle.planned_joins.specs.PlansOf.{IsReadyFor}
-use Rattle.reduced_bounds.proofs.ReducedPlans.{levels_of_scans, reduced_of_scans}
+use Rattle.planning.proofs.ReducedPlans.{levels_of_scans, reduced_of_scans}
 use Rattle.safebound_top.specs.Accepted.{level_by, scan_by}
 use Rattle.safebound_top.specs.Prepared.{CanJoin, lists_by}
 use Rattle.safebound_top.specs.declared.scans.Joins.{Joins}

@@ -25,8 +25,7 @@ use Rattle.table_files.specs.EntryTables.{tables_in}
 use Rattle.table_files.specs.Stage.{tables_stage}
 use Rattle.table_files.specs.TableFile.{read}
 use Rattle.join_steps.specs.Plans.{IsPlanOf}
-use Rattle.reduced_bounds.specs.Plans.{planned_reduced}
-use Rattle.planning.specs.Plans.{planned}
+use Rattle.planning.specs.Plans.{planned, planned_reduced}
 use Rattle.safebound_top.specs.Accepted.{Accepted, BoundsHold, RowsAreTheAnswer, scan_by, tables}
 use Rattle.safebound_top.specs.Asks.{Ask, command_stage}
 use Rattle.safebound_top.specs.declared.task.OutText.{OutText}

@@ -19,8 +19,7 @@ use Rattle.table_files.specs.EntryTables.{tables_in}
 use Rattle.table_files.specs.Stage.{tables_of_query, tables_stage}
 use Rattle.table_files.specs.Stage.{IsReached as IsTableReached}
 use Rattle.table_files.specs.TableFile.{read}
-use Rattle.planning.specs.Plans.{planned}
-use Rattle.reduced_bounds.specs.Plans.{planned_reduced}
+use Rattle.planning.specs.Plans.{planned, planned_reduced}
 use Rattle.safebound_top.specs.Accepted.{Accepted}
 use Rattle.safebound_top.specs.Asks.{Ask, command_stage}
 

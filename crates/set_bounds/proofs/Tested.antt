@@ -16,7 +16,7 @@ use Rattle.join_graph.specs.Kept.{equalities_within, joins_within, kept_by_names
 use Rattle.tree_bounds.specs.SetBounds.{bound_of_set}
 use Rattle.tree_bounds.specs.TreeBounds.{EntryBounds}
 use Rattle.set_bounds.specs.AllSets.{bound_told, bounds_below}
-use Rattle.set_bounds.specs.Parts.{AreUnjoined, FallsInto, crosses, some_cross}
+use Rattle.set_bounds.specs.Parts.{LooksAtParts, AreUnjoined, FallsInto, crosses, some_cross}
 use Rattle.set_bounds.proofs.Parted.{parts_multiply}
 
 -- ---- as many are kept as there are
@@ -95,17 +95,20 @@ rest_has set part entry fits = elim (cases_Bool (ltb entry 16)) [
 
 -- ---- the product of what was told of both parts
 
-told_below : (b : EntryBounds) (es : List Edge) (k subset : ℕ) (told : List ℕ) → told ≡ bounds_below b es k → subset < k → get_or told subset 0 ≡ bound_told b es subset
-told_below b es k subset told is low = ap (λ (s : List ℕ). get_or s subset 0) is ∙ get_or-map-range_with_len (bound_told b es) 0 k subset subset 0 low (omega arith)
+module _ (b : ℕ → EntryBounds) (es : List Edge) where
+  told_below : (k subset : ℕ) (told : List ℕ) → told ≡ bounds_below b es k → subset < k → get_or told subset 0 ≡ bound_told (b subset) es subset
+  told_below k subset told is low =
+      ap (λ (s : List ℕ). get_or s subset 0) is ∙ get_or-map-range_with_len (λ (set : ℕ). bound_told (b set) es set) 0 k subset subset 0 low (omega arith)
 
-pub told_length : (b : EntryBounds) (es : List Edge) (k : ℕ) (told : List ℕ) → told ≡ bounds_below b es k → length told ≡ k
-told_length b es k told is = ap length is ∙ length-map-range_with_len (bound_told b es) 0 k
+  pub told_length : (k : ℕ) (told : List ℕ) → told ≡ bounds_below b es k → length told ≡ k
+  told_length k told is = ap length is ∙ length-map-range_with_len (λ (set : ℕ). bound_told (b set) es set) 0 k
 
-pub product_told : (b : EntryBounds) (es : List Edge) (subset part rest own others : ℕ) (told : List ℕ) → ClosesNoCycle (equalities_within subset es) → FallsInto es subset part rest
-    → told ≡ bounds_below b es subset → part < subset → rest < subset → own ≡ get_or told part 0 → others ≡ get_or told rest 0
-    → min (own * others) (2 ^ 128 - 1) ≡ bound_told b es subset
-product_told b es subset part rest own others told forest falls is low high own_is others_is =
-    ap (λ m. saturated (m * others)) (own_is ∙ told_below b es subset part told is low)
-    ∙ ap (λ m. saturated (bound_told b es part * m)) (others_is ∙ told_below b es subset rest told is high)
-    ∙ saturated-mul (bound_of_set b es part) (bound_of_set b es rest)
-    ∙ ap saturated (sym (parts_multiply b es subset part rest forest falls))
+  pub product_told : (subset part rest own others : ℕ) (told : List ℕ) → ClosesNoCycle (equalities_within subset es) → FallsInto es subset part rest → LooksAtParts b es
+      → told ≡ bounds_below b es subset → part < subset → rest < subset → own ≡ get_or told part 0 → others ≡ get_or told rest 0
+      → min (own * others) (2 ^ 128 - 1) ≡ bound_told (b subset) es subset
+  product_told subset part rest own others told forest falls looks is low high own_is others_is =
+      let parts = looks subset part rest falls in
+      ap (λ m. saturated (m * others)) (own_is ∙ told_below subset part told is low ∙ parts.0)
+      ∙ ap (λ m. saturated (bound_told (b subset) es part * m)) (others_is ∙ told_below subset rest told is high ∙ parts.1)
+      ∙ saturated-mul (bound_of_set (b subset) es part) (bound_of_set (b subset) es rest)
+      ∙ ap saturated (sym (parts_multiply (b subset) es subset part rest forest falls))

@@ -4,6 +4,8 @@ use Rattle.std.specs.List.{AllByRecursion}
 use Rattle.entry_sets.specs.Sets.{IsWithin, has_entry}
 use Rattle.berge_tree.specs.declared.edges.Edge.{Edge}
 use Rattle.join_graph.specs.Kept.{equalities_within, joins_within}
+use Rattle.tree_bounds.specs.TreeBounds.{EntryBounds}
+use Rattle.set_bounds.specs.AllSets.{bound_told}
 
 -- no equality of the set joins an entry of the part with one outside it
 abbrev pub AreUnjoined : List Edge → ℕ → ℕ → Type 0
@@ -14,6 +16,12 @@ pub record FallsInto (es : List Edge) (subset part rest : ℕ) : Type 0 where
   pub within : IsWithin part subset
   pub others : (entry : ℕ) → has_entry rest entry ≡ (has_entry subset entry && not (has_entry part entry))
   pub unjoined : AreUnjoined es subset part
+
+-- what is known of the entries of a set doesn't look past the parts into which it falls: each part has the bound that it has by what is
+-- known in it alone
+abbrev pub LooksAtParts : (ℕ → EntryBounds) → List Edge → Type 0
+LooksAtParts b es = (subset part rest : ℕ) → FallsInto es subset part rest
+    → (bound_told (b part) es part ≡ bound_told (b subset) es part) × (bound_told (b rest) es rest ≡ bound_told (b subset) es rest)
 
 -- ---- the same, tested
 

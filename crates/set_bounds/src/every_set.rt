@@ -8,8 +8,10 @@ ghost use Rattle.join_graph.specs.Kept.{equalities_within};
 ghost use Rattle.tree_bounds.specs.Tables.{KeyedTables, AreDifferent, Satisfies, SetDominates};
 ghost use Rattle.bound_fold.specs.Lists.{bounds_of};
 ghost use Rattle.bound_fold.specs.Sets.{SetIsListed};
-ghost use Rattle.set_bounds.specs.AllSets.{bounds_of_sets as bounds_told, first_entries};
+ghost use Rattle.set_bounds.specs.AllSets.{bounds_in_sets as told_in_sets, bounds_of_sets as bounds_told, first_entries};
+ghost use Rattle.set_bounds.specs.Parts.{LooksAtParts};
 
+use crate::in_sets::KnownInSets;
 use crate::one_set::next_bound;
 use crate::parts::is_forest;
 use base_io::{NoMemory, Seq};
@@ -19,10 +21,34 @@ use join_graph::Parts;
 use std::alloc::Global;
 
 /// The bounds of all sets of the first `count` entries, each at the number whose bits are the set, in rows; `u128::MAX` where a bound is
-/// larger, and 1 for the empty set.
+/// larger, and 1 for the empty set. What is known of the entries may depend on the set in which they are joined, but not on entries that
+/// no equality connects with them there: so one fold for each connected set serves, where no cycle is closed.
 ///
 /// A set's bound is the least over its turns of the product over its trees (SafeBound, SIGMOD 2023; Degree Sequence Bound, ICDT 2023).
-/// Where the lists dominate tables, no join of a set's tables by all its equalities has more rows.
+pub fn bounds_in_sets<K: KnownInSets>(
+    alloc: Global,
+    parts: &Parts,
+    lists: &K,
+    count: u8,
+) -> Result<Seq<u128>, NoMemory>
+    requires few { count ≤ most_entries }
+    requires listed { (subset : ℕ) → subset < 2 ^ count → K.is_listed lists.now parts.now.equalities subset }
+    requires looks { LooksAtParts (K.known lists.now) parts.now.equalities }
+    ensures { IfOk result (λ bounds. bounds ≡ told_in_sets (K.known lists.now) parts.now.equalities count) }
+{
+    let all = EntrySet::from_bits((1u16 << count) - 1);
+    let whole = is_forest(alloc, parts, all)?;
+    let mut bounds = Vec::new(alloc);
+    for bits in 0..1u16 << count {
+        let subset = EntrySet::from_bits(bits);
+        let bound = next_bound(alloc, parts, lists, subset, whole, bounds.as_slice())?;
+        bounds.push(bound)?;
+    }
+    Ok(Seq::from_vec(bounds))
+}
+
+/// The same, where what is known is the same in every set. Where the lists dominate tables, no join of a set's tables by all its
+/// equalities has more rows.
 pub fn bounds_of_sets(
     alloc: Global,
     parts: &Parts,
@@ -39,13 +65,5 @@ pub fn bounds_of_sets(
         → AreDifferent (entries_of_set subset) choices
         → (length choices ≤ slice_index bounds subset) ⊎ (slice_index bounds subset ≡ top_bound)) }
 {
-    let all = EntrySet::from_bits((1u16 << count) - 1);
-    let whole = is_forest(alloc, parts, all)?;
-    let mut bounds = Vec::new(alloc);
-    for bits in 0..1u16 << count {
-        let subset = EntrySet::from_bits(bits);
-        let bound = next_bound(alloc, parts, lists, subset, whole, bounds.as_slice())?;
-        bounds.push(bound)?;
-    }
-    Ok(Seq::from_vec(bounds))
+    bounds_in_sets(alloc, parts, lists, count)
 }

@@ -1,19 +1,23 @@
 //! The bounds of all sets of the entries of a query, from which the order of least cost is chosen.
 //!
-//! In: the equalities of the query, and for each entry its row bound and the lists of its joined columns. Out: for each set of entries, at
-//! the number whose bits are the set, the bound of a join of just these entries.
+//! In: the equalities of the query, and for each entry its row bound and the lists of its joined columns, which may depend on the set in
+//! which it is joined (`KnownInSets`). Out: for each set of entries, at the number whose bits are the set, the bound of a join of just
+//! these entries.
 //!
-//! Callers cite `bounds_of_sets` for the list, and `SetIsListed` of bound_fold, at the set of all entries, for what it needs.
+//! Callers cite `bounds_in_sets` for the list, or `bounds_of_sets` where what is known is the same in every set, and `SetIsListed` of
+//! bound_fold, at the set of all entries, for what that needs.
 #![tactic(auto)]
 
 mod alike;
 mod cycles;
 mod every_set;
+mod in_sets;
 mod laws;
 mod one_set;
 mod parts;
 
-pub use every_set::bounds_of_sets;
+pub use every_set::{bounds_in_sets, bounds_of_sets};
+pub use in_sets::{KnownInSets, folded_bound};
 pub use laws::{
     alike_turns_have_the_same_trees, fewer_entries_close_no_cycle, one_turn_serves, parts_multiply,
 };

@@ -2,30 +2,29 @@
 ghost use Rattle.std.specs.Prelude.{◌≡◌, IfOk, true};
 ghost use Rattle.berge_tree.specs.Equalities.{ClosesNoCycle};
 ghost use Rattle.join_graph.specs.Kept.{equalities_within};
-ghost use Rattle.bound_fold.specs.Lists.{bounds_of};
-ghost use Rattle.bound_fold.specs.Sets.{SetIsListed};
 ghost use Rattle.set_bounds.specs.AllSets.{bound_told, bounds_below};
+ghost use Rattle.set_bounds.specs.Parts.{LooksAtParts};
 
-use crate::cycles::cyclic_bound;
+use crate::in_sets::KnownInSets;
 use crate::parts::{falls_into, first_part, is_forest, rest_of};
 use base_io::NoMemory;
-use bound_fold::{EntryLists, turn_bound};
 use entry_sets::EntrySet;
 use join_graph::Parts;
 use std::alloc::Global;
 
-// The product over its parts where the set falls apart, else the bound of its one turn that counts.
-fn forest_bound(
+// The product over its parts where the set falls apart, else its own fold.
+fn forest_bound<K: KnownInSets>(
     alloc: Global,
     parts: &Parts,
-    lists: &EntryLists,
+    lists: &K,
     subset: EntrySet,
     smaller: &[u128],
 ) -> Result<u128, NoMemory>
     requires forest { ClosesNoCycle (equalities_within subset parts.now.equalities) }
-    requires listed { SetIsListed lists.now parts.now.equalities subset }
-    requires smaller { smaller.now ≡ bounds_below (bounds_of lists.now) parts.now.equalities subset }
-    ensures { IfOk result (λ n. n ≡ bound_told (bounds_of lists.now) parts.now.equalities subset) }
+    requires listed { K.is_listed lists.now parts.now.equalities subset }
+    requires looks { LooksAtParts (K.known lists.now) parts.now.equalities }
+    requires smaller { smaller.now ≡ bounds_below (K.known lists.now) parts.now.equalities subset }
+    ensures { IfOk result (λ n. n ≡ bound_told (K.known lists.now subset) parts.now.equalities subset) }
 {
     let edges = parts.equalities.as_slice();
     let part = first_part(edges, subset);
@@ -35,7 +34,7 @@ fn forest_bound(
         let others = smaller[rest.bits() as usize];
         return Ok(own.saturating_mul(others));
     }
-    let bound = turn_bound(alloc, parts, subset, 0, lists)?;
+    let bound = lists.folded(alloc, parts, subset, true)?;
     Ok(bound)
 }
 
@@ -57,23 +56,24 @@ fn is_forest_within(
 
 /// The bound of a set, where those of all sets of smaller numbers are known. `whole` says that the equalities of a larger set close no
 /// cycle.
-pub(crate) fn next_bound(
+pub(crate) fn next_bound<K: KnownInSets>(
     alloc: Global,
     parts: &Parts,
-    lists: &EntryLists,
+    lists: &K,
     subset: EntrySet,
     whole: bool,
     smaller: &[u128],
 ) -> Result<u128, NoMemory>
     requires whole { whole ≡ true → ClosesNoCycle (equalities_within subset parts.now.equalities) }
-    requires listed { SetIsListed lists.now parts.now.equalities subset }
-    requires smaller { smaller.now ≡ bounds_below (bounds_of lists.now) parts.now.equalities subset }
-    ensures { IfOk result (λ n. n ≡ bound_told (bounds_of lists.now) parts.now.equalities subset) }
+    requires listed { K.is_listed lists.now parts.now.equalities subset }
+    requires looks { LooksAtParts (K.known lists.now) parts.now.equalities }
+    requires smaller { smaller.now ≡ bounds_below (K.known lists.now) parts.now.equalities subset }
+    ensures { IfOk result (λ n. n ≡ bound_told (K.known lists.now subset) parts.now.equalities subset) }
 {
     if is_forest_within(alloc, parts, subset, whole)? {
         let bound = forest_bound(alloc, parts, lists, subset, smaller)?;
         return Ok(bound);
     }
-    let bound = cyclic_bound(alloc, parts, lists, subset)?;
+    let bound = lists.folded(alloc, parts, subset, false)?;
     Ok(bound)
 }

@@ -24,6 +24,6 @@ pub returns : goal.returns
 returns c =
     let at : slice_get c.args.db.now.slots c.args.entry ≡ Some c.get-slot.result.now = ap (slice_get c.args.db.now.slots) (sym c.from.ensures) ∙ c.get-slot.ensures in
     let is : c.get-cells.result.now ≡ cells_of c.args.db.now c.args.entry = cells_read c.args.db.now c.args.entry c.get-slot.result.now c.get-cells.result.now at c.get-cells.ensures in
-    entry_gathered c.gather_columns.result c.args.query.now c.args.db.now c.args.accuracy c.args.entry c.get-cells.result.now c.args.equalities.now c.in_ok-columns.columns c.as_slice.result.now
-    c.in_ok-steps.steps c.as_slice-steps.result.now is (omega (arith, c.row_count-rows.ensures, c.row_count-rows.type_inv)) c.requires.equalities c.in_ok-columns.ensures c.as_slice.ensures
+    entry_gathered c.gather_columns.result c.args.query.now c.args.db.now c.args.accuracy c.args.entry c.get-cells.result.now c.args.parts.now.equalities c.in_ok-columns.columns c.as_slice-2.result.now
+    c.in_ok-steps.steps c.as_slice-steps.result.now is (omega (arith, c.row_count-rows.ensures, c.row_count-rows.type_inv)) c.requires.equalities (rw c.as_slice.ensures at c.in_ok-columns.ensures) c.as_slice-2.ensures
     c.in_ok-steps.ensures c.as_slice-steps.ensures c.gather_columns.ensures.columns c.gather_columns.ensures.steps

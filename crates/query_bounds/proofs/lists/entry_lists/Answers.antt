@@ -1,10 +1,9 @@
-use Rattle.std.proofs.Common.{◌≡◌, ◌≤◌, ◌∷◌, [], ◌++◌, List, ap, refl, sym, ◌∙◌, get_or, length, subst, take, arith}
+use Rattle.std.proofs.Common.{◌≡◌, ◌∷◌, [], ◌++◌, List, ap, refl, sym, ◌∙◌, get_or, length, subst, take, arith}
 use Rattle.std.proofs.lemmas.List.{take_all}
 use Rattle.berge_tree.specs.declared.edges.Edge.{Edge}
 use Rattle.berge_tree.specs.declared.edges.Place.{Place}
 use Rattle.berge_tree.specs.Equalities.{places_of}
 use Rattle.query_bounds.specs.Bounds.{Holds}
-use Rattle.query_bounds.specs.Statistics.{TellsColumn}
 use Rattle.query_bounds.proofs.Holding.{added, bounds_told, may_add, no_edge, pair_told, places_more}
 use Rattle.query_bounds.proofs.lists.entry_lists.Goals as goal
 

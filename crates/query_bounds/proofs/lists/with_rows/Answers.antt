@@ -1,5 +1,5 @@
 use Rattle.std.proofs.Common.{◌≡◌, ◌<◌, ℕ, [], length, subst, arith}
-use Rattle.query_bounds.specs.Bounds.{Holds, scan_rows}
+use Rattle.query_bounds.specs.Bounds.{Holds}
 use Rattle.query_bounds.proofs.Holding.{has_first, no_list, none_hold, rows_more, rows_told}
 use Rattle.query_bounds.proofs.lists.with_rows.Goals as goal
 

@@ -1,4 +1,4 @@
-use Rattle.std.proofs.Common.{arith, ◌∙◌, ◌≡◌, ◌<◌, ℕ, List, length, true, false}
+use Rattle.std.proofs.Common.{arith, ◌∙◌, ◌<◌, length, false}
 use Rattle.counted_sets.specs.Sets.{marked}
 use Rattle.reduced_scans.proofs.MarkedRows.{counted_more, counted_same}
 use Rattle.reduced_scans.proofs.reducing.marked_count.Goals.{then-stays, else-stays}

@@ -1,4 +1,4 @@
-use Rattle.std.proofs.Common.{arith, ap, refl, sym, ◌∙◌, ◌≡◌, ◌<◌, ◌+◌, ◌++◌, ℕ, true, false, List, [], ◌∷◌, append-nil, length, length-append, get_or, take}
+use Rattle.std.proofs.Common.{arith, ap, sym, ◌∙◌, ◌≡◌, ◌<◌, ◌+◌, ◌++◌, ℕ, false, List, [], ◌∷◌, append-nil, length, length-append, get_or, take}
 use Rattle.std.specs.Prelude.{if◌then◌else◌}
 use Rattle.counted_sets.specs.Sets.{marked}
 use Rattle.reduced_scans.specs.Wiring.{marked_rows}

@@ -1,6 +1,5 @@
-use Rattle.std.proofs.Common.{ap, sym, subst, ◌∙◌, ◌≡◌, ◌*◌, ℕ, List, length}
+use Rattle.std.proofs.Common.{ap, sym, subst, ◌∙◌, ◌≡◌, ◌*◌, length}
 use Rattle.std.specs.Prelude.{All}
-use Rattle.counted_sets.specs.declared.uses.Use.{Use}
 use Rattle.counted_sets.specs.Sets.{IsGreatest, IsUseOf, marked}
 use Rattle.level_bounds.specs.Keys.{cell_at}
 use Rattle.join_steps.specs.Lists.{lists_of}

@@ -1,4 +1,4 @@
-use Rattle.std.proofs.Common.{arith, ap, sym, subst, ◌∙◌, ◌≡◌, ℕ, List, length}
+use Rattle.std.proofs.Common.{arith, ap, sym, subst, ◌≡◌, ℕ, List, length}
 use Rattle.std.specs.Prelude.{All}
 use Rattle.berge_tree.specs.declared.edges.Edge.{Edge}
 use Rattle.counted_sets.specs.Sets.{marked}
@@ -22,18 +22,18 @@ sifted-requires-clause-lists c = are_lists c.args.query.now c.args.db.now c.args
 
 pub sifted-requires-clause-columns : goal.sifted-requires-clause-columns
 sifted-requires-clause-columns c =
-    subst (All (JoinsColumns c.args.db.now)) (sym (c.as_slice-equalities.ensures ∙ c.in_ok-parts.ensures.equalities)) (joins_columns c.args.query.now c.args.db.now c.requires.database)
+    subst (All (JoinsColumns c.args.db.now)) (sym c.requires.equalities) (joins_columns c.args.query.now c.args.db.now c.requires.database)
 
 pub marks_of-requires-clause-lists : goal.marks_of-requires-clause-lists
 marks_of-requires-clause-lists c = subst (AreListsOf c.args.db.now) (sym c.as_slice-left.ensures) c.in_ok-lists.ensures.lists
 
 pub marks_of-requires-clause-columns : goal.marks_of-requires-clause-columns
 marks_of-requires-clause-columns c =
-    subst (All (JoinsColumns c.args.db.now)) (sym (c.as_slice-equalities.ensures ∙ c.in_ok-parts.ensures.equalities)) (joins_columns c.args.query.now c.args.db.now c.requires.database)
+    subst (All (JoinsColumns c.args.db.now)) (sym c.requires.equalities) (joins_columns c.args.query.now c.args.db.now c.requires.database)
 
 pub marks_of-requires-clause-few : goal.marks_of-requires-clause-few
 marks_of-requires-clause-few c =
-    omega (arith, ap (λ (l : List Edge). length l) (c.as_slice-equalities.ensures ∙ c.in_ok-parts.ensures.equalities), few_equalities c.args.query.now, c.requires.few)
+    omega (arith, ap (λ (l : List Edge). length l) c.requires.equalities, few_equalities c.args.query.now, c.requires.few)
 
 pub marked_lists-requires-clause-sizes : goal.marked_lists-requires-clause-sizes
 marked_lists-requires-clause-sizes c =
@@ -51,10 +51,10 @@ returns-clause-reduced c =
     let tables = tables_of c.args.db.now in
     let equal = are_equal_at tables in
     let scans = lists_of c.args.scans.now in
-    let es = c.as_slice-equalities.result.now in
+    let es = c.args.equalities.now in
     let left = lists_of c.as_slice-left.result.now in
     let same : scans ≡ scans_of query tables = lists_are query c.args.db.now c.args.scans.now c.requires.database c.requires.count c.requires.scans in
-    let edges : es ≡ equalities_of query = c.as_slice-equalities.ensures ∙ c.in_ok-parts.ensures.equalities in
+    let edges : es ≡ equalities_of query = c.requires.equalities in
     let tell : TellsByKey scans es (cell_at c.args.db.now) equal =
     subst (λ s. TellsByKey s es (cell_at c.args.db.now) equal) (sym same)
     (subst (λ es. TellsByKey (scans_of query tables) es (cell_at c.args.db.now) equal) (sym edges)

@@ -1,8 +1,7 @@
-use Rattle.std.proofs.Common.{arith, ap, refl, sym, ◌∙◌, ◌≡◌, ◌≤◌, ℕ, List, length, true, false}
-use Rattle.berge_tree.specs.declared.edges.Edge.{Edge}
+use Rattle.std.proofs.Common.{arith, refl}
 use Rattle.level_bounds.specs.Keys.{cell_at}
 use Rattle.join_steps.specs.Columns.{column_cells}
-use Rattle.join_steps.specs.Lists.{list_at, lists_of}
+use Rattle.join_steps.specs.Lists.{lists_of}
 use Rattle.reduced_scans.specs.Lists.{column_of}
 use Rattle.reduced_scans.proofs.Wired.{wired_one}
 use Rattle.reduced_scans.proofs.wiring.add_equality.Goals as goal

@@ -1,4 +1,4 @@
-use Rattle.std.proofs.Common.{arith, refl, subst, ◌≡◌, ◌+◌, ℕ, List, length, slice_index}
+use Rattle.std.proofs.Common.{arith, refl, subst, ◌≡◌, ◌+◌, List, length, slice_index}
 use Rattle.counted_sets.specs.declared.uses.Use.{Use}
 use Rattle.reduced_scans.specs.Wiring.{AddsUses}
 use Rattle.reduced_scans.proofs.Wired.{adds_none, adds_one}

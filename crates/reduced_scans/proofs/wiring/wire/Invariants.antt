@@ -1,4 +1,4 @@
-use Rattle.std.proofs.Common.{◌≡◌, ◌≤◌, ◌*◌, length}
+use Rattle.std.proofs.Common.{◌≤◌, ◌*◌, length}
 use Rattle.limits.specs.Profile.{most_rows}
 use Rattle.level_bounds.specs.Keys.{cell_at}
 use Rattle.join_steps.specs.Lists.{lists_of}

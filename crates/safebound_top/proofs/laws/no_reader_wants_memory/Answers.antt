@@ -1,7 +1,7 @@
 use Rattle.text_answers.proofs.QueryAnswers as queries
 use Rattle.text_answers.proofs.SchemaAnswers as schemas
 use Rattle.planning.proofs.PlanFacts.{never_memory_planned}
-use Rattle.reduced_bounds.proofs.PlanFacts as reduced
+use Rattle.planning.proofs.ListedPlans.{never_memory_over}
 use Rattle.reduced_scans.specs.Rounds.{reduced_of}
 use Rattle.safebound_top.proofs.TableErrors as tables
 use Rattle.safebound_top.proofs.laws.no_reader_wants_memory.Goals as goal
@@ -16,7 +16,7 @@ pub returns-clause-tables : goal.returns-clause-tables
 returns-clause-tables c = tables.never_memory
 
 pub returns-clause-reduced_plans : goal.returns-clause-reduced_plans
-returns-clause-reduced_plans c query tables accuracy budget = reduced.never_memory_planned query tables (reduced_of query tables) accuracy budget
+returns-clause-reduced_plans c query tables accuracy budget = never_memory_over query tables (reduced_of query tables) accuracy budget
 
 pub returns-clause-plans : goal.returns-clause-plans
 returns-clause-plans c = never_memory_planned

@@ -1,0 +1,164 @@
+-- From row bounds and lists of a query's entries to the bounds of its scans and of all sets, and to the plan.
+use Rattle.std.proofs.Common.{◌≡◌, ◌⊎◌, inl, inr, ℕ, ◌^◌, ◌<◌, ◌≤◌, Bool, true, List, [], Err, Option, Result, Some, length, map, get_or, sum, ap, sym, ◌∙◌, subst, arith}
+use Rattle.std.specs.Prelude.{All, if◌then◌else◌, unwrap_or}
+use Rattle.std.specs.List.{range_with_len}
+use Rattle.std.proofs.Math.Path.{fun_ext}
+use Rattle.std.proofs.lemmas.Bool.{lt-ltb}
+use Rattle.std.proofs.lemmas.List.{ext_get_or}
+use Rattle.std.proofs.lemmas.List.FromFn.{get_or-map-range_with_len, length-map-range_with_len}
+use Rattle.degree_sequences.specs.Falling.{IsFalling}
+use Rattle.berge_tree.specs.declared.edges.Edge.{Edge}
+use Rattle.berge_tree.specs.declared.edges.Place.{Place}
+use Rattle.plans.specs.declared.left_deep.Plan.{Plan}
+use Rattle.order_search.specs.declared.refusal.PlanError.{PlanError}
+use Rattle.order_search.specs.declared.refusal.PlanError.TheVariants as error
+use Rattle.plan_answers.specs.PlanAnswer.{plan_answer}
+use Rattle.csv_tables.specs.declared.types.Database.{Database}
+use Rattle.query_types.specs.declared.types.Query.{Query}
+use Rattle.join_graph.specs.Conjuncts.{equalities_of}
+use Rattle.tree_bounds.specs.TreeBounds.{EntryBounds, HasList}
+use Rattle.bound_fold.specs.declared.lists.EntryLists.{EntryLists}
+use Rattle.bound_fold.specs.Lists.{bounds_of, list_of}
+use Rattle.bound_fold.specs.Sets.{HaveLists, SetIsListed}
+use Rattle.set_bounds.specs.AllSets.{bounds_of_sets, first_entries}
+use Rattle.set_bounds.proofs.Listing.{first_listed}
+use Rattle.sql_meaning.specs.Tables.{Tables, tables_of}
+use Rattle.join_steps.specs.Lists.{list_sizes}
+use Rattle.join_steps.proofs.WholeScans.{size_count}
+use Rattle.predicate_bounds.specs.declared.columns.QueryStats.{QueryStats}
+use Rattle.query_bounds.specs.Bounds.{Holds, entry_bounds, is_among, joined_columns, scan_bounds, scan_list, scan_rows, set_bounds}
+use Rattle.query_bounds.specs.Statistics.{IsTold, Statistics, Tells}
+use Rattle.query_bounds.proofs.Sets as told
+use Rattle.gathered_stats.specs.Statistics.{statistics_of}
+use Rattle.planning.specs.declared.known.Known.{Known}
+use Rattle.planning.specs.Bounds.{scan_bounds_of, set_bounds_of}
+use Rattle.planning.specs.Gives.{Gives}
+use Rattle.planning.specs.Known.{IsKnown}
+use Rattle.planning.specs.ListedBounds.{entry_bounds_over, set_bounds_over}
+use Rattle.planning.specs.Plans.{planned, planned_over}
+use Rattle.planning.specs.Standing.{JoinedHaveLists}
+use Rattle.planning.proofs.Knowing as listed
+use Rattle.planning.proofs.NeverUnder.{one_scan_each}
+use Rattle.planning.proofs.ScanBounds.{named_all}
+
+pub is_told : {query : Query} {stats : QueryStats} {known : Statistics} → Tells query stats known → IsTold query stats
+is_told {known = known} tells = record { known = known; tells = tells }
+
+-- ---- from statistics
+
+same_below : (f g : ℕ → ℕ) (n : ℕ) → ((k : ℕ) → k < n → f k ≡ g k) → map f (range_with_len 0 n) ≡ map g (range_with_len 0 n)
+same_below f g n same =
+    ext_get_or 0 (map f (range_with_len 0 n)) (map g (range_with_len 0 n)) (length-map-range_with_len f 0 n ∙ sym (length-map-range_with_len g 0 n)) (λ k low.
+    let within : k < n = omega (arith, low, length-map-range_with_len f 0 n) in
+    get_or-map-range_with_len f 0 n k k 0 within (omega arith) ∙ same k within ∙ sym (get_or-map-range_with_len g 0 n k k 0 within (omega arith)))
+
+pub told_scans : (query : Query) (stats : Statistics) (lists : EntryLists) → bounds_of lists ≡ entry_bounds query stats
+    → map (bounds_of lists).rows (range_with_len 0 (length query.from)) ≡ scan_bounds query stats
+told_scans query stats lists are =
+    ap (λ (b : EntryBounds). map b.rows (range_with_len 0 (length query.from))) are
+    ∙ same_below (entry_bounds query stats).rows (scan_rows query stats) (length query.from)
+    (λ k low. ap (λ (t : Bool). if t then scan_rows query stats k else 0) (lt-ltb k (length query.from) low))
+
+-- a list that is there is a list of its entry
+list_there : (lists : EntryLists) (entry column : ℕ) (list : List ℕ) → list_of lists entry column ≡ Some list → HasList (bounds_of lists) entry column
+list_there lists entry column list is = record {
+  falls = subst (λ (o : Option (List ℕ)). IsFalling (unwrap_or o [])) (sym is) (lists.sums entry column list is).0;
+  total = ap (λ (o : Option (List ℕ)). sum (unwrap_or o [])) is ∙ sym (ap (λ (o : Option ℕ). unwrap_or o 0) (lists.sums entry column list is).1);
+}
+
+pub told_lists : (query : Query) (stats : Statistics) (lists : EntryLists) → Holds query stats (length query.from) (joined_columns query) lists
+    → bounds_of lists ≡ entry_bounds query stats → JoinedHaveLists query (entry_bounds query stats)
+told_lists query stats lists held are =
+    named_all (λ entry column. entry < length query.from → HasList (entry_bounds query stats) entry column) (equalities_of query) (λ k d low.
+    let among = told.both_among (equalities_of query) k d low in
+    let l : Place = (get_or (equalities_of query) k d).left in
+    let r : Place = (get_or (equalities_of query) k d).right in
+    ((λ below. there l.entry l.column among.0), (λ below. there r.entry r.column among.1)))
+  where
+    there : (entry column : ℕ) → is_among (joined_columns query) entry column ≡ true → HasList (entry_bounds query stats) entry column
+    there entry column among =
+        subst (λ (b : EntryBounds). HasList b entry column) are
+        (list_there lists entry column (scan_list query stats entry column) (told.list_there query stats (length query.from) (joined_columns query) lists held entry column among))
+
+-- ---- from row bounds and lists of a query in parts, with the row bounds as bounds of scans
+
+module _ (query : Query) (es : List Edge) (split : es ≡ equalities_of query) (lists : EntryLists) (scans : List ℕ) (count : ℕ) (all : count ≡ length query.from)
+    (are : scans ≡ map (bounds_of lists).rows (range_with_len 0 count)) where
+  pub one_each : length scans ≡ length query.from
+  one_each = ap (λ (s : List ℕ). length s) are ∙ length-map-range_with_len (bounds_of lists).rows 0 count ∙ all
+
+  -- every set has what its bound needs
+  pub each_listed : SetIsListed lists (equalities_of query) (first_entries (length query.from)) → (subset : ℕ) → subset < 2 ^ length scans → SetIsListed lists es subset
+  each_listed whole subset fits =
+      subst (λ (s : List Edge). SetIsListed lists s subset) (sym split)
+      (first_listed lists (equalities_of query) (length query.from) subset whole (subst (λ (n : ℕ). subset < 2 ^ n) one_each fits))
+
+  bounds_give : (b : EntryBounds) (each : List ℕ) (known : Known) → known.sets ≡ bounds_of_sets (bounds_of lists) es (length scans) → known.scans ≡ scans
+      → bounds_of_sets (bounds_of lists) (equalities_of query) (length query.from) ≡ bounds_of_sets b (equalities_of query) (length query.from)
+      → map (bounds_of lists).rows (range_with_len 0 (length query.from)) ≡ each → Gives (bounds_of_sets b (equalities_of query) (length query.from)) each known
+  bounds_give b each known made kept same like = record {
+    sets =
+        made ∙ ap (λ (s : List Edge). bounds_of_sets (bounds_of lists) s (length scans)) split
+        ∙ ap (bounds_of_sets (bounds_of lists) (equalities_of query)) one_each ∙ same;
+    scans = kept ∙ are ∙ ap (λ (n : ℕ). map (bounds_of lists).rows (range_with_len 0 n)) all ∙ like;
+  }
+
+  pub told_give : (stats : Statistics) (known : Known) → known.sets ≡ bounds_of_sets (bounds_of lists) es (length scans) → known.scans ≡ scans
+      → bounds_of lists ≡ entry_bounds query stats → Gives (set_bounds query stats) (scan_bounds query stats) known
+  told_give stats known made kept same =
+      bounds_give (entry_bounds query stats) (scan_bounds query stats) known made kept
+      (ap (λ (b : EntryBounds). bounds_of_sets b (equalities_of query) (length query.from)) same) (told_scans query stats lists same)
+
+  pub rows_give : (db : Database) (rows : List (List ℕ)) (accuracy : ℕ) (known : Known) → known.sets ≡ bounds_of_sets (bounds_of lists) es (length scans) → known.scans ≡ scans
+      → IsKnown db rows accuracy lists → All (HaveLists lists) (equalities_of query)
+      → Gives (set_bounds_over query (tables_of db) rows accuracy) (list_sizes query rows) known
+  rows_give db rows accuracy known made kept is joined =
+      bounds_give (entry_bounds_over (tables_of db) rows accuracy) (list_sizes query rows) known made kept
+      (listed.sets_are db rows accuracy lists is (equalities_of query) joined (length query.from))
+      (ap (λ (f : ℕ → ℕ). map f (range_with_len 0 (length query.from))) (fun_ext (listed.row_bound_is db rows accuracy lists is)))
+
+-- ---- the plan
+
+module _ {sets scans : List ℕ} {known : Known} (gives : Gives sets scans known) where
+  pub scans_long : (n : ℕ) → length scans ≡ n → length known.scans ≡ n
+  scans_long n long = ap (λ (s : List ℕ). length s) gives.scans ∙ long
+
+  pub sets_many : (n : ℕ) → length scans ≡ n → length sets ≡ 2 ^ n → length known.sets ≡ 2 ^ length known.scans
+  sets_many n long many = ap (λ (s : List ℕ). length s) gives.sets ∙ many ∙ ap (λ (k : ℕ). 2 ^ k) (sym (scans_long n long))
+
+  answer_given : (budget : ℕ) (answer : Result Plan PlanError) → (answer ≡ Err error.NoMemory) ⊎ (answer ≡ plan_answer known.sets known.scans budget)
+      → (answer ≡ Err error.NoMemory) ⊎ (answer ≡ plan_answer sets scans budget)
+  answer_given budget answer (inl none) = inl none
+  answer_given budget answer (inr is) =
+      inr (is ∙ ap (λ (s : List ℕ). plan_answer s known.scans budget) gives.sets ∙ ap (λ (s : List ℕ). plan_answer sets s budget) gives.scans)
+
+module _ (query : Query) (tables : Tables) (accuracy budget : ℕ) (known : Known) (answer : Result Plan PlanError)
+    (is : (answer ≡ Err error.NoMemory) ⊎ (answer ≡ plan_answer known.sets known.scans budget)) where
+  pub planned_told : Gives (set_bounds_of query tables accuracy) (scan_bounds_of query tables accuracy) known
+      → (answer ≡ Err error.NoMemory) ⊎ (answer ≡ planned query tables accuracy budget)
+  unfolding planned
+  planned_told gives = answer_given gives budget answer is
+
+  pub planned_listed : (lists : List (List ℕ)) → Gives (set_bounds_over query tables lists accuracy) (list_sizes query lists) known
+      → (answer ≡ Err error.NoMemory) ⊎ (answer ≡ planned_over query tables lists accuracy budget)
+  unfolding planned_over
+  planned_listed lists gives = answer_given gives budget answer is
+
+-- as many bounds as sets, and as scans
+module _ (query : Query) (tables : Tables) (accuracy : ℕ) (known : Known) where
+  pub told_long : Gives (set_bounds_of query tables accuracy) (scan_bounds_of query tables accuracy) known → length known.scans ≡ length query.from
+  told_long gives = scans_long gives (length query.from) (one_scan_each query tables accuracy)
+
+  pub told_many : Gives (set_bounds_of query tables accuracy) (scan_bounds_of query tables accuracy) known → length known.sets ≡ 2 ^ length known.scans
+  told_many gives =
+      sets_many gives (length query.from) (one_scan_each query tables accuracy)
+      (told.set_count (entry_bounds query (statistics_of tables accuracy)) (equalities_of query) (length query.from))
+
+  pub listed_long : (lists : List (List ℕ)) → Gives (set_bounds_over query tables lists accuracy) (list_sizes query lists) known → length known.scans ≡ length query.from
+  listed_long lists gives = scans_long gives (length query.from) (size_count query lists)
+
+  pub listed_many : (lists : List (List ℕ)) → Gives (set_bounds_over query tables lists accuracy) (list_sizes query lists) known
+      → length known.sets ≡ 2 ^ length known.scans
+  listed_many lists gives =
+      sets_many gives (length query.from) (size_count query lists)
+      (told.set_count (entry_bounds_over tables lists accuracy) (equalities_of query) (length query.from))

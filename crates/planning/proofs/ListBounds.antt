@@ -1,0 +1,102 @@
+-- The lists of columns over listed rows: they fall, sum to the number of rows, and dominate all keys that tell values.
+use Rattle.std.proofs.Common.{ℕ, ◌<◌, ◌≤◌, List, length, map, refl, ap, ◌∙◌, subst, arith}
+use Rattle.std.specs.List.{Contains, range_with_len}
+use Rattle.std.proofs.lemmas.List.{get_or-map, length-map}
+use Rattle.std.proofs.lemmas.List.FromFn.{length-range_with_len}
+use Rattle.csv_tables.specs.Values.{Value}
+use Rattle.degree_sequences.specs.Degrees.{degree_list}
+use Rattle.degree_sequences.specs.Domination.{DominatesKeys}
+use Rattle.degree_sequences.proofs.CompressedLists.{IsFalling-compressed, compressed_dominates, sum-compressed}
+use Rattle.degree_sequences.proofs.DegreeLists.{IsFalling-degree_list, sum-degree_list}
+use Rattle.query_types.specs.declared.types.Query.{Query}
+use Rattle.join_graph.specs.Conjuncts.{equalities_of}
+use Rattle.tree_bounds.specs.TreeBounds.{EntryBounds, HasList}
+use Rattle.sql_meaning.specs.Tables.{Tables, row_counts}
+use Rattle.filtered_lists.specs.Standing.{value_in_row}
+use Rattle.level_bounds.specs.Keys.{AreKeys, Keys}
+use Rattle.level_bounds.proofs.Lists.{map_both}
+use Rattle.renamed_lists.specs.Renaming.{AreEqualAlike}
+use Rattle.renamed_lists.proofs.Dominated.{rows_dominated}
+use Rattle.table_stats.specs.Columns.{first_row, numbered}
+use Rattle.table_stats.specs.Keys.{TellsValues}
+use Rattle.table_stats.proofs.EqualValues.{equal_itself, is_equal}
+use Rattle.table_stats.proofs.FirstRows.{equal_firsts, first_there, same_first}
+use Rattle.join_steps.specs.Lists.{list_at, list_sizes, rows_listed, AreOfScans}
+use Rattle.join_steps.proofs.WholeScans.{size_at, size_count}
+use Rattle.reduced_scans.proofs.ByRounds.{filter_shrinks}
+use Rattle.reduced_scans.proofs.FamilyRows.{family_list, row_low, stays}
+use Rattle.planning.specs.ListedBounds.{entry_bounds_over, listed_values}
+use Rattle.planning.specs.Standing.{BoundLists, ColumnStands, EntriesStand}
+use Rattle.planning.proofs.Facts.{each_column}
+
+module _ (tables : Tables) (lists : List (List ℕ)) (accuracy : ℕ) where
+  abbrev bounds : EntryBounds
+  bounds = entry_bounds_over tables lists accuracy
+
+  has_list : (entry column : ℕ) → HasList bounds entry column
+  has_list entry column =
+      let values : List Value = listed_values tables lists entry column in
+      record {
+        falls = IsFalling-compressed accuracy (degree_list (numbered values)) (IsFalling-degree_list (numbered values));
+        total =
+            sum-compressed accuracy (degree_list (numbered values)) (IsFalling-degree_list (numbered values)) ∙ sum-degree_list (numbered values)
+            ∙ length-map values (first_row values) ∙ length-map (list_at lists entry) (value_in_row tables entry column);
+      }
+
+  module _ (query : Query) (are : AreOfScans query tables lists) (key : Keys) (tells : (entry column : ℕ) → TellsValues tables entry column (key entry column)) where
+    module _ (entry column : ℕ) where
+      abbrev rows : List ℕ
+      rows = list_at lists entry
+
+      abbrev value_at : ℕ → Value
+      value_at row = value_in_row tables entry column row
+
+      abbrev values : List Value
+      values = listed_values tables lists entry column
+
+      -- the number of a row's value
+      abbrev number_at : ℕ → ℕ
+      number_at row = first_row values (value_at row)
+
+      number_there : (row : ℕ) → Contains rows row → number_at row < length values
+      number_there row listed =
+          first_there values (value_at row) listed.0 (value_at row) (omega (arith, listed.1, length-map rows value_at))
+          (ap (λ (v : Value). is_equal v (value_at row)) (get_or-map value_at rows listed.0 row (value_at row) listed.1 ∙ ap value_at listed.2) ∙ equal_itself (value_at row))
+
+      -- rows have one number exactly where they have one key
+      alike : AreEqualAlike number_at (key entry column) rows
+      alike row other listed also =
+          let told = tells entry column row other (row_low query tables lists are entry row listed) (row_low query tables lists are entry other also) in (
+            (λ same. told.1 (equal_firsts values (value_at row) (value_at other) (number_there row listed) same)),
+            (λ same. same_first values (value_at row) (value_at other) (told.0 same)),
+          )
+
+      dominates : DominatesKeys (bounds.list entry column) (map (key entry column) rows)
+      dominates =
+          (rows_dominated (bounds.list entry column) number_at (key entry column) rows alike).0
+          (subst (DominatesKeys (bounds.list entry column)) (map_both (first_row values) value_at number_at (λ row. refl) rows) (compressed_dominates accuracy (numbered values)))
+
+    pub lists_stand : AreKeys tables key (equalities_of query) → EntriesStand query tables lists key (entry_bounds_over tables lists accuracy)
+    lists_stand keys = record {
+      keys = keys;
+      rows = λ entry low. omega arith;
+      columns = each_column (λ entry column. entry < length query.from → ColumnStands lists key bounds entry column) (equalities_of query)
+          (λ entry column low. record { has = has_list entry column; dominates = dominates entry column });
+    }
+
+-- a list has at most as many rows as its table
+rows_few : (query : Query) (tables : Tables) (lists : List (List ℕ)) → AreOfScans query tables lists → (entry : ℕ) → rows_listed lists entry ≤ row_counts tables entry
+rows_few query tables lists are entry =
+    omega (
+      arith,
+      ap (λ (s : List ℕ). length s) (family_list query tables lists are entry),
+      filter_shrinks (stays query tables lists are entry) (range_with_len 0 (row_counts tables entry)),
+      length-range_with_len 0 (row_counts tables entry),
+    )
+
+pub sizes_bound : (query : Query) (tables : Tables) (lists : List (List ℕ)) → AreOfScans query tables lists → BoundLists query tables lists (list_sizes query lists)
+sizes_bound query tables lists are = record {
+  one_each = size_count query lists;
+  fit = λ entry low. omega (arith, size_at query lists entry low);
+  within = λ entry low. omega (arith, size_at query lists entry low, rows_few query tables lists are entry);
+}

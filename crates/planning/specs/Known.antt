@@ -1,0 +1,19 @@
+-- What is known so far of entries whose rows stand in lists: row bounds, and lists of columns.
+use Rattle.std.specs.Prelude.{◌≡◌, ℕ, ◌<◌, ◌≤◌, List, length, Some, None}
+use Rattle.csv_tables.specs.declared.types.Database.{Database}
+use Rattle.bound_fold.specs.declared.lists.EntryLists.{EntryLists}
+use Rattle.bound_fold.specs.Lists.{list_of, rows_of}
+use Rattle.sql_meaning.specs.Tables.{tables_of}
+use Rattle.join_steps.specs.Lists.{rows_listed}
+use Rattle.planning.specs.ListedBounds.{entry_bounds_over}
+
+-- the row bound of each of the first so many entries is there, and no other one
+pub record HasRows (lists : List (List ℕ)) (count : ℕ) (known : EntryLists) : Type 0 where
+  pub there : (entry : ℕ) → entry < count → rows_of known entry ≡ Some (rows_listed lists entry)
+  pub past : (entry : ℕ) → count ≤ entry → rows_of known entry ≡ None
+
+-- the row bound of each entry is there, and each list of a column that is there is the one over the rows of its entry
+pub record IsKnown (db : Database) (lists : List (List ℕ)) (accuracy : ℕ) (known : EntryLists) : Type 0 where
+  pub rows : HasRows lists (length lists) known
+  pub columns : (entry column : ℕ) (list : List ℕ) → list_of known entry column ≡ Some list
+      → list ≡ (entry_bounds_over (tables_of db) lists accuracy).list entry column

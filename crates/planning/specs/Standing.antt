@@ -1,0 +1,68 @@
+-- When bounds of entries stand for lists of rows, and when bounds of scans and of sets are never under these.
+use Rattle.std.specs.Prelude.{◌≡◌, ◌⊎◌, ℕ, ◌^◌, ◌<◌, ◌≤◌, List, length, map, slice_index}
+use Rattle.limits.specs.Profile.{top_bound}
+use Rattle.degree_sequences.specs.Domination.{DominatesKeys}
+use Rattle.entry_sets.specs.Sets.{entries_of_set}
+use Rattle.query_types.specs.declared.types.Query.{Query}
+use Rattle.join_graph.specs.Conjuncts.{equalities_of}
+use Rattle.tree_bounds.specs.Columns.{EachNamedColumn}
+use Rattle.tree_bounds.specs.Scans.{scanned}
+use Rattle.tree_bounds.specs.SetBounds.{SetHasLists}
+use Rattle.tree_bounds.specs.Tables.{SetDominates}
+use Rattle.tree_bounds.specs.TreeBounds.{EntryBounds, HasList}
+use Rattle.sql_meaning.specs.Answers.{conjuncts_of}
+use Rattle.sql_meaning.specs.Levels.{level_over}
+use Rattle.sql_meaning.specs.Tables.{Tables, row_counts}
+use Rattle.join_steps.specs.Lists.{list_at, rows_listed, AreOfScans}
+use Rattle.level_bounds.specs.Keys.{AreKeys, Keys}
+use Rattle.level_bounds.specs.Orders.{IsOrderOfSet}
+
+-- ---- what is known of entries
+
+-- the listed rows that may take part in a choice for a set: no choice of the set's level is lost. What is known of the entries stands for
+-- these: each entry of the set has at most as many of them as its row bound, and the list of each column that joins two of its entries
+-- dominates the degrees of their keys
+pub record StandInSet (query : Query) (tables : Tables) (lists : List (List ℕ)) (key : Keys) (bounds : EntryBounds) (subset : ℕ) : Type 0 where
+  pub taking : List (List ℕ)
+  pub are : AreOfScans query tables taking
+  pub none_lost : (order : List ℕ) → IsOrderOfSet (entries_of_set subset) order
+      → level_over (conjuncts_of query tables) (list_at lists) order ≡ level_over (conjuncts_of query tables) (list_at taking) order
+  pub have_lists : SetHasLists bounds (equalities_of query) subset
+  pub dominate : SetDominates bounds (scanned (list_at taking) key) (equalities_of query) subset
+
+-- rows that an equality joins have one key, and what is known of the entries in each set stands for listed rows
+pub record StandForLists (query : Query) (tables : Tables) (lists : List (List ℕ)) (key : Keys) (bounds : ℕ → EntryBounds) : Type 0 where
+  pub keys : AreKeys tables key (equalities_of query)
+  pub each_set : (subset : ℕ) → subset < 2 ^ length query.from → StandInSet query tables lists key (bounds subset) subset
+
+-- ---- the same in every set
+
+-- each column of a FROM entry that an equality joins has its list
+abbrev pub JoinedHaveLists : Query → EntryBounds → Type 0
+JoinedHaveLists query bounds = EachNamedColumn (λ entry column. entry < length query.from → HasList bounds entry column) (equalities_of query)
+
+-- the list of a column falls and sums to the row bound of its entry, and dominates the degrees of the keys that the listed rows have in it
+pub record ColumnStands (lists : List (List ℕ)) (key : Keys) (bounds : EntryBounds) (entry column : ℕ) : Type 0 where
+  pub has : HasList bounds entry column
+  pub dominates : DominatesKeys (bounds.list entry column) (map (key entry column) (list_at lists entry))
+
+-- rows that an equality joins have one key; the row bound of each FROM entry is at least the number of its listed rows, and each of its
+-- columns that an equality joins has such a list
+pub record EntriesStand (query : Query) (tables : Tables) (lists : List (List ℕ)) (key : Keys) (bounds : EntryBounds) : Type 0 where
+  pub keys : AreKeys tables key (equalities_of query)
+  pub rows : (entry : ℕ) → entry < length query.from → rows_listed lists entry ≤ bounds.rows entry
+  pub columns : EachNamedColumn (λ entry column. entry < length query.from → ColumnStands lists key bounds entry column) (equalities_of query)
+
+-- ---- bounds of scans and of sets
+
+-- the bound of each scan is at least the number of its listed rows, and at most the number of rows of its table
+pub record BoundLists (query : Query) (tables : Tables) (lists : List (List ℕ)) (scans : List ℕ) : Type 0 where
+  pub one_each : length scans ≡ length query.from
+  pub fit : (entry : ℕ) → entry < length query.from → rows_listed lists entry ≤ slice_index scans entry
+  pub within : (entry : ℕ) → entry < length query.from → slice_index scans entry ≤ row_counts tables entry
+
+-- no level over the lists of the entries of a set has more rows than the bound of the set, in whatever order they stand. The top bound
+-- stands for all from there on
+abbrev pub BoundLevels : Query → Tables → List (List ℕ) → List ℕ → Type 0
+BoundLevels query tables lists sets = (subset : ℕ) (order : List ℕ) → subset < 2 ^ length query.from → IsOrderOfSet (entries_of_set subset) order
+    → (length (level_over (conjuncts_of query tables) (list_at lists) order) ≤ slice_index sets subset) ⊎ (slice_index sets subset ≡ top_bound)

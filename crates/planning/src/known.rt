@@ -1,0 +1,56 @@
+//! The bounds of all sets of a query's entries and of its scans, whatever they were made from, and the plan by them.
+ghost use Rattle.std.specs.Prelude.{◌≡◌, ◌⊎◌, ◌^◌, ◌<◌, ◌≤◌, ℕ, Err, IfOk, length};
+ghost use Rattle.limits.specs.Profile.{most_budget, most_entries};
+ghost use Rattle.order_search.specs.declared.refusal.PlanError.TheVariants as error;
+ghost use Rattle.plan_answers.specs.PlanAnswer.{plan_answer};
+ghost use Rattle.set_bounds.specs.AllSets.{bounds_in_sets as told_in_sets};
+ghost use Rattle.set_bounds.specs.Parts.{LooksAtParts};
+
+use base_io::{NoMemory, Seq};
+use join_graph::Parts;
+use order_search::{PlanError, choose};
+use plans::Plan;
+use set_bounds::{KnownInSets, bounds_in_sets};
+use std::alloc::Global;
+
+/// A bound of each set of a query's entries, at the number whose bits are the set, and one of each scan, in FROM order, in rows.
+#[derive(Drop)]
+pub struct Known {
+    pub sets: Seq<u128>,
+    pub scans: Seq<u64>,
+}
+
+/// The bounds of all sets of the entries, from the row bound of each entry and the list of each of its joined columns, with a bound of each
+/// scan. The row bounds and lists may depend on the set.
+///
+/// A set's bound is the least over its turns of the product over its trees, from the lists of its columns (SafeBound, SIGMOD 2023; Degree
+/// Sequence Bound, ICDT 2023).
+pub fn bounds_from<K: KnownInSets>(
+    alloc: Global,
+    parts: &Parts,
+    lists: &K,
+    scans: Seq<u64>,
+) -> Result<Known, NoMemory>
+    requires few { length scans ≤ most_entries }
+    requires listed { (subset : ℕ) → subset < 2 ^ length scans → K.is_listed lists.now parts.now.equalities subset }
+    requires looks { LooksAtParts (K.known lists.now) parts.now.equalities }
+    ensures sets { IfOk result (λ known. known.sets ≡ told_in_sets (K.known lists.now) parts.now.equalities (length scans)) }
+    ensures scans { IfOk result (λ known. known.scans ≡ scans) }
+{
+    let sets = bounds_in_sets(alloc, parts, lists, scans.len() as u8)?;
+    Ok(Known { sets, scans })
+}
+
+/// The best order of the entries by these bounds, with those of its scans and levels, in rows; or why there is none within the budget, at
+/// most 20,000,000 rows.
+///
+/// `Budget` and `PastBits` come exactly where `plan_answer` says; `NoMemory` where memory is wanting.
+pub fn plan_from(alloc: Global, known: &Known, budget: u64) -> Result<Plan, PlanError>
+    requires some { 1 ≤ length known.now.scans }
+    requires few { length known.now.scans ≤ most_entries }
+    requires sets { length known.now.sets ≡ 2 ^ length known.now.scans }
+    requires budget { budget ≤ most_budget }
+    ensures { (result ≡ Err error.NoMemory) ⊎ (result ≡ plan_answer known.now.sets known.now.scans budget) }
+{
+    choose(alloc, &known.sets, &known.scans, budget)
+}

@@ -1,0 +1,86 @@
+//! What holds of bounds and plans over lists of rows: no law computes anything, and the contract is the law.
+ghost use Rattle.std.specs.Prelude.{◌≡◌, ◌≢◌, ◌⊎◌, ◌^◌, ◌<◌, ◌≤◌, ℕ, IsPermutation, List, Ok, Err, length, map, slice_index};
+ghost use Rattle.std.specs.List.{Contains};
+ghost use Rattle.limits.specs.Profile.{most_budget, most_entries, top_bound};
+ghost use Rattle.entry_sets.specs.Sets.{entries_of_set};
+ghost use Rattle.plans.specs.declared.left_deep.Plan.{Plan};
+ghost use Rattle.order_search.specs.Orders.{IsBest};
+ghost use Rattle.order_search.specs.declared.refusal.PlanError.TheVariants as error;
+ghost use Rattle.query_types.specs.declared.types.Query.{Query};
+ghost use Rattle.query_types.specs.Named.{NamesItsEntries};
+ghost use Rattle.berge_tree.specs.Equalities.{ClosesNoCycle};
+ghost use Rattle.join_graph.specs.Conjuncts.{equalities_of};
+ghost use Rattle.sql_meaning.specs.Answers.{answer, conjuncts_of, entries_of, selected};
+ghost use Rattle.sql_meaning.specs.Levels.{level, level_over, row_in};
+ghost use Rattle.sql_meaning.specs.Tables.{Tables, row_counts};
+ghost use Rattle.level_bounds.specs.Orders.{IsOrderOfSet};
+ghost use Rattle.join_steps.specs.Lists.{list_at, scans_of, rows_listed, AreOfScans, list_levels};
+ghost use Rattle.reduced_scans.specs.Rounds.{reduced_of};
+ghost use Rattle.reduced_scans.specs.Scans.{AreConsistentScans};
+ghost use Rattle.planning.specs.ListedBounds.{set_bounds_over};
+ghost use Rattle.join_steps.specs.Plans.{IsPlanOf};
+ghost use Rattle.planning.specs.Plans.{planned_over, planned_reduced};
+ghost use Rattle.planning.specs.TakingPart.{JoinsByEqualitiesAlone, TakesPart};
+
+/// No level over lists of scanned rows has more rows than the bound of its set, in whatever order its entries stand. The top bound
+/// stands for all from there on.
+pub fn bounds_over_lists_are_never_under()
+    ensures { (query : Query) (tables : Tables) (lists : List (List ℕ)) (accuracy subset : ℕ) (order : List ℕ)
+        → AreOfScans query tables lists → subset < 2 ^ length query.from → IsOrderOfSet (entries_of_set subset) order
+        → (length (level_over (conjuncts_of query tables) (list_at lists) order)
+        ≤ slice_index (set_bounds_over query tables lists accuracy) subset)
+        ⊎ (slice_index (set_bounds_over query tables lists accuracy) subset ≡ top_bound) }
+{}
+
+/// What holds of a plan over lists: its order is the best one, a scan's bound is exactly the number of listed rows, and where the
+/// lists are of scanned rows, no bound in it is too low.
+pub fn plans_over_lists_are_never_under()
+    ensures plan { (query : Query) (tables : Tables) (lists : List (List ℕ)) (accuracy budget : ℕ) (plan : Plan)
+        → AreOfScans query tables lists → length query.from ≤ most_entries → budget ≤ most_budget
+        → planned_over query tables lists accuracy budget ≡ Ok plan → IsPlanOf query tables lists plan }
+    ensures best { (query : Query) (tables : Tables) (lists : List (List ℕ)) (accuracy budget : ℕ) (plan : Plan)
+        → planned_over query tables lists accuracy budget ≡ Ok plan
+        → IsBest (set_bounds_over query tables lists accuracy) (length query.from) plan.order }
+    ensures scans { (query : Query) (tables : Tables) (lists : List (List ℕ)) (accuracy budget : ℕ) (plan : Plan) (entry : ℕ)
+        → planned_over query tables lists accuracy budget ≡ Ok plan → entry < length query.from
+        → slice_index plan.scans entry ≡ rows_listed lists entry }
+    ensures levels { (query : Query) (tables : Tables) (lists : List (List ℕ)) (accuracy budget : ℕ) (plan : Plan) (k : ℕ)
+        → planned_over query tables lists accuracy budget ≡ Ok plan → slice_index plan.levels k ≤ budget }
+    ensures no_memory { (query : Query) (tables : Tables) (lists : List (List ℕ)) (accuracy budget : ℕ)
+        → planned_over query tables lists accuracy budget ≢ Err error.NoMemory }
+{}
+
+/// The reduced scans are lists of scanned rows, so no bound of their plan is too low. The last level over them, each choice as the
+/// values of the outputs, is the answer, each row as often as there.
+pub fn reduced_plans_lose_no_row()
+    ensures lists { (query : Query) (tables : Tables) → AreOfScans query tables (reduced_of query tables) }
+    ensures plan { (query : Query) (tables : Tables) (accuracy budget : ℕ) (plan : Plan)
+        → length query.from ≤ most_entries → budget ≤ most_budget
+        → planned_reduced query tables accuracy budget ≡ Ok plan → IsPlanOf query tables (reduced_of query tables) plan }
+    ensures last { (query : Query) (tables : Tables) (accuracy budget : ℕ) (plan : Plan) → NamesItsEntries query
+        → planned_reduced query tables accuracy budget ≡ Ok plan
+        → IsPermutation (map (λ choice. selected query tables (row_in plan.order choice))
+        (list_levels query tables (reduced_of query tables) plan.order (length query.from)))
+        (answer query tables) }
+    ensures no_memory { (query : Query) (tables : Tables) (accuracy budget : ℕ)
+        → planned_reduced query tables accuracy budget ≢ Err error.NoMemory }
+{}
+
+/// The scans themselves are such lists, and the levels over them are those of the query.
+pub fn levels_over_whole_scans()
+    ensures lists { (query : Query) (tables : Tables) → AreOfScans query tables (scans_of query tables) }
+    ensures levels { (query : Query) (tables : Tables) (order : List ℕ) (k : ℕ) → IsOrderOfSet (entries_of query) order
+        → list_levels query tables (scans_of query tables) order k
+        ≡ level (conjuncts_of query tables) (row_counts tables) order k }
+{}
+
+/// Where the equalities close no cycle of entries and no other conjunct names several entries, each reduced row takes part in a
+/// choice of reduced rows for all entries that are connected with its own: every conjunct holds of it that names one of these.
+/// So it is of any lists in which each row finds its partners.
+pub fn reduced_rows_take_part()
+    ensures consistent { (query : Query) (tables : Tables) (lists : List (List ℕ)) (entry row : ℕ) → AreConsistentScans query tables lists
+        → ClosesNoCycle (equalities_of query) → JoinsByEqualitiesAlone query → Contains (list_at lists entry) row
+        → TakesPart query tables lists entry row }
+    ensures reduced { (query : Query) (tables : Tables) (entry row : ℕ) → ClosesNoCycle (equalities_of query) → JoinsByEqualitiesAlone query
+        → Contains (list_at (reduced_of query tables) entry) row → TakesPart query tables (reduced_of query tables) entry row }
+{}

@@ -1,0 +1,57 @@
+//! Reduced scans of small tables and their plans, at accuracy 1: theorems by computation.
+ghost use Rattle.std.specs.Prelude.{◌≡◌, ◌∷◌, [], Ok, length};
+ghost use Rattle.plans.specs.Examples.{plan_of};
+ghost use Rattle.query_bounds.specs.Examples.{pair};
+ghost use Rattle.sql_meaning.specs.Answers.{answer};
+ghost use Rattle.sql_meaning.specs.Examples.{triangle};
+ghost use Rattle.level_bounds.specs.Examples.{three_tables};
+ghost use Rattle.planning.specs.Examples.{small_tables};
+ghost use Rattle.reduced_scans.specs.Rounds.{reduced_of};
+ghost use Rattle.planning.specs.ReducedExamples.{along, by_region, chain_tables, crossed_tables, empty_first, never_true, region_tables, with_another};
+ghost use Rattle.planning.specs.Plans.{planned_reduced};
+
+/// R(X) of 1, 1, 1, 2, 2, 3 and S(X) of 1, 1, 4, 5, 6, joined by X: three rows and two are left, and the bound is the answer's size.
+pub fn two_tables()
+    ensures reduced { reduced_of pair small_tables ≡ (0 ∷ 1 ∷ 2 ∷ []) ∷ (0 ∷ 1 ∷ []) ∷ [] }
+    ensures plan { planned_reduced pair small_tables 1 6 ≡ Ok (plan_of (1 ∷ 0 ∷ []) (3 ∷ 2 ∷ []) (2 ∷ 6 ∷ [])) }
+    ensures answer { length (answer pair small_tables) ≡ 6 }
+{}
+
+/// O(N, CID) and C(ID, REG), joined by O.CID = C.ID where C.REG = 3: a filter of C reduces O.
+pub fn a_filtered_partner()
+    ensures reduced { reduced_of by_region region_tables ≡ (0 ∷ []) ∷ (0 ∷ []) ∷ [] }
+    ensures plan { planned_reduced by_region region_tables 1 1 ≡ Ok (plan_of (0 ∷ 1 ∷ []) (1 ∷ 1 ∷ []) (1 ∷ 1 ∷ [])) }
+{}
+
+/// A(X), B(X, Y) and D(Y), joined along: the one row of D reduces B, and then B reduces A.
+pub fn along_a_chain()
+    ensures reduced { reduced_of along chain_tables ≡ (0 ∷ []) ∷ (0 ∷ []) ∷ (0 ∷ []) ∷ [] }
+    ensures plan { planned_reduced along chain_tables 1 1
+        ≡ Ok (plan_of (0 ∷ 1 ∷ 2 ∷ []) (1 ∷ 1 ∷ 1 ∷ []) (1 ∷ 1 ∷ 1 ∷ [])) }
+{}
+
+/// A triangle of three times three rows, of which each has its partners: nothing is reduced.
+pub fn a_triangle()
+    ensures reduced { reduced_of triangle three_tables ≡ (0 ∷ 1 ∷ 2 ∷ []) ∷ (0 ∷ 1 ∷ 2 ∷ []) ∷ (0 ∷ 1 ∷ 2 ∷ []) ∷ [] }
+    ensures plan { planned_reduced triangle three_tables 1 9 ≡ Ok (plan_of (0 ∷ 1 ∷ 2 ∷ []) (3 ∷ 3 ∷ 3 ∷ []) (3 ∷ 5 ∷ 9 ∷ [])) }
+{}
+
+/// A triangle in which each row has its partners, and no three of them meet: where equalities close a cycle, a row may stay that takes
+/// part in no choice.
+pub fn a_crossed_triangle()
+    ensures reduced { reduced_of triangle crossed_tables ≡ (0 ∷ 1 ∷ []) ∷ (0 ∷ 1 ∷ []) ∷ (0 ∷ 1 ∷ []) ∷ [] }
+    ensures answer { answer triangle crossed_tables ≡ [] }
+{}
+
+/// An empty table leaves no row where it is joined, and every row elsewhere: no level has a row, though one scan has two.
+pub fn an_empty_table()
+    ensures reduced { reduced_of with_another empty_first ≡ [] ∷ [] ∷ (0 ∷ 1 ∷ []) ∷ [] }
+    ensures plan { planned_reduced with_another empty_first 1 1
+        ≡ Ok (plan_of (0 ∷ 1 ∷ 2 ∷ []) (0 ∷ 0 ∷ 2 ∷ []) (0 ∷ 0 ∷ 0 ∷ [])) }
+{}
+
+/// A condition that never holds and names no entry: the scans keep their rows, and there are no rows.
+pub fn a_condition_without_entries()
+    ensures reduced { reduced_of never_true small_tables ≡ (0 ∷ 1 ∷ 2 ∷ []) ∷ (0 ∷ 1 ∷ []) ∷ [] }
+    ensures answer { answer never_true small_tables ≡ [] }
+{}

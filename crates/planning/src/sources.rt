@@ -1,0 +1,95 @@
+//! What is known of a query's entries, from statistics of its tables or from lists of their rows.
+ghost use Rattle.std.specs.Prelude.{◌≡◌, ◌<◌, ◌≤◌, IfOk, length};
+ghost use Rattle.limits.specs.Profile.{most_accuracy, most_entries};
+ghost use Rattle.join_graph.specs.Conjuncts.{equalities_of};
+ghost use Rattle.sql_meaning.specs.Databases.{IsDatabaseOf};
+ghost use Rattle.sql_meaning.specs.Tables.{tables_of};
+ghost use Rattle.join_steps.specs.Lists.{list_sizes, lists_of};
+ghost use Rattle.level_bounds.specs.Keys.{HaveDifferentCharacters};
+ghost use Rattle.reduced_scans.specs.Lists.{AreListsOf};
+ghost use Rattle.query_bounds.specs.Bounds.{entry_bounds, scan_bounds, set_bounds};
+ghost use Rattle.query_bounds.specs.Statistics.{IsTold, Statistics, Tells};
+ghost use Rattle.planning.specs.Bounds.{scan_bounds_of, set_bounds_of};
+ghost use Rattle.planning.specs.Gives.{Gives};
+ghost use Rattle.planning.specs.ListedBounds.{set_bounds_over};
+ghost use Rattle.planning.specs.Standing.{JoinedHaveLists};
+
+use crate::known::{Known, bounds_from};
+use crate::lists::lists_over_rows;
+use base_io::NoMemory;
+use csv_tables::Database;
+use gathered_stats::gather_query;
+use join_graph::{Parts, split};
+use predicate_bounds::QueryStats;
+use query_bounds::{entry_lists, scans_of};
+use query_types::Query;
+use row_buf::RowBuf;
+use std::alloc::Global;
+
+/// From statistics of its entries, whatever these were made from. A scan's bound is the row bound of its entry. The parts are those of
+/// `split`.
+pub fn from_told(
+    alloc: Global,
+    query: &Query,
+    parts: &Parts,
+    stats: &QueryStats,
+) -> Result<Known, NoMemory>
+    requires few { length query.now.from ≤ most_entries }
+    requires equalities { parts.now.equalities ≡ equalities_of query.now }
+    requires told { IsTold query.now stats.now }
+    ensures gives { IfOk result (λ made. (known : Statistics) → Tells query.now stats.now known
+        → Gives (set_bounds query.now known) (scan_bounds query.now known) made) }
+    ensures lists { IfOk result (λ made. (known : Statistics) → Tells query.now stats.now known
+        → JoinedHaveLists query.now (entry_bounds query.now known)) }
+{
+    let lists = entry_lists(alloc, query, parts, stats)?;
+    let scans = scans_of(alloc, &lists, query.from.len() as u8)?;
+    let known = bounds_from(alloc, parts, &lists, scans)?;
+    Ok(known)
+}
+
+/// From statistics of the query's tables, which are gathered once. A scan's bound is that of its rows.
+///
+/// The accuracy of compressed lists is from 1 to 64 (SafeBound, SIGMOD 2023).
+#[tactic(auto, using(crate::proofs::Giving::is_told))]
+pub fn from_statistics(
+    alloc: Global,
+    query: &Query,
+    db: &Database,
+    accuracy: u8,
+) -> Result<Known, NoMemory>
+    requires database { IsDatabaseOf query.now db.now }
+    requires texts { HaveDifferentCharacters db.now.pool }
+    requires accuracy { (0 < accuracy) × (accuracy ≤ most_accuracy) }
+    ensures { IfOk result (Gives (set_bounds_of query.now (tables_of db.now) accuracy) (scan_bounds_of query.now (tables_of db.now) accuracy)) }
+{
+    let parts = split(alloc, query)?;
+    let stats = gather_query(alloc, query, &parts, db, accuracy)?;
+    from_told(alloc, query, &parts, &stats)
+}
+
+/// From lists of rows of the query's tables, one list for each entry. A scan's bound is the number of rows of its list. The equalities are
+/// those of `split`.
+///
+/// The accuracy of compressed lists is from 1 to 64 (SafeBound, SIGMOD 2023).
+pub fn from_rows(
+    alloc: Global,
+    query: &Query,
+    parts: &Parts,
+    db: &Database,
+    rows: &[RowBuf<u32>],
+    accuracy: u8,
+) -> Result<Known, NoMemory>
+    requires equalities { parts.now.equalities ≡ equalities_of query.now }
+    requires database { IsDatabaseOf query.now db.now }
+    requires texts { HaveDifferentCharacters db.now.pool }
+    requires rows { AreListsOf db.now rows.now }
+    requires accuracy { (0 < accuracy) × (accuracy ≤ most_accuracy) }
+    ensures { IfOk result (Gives (set_bounds_over query.now (tables_of db.now) (lists_of rows.now) accuracy)
+        (list_sizes query.now (lists_of rows.now))) }
+{
+    let lists = lists_over_rows(alloc, db, rows, parts.equalities.as_slice(), accuracy)?;
+    let scans = scans_of(alloc, &lists, query.from.len() as u8)?;
+    let known = bounds_from(alloc, parts, &lists, scans)?;
+    Ok(known)
+}

@@ -1,8 +1,0 @@
-use Rattle.reduced_bounds.proofs.SmallAnswers.{crossed_answer, crossed_reduced}
-use Rattle.reduced_bounds.proofs.examples.a_crossed_triangle.Goals as goal
-
-pub returns-clause-reduced : goal.returns-clause-reduced
-returns-clause-reduced c = crossed_reduced
-
-pub returns-clause-answer : goal.returns-clause-answer
-returns-clause-answer c = crossed_answer

@@ -1,8 +1,0 @@
-use Rattle.reduced_bounds.proofs.SmallReductions.{region_plan, region_reduced}
-use Rattle.reduced_bounds.proofs.examples.a_filtered_partner.Goals as goal
-
-pub returns-clause-reduced : goal.returns-clause-reduced
-returns-clause-reduced c = region_reduced
-
-pub returns-clause-plan : goal.returns-clause-plan
-returns-clause-plan c = region_plan

@@ -1,8 +1,0 @@
-use Rattle.reduced_bounds.proofs.SmallReductions.{triangle_plan, triangle_reduced}
-use Rattle.reduced_bounds.proofs.examples.a_triangle.Goals as goal
-
-pub returns-clause-reduced : goal.returns-clause-reduced
-returns-clause-reduced c = triangle_reduced
-
-pub returns-clause-plan : goal.returns-clause-plan
-returns-clause-plan c = triangle_plan

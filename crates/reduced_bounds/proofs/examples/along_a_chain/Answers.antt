@@ -1,8 +1,0 @@
-use Rattle.reduced_bounds.proofs.SmallReductions.{chain_plan, chain_reduced}
-use Rattle.reduced_bounds.proofs.examples.along_a_chain.Goals as goal
-
-pub returns-clause-reduced : goal.returns-clause-reduced
-returns-clause-reduced c = chain_reduced
-
-pub returns-clause-plan : goal.returns-clause-plan
-returns-clause-plan c = chain_plan

@@ -1,4 +1,0 @@
-pub mod Bounds
-pub mod Plans
-pub mod TakingPart
-pub mod Examples

@@ -1,0 +1,75 @@
+//! What is known of entries, which may depend on the set in which they are joined.
+ghost use Rattle.std.specs.Prelude.{◌≡◌, ℕ, List, IfOk, true};
+ghost use Rattle.berge_tree.specs.declared.edges.Edge.{Edge};
+ghost use Rattle.berge_tree.specs.Equalities.{ClosesNoCycle};
+ghost use Rattle.join_graph.specs.Kept.{equalities_within};
+ghost use Rattle.tree_bounds.specs.TreeBounds.{EntryBounds};
+ghost use Rattle.bound_fold.specs.Lists.{bounds_of};
+ghost use Rattle.bound_fold.specs.Sets.{SetIsListed};
+ghost use Rattle.set_bounds.specs.AllSets.{bound_told, in_every_set};
+
+use crate::cycles::cyclic_bound;
+use base_io::NoMemory;
+use bound_fold::{EntryLists, turn_bound};
+use entry_sets::EntrySet;
+use join_graph::Parts;
+use std::alloc::Global;
+
+/// What is known of the entries of a query in each set of them: a row bound of each entry, and a list of each joined column.
+pub trait KnownInSets {
+    /// The same as bounds of entries.
+    ghost known: { Self → ℕ → EntryBounds };
+
+    /// Each entry of the set has its row bound, and each column that one of its equalities names its list.
+    ghost is_listed: { Self → List Edge → ℕ → Type 0 };
+
+    /// The bound of a set by folds of its trees, or `u128::MAX` where it is larger. `forest` says that its equalities close no cycle.
+    fn folded(
+        &self,
+        alloc: Global,
+        parts: &Parts,
+        subset: EntrySet,
+        forest: bool,
+    ) -> Result<u128, NoMemory>
+        requires listed { is_listed self.now parts.now.equalities subset }
+        requires forest { forest ≡ true → ClosesNoCycle (equalities_within subset parts.now.equalities) }
+        ensures { IfOk result (λ n. n ≡ bound_told (known self.now subset) parts.now.equalities subset) };
+}
+
+/// The bound of a set by folds of its trees, or `u128::MAX` where it is larger: that of its one turn that counts, where its equalities
+/// close no cycle (`forest`), and else the least over its turns.
+pub fn folded_bound(
+    alloc: Global,
+    parts: &Parts,
+    lists: &EntryLists,
+    subset: EntrySet,
+    forest: bool,
+) -> Result<u128, NoMemory>
+    requires listed { SetIsListed lists.now parts.now.equalities subset }
+    requires forest { forest ≡ true → ClosesNoCycle (equalities_within subset parts.now.equalities) }
+    ensures { IfOk result (λ n. n ≡ bound_told (bounds_of lists.now) parts.now.equalities subset) }
+{
+    if forest {
+        let bound = turn_bound(alloc, parts, subset, 0, lists)?;
+        return Ok(bound);
+    }
+    let bound = cyclic_bound(alloc, parts, lists, subset)?;
+    Ok(bound)
+}
+
+// The same row bounds and lists in every set.
+impl KnownInSets for EntryLists {
+    ghost known = { λ lists. in_every_set (bounds_of lists) };
+
+    ghost is_listed = { SetIsListed };
+
+    fn folded(
+        &self,
+        alloc: Global,
+        parts: &Parts,
+        subset: EntrySet,
+        forest: bool,
+    ) -> Result<u128, NoMemory> {
+        folded_bound(alloc, parts, self, subset, forest)
+    }
+}
