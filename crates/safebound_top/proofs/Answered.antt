@@ -19,12 +19,11 @@ use Rattle.plans.specs.declared.left_deep.Plan.{Plan}
 use Rattle.outcomes.specs.Errors.{plan_ending, plan_refusal, query_ending, query_refusal, schema_ending, schema_refusal}
 use Rattle.outcomes.specs.Reads.{◌>>=◌, Tells, told}
 use Rattle.outcomes.specs.declared.refusal.Refusal.{Refusal}
-use Rattle.planning.specs.Plans.{planned}
 use Rattle.sql_meaning.specs.Tables.{Tables}
 use Rattle.table_files.specs.EntryTables.{tables_in}
 use Rattle.safebound_top.specs.Accepted.{Accepted}
 use Rattle.safebound_top.specs.Asks.{Ask}
-use Rattle.safebound_top.specs.Verdict.{plan_asked, plan_stage}
+use Rattle.safebound_top.specs.Verdict.{plan_asked, plan_stage, run_asked}
 
 -- a value that is read is the answer's
 same_value : {A E : Type 0} (memory : E) (answer : Result A E) (x : A) → (Ok x ≡ Err memory) ⊎ (Ok x ≡ answer) → answer ≡ Ok x
@@ -68,8 +67,8 @@ query_told s text e is = query_tells (query_answer s text) e (queries.only s tex
 -- ---- plans
 
 -- a plan that was made is the planned one
-pub was_made : (query : Query) (tables : Tables) (accuracy budget : ℕ) (p : Plan) → (Ok p ≡ Err plan.NoMemory) ⊎ (Ok p ≡ planned query tables accuracy budget) → planned query tables accuracy budget ≡ Ok p
-was_made query tables accuracy budget p h = same_value plan.NoMemory (planned query tables accuracy budget) p h
+pub was_made : (answer : Result Plan PlanError) (p : Plan) → (Ok p ≡ Err plan.NoMemory) ⊎ (Ok p ≡ answer) → answer ≡ Ok p
+was_made answer p h = same_value plan.NoMemory answer p h
 
 module _ (next : Plan → Result Accepted Refusal) where
   plan_tells : (answer : Result Plan PlanError) (e : PlanError) → (e ≡ plan.NoMemory) ⊎ (answer ≡ Err e)
@@ -85,15 +84,12 @@ module _ (ask : Ask) (query : Query) (rows : List (List Row)) (t : Tables) (same
   over_rows : plan_asked ask query (tables_in rows) ≡ plan_asked ask query t
   over_rows = ap (plan_asked ask query) same
 
-  pub plan_stage_ok : (p : Plan) → plan_asked ask query t ≡ Ok p
-      → plan_stage ask query rows ≡ Ok (record { query = query; rows = rows; plan = p; reduce = ask.reduce; out = ask.out })
+  pub plan_stage_ok : (p : Plan) → plan_asked ask query t ≡ Ok p → plan_stage ask query rows ≡ Ok (run_asked ask query rows p)
   unfolding plan_stage
-  plan_stage_ok p is =
-      ap (λ (r : Result Plan PlanError). told plan_refusal r >>= λ p. Ok (record { query = query; rows = rows; plan = p; reduce = ask.reduce; out = ask.out }))
-      (over_rows ∙ is)
+  plan_stage_ok p is = ap (λ (r : Result Plan PlanError). told plan_refusal r >>= λ p. Ok (run_asked ask query rows p)) (over_rows ∙ is)
 
   pub plan_told : (e : PlanError) → (e ≡ plan.NoMemory) ⊎ (plan_asked ask query t ≡ Err e) → Tells (plan_stage ask query rows) (plan_ending e)
   unfolding plan_stage
   plan_told e h =
-      plan_tells (λ p. Ok (record { query = query; rows = rows; plan = p; reduce = ask.reduce; out = ask.out })) (plan_asked ask query (tables_in rows)) e
+      plan_tells (λ p. Ok (run_asked ask query rows p)) (plan_asked ask query (tables_in rows)) e
       (subst (λ (r : Result Plan PlanError). (e ≡ plan.NoMemory) ⊎ (r ≡ Err e)) (sym over_rows) h)

@@ -1,19 +1,18 @@
 -- What holds of every run that the verdict gives.
-use Rattle.std.proofs.Common.{◌≡◌, ℕ, ◌+◌, ◌<◌, ◌≤◌, Bool, false, true, if◌then◌else◌, List, Result, Ok, Err, length, map, get_or, refl, ap, sym, ◌∙◌, subst, arith}
+use Rattle.std.proofs.Common.{◌≡◌, ℕ, ◌≤◌, List, Result, Ok, Err, length, map, get_or, refl, ap, sym, ◌∙◌, subst}
 use Rattle.std.specs.Prelude.{IfOk, IsPermutation}
 use Rattle.std.proofs.Math.Seq.{take-length}
-use Rattle.std.proofs.lemmas.Bool.{false≢true}
 use Rattle.base_io.specs.Files.{Files}
 use Rattle.csv_tables.specs.Rows.{Row}
 use Rattle.schema_types.specs.declared.types.Schema.{Schema}
 use Rattle.query_types.specs.Named.{NamesItsEntries}
 use Rattle.query_types.specs.Validity.{IsOf}
 use Rattle.query_types.specs.declared.types.Query.{Query}
-use Rattle.plans.specs.LeftDeep.{IsPlan}
 use Rattle.plans.specs.declared.left_deep.Plan.{Plan}
-use Rattle.sql_meaning.specs.Answers.{answer, conjuncts_of, selected}
+use Rattle.sql_meaning.specs.Answers.{answer, conjuncts_of, entries_of, selected}
 use Rattle.sql_meaning.specs.Levels.{level_of, row_in}
-use Rattle.sql_meaning.specs.Tables.{Tables, row_counts}
+use Rattle.sql_meaning.specs.Tables.{row_counts}
+use Rattle.level_bounds.specs.Orders.{IsOrderOfSet}
 use Rattle.level_bounds.proofs.LastLevel.{last_level_is_answer}
 use Rattle.text_answers.specs.QueryTexts.{query_answer}
 use Rattle.text_answers.proofs.QueryAnswers as queries
@@ -24,18 +23,21 @@ use Rattle.outcomes.specs.declared.refusal.Refusal.{Refusal}
 use Rattle.table_files.specs.EntryTables.{tables_in}
 use Rattle.table_files.specs.Stage.{tables_stage}
 use Rattle.table_files.specs.TableFile.{read}
+use Rattle.join_steps.specs.Lists.{list_at, list_levels, scans_of}
 use Rattle.join_steps.specs.Plans.{IsPlanOf}
-use Rattle.planning.specs.Plans.{planned, planned_reduced}
-use Rattle.safebound_top.specs.Accepted.{Accepted, BoundsHold, RowsAreTheAnswer, scan_by, tables}
+use Rattle.join_steps.proofs.WholeScans.{scan_at, size_at}
+use Rattle.reduced_scans.specs.Rounds.{reduced_of}
+use Rattle.planning.proofs.ReducedPlans.{levels_of_scans}
+use Rattle.safebound_top.specs.Accepted.{Accepted, BoundsHold, IsOverReducedScans, IsOverWholeScans, RowsAreTheAnswer, tables}
 use Rattle.safebound_top.specs.Asks.{Ask, command_stage}
-use Rattle.safebound_top.specs.declared.task.OutText.{OutText}
-use Rattle.safebound_top.specs.Verdict.{ask_run, plan_asked, plan_stage, query_of_text, query_run, query_stage, schema_run, schema_stage, verdict}
+use Rattle.safebound_top.specs.Sources.{sourced}
+use Rattle.safebound_top.specs.Standing.{IsSource, LoseNoRow}
+use Rattle.safebound_top.specs.declared.task.ListSource.{ListSource}
+use Rattle.safebound_top.specs.declared.task.ListSource.TheVariants as sources
+use Rattle.safebound_top.specs.Verdict.{ask_run, plan_asked, plan_stage, query_of_text, query_run, query_stage, run_asked, schema_run, schema_stage, verdict}
 use Rattle.safebound_top.proofs.NamedEntries.{names_own}
-use Rattle.safebound_top.specs.Prepared.{lists_by}
-use Rattle.safebound_top.proofs.LastLevels.{order_is}
-use Rattle.safebound_top.proofs.ListedBy.{last_by, level_rows_by, scan_rows_by}
-use Rattle.safebound_top.proofs.Plans.{plan_holds, reduced_exact, reduced_holds}
 use Rattle.safebound_top.proofs.Ranges.{InRange, in_range}
+use Rattle.safebound_top.proofs.SourceFacts.{order_is, plan_holds, scan_is_given, stand}
 
 -- what holds of the first step's value, and then of the second's
 then_ok : {A B : Type 0} (P : A → Type 0) (Q : B → Type 0) (r : Result A Refusal) (f : A → Result B Refusal) → IfOk r P → ((x : A) → P x → IfOk (f x) Q) → IfOk (r >>= f) Q
@@ -61,30 +63,30 @@ query_ok name schema files =
     any_ok (IsOf schema) (read file.Query 1048576 name files) (query_of_text schema)
     (λ text. ok_so (IsOf schema) query_refusal (query_answer schema text) (λ query e. queries.of_schema schema text query e))
 
--- no list and no level has more rows than the plan says, and a reduced scan has just as many
-pub record HoldsBy (reduce : Bool) (query : Query) (ts : Tables) (plan : Plan) : Type 0 where
-  pub bounds : IsPlanOf query ts (lists_by reduce query ts) plan
-  pub exact : reduce ≡ true → (entry : ℕ) → entry < length query.from → get_or plan.scans entry 0 ≡ length (scan_by reduce query ts entry)
-
-asked_holds : (reduce : Bool) (query : Query) (ts : Tables) (accuracy budget : ℕ) (plan : Plan) → length query.from ≤ 12 → budget ≤ 20000000
-    → (if reduce then planned_reduced query ts accuracy budget else planned query ts accuracy budget) ≡ Ok plan → HoldsBy reduce query ts plan
-asked_holds false query ts accuracy budget plan few small made =
-    record { bounds = plan_holds query ts accuracy budget plan few small made; exact = λ h. absurd (false≢true h) }
-asked_holds true query ts accuracy budget plan few small made =
-    record { bounds = reduced_holds query ts accuracy budget plan few small made; exact = λ h. reduced_exact query ts accuracy budget plan made }
-
--- a query that names its own entries, and its plan
+-- a query that names its own entries, over the rows that its source gives and by its plan
 pub record IsRun (run : Accepted) : Type 0 where
   pub own : NamesItsEntries run.query
-  pub plan : HoldsBy run.reduce run.query (tables run) run.plan
+  pub lists : run.lists ≡ (sourced run.source run.query (tables run)).lists
+  pub rows : LoseNoRow run.query (tables run) run.lists
+  pub bounds : IsPlanOf run.query (tables run) run.lists run.plan
+  pub scans : (accuracy : ℕ) × ((entry : ℕ) → get_or run.plan.scans entry 0 ≡ get_or ((sourced run.source run.query (tables run)).scans accuracy) entry 0)
 
 plan_ok : (ask : Ask) (query : Query) (rows : List (List Row)) → InRange ask.budget ask.accuracy → length query.from ≤ 12 → NamesItsEntries query → IfOk (plan_stage ask query rows) IsRun
 unfolding plan_stage
 plan_ok ask query rows range few own =
-    then_ok (HoldsBy ask.reduce query (tables_in rows)) IsRun (told plan_refusal (plan_asked ask query (tables_in rows))) _
-    (ok_so (HoldsBy ask.reduce query (tables_in rows)) plan_refusal (plan_asked ask query (tables_in rows))
-    (λ plan made. asked_holds ask.reduce query (tables_in rows) ask.accuracy ask.budget plan few range.budget_most made))
-    (λ plan holds. record { own = own; plan = holds })
+    then_ok (λ plan. IsRun (run_asked ask query rows plan)) IsRun (told plan_refusal (plan_asked ask query (tables_in rows))) _
+    (ok_so (λ plan. IsRun (run_asked ask query rows plan)) plan_refusal (plan_asked ask query (tables_in rows)) made_ok) (λ plan is. is)
+  where
+    made_ok : (plan : Plan) → plan_asked ask query (tables_in rows) ≡ Ok plan → IsRun (run_asked ask query rows plan)
+    made_ok plan made =
+        let is : IsSource query (tables_in rows) (sourced ask.source query (tables_in rows)) = stand ask.source query (tables_in rows) in
+        record {
+          own = own;
+          lists = refl;
+          rows = is.rows;
+          bounds = plan_holds query (tables_in rows) (sourced ask.source query (tables_in rows)) is ask.accuracy ask.budget plan made few range.budget_most;
+          scans = (ask.accuracy, scan_is_given query (tables_in rows) (sourced ask.source query (tables_in rows)) is ask.accuracy ask.budget plan made);
+        }
 
 query_run_ok : (ask : Ask) (schema : Schema) (query : Query) (files : Files) → InRange ask.budget ask.accuracy → IsOf schema query → IfOk (query_run ask schema query files) IsRun
 unfolding query_run
@@ -108,40 +110,48 @@ verdict_ok words files =
 
 -- ---- two sentences
 
-module _ (query : Query) (rows : List (List Row)) (plan : Plan) where
-  bounds_by : (reduce : Bool) (out : OutText) → NamesItsEntries query → HoldsBy reduce query (tables_in rows) plan
-      → BoundsHold (record { query = query; rows = rows; plan = plan; reduce = reduce; out = out })
-  bounds_by reduce out own holds = record {
-    plan = holds.bounds.for_each_entry;
-    scans = λ entry low. omega (arith, ap (λ (s : List ℕ). length s) (scan_rows_by reduce query (tables_in rows) entry low), holds.bounds.scans entry low);
-    reduced = holds.exact;
-    levels = λ k low. omega (
-      arith,
-      ap (λ (s : List (List ℕ)). length s) (level_rows_by reduce query (tables_in rows) plan.order (k + 1) (order_is query (tables_in rows) own plan holds.bounds.for_each_entry)),
-      holds.bounds.levels k low,
-    );
+module _ (run : Accepted) (is : IsRun run) where
+  abbrev lists_from : ListSource → List (List ℕ)
+  lists_from source = (sourced source run.query (tables run)).lists
+
+  of_columns : run.source ≡ sources.Columns → IsOverWholeScans run
+  unfolding sourced
+  of_columns from' =
+      let whole : run.lists ≡ scans_of run.query (tables run) = is.lists ∙ ap lists_from from' in
+      record {
+        scans = λ entry low. ap (λ (l : List (List ℕ)). list_at l entry) whole ∙ scan_at run.query (tables run) entry low;
+        levels = λ k.
+            ap (λ (l : List (List ℕ)). list_levels run.query (tables run) l run.plan.order k) whole
+            ∙ levels_of_scans run.query (tables run) run.plan.order k (order_is run.query run.plan is.bounds.for_each_entry);
+      }
+
+  of_reduced : run.source ≡ sources.Reduced → IsOverReducedScans run
+  unfolding sourced
+  of_reduced from' =
+      let reduced : run.lists ≡ reduced_of run.query (tables run) = is.lists ∙ ap lists_from from' in
+      record {
+        scans = reduced;
+        exact = λ entry low.
+            is.scans.1 entry ∙ ap (λ (source : ListSource). get_or ((sourced source run.query (tables run)).scans is.scans.0) entry 0) from'
+            ∙ size_at run.query (reduced_of run.query (tables run)) entry low ∙ ap (λ (l : List (List ℕ)). length (list_at l entry)) (sym reduced);
+      }
+
+  run_bounds : BoundsHold run
+  run_bounds = record {
+    plan = is.bounds.for_each_entry;
+    scans = is.bounds.scans;
+    levels = is.bounds.levels;
+    of_columns = of_columns;
+    of_reduced = of_reduced;
   }
 
-  -- the outputs of each choice of a level that is the last one
-  rows_of_level : NamesItsEntries query → IsPlan (length query.from) plan → (last : List (List ℕ))
-      → last ≡ level_of (conjuncts_of query (tables_in rows)) (row_counts (tables_in rows)) plan.order
-      → IsPermutation (map (λ choice. selected query (tables_in rows) (row_in plan.order choice)) last) (answer query (tables_in rows))
-  rows_of_level own each last is =
-      subst (λ (level : List (List ℕ)). IsPermutation (map (λ choice. selected query (tables_in rows) (row_in plan.order choice)) level) (answer query (tables_in rows)))
-      (sym is) (last_level_is_answer query (tables_in rows) plan.order own (order_is query (tables_in rows) own plan each))
-
-  rows_by : (reduce : Bool) (out : OutText) → NamesItsEntries query → HoldsBy reduce query (tables_in rows) plan
-      → RowsAreTheAnswer (record { query = query; rows = rows; plan = plan; reduce = reduce; out = out })
-  rows_by reduce out own holds =
-      rows_of_level own holds.bounds.for_each_entry _
-      (last_by reduce query (tables_in rows) own plan holds.bounds.for_each_entry
-      ∙ ap (λ (placed : List ℕ). level_of (conjuncts_of query (tables_in rows)) (row_counts (tables_in rows)) placed) (take-length plan.order))
-
-run_bounds : (run : Accepted) → IsRun run → BoundsHold run
-run_bounds run is = bounds_by run.query run.rows run.plan run.reduce run.out is.own is.plan
-
-run_rows : (run : Accepted) → IsRun run → RowsAreTheAnswer run
-run_rows run is = rows_by run.query run.rows run.plan run.reduce run.out is.own is.plan
+  run_rows : RowsAreTheAnswer run
+  run_rows =
+      let order : IsOrderOfSet (entries_of run.query) run.plan.order = order_is run.query run.plan is.bounds.for_each_entry in
+      subst (λ (level : List (List ℕ)). IsPermutation (map (λ choice. selected run.query (tables run) (row_in run.plan.order choice)) level) (answer run.query (tables run)))
+      (sym (is.rows.last is.own run.plan.order order
+      ∙ ap (λ (placed : List ℕ). level_of (conjuncts_of run.query (tables run)) (row_counts (tables run)) placed) (take-length run.plan.order)))
+      (last_level_is_answer run.query (tables run) run.plan.order is.own order)
 
 so : (P : Accepted → Type 0) → ((run : Accepted) → IsRun run → P run) → (r : Result Accepted Refusal) → IfOk r IsRun → IfOk r P
 so P holds (Ok run) is = holds run is

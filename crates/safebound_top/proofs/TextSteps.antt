@@ -1,5 +1,5 @@
 -- The texts, one after the other, and what is told of a failed write.
-use Rattle.std.proofs.Common.{◌≡◌, ℕ, ◌<◌, ◌≤◌, inl, inr, List, Option, None, Some, Result, Ok, Err, refl, ap, sym, ◌∙◌, subst, arith}
+use Rattle.std.proofs.Common.{◌≡◌, ℕ, List, Option, None, Some, Result, Ok, Err, refl, ap, sym, ◌∙◌, subst, arith}
 use Rattle.base_io.specs.Devices.{Growth}
 use Rattle.base_io.specs.Sinks.{GrewByPrefix, appended}
 use Rattle.base_io.specs.Writes.{Wrote}

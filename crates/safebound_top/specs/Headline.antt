@@ -58,8 +58,9 @@ DoneIsExact call = call.status ≡ status.Done
     → OverFiles call (λ files v. IsOkAnd v (λ run. Grew call.notes (plan_text run) × GrewWhole call.out (out_text_of run)))
 
 -- 2. Where the verdict is accepted, the scan of each FROM entry and each level of the plan's order have at most as many rows as the plan
---    text of 1 prints for it; for `plan` too, though they are never listed. With `--reduce` a scan is the reduced one, which has exactly
---    as many rows, and the rows of levels are from these. The audit text of 1 prints each level's number of rows beside its bound.
+--    text of 1 prints for it; for `plan` too, though they are never listed. Scans and levels are those of the query over whole tables. With
+--    `--reduce` a scan is the reduced one, which has exactly as many rows, and the rows of levels are from these. The audit text of 1 prints
+--    each level's number of rows beside its bound.
 abbrev pub EveryBoundHolds : Call → Type 0
 EveryBoundHolds call = OverFiles call (λ files v. IfOk v BoundsHold)
 

@@ -6,5 +6,7 @@ pub mod Faults
 pub mod Headline
 pub mod Prepared
 pub mod Shops
+pub mod Sources
+pub mod Standing
 pub mod Texts
 pub mod Verdict

@@ -1,22 +1,23 @@
 -- What was read and planned, as what a run is over.
-use Rattle.std.specs.Prelude.{ℕ, ◌≡◌, ◌+◌, ◌≤◌, Bool, false, true, List, length, Option, None, Some, ⊤}
+use Rattle.std.specs.Prelude.{ℕ, ◌≡◌, ◌≤◌, List, length, Option, None, Some, ⊤}
 use Rattle.limits.specs.Profile.{most_conjuncts}
 use Rattle.query_types.specs.declared.types.Query.{Query}
 use Rattle.csv_tables.specs.declared.types.Database.{Database}
 use Rattle.plans.specs.LeftDeep.{IsPlan}
 use Rattle.plans.specs.declared.left_deep.Plan.{Plan}
-use Rattle.join_steps.specs.Lists.{AreOfScans, list_levels, lists_of, scans_of}
+use Rattle.join_steps.specs.Lists.{lists_of, scans_of}
 use Rattle.join_steps.specs.Plans.{IsPlanOf}
-use Rattle.hash_join.specs.Levels.{list_level_sizes, query_level}
+use Rattle.hash_join.specs.Levels.{list_level_sizes}
 use Rattle.joined_texts.specs.Printed.{printed_rows}
 use Rattle.planned_joins.specs.PlansOf.{IsReadyFor}
 use Rattle.printed_texts.specs.Plans.{audit_lines}
 use Rattle.printed_texts.specs.Texts.{rows_lines}
-use Rattle.reduced_scans.specs.Rounds.{reduced_of}
 use Rattle.sql_meaning.specs.Databases.{IsDatabaseOf}
 use Rattle.sql_meaning.specs.Tables.{Tables, tables_of}
 use Rattle.table_files.specs.EntryTables.{entry_rows, tables_in}
 use Rattle.safebound_top.specs.Accepted.{Accepted}
+use Rattle.safebound_top.specs.Sources.{sourced}
+use Rattle.safebound_top.specs.Standing.{LoseNoRow}
 use Rattle.safebound_top.specs.declared.prepare.Prepared.{Prepared}
 use Rattle.safebound_top.specs.declared.prepare.Rest.{Rest}
 use Rattle.safebound_top.specs.declared.prepare.Rest.TheVariants as rest
@@ -32,27 +33,16 @@ text_left (rest.Rows joins) = out_text.Rows
 text_left (rest.Audit joins) = out_text.Audit
 text_left rest.Nothing = out_text.Nothing
 
-abbrev pub are_reduced : Scans → Bool
-are_reduced scans.Whole = false
-are_reduced (scans.Reduced lists) = true
+-- the rows of each entry from which levels are chosen: those of its scan, or these
+abbrev pub lists_in : Scans → Query → Tables → List (List ℕ)
+lists_in scans.Whole query ts = scans_of query ts
+lists_in (scans.Listed lists) query ts = lists_of lists.items
 
--- by the flag, the list of rows of each entry from which levels are chosen: its scan, or its reduced scan
-abbrev pub lists_by : Bool → Query → Tables → List (List ℕ)
-lists_by false query ts = scans_of query ts
-lists_by true query ts = reduced_of query ts
-
--- lists that are there are the reduced scans
-abbrev pub HasLists : Scans → Query → Tables → Type 0
-HasLists scans.Whole query ts = ⊤
-HasLists (scans.Reduced lists) query ts = lists_of lists.items ≡ reduced_of query ts
-
--- a plan over lists of scanned rows, and buffers with room for each of its levels over them; the last level is that of the query
+-- lists that lose no row of the answer, a plan over them, and buffers with room for each of its levels over them
 pub record CanJoin (query : Query) (db : Database) (plan : Plan) (joins : Joins) : Type 0 where
-  pub scanned : AreOfScans query (tables_of db) (lists_of joins.lists.items)
+  pub rows : LoseNoRow query (tables_of db) (lists_of joins.lists.items)
   pub bounds : IsPlanOf query (tables_of db) (lists_of joins.lists.items) plan
   pub ready : IsReadyFor query (tables_of db) (lists_of joins.lists.items) plan.order joins.reserved
-  pub last : (k : ℕ) → k + 1 ≡ length plan.order
-      → list_levels query (tables_of db) (lists_of joins.lists.items) plan.order (k + 1) ≡ query_level query db plan.order (k + 1)
 
 -- there is room for all that is left to do
 abbrev pub HasRoom : Query → Database → Plan → Rest → Type 0
@@ -60,11 +50,11 @@ HasRoom query db plan (rest.Rows joins) = CanJoin query db plan joins
 HasRoom query db plan (rest.Audit joins) = CanJoin query db plan joins
 HasRoom query db plan rest.Nothing = ⊤
 
--- the lists of what is left to do are those of the flag
-abbrev pub AreListed : Bool → Query → Tables → Rest → Type 0
-AreListed reduce query ts (rest.Rows joins) = lists_of joins.lists.items ≡ lists_by reduce query ts
-AreListed reduce query ts (rest.Audit joins) = lists_of joins.lists.items ≡ lists_by reduce query ts
-AreListed reduce query ts rest.Nothing = ⊤
+-- what is left to do is over these lists
+abbrev pub AreListed : List (List ℕ) → Rest → Type 0
+AreListed lists (rest.Rows joins) = lists_of joins.lists.items ≡ lists
+AreListed lists (rest.Audit joins) = lists_of joins.lists.items ≡ lists
+AreListed lists rest.Nothing = ⊤
 
 -- the text that is left to write, if any
 abbrev pub text_from : Rest → Query → Database → Plan → Option (List ℕ)
@@ -78,7 +68,8 @@ accepted_of prepared = record {
   query = prepared.query;
   rows = entry_rows prepared.db;
   plan = prepared.plan;
-  reduce = prepared.reduce;
+  source = prepared.source;
+  lists = (sourced prepared.source prepared.query (tables_in (entry_rows prepared.db))).lists;
   out = text_left prepared.rest;
 }
 
@@ -89,4 +80,4 @@ pub record IsReady (prepared : Prepared) : Type 0 where
   pub plan : IsPlan (length prepared.query.from) prepared.plan
   pub tables : tables_in (entry_rows prepared.db) ≡ tables_of prepared.db
   pub room : HasRoom prepared.query prepared.db prepared.plan prepared.rest
-  pub lists : AreListed prepared.reduce prepared.query (tables_of prepared.db) prepared.rest
+  pub lists : AreListed (accepted_of prepared).lists prepared.rest

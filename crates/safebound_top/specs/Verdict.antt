@@ -1,5 +1,5 @@
 -- What the words and the files determine, in stages: the words, the schema, the query, the tables, the plan.
-use Rattle.std.specs.Prelude.{ℕ, if◌then◌else◌, List, Result, Ok, Err, IsOk}
+use Rattle.std.specs.Prelude.{ℕ, List, Result, Ok, Err, IsOk}
 use Rattle.limits.specs.Profile.{most_text}
 use Rattle.base_io.specs.Files.{Files}
 use Rattle.text_answers.specs.SchemaTexts.{schema_answer}
@@ -19,9 +19,9 @@ use Rattle.table_files.specs.EntryTables.{tables_in}
 use Rattle.table_files.specs.Stage.{tables_of_query, tables_stage}
 use Rattle.table_files.specs.Stage.{IsReached as IsTableReached}
 use Rattle.table_files.specs.TableFile.{read}
-use Rattle.planning.specs.Plans.{planned, planned_reduced}
 use Rattle.safebound_top.specs.Accepted.{Accepted}
 use Rattle.safebound_top.specs.Asks.{Ask, command_stage}
+use Rattle.safebound_top.specs.Sources.{planned_by, sourced}
 
 -- the schema, in the file of this name
 abbrev pub schema_of_text : List ℕ → Result Schema Refusal
@@ -41,16 +41,26 @@ query_stage name schema files = do
   text ← read file.Query most_text name files
   query_of_text schema text
 
--- the plan of a query over its tables, from their statistics or from its reduced scans
+-- the plan of a query over its tables, by what the source gives that is asked for
 abbrev pub plan_asked : Ask → Query → Tables → Result Plan PlanError
-plan_asked ask query ts =
-    if ask.reduce then planned_reduced query ts ask.accuracy ask.budget else planned query ts ask.accuracy ask.budget
+plan_asked ask query ts = planned_by (sourced ask.source query ts) query ask.accuracy ask.budget
+
+-- the run of a plan, over the rows that the source gives
+abbrev pub run_asked : Ask → Query → List (List Row) → Plan → Accepted
+run_asked ask query rows plan = record {
+  query = query;
+  rows = rows;
+  plan = plan;
+  source = ask.source;
+  lists = (sourced ask.source query (tables_in rows)).lists;
+  out = ask.out;
+}
 
 -- the plan of a query over its entries' rows: the best order with its bounds, or PastBits, or Budget with the least cost
 unfoldable pub plan_stage : Ask → Query → List (List Row) → Result Accepted Refusal
 plan_stage ask query rows = do
   plan ← told plan_refusal (plan_asked ask query (tables_in rows))
-  Ok (record { query = query; rows = rows; plan = plan; reduce = ask.reduce; out = ask.out })
+  Ok (run_asked ask query rows plan)
 
 -- what a run is over, or the first refusal that applies: from the tables on, from the query on, from the schema on, and from the words on
 unfoldable pub query_run : Ask → Schema → Query → Files → Result Accepted Refusal

@@ -4,7 +4,6 @@ ghost use Rattle.base_io.specs.Files.{Files};
 ghost use Rattle.csv_tables.specs.Files.{rows_of_file};
 ghost use Rattle.csv_tables.specs.declared.types.TableError.TheVariants as table_error;
 ghost use Rattle.order_search.specs.declared.refusal.PlanError.TheVariants as plan_error;
-ghost use Rattle.planning.specs.Plans.{planned, planned_reduced};
 ghost use Rattle.query_types.specs.declared.types.Query.{Query};
 ghost use Rattle.schema_types.specs.declared.errors.SchemaError.TheVariants as schema_error;
 ghost use Rattle.schema_types.specs.declared.types.Schema.{Schema};
@@ -16,7 +15,10 @@ ghost use Rattle.text_answers.specs.SchemaTexts.{schema_answer};
 ghost use Rattle.safebound_words.specs.Answer.{command_of};
 ghost use Rattle.safebound_words.specs.Requests.{Demo};
 ghost use Rattle.safebound_top.specs.Accepted.{BoundsHold, RowsAreTheAnswer};
+ghost use Rattle.safebound_top.specs.Sources.{Sourced, planned_by, sourced};
+ghost use Rattle.safebound_top.specs.Standing.{IsSource};
 ghost use Rattle.safebound_top.specs.Verdict.{verdict};
+ghost use Rattle.safebound_top.specs.declared.task.ListSource.{ListSource};
 
 /// What the words and the files give is a run of which no bound is too low, and whose printed rows are the answer of
 /// the query. It does nothing.
@@ -31,15 +33,19 @@ pub fn demo_is_an_audit()
         → verdict words files ≡ verdict (codes "audit" ∷ codes "schema.sql" ∷ codes "query.sql" ∷ []) files }
 {}
 
-/// Of the errors of the three readers and of both plans the verdict meets none that is want of memory: no text, no
-/// table's bytes, and no plan over whole tables or over reduced scans answers it. So each refusal of the verdict tells
-/// something of the words or of a file. It does nothing.
+/// What each source gives stands for the rows of the query, at every accuracy: no bound is below what it bounds, and no
+/// row of the answer is lost. It does nothing.
+pub fn sources_stand()
+    ensures { (source : ListSource) (query : Query) (tables : Tables) → IsSource query tables (sourced source query tables) }
+{}
+
+/// Of the errors of the three readers and of all plans the verdict meets none that is want of memory: no text, no
+/// table's bytes, and no plan answers it, whatever the source gives. So each refusal of the verdict tells something of
+/// the words or of a file. It does nothing.
 pub fn no_reader_wants_memory()
     ensures schemas { (text : List ℕ) → schema_answer text ≢ Err schema_error.NoMemory }
     ensures queries { (schema : Schema) (text : List ℕ) → query_answer schema text ≢ Err query_error.NoMemory }
     ensures tables { (table : Table) (bytes : List ℕ) → rows_of_file table bytes ≢ Err table_error.NoMemory }
-    ensures reduced_plans { (query : Query) (tables : Tables) (accuracy budget : ℕ)
-        → planned_reduced query tables accuracy budget ≢ Err plan_error.NoMemory }
-    ensures plans { (query : Query) (tables : Tables) (accuracy budget : ℕ)
-        → planned query tables accuracy budget ≢ Err plan_error.NoMemory }
+    ensures plans { (given : Sourced) (query : Query) (accuracy budget : ℕ)
+        → planned_by given query accuracy budget ≢ Err plan_error.NoMemory }
 {}

@@ -21,9 +21,9 @@ mod task;
 mod texts;
 mod top_call;
 
-pub use laws::{demo_is_an_audit, no_reader_wants_memory, run_law};
+pub use laws::{demo_is_an_audit, no_reader_wants_memory, run_law, sources_stand};
 pub use outcomes::{FileId, QueryCause, SchemaCause, SinkId, Status, TableCause};
 pub use report::write_fault;
 pub use safebound_words::{Command, WordsError, read_words};
-pub use task::{OutText, Task, read_task};
+pub use task::{ListSource, OutText, Task, read_task};
 pub use top_call::safebound;

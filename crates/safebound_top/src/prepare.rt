@@ -13,12 +13,13 @@ ghost use Rattle.join_steps.specs.Plans.{IsPlanOf};
 ghost use Rattle.table_files.specs.EntryTables.{entry_rows, tables_in};
 ghost use Rattle.table_files.specs.Stage.{IsReached, tables_of_query};
 ghost use Rattle.safebound_top.specs.Asks.{asked};
-ghost use Rattle.safebound_top.specs.Prepared.{AreListed, HasLists, HasRoom, IsReady, accepted_of, are_reduced, lists_by, text_left};
+ghost use Rattle.safebound_top.specs.Prepared.{AreListed, HasRoom, IsReady, accepted_of, lists_in, text_left};
+ghost use Rattle.safebound_top.specs.Standing.{LoseNoRow};
 ghost use Rattle.safebound_top.specs.Verdict.{IsTableOf, plan_stage, query_from, query_run, schema_run};
 
 use crate::files::load_query;
 use crate::scans::{Joins, Planned, Scans, plan_task, prepare_joins};
-use crate::task::{OutText, Task};
+use crate::task::{ListSource, OutText, Task};
 use base_io::{NoMemory, Store};
 use csv_tables::Database;
 use outcomes::{Ending, FileId};
@@ -39,13 +40,13 @@ pub enum Rest {
     Nothing,
 }
 
-/// A query, the database of its tables, its plan, whether that is over reduced scans, and what is left to do.
+/// A query, the database of its tables, its plan, what this is made from, and what is left to do.
 #[derive(Drop)]
 pub struct Prepared {
     pub query: Query,
     pub db: Database,
     pub plan: Plan,
-    pub reduce: bool,
+    pub source: ListSource,
     pub rest: Rest,
 }
 
@@ -61,10 +62,10 @@ fn make_room(
     requires database { IsDatabaseOf query.now db.now }
     requires few { length query.now.conjuncts ≤ most_conjuncts }
     requires few_rows { HaveFewRows (tables_of db.now) (length query.now.from) }
-    requires plan { IsPlanOf query.now (tables_of db.now) (lists_by (are_reduced scans) query.now (tables_of db.now)) plan.now }
-    requires lists { HasLists scans query.now (tables_of db.now) }
+    requires plan { IsPlanOf query.now (tables_of db.now) (lists_in scans query.now (tables_of db.now)) plan.now }
+    requires rows { LoseNoRow query.now (tables_of db.now) (lists_in scans query.now (tables_of db.now)) }
     ensures room { IfOk result (HasRoom query.now db.now plan.now) }
-    ensures lists { IfOk result (AreListed (are_reduced scans) query.now (tables_of db.now)) }
+    ensures lists { IfOk result (AreListed (lists_in scans query.now (tables_of db.now))) }
     ensures out { IfOk result (λ rest. text_left rest ≡ out) }
 {
     match out {
@@ -93,7 +94,7 @@ fn prepare_plan(alloc: Global, task: &Task, query: Query, db: Database) -> Resul
         query,
         db,
         plan,
-        reduce: task.reduce,
+        source: task.source,
         rest,
     })
 }

@@ -9,10 +9,12 @@ ghost use Rattle.sql_meaning.specs.Tables.{tables_of};
 ghost use Rattle.join_steps.specs.Lists.{lists_of, scans_of};
 ghost use Rattle.join_steps.specs.Plans.{IsPlanOf};
 ghost use Rattle.safebound_top.specs.Asks.{asked};
-ghost use Rattle.safebound_top.specs.Prepared.{CanJoin, HasLists, are_reduced, lists_by};
+ghost use Rattle.safebound_top.specs.Prepared.{CanJoin, lists_in};
+ghost use Rattle.safebound_top.specs.Sources.{sourced};
+ghost use Rattle.safebound_top.specs.Standing.{LoseNoRow};
 ghost use Rattle.safebound_top.specs.Verdict.{plan_asked};
 
-use crate::task::Task;
+use crate::task::{ListSource, Task};
 use base_io::NoMemory;
 use csv_tables::Database;
 use join_steps::scan_all;
@@ -28,10 +30,10 @@ use std::alloc::Global;
 /// The rows from which levels are chosen.
 #[derive(Drop)]
 pub enum Scans {
-    /// Those of each entry's scan, which aren't listed yet.
+    /// Those of each entry's whole scan, which aren't listed yet.
     Whole,
-    /// Those of each entry's reduced scan, by their numbers and in file order.
-    Reduced(Vec<RowBuf<u32>>),
+    /// These of each entry, by their numbers and in file order.
+    Listed(Vec<RowBuf<u32>>),
 }
 
 /// A plan, and the rows from which its levels are chosen.
@@ -48,7 +50,7 @@ pub struct Joins {
     pub reserved: Reserved,
 }
 
-/// Plans a query over its database, from statistics or, where the task asks for it, from reduced scans.
+/// Plans a query over its database from what the task asks for. Here alone the code tells one source from another.
 pub fn plan_task(
     alloc: Global,
     task: &Task,
@@ -62,23 +64,25 @@ pub fn plan_task(
     requires accuracy { (0 < task.now.accuracy) × (task.now.accuracy ≤ most_accuracy) }
     requires budget { task.now.budget ≤ most_budget }
     ensures planned { IfOk result (λ p. plan_asked (asked task.now) query.now (tables_of db.now) ≡ Ok p.plan) }
-    ensures bounds { IfOk result (λ p. IsPlanOf query.now (tables_of db.now) (lists_by (are_reduced p.scans) query.now (tables_of db.now)) p.plan) }
-    ensures lists { IfOk result (λ p. HasLists p.scans query.now (tables_of db.now)) }
-    ensures reduced { IfOk result (λ p. are_reduced p.scans ≡ task.now.reduce) }
+    ensures lists { IfOk result (λ p. lists_in p.scans query.now (tables_of db.now)
+        ≡ (sourced task.now.source query.now (tables_of db.now)).lists) }
     ensures refused { IfErr result (λ e. (e ≡ error.NoMemory) ⊎ (plan_asked (asked task.now) query.now (tables_of db.now) ≡ Err e)) }
 {
-    if task.reduce {
-        let reduced = plan_reduced(alloc, query, db, task.accuracy, task.budget)?;
-        Ok(Planned {
-            plan: reduced.plan,
-            scans: Scans::Reduced(reduced.lists),
-        })
-    } else {
-        let plan = plan_query(alloc, query, db, task.accuracy, task.budget)?;
-        Ok(Planned {
-            plan,
-            scans: Scans::Whole,
-        })
+    match task.source {
+        ListSource::Columns => {
+            let plan = plan_query(alloc, query, db, task.accuracy, task.budget)?;
+            Ok(Planned {
+                plan,
+                scans: Scans::Whole,
+            })
+        }
+        ListSource::Reduced => {
+            let reduced = plan_reduced(alloc, query, db, task.accuracy, task.budget)?;
+            Ok(Planned {
+                plan: reduced.plan,
+                scans: Scans::Listed(reduced.lists),
+            })
+        }
     }
 }
 
@@ -99,7 +103,7 @@ fn list_scans(
     Ok(lists)
 }
 
-// The list of each entry's rows. Reduced scans are there.
+// The list of each entry's rows. Whole scans are listed now.
 fn list_rows(
     alloc: Global,
     scans: Scans,
@@ -109,13 +113,12 @@ fn list_rows(
 ) -> Result<Vec<RowBuf<u32>>, NoMemory>
     requires database { IsDatabaseOf query.now db.now }
     requires few { length query.now.conjuncts ≤ most_conjuncts }
-    requires plan { IsPlanOf query.now (tables_of db.now) (lists_by (are_reduced scans) query.now (tables_of db.now)) plan.now }
-    requires lists { HasLists scans query.now (tables_of db.now) }
-    ensures { IfOk result (λ lists. lists_of lists.items ≡ lists_by (are_reduced scans) query.now (tables_of db.now)) }
+    requires plan { IsPlanOf query.now (tables_of db.now) (lists_in scans query.now (tables_of db.now)) plan.now }
+    ensures { IfOk result (λ lists. lists_of lists.items ≡ lists_in scans query.now (tables_of db.now)) }
 {
     match scans {
         Scans::Whole => list_scans(alloc, query, db, plan),
-        Scans::Reduced(lists) => Ok(lists),
+        Scans::Listed(lists) => Ok(lists),
     }
 }
 
@@ -130,10 +133,10 @@ pub fn prepare_joins(
     requires database { IsDatabaseOf query.now db.now }
     requires few { length query.now.conjuncts ≤ most_conjuncts }
     requires few_rows { HaveFewRows (tables_of db.now) (length query.now.from) }
-    requires plan { IsPlanOf query.now (tables_of db.now) (lists_by (are_reduced scans) query.now (tables_of db.now)) plan.now }
-    requires lists { HasLists scans query.now (tables_of db.now) }
+    requires plan { IsPlanOf query.now (tables_of db.now) (lists_in scans query.now (tables_of db.now)) plan.now }
+    requires rows { LoseNoRow query.now (tables_of db.now) (lists_in scans query.now (tables_of db.now)) }
     ensures room { IfOk result (CanJoin query.now db.now plan.now) }
-    ensures lists { IfOk result (λ joins. lists_of joins.lists.items ≡ lists_by (are_reduced scans) query.now (tables_of db.now)) }
+    ensures lists { IfOk result (λ joins. lists_of joins.lists.items ≡ lists_in scans query.now (tables_of db.now)) }
 {
     let reserved = reserve_plan(alloc, query, db, plan)?;
     let lists = list_rows(alloc, scans, query, db, plan)?;

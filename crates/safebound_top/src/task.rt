@@ -3,7 +3,7 @@ ghost use Rattle.std.specs.Prelude.{◌≡◌, ◌<◌, ◌≤◌, Err, IfSome, 
 ghost use Rattle.limits.specs.Profile.{most_accuracy, most_budget};
 ghost use Rattle.outcomes.specs.declared.refusal.Refusal.TheVariants as refusal;
 ghost use Rattle.safebound_words.specs.Requests.{request_of};
-ghost use Rattle.safebound_top.specs.Asks.{ask_for, asked, asks, command_stage};
+ghost use Rattle.safebound_top.specs.Asks.{ask_for, asked, asks, command_stage, source_asked};
 ghost use Rattle.safebound_top.specs.Shops.{shop_asked, shop_of};
 
 use limits::{USUAL_ACCURACY, USUAL_BUDGET};
@@ -20,17 +20,37 @@ pub enum OutText {
     Nothing,
 }
 
-/// The names of two files, the most rows that a plan may cost, how closely lists of degrees are compressed, whether
-/// scans are reduced, which text goes to `out`, and the number of the shop whose files are made and read, if one is.
+/// What the bounds of a plan are made from, and the rows from which its levels are chosen.
+#[derive(Clone, Copy, Debug)]
+pub enum ListSource {
+    /// Statistics of whole columns, and whole scans.
+    Columns,
+    /// Reduced scans, for both.
+    Reduced,
+}
+
+/// The names of two files, the most rows that a plan may cost, how closely lists of degrees are compressed, what
+/// bounds are made from, which text goes to `out`, and the number of the shop whose files are made and read, if one is.
 #[derive(Clone, Copy, Debug)]
 pub struct Task<'a> {
     pub schema_file: &'a str,
     pub query_file: &'a str,
     pub budget: u64,
     pub accuracy: u8,
-    pub reduce: bool,
+    pub source: ListSource,
     pub out: OutText,
     pub shop: Option<u32>,
+}
+
+// What the flag asks for.
+fn source_of(reduce: bool) -> ListSource
+    ensures { result ≡ source_asked reduce }
+{
+    if reduce {
+        ListSource::Reduced
+    } else {
+        ListSource::Columns
+    }
 }
 
 // The task of two files of the store, and the text that it writes to `out`.
@@ -42,7 +62,7 @@ fn over<'a>(
     reduce: bool,
     out: OutText,
 ) -> Task<'a>
-    ensures asked { asked result ≡ ask_for out schema.now query.now budget accuracy reduce }
+    ensures asked { asked result ≡ ask_for out schema.now query.now budget accuracy (source_asked reduce) }
     ensures shop { result.shop ≡ None }
 {
     Task {
@@ -50,7 +70,7 @@ fn over<'a>(
         query_file: query,
         budget,
         accuracy,
-        reduce,
+        source: source_of(reduce),
         out,
         shop: None,
     }

@@ -97,7 +97,7 @@ pub fn write_texts<O: Sink, N: Sink>(
         query,
         db,
         plan,
-        reduce: _,
+        source: _,
         rest,
     } = prepared;
     match write_plan(&plan, query.from.as_slice(), notes) {

@@ -7,20 +7,23 @@ use Rattle.entry_sets.specs.Naming.{are_within}
 use Rattle.query_grammar.specs.declared.tree.Op.TheVariants as op
 use Rattle.join_graph.specs.Conjuncts.{column_operand}
 use Rattle.sql_meaning.specs.Answers.{conjuncts_of, selected}
-use Rattle.sql_meaning.specs.Choices.{choices_of}
+use Rattle.sql_meaning.specs.Choices.{all_rows, choices}
 use Rattle.sql_meaning.specs.Conditions.{comparison_says}
-use Rattle.sql_meaning.specs.Levels.{all_hold, level, row_in}
+use Rattle.sql_meaning.specs.Levels.{all_hold, passes_own, row_in, scan}
 use Rattle.sql_meaning.specs.Tables.{Tables, row_counts}
 use Rattle.sql_meaning.proofs.ConditionFacts.{entries_compare, holds_compare}
+use Rattle.join_steps.specs.Lists.{list_at, list_levels}
 use Rattle.query_bounds.specs.Examples.{pair}
 use Rattle.printed_texts.specs.Plans.{audit_lines}
 use Rattle.printed_texts.specs.Texts.{rows_lines}
 use Rattle.table_files.specs.EntryTables.{tables_in}
 use Rattle.safebound_top.specs.Accepted.{level_counts, level_rows}
+use Rattle.safebound_top.specs.Sources.{sourced}
 use Rattle.safebound_top.specs.Texts.{out_text_of, plan_text}
+use Rattle.safebound_top.specs.declared.task.ListSource.TheVariants as sources
 use Rattle.safebound_top.specs.declared.task.OutText.{OutText}
 use Rattle.safebound_top.specs.declared.task.OutText.TheVariants as out_text
-use Rattle.worked_run.specs.Meaning.{small_rows, two_tables_run}
+use Rattle.worked_run.specs.Meaning.{small_lists, small_rows, two_tables_run}
 
 abbrev T : Tables
 T = tables_in small_rows
@@ -33,16 +36,30 @@ said : (placed : List ℕ) (row_of : ℕ → ℕ) → all_hold (conjuncts_of pai
 said placed row_of =
     rw (entries_compare op.Eq (column_operand 0 0) (column_operand 1 0), holds_compare T row_of op.Eq (column_operand 0 0) (column_operand 1 0)) refl
 
-first_level : level (conjuncts_of pair T) (row_counts T) (1 ∷ 0 ∷ []) 1 ≡ (0 ∷ []) ∷ (1 ∷ []) ∷ (2 ∷ []) ∷ (3 ∷ []) ∷ (4 ∷ []) ∷ []
+-- the conjunct names two entries, so each row passes
+first_scan : scan (conjuncts_of pair T) (row_counts T) 0 ≡ 0 ∷ 1 ∷ 2 ∷ 3 ∷ 4 ∷ 5 ∷ []
+first_scan = filter_agree (passes_own (conjuncts_of pair T) 0) (λ row. true)
+    (λ row. rw (entries_compare op.Eq (column_operand 0 0) (column_operand 1 0)) refl) (all_rows (row_counts T) 0)
+
+second_scan : scan (conjuncts_of pair T) (row_counts T) 1 ≡ 0 ∷ 1 ∷ 2 ∷ 3 ∷ 4 ∷ []
+second_scan = filter_agree (passes_own (conjuncts_of pair T) 1) (λ row. true)
+    (λ row. rw (entries_compare op.Eq (column_operand 0 0) (column_operand 1 0)) refl) (all_rows (row_counts T) 1)
+
+pub lists_found : (sourced sources.Columns pair T).lists ≡ small_lists
+unfolding sourced
+lists_found = ap (λ (rows : List ℕ). rows ∷ scan (conjuncts_of pair T) (row_counts T) 1 ∷ []) first_scan
+    ∙ ap (λ (rows : List ℕ). (0 ∷ 1 ∷ 2 ∷ 3 ∷ 4 ∷ 5 ∷ []) ∷ rows ∷ []) second_scan
+
+first_level : list_levels pair T small_lists (1 ∷ 0 ∷ []) 1 ≡ (0 ∷ []) ∷ (1 ∷ []) ∷ (2 ∷ []) ∷ (3 ∷ []) ∷ (4 ∷ []) ∷ []
 first_level = filter_agree (λ choice. all_hold (conjuncts_of pair T) (1 ∷ []) (row_in (1 ∷ []) choice))
     (λ choice. says (1 ∷ []) (row_in (1 ∷ []) choice))
-    (λ choice. said (1 ∷ []) (row_in (1 ∷ []) choice)) (choices_of (row_counts T) (1 ∷ []))
+    (λ choice. said (1 ∷ []) (row_in (1 ∷ []) choice)) (choices (map (list_at small_lists) (1 ∷ [])))
 
-second_level : level (conjuncts_of pair T) (row_counts T) (1 ∷ 0 ∷ []) 2
+second_level : list_levels pair T small_lists (1 ∷ 0 ∷ []) 2
     ≡ (0 ∷ 0 ∷ []) ∷ (0 ∷ 1 ∷ []) ∷ (0 ∷ 2 ∷ []) ∷ (1 ∷ 0 ∷ []) ∷ (1 ∷ 1 ∷ []) ∷ (1 ∷ 2 ∷ []) ∷ []
 second_level = filter_agree (λ choice. all_hold (conjuncts_of pair T) (1 ∷ 0 ∷ []) (row_in (1 ∷ 0 ∷ []) choice))
     (λ choice. says (1 ∷ 0 ∷ []) (row_in (1 ∷ 0 ∷ []) choice))
-    (λ choice. said (1 ∷ 0 ∷ []) (row_in (1 ∷ 0 ∷ []) choice)) (choices_of (row_counts T) (1 ∷ 0 ∷ []))
+    (λ choice. said (1 ∷ 0 ∷ []) (row_in (1 ∷ 0 ∷ []) choice)) (choices (map (list_at small_lists) (1 ∷ 0 ∷ [])))
 
 pub notes_text : (out : OutText) → plan_text (two_tables_run out) ≡ codes "scan R 6\nscan S 5\nlevel 1 S 5\nlevel 2 R 12\n"
 unfolding digits

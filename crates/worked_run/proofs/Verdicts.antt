@@ -1,8 +1,9 @@
 -- What the words and the small files give, stage by stage.
-use Rattle.std.proofs.Common.{◌≡◌, ℕ, List, Result, Ok, Err, refl, ap, ◌∙◌}
-use Rattle.std.specs.Prelude.{codes, false}
+use Rattle.std.proofs.Common.{◌≡◌, ℕ, List, [], ◌∷◌, Result, Ok, Err, refl, ap, ◌∙◌}
+use Rattle.std.specs.Prelude.{codes}
 use Rattle.csv_tables.specs.Rows.{Row}
 use Rattle.order_search.specs.declared.refusal.PlanError.{PlanError}
+use Rattle.plans.specs.Examples.{plan_of}
 use Rattle.plans.specs.declared.left_deep.Plan.{Plan}
 use Rattle.outcomes.specs.Errors.{plan_refusal, query_refusal, schema_refusal, table_refusal}
 use Rattle.outcomes.specs.Reads.{◌>>=◌, told}
@@ -18,24 +19,26 @@ use Rattle.table_files.specs.Examples.{numbers_table, two_tables}
 use Rattle.table_files.specs.Stage.{tables_stage}
 use Rattle.table_files.specs.TableFile.{file_rows}
 use Rattle.safebound_top.specs.Asks.{Ask, ask_for, command_stage}
-use Rattle.safebound_top.specs.Verdict.{ask_run, plan_stage, query_run, query_stage, schema_run, schema_stage, verdict}
+use Rattle.safebound_top.specs.Verdict.{ask_run, plan_stage, query_run, query_stage, run_asked, schema_run, schema_stage, verdict}
+use Rattle.safebound_top.specs.declared.task.ListSource.TheVariants as sources
 use Rattle.safebound_top.specs.declared.task.OutText.{OutText}
 use Rattle.safebound_top.specs.declared.task.OutText.TheVariants as out_text
 use Rattle.worked_run.specs.Meaning.{rows_of, small_rows, two_tables_run}
 use Rattle.worked_run.specs.TwoTables.{audit_words, query_text, r_text, run_words, s_text, schema_text, small_files, thrifty_words}
+use Rattle.worked_run.proofs.Levels.{lists_found}
 use Rattle.worked_run.proofs.Plans.{plan_found, plan_refused}
 use Rattle.worked_run.proofs.Queries.{query_read}
 use Rattle.worked_run.proofs.Rows.{r_read, s_read}
 use Rattle.worked_run.proofs.Schemas.{schema_read}
 
 abbrev ask : OutText → ℕ → Ask
-ask out budget = ask_for out (codes "schema.sql") (codes "query.sql") budget 1 false
+ask out budget = ask_for out (codes "schema.sql") (codes "query.sql") budget 1 sources.Columns
 
 -- ---- the words
 
-run_asked : command_stage run_words ≡ Ok (ask out_text.Rows 1000000)
+run_is_asked : command_stage run_words ≡ Ok (ask out_text.Rows 1000000)
 unfolding command_of reading_of parts_from kind_of number_of
-run_asked = refl
+run_is_asked = refl
 
 audit_asked : command_stage audit_words ≡ Ok (ask out_text.Audit 1000000)
 unfolding command_of reading_of parts_from kind_of number_of
@@ -72,12 +75,20 @@ tables_found = rw (r_found, s_found) refl
 plan_made : (out : OutText) → plan_stage (ask out 1000000) pair small_rows ≡ Ok (two_tables_run out)
 unfolding plan_stage
 plan_made out = ap (λ (plan : Result Plan PlanError). told plan_refusal plan
-    >>= λ plan. Ok (record { query = pair; rows = small_rows; plan = plan; reduce = false; out = out })) plan_found
+    >>= λ plan. Ok (run_asked (ask out 1000000) pair small_rows plan)) plan_found
+    ∙ ap (λ (lists : List (List ℕ)). Ok (record {
+      query = pair;
+      rows = small_rows;
+      plan = plan_of (1 ∷ 0 ∷ []) (6 ∷ 5 ∷ []) (5 ∷ 12 ∷ []);
+      source = sources.Columns;
+      lists = lists;
+      out = out;
+    })) lists_found
 
 plan_too_dear : plan_stage (ask out_text.Rows 11) pair small_rows ≡ Err (refusal.Budget 12)
 unfolding plan_stage
 plan_too_dear = ap (λ (plan : Result Plan PlanError). told plan_refusal plan
-    >>= λ plan. Ok (record { query = pair; rows = small_rows; plan = plan; reduce = false; out = out_text.Rows })) plan_refused
+    >>= λ plan. Ok (run_asked (ask out_text.Rows 11) pair small_rows plan)) plan_refused
 
 -- ---- one stage after the other
 
@@ -95,7 +106,7 @@ of_words words out budget asked =
     ap (λ (a : Result Ask Refusal). a >>= λ a. ask_run a small_files) asked ∙ over_files out budget
 
 pub run_verdict : verdict run_words small_files ≡ Ok (two_tables_run out_text.Rows)
-run_verdict = of_words run_words out_text.Rows 1000000 run_asked ∙ plan_made out_text.Rows
+run_verdict = of_words run_words out_text.Rows 1000000 run_is_asked ∙ plan_made out_text.Rows
 
 pub audit_verdict : verdict audit_words small_files ≡ Ok (two_tables_run out_text.Audit)
 audit_verdict = of_words audit_words out_text.Audit 1000000 audit_asked ∙ plan_made out_text.Audit

@@ -1,11 +1,12 @@
 -- What the two tables and their query mean.
-use Rattle.std.specs.Prelude.{ℕ, false, List, [], ◌∷◌, map, pos}
+use Rattle.std.specs.Prelude.{ℕ, List, [], ◌∷◌, map, pos}
 use Rattle.csv_tables.specs.Rows.{Row}
 use Rattle.csv_tables.specs.Values.{Int}
 use Rattle.plans.specs.Examples.{plan_of}
 use Rattle.query_bounds.specs.Examples.{pair}
 use Rattle.planning.specs.Examples.{r_column, s_column}
 use Rattle.safebound_top.specs.Accepted.{Accepted}
+use Rattle.safebound_top.specs.declared.task.ListSource.TheVariants as sources
 use Rattle.safebound_top.specs.declared.task.OutText.{OutText}
 
 -- the rows of a table of one column of numbers
@@ -16,12 +17,17 @@ rows_of column = map (λ n. Int (pos n) ∷ []) column
 abbrev pub small_rows : List (List Row)
 small_rows = rows_of r_column ∷ rows_of s_column ∷ []
 
+-- for each the numbers of all its rows: no conjunct names one entry alone
+abbrev pub small_lists : List (List ℕ)
+small_lists = (0 ∷ 1 ∷ 2 ∷ 3 ∷ 4 ∷ 5 ∷ []) ∷ (0 ∷ 1 ∷ 2 ∷ 3 ∷ 4 ∷ []) ∷ []
+
 -- the join of both, in the order S, R, with bounds 6 and 5 of the scans and 5 and 12 of the levels
 abbrev pub two_tables_run : OutText → Accepted
 two_tables_run out = record {
   query = pair;
   rows = small_rows;
   plan = plan_of (1 ∷ 0 ∷ []) (6 ∷ 5 ∷ []) (5 ∷ 12 ∷ []);
-  reduce = false;
+  source = sources.Columns;
+  lists = small_lists;
   out = out;
 }

@@ -1,8 +1,6 @@
 use Rattle.text_answers.proofs.QueryAnswers as queries
 use Rattle.text_answers.proofs.SchemaAnswers as schemas
-use Rattle.planning.proofs.PlanFacts.{never_memory_planned}
-use Rattle.planning.proofs.ListedPlans.{never_memory_over}
-use Rattle.reduced_scans.specs.Rounds.{reduced_of}
+use Rattle.safebound_top.proofs.SourceFacts.{never_wants_memory}
 use Rattle.safebound_top.proofs.TableErrors as tables
 use Rattle.safebound_top.proofs.laws.no_reader_wants_memory.Goals as goal
 
@@ -15,8 +13,5 @@ returns-clause-queries c = queries.never_memory
 pub returns-clause-tables : goal.returns-clause-tables
 returns-clause-tables c = tables.never_memory
 
-pub returns-clause-reduced_plans : goal.returns-clause-reduced_plans
-returns-clause-reduced_plans c query tables accuracy budget = never_memory_over query tables (reduced_of query tables) accuracy budget
-
 pub returns-clause-plans : goal.returns-clause-plans
-returns-clause-plans c = never_memory_planned
+returns-clause-plans c = never_wants_memory

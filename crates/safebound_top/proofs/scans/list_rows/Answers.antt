@@ -5,6 +5,3 @@ list_scans-requires-clause-plan c = rw c.in-Whole.is at c.requires.plan
 
 pub returns-in-Whole : goal.returns-in-Whole
 returns-in-Whole c = rw c.in-Whole.is c.list_scans.ensures
-
-pub returns-in-Reduced : goal.returns-in-Reduced
-returns-in-Reduced c = rw c.in-Reduced.is (rw c.in-Reduced.is at c.requires.lists)

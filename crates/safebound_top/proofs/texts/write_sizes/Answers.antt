@@ -7,7 +7,7 @@ use Rattle.joined_texts.proofs.AuditLines.{counts_of_levels}
 use Rattle.safebound_top.proofs.texts.write_sizes.Goals as goal
 
 pub execute_plan-executed-requires-clause-lists : goal.execute_plan-executed-requires-clause-lists
-execute_plan-executed-requires-clause-lists g c = rw c.as_slice.ensures.value c.requires.joins.scanned
+execute_plan-executed-requires-clause-lists g c = rw c.as_slice.ensures.value c.requires.joins.rows.scanned
 
 pub execute_plan-executed-requires-clause-plan : goal.execute_plan-executed-requires-clause-plan
 execute_plan-executed-requires-clause-plan g c = rw c.as_slice.ensures.value c.requires.joins.bounds

@@ -21,10 +21,10 @@ pub returns-in-Ok-write_rest : goal.returns-in-Ok-write_rest
 returns-in-Ok-write_rest g c =
     let p = c.args.prepared in
     both_wrote _ _ _ _ _ _ _ _ (accepted_of p) _ _ tt tt (ap (λ (from : List Source). plan_lines from p.plan) c.as_slice.ensures)
-    (rest_is p.query p.db p.plan p.reduce p.rest (own_entries p.query p.db c.requires.database) c.requires.plan c.requires.tables c.requires.lists) c.in-Ok.ensures c.in-Ok-write_rest.ensures
+    (rest_is p.query p.db p.plan p.source (accepted_of p).lists p.rest (own_entries p.query p.db c.requires.database) c.requires.plan c.requires.tables c.requires.room c.requires.lists) c.in-Ok.ensures c.in-Ok-write_rest.ensures
 
 pub returns : goal.returns
 returns g c =
     let p = c.args.prepared in
     out_cut _ _ _ _ _ _ _ _ (accepted_of p) _ _ tt _ (ap (λ (from : List Source). plan_lines from p.plan) c.as_slice.ensures)
-    (rest_is p.query p.db p.plan p.reduce p.rest (own_entries p.query p.db c.requires.database) c.requires.plan c.requires.tables c.requires.lists) c.in-Ok.ensures c.in-Err-write_rest.ensures
+    (rest_is p.query p.db p.plan p.source (accepted_of p).lists p.rest (own_entries p.query p.db c.requires.database) c.requires.plan c.requires.tables c.requires.room c.requires.lists) c.in-Ok.ensures c.in-Err-write_rest.ensures
