@@ -31,7 +31,8 @@ use Rattle.join_steps.specs.Lists.{list_sizes, scan_of, scans_of, IsOfScan, IsOr
 use Rattle.join_steps.specs.Sides.{is_between}
 use Rattle.join_steps.proofs.KeyFacts.{key_holds, sides_between, IsKeyOf}
 use Rattle.hash_join.specs.Levels.{joined, list_level_sizes}
-use Rattle.hash_join.proofs.AllLevels.{next_joined, placed_joined, scan_below}
+use Rattle.hash_join.proofs.AllLevels.{next_joined, placed_joined}
+use Rattle.join_steps.proofs.ListedRows.{scan_below}
 use Rattle.bench_joins.specs.Tables.{compared, join_of, repeated, table_of, tables_of_two, AreNumbers}
 
 -- ---- how many rows have a key

@@ -2,14 +2,15 @@
 ghost use Rattle.std.specs.Prelude.{◌≡◌, length, replicate};
 
 use base_io::Seq;
-use bushy_plan::{BushyError, choose_bushy};
+use bushy_plan::choose_bushy;
+use order_search::PlanError;
 use std::alloc::Global;
 use std::io;
 use tree_plans::BushyPlan;
 
-fn no_tree(error: BushyError) -> io::Error {
+fn no_tree(error: PlanError) -> io::Error {
     match error {
-        BushyError::NoMemory => io::Error::from(io::ErrorKind::OutOfMemory),
+        PlanError::NoMemory => io::Error::from(io::ErrorKind::OutOfMemory),
         _ => io::Error::from(io::ErrorKind::InvalidInput),
     }
 }

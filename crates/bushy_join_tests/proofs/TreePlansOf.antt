@@ -3,13 +3,15 @@ use Rattle.std.proofs.Common.{◌≡◌, ℕ, zero, suc, ◌<◌, ◌≤◌, eqb
 use Rattle.std.specs.List.{count_by}
 use Rattle.std.proofs.lemmas.List.{length-map}
 use Rattle.sql_meaning.specs.Examples.{triangle, triangle_tables}
-use Rattle.join_steps.specs.Lists.{scan_of}
+use Rattle.sql_meaning.specs.Tables.{tables_of}
+use Rattle.join_steps.specs.Lists.{scan_of, scans_of}
 use Rattle.tree_plans.specs.declared.bushy.BushyPlan.{BushyPlan}
 use Rattle.tree_plans.specs.TreePlans.{joined_nodes, IsTreePlan, IsWithin}
 use Rattle.tree_rows.specs.Rooms.{bound_at}
 use Rattle.hash_join.specs.Examples.{equal, one_is_two, pair, six_and_five, twice_three, Comparison}
 use Rattle.hash_join.proofs.Worked.{level_is, scan_is}
-use Rattle.bushy_join.specs.Trees.{node_rows, IsTreePlanOf}
+use Rattle.bushy_join.specs.Trees.{whole_rows, IsTreePlanOf}
+use Rattle.bushy_join.proofs.Scans.{of_whole}
 use Rattle.bushy_join_tests.specs.Examples.{alone, never, pair_plan, three, triangle_plan, twice}
 
 -- ---- rows that are known
@@ -58,7 +60,7 @@ pair_scan (suc zero) low =
     (scan_is (equal 0 0 1 0 ∷ []) six_and_five 1) (omega arith)
 pair_scan (suc (suc entry)) low = absurd (omega arith)
 
-pair_node : (node : ℕ) → node < 3 → length (node_rows pair six_and_five pair_plan node) ≤ bound_at pair_plan node
+pair_node : (node : ℕ) → node < 3 → length (whole_rows pair (tables_of six_and_five) pair_plan node) ≤ bound_at pair_plan node
 pair_node zero low =
     leaf_fits (scan_of pair six_and_five 0) (0 ∷ 1 ∷ 2 ∷ 3 ∷ 4 ∷ 5 ∷ []) 6
     (scan_is (equal 0 0 1 0 ∷ []) six_and_five 0) (omega arith)
@@ -66,13 +68,13 @@ pair_node (suc zero) low =
     leaf_fits (scan_of pair six_and_five 1) (0 ∷ 1 ∷ 2 ∷ 3 ∷ 4 ∷ []) 5
     (scan_is (equal 0 0 1 0 ∷ []) six_and_five 1) (omega arith)
 pair_node (suc (suc zero)) low =
-    level_fits (node_rows pair six_and_five pair_plan 2)
+    level_fits (whole_rows pair (tables_of six_and_five) pair_plan 2)
     ((0 ∷ 0 ∷ []) ∷ (0 ∷ 1 ∷ []) ∷ (1 ∷ 0 ∷ []) ∷ (1 ∷ 1 ∷ []) ∷ (2 ∷ 0 ∷ []) ∷ (2 ∷ 1 ∷ []) ∷ []) 12
     (level_is (equal 0 0 1 0 ∷ []) six_and_five (0 ∷ 1 ∷ []) 2) (omega arith)
 pair_node (suc (suc (suc node))) low = absurd (omega arith)
 
-pub pair_planned : IsTreePlanOf pair six_and_five pair_plan
-pair_planned = record { for_each_entry = pair_tree; small = pair_small; scans = pair_scan; nodes = pair_node }
+pub pair_planned : IsTreePlanOf pair (tables_of six_and_five) (scans_of pair (tables_of six_and_five)) pair_plan
+pair_planned = of_whole pair (tables_of six_and_five) pair_plan pair_tree pair_small pair_scan pair_node
 
 -- ---- the triangle
 
@@ -110,7 +112,7 @@ triangle_scan (suc zero) low = scan_fits (scan_of triangle triangle_tables 1) (0
 triangle_scan (suc (suc zero)) low = scan_fits (scan_of triangle triangle_tables 2) (0 ∷ 1 ∷ 2 ∷ []) 3 (triangle_scans 2 low) (omega arith)
 triangle_scan (suc (suc (suc entry))) low = absurd (omega arith)
 
-triangle_node : (node : ℕ) → node < 5 → length (node_rows triangle triangle_tables triangle_plan node) ≤ bound_at triangle_plan node
+triangle_node : (node : ℕ) → node < 5 → length (whole_rows triangle (tables_of triangle_tables) triangle_plan node) ≤ bound_at triangle_plan node
 triangle_node zero low = leaf_fits (scan_of triangle triangle_tables 0) (0 ∷ 1 ∷ 2 ∷ []) 3 (triangle_scans 0 (omega arith)) (omega arith)
 triangle_node (suc zero) low =
     leaf_fits (scan_of triangle triangle_tables 1) (0 ∷ 1 ∷ 2 ∷ []) 3
@@ -119,17 +121,17 @@ triangle_node (suc (suc zero)) low =
     leaf_fits (scan_of triangle triangle_tables 2) (0 ∷ 1 ∷ 2 ∷ []) 3
     (triangle_scans 2 (omega arith)) (omega arith)
 triangle_node (suc (suc (suc zero))) low =
-    level_fits (node_rows triangle triangle_tables triangle_plan 3)
+    level_fits (whole_rows triangle (tables_of triangle_tables) triangle_plan 3)
     ((0 ∷ 0 ∷ []) ∷ (0 ∷ 2 ∷ []) ∷ (1 ∷ 1 ∷ []) ∷ (2 ∷ 0 ∷ []) ∷ (2 ∷ 2 ∷ []) ∷ []) 5
     (level_is sides triangle_tables (1 ∷ 2 ∷ []) 2) (omega arith)
 triangle_node (suc (suc (suc (suc zero)))) low =
-    level_fits (node_rows triangle triangle_tables triangle_plan 4)
+    level_fits (whole_rows triangle (tables_of triangle_tables) triangle_plan 4)
     ((0 ∷ 0 ∷ 0 ∷ []) ∷ (0 ∷ 1 ∷ 1 ∷ []) ∷ (1 ∷ 0 ∷ 2 ∷ []) ∷ (2 ∷ 2 ∷ 0 ∷ []) ∷ []) 9
     (level_is sides triangle_tables (0 ∷ 1 ∷ 2 ∷ []) 3) (omega arith)
 triangle_node (suc (suc (suc (suc (suc node))))) low = absurd (omega arith)
 
-pub triangle_planned : IsTreePlanOf triangle triangle_tables triangle_plan
-triangle_planned = record { for_each_entry = triangle_tree; small = triangle_small; scans = triangle_scan; nodes = triangle_node }
+pub triangle_planned : IsTreePlanOf triangle (tables_of triangle_tables) (scans_of triangle (tables_of triangle_tables)) triangle_plan
+triangle_planned = of_whole triangle (tables_of triangle_tables) triangle_plan triangle_tree triangle_small triangle_scan triangle_node
 
 -- ---- a condition that fails
 
@@ -149,12 +151,12 @@ alone_scan : (entry : ℕ) → entry < 1 → length (scan_of (never (0 ∷ [])) 
 alone_scan zero low = scan_fits (scan_of (never (0 ∷ [])) three 0) (0 ∷ 1 ∷ 2 ∷ []) 3 (scan_is (one_is_two ∷ []) three 0) (omega arith)
 alone_scan (suc entry) low = absurd (omega arith)
 
-alone_node : (node : ℕ) → node < 1 → length (node_rows (never (0 ∷ [])) three alone node) ≤ bound_at alone node
-alone_node zero low = level_fits (node_rows (never (0 ∷ [])) three alone 0) [] 3 (level_is (one_is_two ∷ []) three (0 ∷ []) 1) (omega arith)
+alone_node : (node : ℕ) → node < 1 → length (whole_rows (never (0 ∷ [])) (tables_of three) alone node) ≤ bound_at alone node
+alone_node zero low = level_fits (whole_rows (never (0 ∷ [])) (tables_of three) alone 0) [] 3 (level_is (one_is_two ∷ []) three (0 ∷ []) 1) (omega arith)
 alone_node (suc node) low = absurd (omega arith)
 
-pub alone_planned : IsTreePlanOf (never (0 ∷ [])) three alone
-alone_planned = record { for_each_entry = alone_tree; small = alone_small; scans = alone_scan; nodes = alone_node }
+pub alone_planned : IsTreePlanOf (never (0 ∷ [])) (tables_of three) (scans_of (never (0 ∷ [])) (tables_of three)) alone
+alone_planned = of_whole (never (0 ∷ [])) (tables_of three) alone alone_tree alone_small alone_scan alone_node
 
 twice_tree : IsTreePlan 2 twice
 twice_tree = record {
@@ -178,15 +180,15 @@ twice_scan zero low = scan_fits (scan_of (never (0 ∷ 0 ∷ [])) twice_three 0)
 twice_scan (suc zero) low = scan_fits (scan_of (never (0 ∷ 0 ∷ [])) twice_three 1) (0 ∷ 1 ∷ 2 ∷ []) 3 (twice_scans 1 low) (omega arith)
 twice_scan (suc (suc entry)) low = absurd (omega arith)
 
-twice_node : (node : ℕ) → node < 3 → length (node_rows (never (0 ∷ 0 ∷ [])) twice_three twice node) ≤ bound_at twice node
+twice_node : (node : ℕ) → node < 3 → length (whole_rows (never (0 ∷ 0 ∷ [])) (tables_of twice_three) twice node) ≤ bound_at twice node
 twice_node zero low = leaf_fits (scan_of (never (0 ∷ 0 ∷ [])) twice_three 0) (0 ∷ 1 ∷ 2 ∷ []) 3 (twice_scans 0 (omega arith)) (omega arith)
 twice_node (suc zero) low =
     leaf_fits (scan_of (never (0 ∷ 0 ∷ [])) twice_three 1) (0 ∷ 1 ∷ 2 ∷ []) 3
     (twice_scans 1 (omega arith)) (omega arith)
 twice_node (suc (suc zero)) low =
-    level_fits (node_rows (never (0 ∷ 0 ∷ [])) twice_three twice 2) [] 9
+    level_fits (whole_rows (never (0 ∷ 0 ∷ [])) (tables_of twice_three) twice 2) [] 9
     (level_is (one_is_two ∷ []) twice_three (0 ∷ 1 ∷ []) 2) (omega arith)
 twice_node (suc (suc (suc node))) low = absurd (omega arith)
 
-pub twice_planned : IsTreePlanOf (never (0 ∷ 0 ∷ [])) twice_three twice
-twice_planned = record { for_each_entry = twice_tree; small = twice_small; scans = twice_scan; nodes = twice_node }
+pub twice_planned : IsTreePlanOf (never (0 ∷ 0 ∷ [])) (tables_of twice_three) (scans_of (never (0 ∷ 0 ∷ [])) (tables_of twice_three)) twice
+twice_planned = of_whole (never (0 ∷ 0 ∷ [])) (tables_of twice_three) twice twice_tree twice_small twice_scan twice_node

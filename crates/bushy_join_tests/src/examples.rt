@@ -1,31 +1,33 @@
-//! The rows of small trees, and that their plans are plans of their queries.
+//! The rows of small trees over whole tables, and that their plans are plans of their queries over whole scans.
 ghost use Rattle.std.specs.Prelude.{◌≡◌, ◌∷◌, []};
 ghost use Rattle.sql_meaning.specs.Examples.{triangle, triangle_tables};
 ghost use Rattle.hash_join.specs.Examples.{pair, six_and_five, twice_three};
-ghost use Rattle.bushy_join.specs.Trees.{node_rows, IsTreePlanOf};
+ghost use Rattle.sql_meaning.specs.Tables.{tables_of};
+ghost use Rattle.join_steps.specs.Lists.{scans_of};
+ghost use Rattle.bushy_join.specs.Trees.{whole_rows, IsTreePlanOf};
 ghost use Rattle.bushy_join_tests.specs.Examples.{alone, never, pair_plan, three, triangle_plan, twice};
 
 /// Two tables with one inner node: of 30 choices six.
 pub fn two_tables()
-    ensures plan { IsTreePlanOf pair six_and_five pair_plan }
-    ensures inner { node_rows pair six_and_five pair_plan 2
+    ensures plan { IsTreePlanOf pair (tables_of six_and_five) (scans_of pair (tables_of six_and_five)) pair_plan }
+    ensures inner { whole_rows pair (tables_of six_and_five) pair_plan 2
         ≡ (0 ∷ 0 ∷ []) ∷ (0 ∷ 1 ∷ []) ∷ (1 ∷ 0 ∷ []) ∷ (1 ∷ 1 ∷ []) ∷ (2 ∷ 0 ∷ []) ∷ (2 ∷ 1 ∷ []) ∷ [] }
 {}
 
 /// The triangle: five rows at the inner node and four at the root, with its leaves from left to right.
 pub fn triangles()
-    ensures plan { IsTreePlanOf triangle triangle_tables triangle_plan }
-    ensures inner { node_rows triangle triangle_tables triangle_plan 3
+    ensures plan { IsTreePlanOf triangle (tables_of triangle_tables) (scans_of triangle (tables_of triangle_tables)) triangle_plan }
+    ensures inner { whole_rows triangle (tables_of triangle_tables) triangle_plan 3
         ≡ (0 ∷ 0 ∷ []) ∷ (0 ∷ 2 ∷ []) ∷ (1 ∷ 1 ∷ []) ∷ (2 ∷ 0 ∷ []) ∷ (2 ∷ 2 ∷ []) ∷ [] }
-    ensures root { node_rows triangle triangle_tables triangle_plan 4
+    ensures root { whole_rows triangle (tables_of triangle_tables) triangle_plan 4
         ≡ (0 ∷ 0 ∷ 0 ∷ []) ∷ (0 ∷ 1 ∷ 1 ∷ []) ∷ (1 ∷ 0 ∷ 2 ∷ []) ∷ (2 ∷ 2 ∷ 0 ∷ []) ∷ [] }
 {}
 
 /// A condition that names no entry and fails: a root that is a leaf is empty, and so is an inner node, but not a leaf that is joined.
 pub fn constants()
-    ensures plan_alone { IsTreePlanOf (never (0 ∷ [])) three alone }
-    ensures alone { node_rows (never (0 ∷ [])) three alone 0 ≡ [] }
-    ensures plan_twice { IsTreePlanOf (never (0 ∷ 0 ∷ [])) twice_three twice }
-    ensures inner { node_rows (never (0 ∷ 0 ∷ [])) twice_three twice 2 ≡ [] }
-    ensures leaf { node_rows (never (0 ∷ 0 ∷ [])) twice_three twice 0 ≡ (0 ∷ []) ∷ (1 ∷ []) ∷ (2 ∷ []) ∷ [] }
+    ensures plan_alone { IsTreePlanOf (never (0 ∷ [])) (tables_of three) (scans_of (never (0 ∷ [])) (tables_of three)) alone }
+    ensures alone { whole_rows (never (0 ∷ [])) (tables_of three) alone 0 ≡ [] }
+    ensures plan_twice { IsTreePlanOf (never (0 ∷ 0 ∷ [])) (tables_of twice_three) (scans_of (never (0 ∷ 0 ∷ [])) (tables_of twice_three)) twice }
+    ensures inner { whole_rows (never (0 ∷ 0 ∷ [])) (tables_of twice_three) twice 2 ≡ [] }
+    ensures leaf { whole_rows (never (0 ∷ 0 ∷ [])) (tables_of twice_three) twice 0 ≡ (0 ∷ []) ∷ (1 ∷ []) ∷ (2 ∷ []) ∷ [] }
 {}

@@ -2,11 +2,12 @@
 use Rattle.std.proofs.Common.{◌≡◌, ℕ, ◌-◌, ◌^◌, ◌≤◌, List, refl, ap, sym, ◌∙◌, subst, arith, inl, inr}
 use Rattle.std.specs.Prelude.{◌⊎◌}
 use Rattle.std.proofs.lemmas.Bool.{cases_order}
+use Rattle.order_search.specs.declared.refusal.PlanError.{PlanError}
+use Rattle.order_search.specs.declared.refusal.PlanError.TheVariants as error
+use Rattle.order_search.proofs.OneBest.{none_refused, one_refusal}
 use Rattle.bushy_plan.specs.BestTree.{IsBefore, IsBest, IsLeastCost, cost, total}
 use Rattle.bushy_plan.specs.Causes.{IsCause}
 use Rattle.bushy_plan.specs.JoinTrees.{IsSplit, IsTreeOver, JoinTree, leaf, node, entries_of}
-use Rattle.bushy_plan.specs.declared.refusal.BushyError.{BushyError}
-use Rattle.bushy_plan.specs.declared.refusal.BushyError.TheVariants as error
 use Rattle.bushy_plan.proofs.Splitting.{no_split_of_one, same_power, tree_set}
 
 -- one of two trees over a set comes before the other, or they are the same
@@ -50,19 +51,12 @@ one_best bounds n a b p q =
 one_least : (bounds : List ℕ) (n a b : ℕ) → IsLeastCost bounds n a → IsLeastCost bounds n b → a ≡ b
 one_least bounds n a b p q = omega (arith, p.none_cheaper q.tree q.is_tree, q.none_cheaper p.tree p.is_tree, p.costs, q.costs)
 
-pub accepted : (bounds : List ℕ) (n budget : ℕ) (best : JoinTree) (e : BushyError) → budget ≤ 2 ^ 59 → IsBest bounds n best → cost bounds best ≤ budget → IsCause bounds n budget e → e ≡ error.NoMemory
-accepted bounds n budget best (error.Budget least) few is_best within cause = absurd (omega (arith, cause.0.none_cheaper best is_best.is_tree))
-accepted bounds n budget best error.PastBits few is_best within cause = absurd (omega (arith, cause.1.none_cheaper best is_best.is_tree))
-accepted bounds n budget best error.NoMemory few is_best within cause = refl
+pub accepted : (bounds : List ℕ) (n budget : ℕ) (best : JoinTree) (e : PlanError) → budget ≤ 2 ^ 59 → IsBest bounds n best → cost bounds best ≤ budget → IsCause bounds n budget e → e ≡ error.NoMemory
+accepted bounds n budget best e few is_best within cause =
+    none_refused (IsLeastCost bounds n) budget (cost bounds best) e few within (λ least is. omega (arith, is.none_cheaper best is_best.is_tree)) cause
 
-pub refused : (bounds : List ℕ) (n budget : ℕ) (e f : BushyError) → IsCause bounds n budget e → IsCause bounds n budget f → (e ≡ error.NoMemory) ⊎ ((f ≡ error.NoMemory) ⊎ (e ≡ f))
-refused bounds n budget error.NoMemory f p q = inl refl
-refused bounds n budget (error.Budget a) error.NoMemory p q = inr (inl refl)
-refused bounds n budget error.PastBits error.NoMemory p q = inr (inl refl)
-refused bounds n budget (error.Budget a) (error.Budget b) p q = inr (inr (ap error.Budget (one_least bounds n a b p.0 q.0)))
-refused bounds n budget (error.Budget a) error.PastBits p q = absurd (omega (arith, one_least bounds n a q.0 p.0 q.1))
-refused bounds n budget error.PastBits (error.Budget b) p q = absurd (omega (arith, one_least bounds n b p.0 q.0 p.1))
-refused bounds n budget error.PastBits error.PastBits p q = inr (inr refl)
+pub refused : (bounds : List ℕ) (n budget : ℕ) (e f : PlanError) → IsCause bounds n budget e → IsCause bounds n budget f → (e ≡ error.NoMemory) ⊎ ((f ≡ error.NoMemory) ⊎ (e ≡ f))
+refused bounds n budget e f p q = one_refusal (IsLeastCost bounds n) budget e f (one_least bounds n) p q
 
 -- the cost of the best tree is the least
 pub least_of_best : (bounds : List ℕ) (n : ℕ) (best : JoinTree) → IsBest bounds n best → IsLeastCost bounds n (cost bounds best)

@@ -1,11 +1,9 @@
--- Why there is no plan.
-use Rattle.std.specs.Prelude.{◌-◌, ◌^◌, ◌<◌, ◌≤◌, ℕ, List, ⊤}
+-- Why there is no plan: as with orders, by the least cost of a tree.
+use Rattle.std.specs.Prelude.{ℕ, List}
+use Rattle.order_search.specs.Causes.{IsCauseOf}
+use Rattle.order_search.specs.declared.refusal.PlanError.{PlanError}
 use Rattle.bushy_plan.specs.BestTree.{IsLeastCost}
-use Rattle.bushy_plan.specs.declared.refusal.BushyError.{BushyError}
-use Rattle.bushy_plan.specs.declared.refusal.BushyError.TheVariants as error
 
--- the least cost is above the budget, or above what 128 bits tell. Want of memory has no cause here
-abbrev pub IsCause : List ℕ → ℕ → ℕ → BushyError → Type 0
-IsCause bounds n budget (error.Budget least) = IsLeastCost bounds n least × (budget < least) × (least ≤ 2 ^ 128 - 2)
-IsCause bounds n budget error.PastBits = (least : ℕ) × IsLeastCost bounds n least × (2 ^ 128 - 2 < least)
-IsCause bounds n budget error.NoMemory = ⊤
+-- the least cost of a tree of n entries over these bounds is above the budget, or above what 128 bits tell
+abbrev pub IsCause : List ℕ → ℕ → ℕ → PlanError → Type 0
+IsCause bounds n budget e = IsCauseOf (IsLeastCost bounds n) budget e

@@ -6,8 +6,8 @@ ghost use Rattle.bushy_plan.specs.BestTree.{IsBefore, IsBest, cost, total};
 ghost use Rattle.bushy_plan.specs.Causes.{IsCause};
 ghost use Rattle.bushy_plan.specs.Examples.{one_pair, triangle};
 ghost use Rattle.bushy_plan.specs.JoinTrees.{JoinTree, entries_of, joins_from, leaf, node};
-ghost use Rattle.bushy_plan.specs.declared.refusal.BushyError.{BushyError};
-ghost use Rattle.bushy_plan.specs.declared.refusal.BushyError.TheVariants as error;
+ghost use Rattle.order_search.specs.declared.refusal.PlanError.{PlanError};
+ghost use Rattle.order_search.specs.declared.refusal.PlanError.TheVariants as error;
 
 /// Of any number of entries, over any bounds, exactly one tree is best.
 pub fn one_best_tree()
@@ -18,9 +18,9 @@ pub fn one_best_tree()
 /// Where the best tree costs no more than the budget, no refusal has a cause but want of memory; and besides that one refusal at most has
 /// one.
 pub fn one_answer()
-    ensures accepted { (bounds : List ℕ) (n budget : ℕ) (best : JoinTree) (e : BushyError) → budget ≤ greatest_budget
+    ensures accepted { (bounds : List ℕ) (n budget : ℕ) (best : JoinTree) (e : PlanError) → budget ≤ greatest_budget
         → IsBest bounds n best → cost bounds best ≤ budget → IsCause bounds n budget e → e ≡ error.NoMemory }
-    ensures refused { (bounds : List ℕ) (n budget : ℕ) (e f : BushyError)
+    ensures refused { (bounds : List ℕ) (n budget : ℕ) (e f : PlanError)
         → IsCause bounds n budget e → IsCause bounds n budget f
         → (e ≡ error.NoMemory) ⊎ ((f ≡ error.NoMemory) ⊎ (e ≡ f)) }
 {}

@@ -4,7 +4,8 @@
 //! Out: the tree whose greatest bound
 //! is least, as a plan; or the least cost, where that is above the budget; or that it is past what 128 bits tell.
 //!
-//! Callers cite `IsBestPlan` and `IsBest` for the tree, `IsTreePlan` of tree_plans for its shape, and `IsCause` for a refusal.
+//! Callers cite `IsBestPlan` and `IsBest` for the tree, `IsTreePlan` of tree_plans for its shape, and `IsCause` for a refusal, which is one of
+//! order_search: the least cost is above the budget, or past what 128 bits tell.
 //!
 //! ```text
 //! let plan = choose_bushy(alloc, &bounds, &scans, budget)?;
@@ -14,12 +15,10 @@
 
 mod joins;
 mod laws;
-mod refusal;
 mod search;
 mod splits;
 mod table;
 mod weight;
 
 pub use laws::{examples, one_answer, one_best_tree};
-pub use refusal::BushyError;
 pub use search::choose_bushy;

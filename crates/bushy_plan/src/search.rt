@@ -8,12 +8,12 @@ ghost use Rattle.tree_plans.specs.TreePlans.{IsTreePlan};
 ghost use Rattle.bushy_plan.specs.BestTree.{IsBestPlan, IsLeastCost, AreOfBest};
 ghost use Rattle.bushy_plan.specs.Causes.{IsCause};
 
-use crate::BushyError;
 use crate::joins::push_joins;
 use crate::table::least_weights;
 use crate::weight::Weight;
 use base_io::{NoMemory, Seq};
 use limits::TOP_BOUND;
+use order_search::PlanError;
 use std::alloc::Global;
 use tree_plans::{BushyPlan, Join};
 
@@ -31,7 +31,7 @@ pub fn choose_bushy(
     bounds: &Seq<u128>,
     scans: &Seq<u64>,
     budget: u64,
-) -> Result<BushyPlan, BushyError>
+) -> Result<BushyPlan, PlanError>
     requires some { 1 ≤ length scans.now }
     requires few { length scans.now ≤ most_entries }
     requires bounds { length bounds.now ≡ 2 ^ length scans.now }
@@ -50,10 +50,10 @@ pub fn choose_bushy(
     let bounds = bounds.as_slice();
     let least = least_cost(alloc, count, bounds)?;
     if least == TOP_BOUND {
-        return Err(BushyError::PastBits);
+        return Err(PlanError::PastBits);
     }
     if least > budget as u128 {
-        return Err(BushyError::Budget { least });
+        return Err(PlanError::Budget { least });
     }
     let joins = best_joins(alloc, count, bounds, least)?;
     let scans = Vec::from_slice(alloc, scans.as_slice())?;

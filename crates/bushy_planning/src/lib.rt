@@ -1,16 +1,18 @@
 //! Plans over join trees: from a query and its database to the best join tree of its entries, with the bounds of its scans and nodes.
 //!
-//! The stage before joins over a tree, as planning is before those along an order. In: a query and the tables of its entries. Statistics
-//! are gathered once, the bounds of all scans and of all sets of entries are made of them, and the tree of least cost is chosen. Out: the
+//! The stage before joins over a tree, as planning is before those along an order. In: a query and the tables of its entries. The bounds of
+//! all scans and of all sets of entries are planning's, whatever they were made from, and the tree of least cost over them is chosen. Out: the
 //! plan, or why there is none within the budget.
 //!
-//! Callers cite `IsTreePlanOf` of bushy_join for a plan of which no bound is too low, and `IsBestPlan` of bushy_plan for the tree.
-//! `BoundsAreNeverUnder` says of any bounds that they serve.
+//! Callers cite `IsTreePlanOf` of bushy_join for a plan of which no bound is too low, and `IsBestPlan` of bushy_plan for the tree. `BoundLevels`
+//! and `BoundLists` of planning say when bounds serve.
 //!
 //! ```text
 //! let plan = plan_bushy(alloc, &query, &db, accuracy, budget)?;
+//! let mut lists = reserve_leaves(alloc, &plan, &query, &db)?;
 //! let reserved = reserve_bushy(alloc, &plan)?;
-//! let done = execute_bushy(reserved, &plan, &query, &db);
+//! scan_all(&query, &db, &mut lists);
+//! let done = execute_bushy(reserved, lists, &plan, &query, &db);
 //! ```
 #![tactic(auto)]
 
@@ -18,4 +20,4 @@ mod laws;
 mod plan;
 
 pub use laws::best_trees_are_never_under;
-pub use plan::plan_bushy;
+pub use plan::{plan_bushy, plan_tree_from};

@@ -12,11 +12,11 @@ ghost use Rattle.join_tests.specs.Examples.{HasNodes};
 use crate::triangle::{database, query};
 use base_io::NoMemory;
 use bushy_join::{execute_bushy, reserve_leaves};
-use bushy_plan::BushyError;
 use bushy_planning::plan_bushy;
 use csv_tables::Database;
 use join_steps::scan_all;
 use limits::MOST_ROWS;
+use order_search::PlanError;
 use query_types::Query;
 use std::alloc::{AllocError, Global};
 use tree_plans::{BushyPlan, Join};
@@ -37,8 +37,8 @@ impl From<AllocError> for Failed {
     }
 }
 
-impl From<BushyError> for Failed {
-    fn from(_: BushyError) -> Self {
+impl From<PlanError> for Failed {
+    fn from(_: PlanError) -> Self {
         Failed
     }
 }

@@ -1,7 +1,7 @@
 -- There is no second best order, and no second answer.
 use Rattle.std.proofs.Common.{◌≡◌, ℕ, ◌^◌, ◌≤◌, List, [], ◌∷◌, refl, ap, sym, arith, inl, inr}
 use Rattle.std.specs.Prelude.{◌⊎◌}
-use Rattle.order_search.specs.Causes.{IsCause}
+use Rattle.order_search.specs.Causes.{IsCause, IsCauseOf}
 use Rattle.order_search.specs.Orders.{IsBest, IsLeastCost, IsNotAfter, cost, total}
 use Rattle.order_search.specs.declared.refusal.PlanError.{PlanError}
 use Rattle.order_search.specs.declared.refusal.PlanError.TheVariants as error
@@ -30,16 +30,29 @@ one_best bounds n a b p q =
 one_least : (bounds : List ℕ) (n a b : ℕ) → IsLeastCost bounds n a → IsLeastCost bounds n b → a ≡ b
 one_least bounds n a b p q = omega (arith, p.none_cheaper q.order q.is_order, q.none_cheaper p.order p.is_order, p.costs, q.costs)
 
+-- ---- refusals, whatever the least cost is of
+
+-- where something costs no more than the budget, nothing is refused but for want of memory
+pub none_refused : (IsLeast : ℕ → Type 0) (budget cost : ℕ) (e : PlanError) → budget ≤ 2 ^ 59 → cost ≤ budget → ((least : ℕ) → IsLeast least → least ≤ cost) → IsCauseOf IsLeast budget e → e ≡ error.NoMemory
+none_refused IsLeast budget cost (error.Budget least) few within below cause = absurd (omega (arith, below least cause.0))
+none_refused IsLeast budget cost error.PastBits few within below cause = absurd (omega (arith, below cause.0 cause.1))
+none_refused IsLeast budget cost error.NoMemory few within below cause = refl
+
+-- besides want of memory one refusal at most has a cause
+pub one_refusal : (IsLeast : ℕ → Type 0) (budget : ℕ) (e f : PlanError) → ((a b : ℕ) → IsLeast a → IsLeast b → a ≡ b) → IsCauseOf IsLeast budget e → IsCauseOf IsLeast budget f → (e ≡ error.NoMemory) ⊎ ((f ≡ error.NoMemory) ⊎ (e ≡ f))
+one_refusal IsLeast budget error.NoMemory f one p q = inl refl
+one_refusal IsLeast budget (error.Budget a) error.NoMemory one p q = inr (inl refl)
+one_refusal IsLeast budget error.PastBits error.NoMemory one p q = inr (inl refl)
+one_refusal IsLeast budget (error.Budget a) (error.Budget b) one p q = inr (inr (ap error.Budget (one a b p.0 q.0)))
+one_refusal IsLeast budget (error.Budget a) error.PastBits one p q = absurd (omega (arith, one a q.0 p.0 q.1))
+one_refusal IsLeast budget error.PastBits (error.Budget b) one p q = absurd (omega (arith, one p.0 b p.1 q.0))
+one_refusal IsLeast budget error.PastBits error.PastBits one p q = inr (inr refl)
+
+-- ---- of orders
+
 pub accepted : (bounds : List ℕ) (n budget : ℕ) (best : List ℕ) (e : PlanError) → budget ≤ 2 ^ 59 → IsBest bounds n best → cost bounds best ≤ budget → IsCause bounds n budget e → e ≡ error.NoMemory
-accepted bounds n budget best (error.Budget least) few is_best within cause = absurd (omega (arith, cause.0.none_cheaper best is_best.is_order))
-accepted bounds n budget best error.PastBits few is_best within cause = absurd (omega (arith, cause.1.none_cheaper best is_best.is_order))
-accepted bounds n budget best error.NoMemory few is_best within cause = refl
+accepted bounds n budget best e few is_best within cause =
+    none_refused (IsLeastCost bounds n) budget (cost bounds best) e few within (λ least is. omega (arith, is.none_cheaper best is_best.is_order)) cause
 
 pub refused : (bounds : List ℕ) (n budget : ℕ) (e f : PlanError) → IsCause bounds n budget e → IsCause bounds n budget f → (e ≡ error.NoMemory) ⊎ ((f ≡ error.NoMemory) ⊎ (e ≡ f))
-refused bounds n budget error.NoMemory f p q = inl refl
-refused bounds n budget (error.Budget a) error.NoMemory p q = inr (inl refl)
-refused bounds n budget error.PastBits error.NoMemory p q = inr (inl refl)
-refused bounds n budget (error.Budget a) (error.Budget b) p q = inr (inr (ap error.Budget (one_least bounds n a b p.0 q.0)))
-refused bounds n budget (error.Budget a) error.PastBits p q = absurd (omega (arith, one_least bounds n a q.0 p.0 q.1))
-refused bounds n budget error.PastBits (error.Budget b) p q = absurd (omega (arith, one_least bounds n b p.0 q.0 p.1))
-refused bounds n budget error.PastBits error.PastBits p q = inr (inr refl)
+refused bounds n budget e f p q = one_refusal (IsLeastCost bounds n) budget e f (one_least bounds n) p q

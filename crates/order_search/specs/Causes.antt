@@ -4,8 +4,13 @@ use Rattle.order_search.specs.Orders.{IsLeastCost}
 use Rattle.order_search.specs.declared.refusal.PlanError.{PlanError}
 use Rattle.order_search.specs.declared.refusal.PlanError.TheVariants as error
 
--- the least cost is above the budget, or above what 128 bits tell. Want of memory has no cause here
+-- The least cost is above the budget, or above what 128 bits tell; `IsLeast` says of a number that it is the least cost. Want of memory has no
+-- cause here.
+abbrev pub IsCauseOf : (ℕ → Type 0) → ℕ → PlanError → Type 0
+IsCauseOf IsLeast budget (error.Budget least) = IsLeast least × (budget < least) × (least ≤ 2 ^ 128 - 2)
+IsCauseOf IsLeast budget error.PastBits = (least : ℕ) × IsLeast least × (2 ^ 128 - 2 < least)
+IsCauseOf IsLeast budget error.NoMemory = ⊤
+
+-- of orders of n entries over these bounds
 abbrev pub IsCause : List ℕ → ℕ → ℕ → PlanError → Type 0
-IsCause bounds n budget (error.Budget least) = IsLeastCost bounds n least × (budget < least) × (least ≤ 2 ^ 128 - 2)
-IsCause bounds n budget error.PastBits = (least : ℕ) × IsLeastCost bounds n least × (2 ^ 128 - 2 < least)
-IsCause bounds n budget error.NoMemory = ⊤
+IsCause bounds n budget e = IsCauseOf (IsLeastCost bounds n) budget e

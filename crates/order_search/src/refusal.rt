@@ -8,7 +8,7 @@ use std::alloc::AllocError;
 /// Why there is no plan.
 #[derive(Clone, Copy, Debug, PartialEq, Eq)]
 pub enum PlanError {
-    /// The least cost of an order, in rows, is above the budget, and 128 bits tell it.
+    /// The least cost of a plan, in rows, is above the budget, and 128 bits tell it.
     Budget { least: u128 },
     /// The least cost is above 2^128 - 2. The bound 2^128 - 1 stands for all from there on.
     PastBits,

@@ -2,14 +2,14 @@
 ghost use Rattle.std.specs.Prelude.{◌≡◌, ◌^◌, ◌≤◌};
 ghost use Rattle.limits.specs.Profile.{most_entries};
 
-use bushy_plan::BushyError;
+use order_search::PlanError;
 use std::alloc::{AllocError, AllocFailed};
 
 #[derive(Debug, Drop)]
 pub enum Fail {
     // The test asks for what a choice has no answer to, or memory is wanting.
     Unfit,
-    NoTree(BushyError),
+    NoTree(PlanError),
 }
 
 impl From<AllocError> for Fail {
@@ -24,8 +24,8 @@ impl<T: Drop> From<AllocFailed<T>> for Fail {
     }
 }
 
-impl From<BushyError> for Fail {
-    fn from(error: BushyError) -> Self {
+impl From<PlanError> for Fail {
+    fn from(error: PlanError) -> Self {
         Fail::NoTree(error)
     }
 }

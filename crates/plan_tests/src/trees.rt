@@ -1,8 +1,9 @@
 //! The best join tree over given bounds.
 use crate::choosing::{Fail, number_of_sets};
 use base_io::Seq;
-use bushy_plan::{BushyError, choose_bushy};
+use bushy_plan::choose_bushy;
 use limits::{MOST_ENTRIES, MOST_ROWS};
+use order_search::PlanError;
 use std::alloc::Global;
 use tree_plans::{BushyPlan, Join};
 
@@ -105,7 +106,7 @@ fn refusal(
     count: usize,
     front: &[u128],
     last: u128,
-) -> Result<Option<BushyError>, Fail> {
+) -> Result<Option<PlanError>, Fail> {
     let mut bounds = Vec::from_slice(alloc, front)?;
     bounds.push(last)?;
     match chosen(alloc, count, bounds, 6) {
@@ -118,8 +119,8 @@ fn refusal(
 fn no_tree_within_the_budget_or_128_bits(rt: HostRuntime) -> Result<(), Fail> {
     let top = u128::MAX;
     let past = refusal(rt.alloc(), 3, &[1, 2, 2, 3, 2, 3, 3], top)?;
-    assert_eq!(rt; past, Some(BushyError::PastBits));
+    assert_eq!(rt; past, Some(PlanError::PastBits));
     let dear = refusal(rt.alloc(), 2, &[1, 2, 2], top - 1)?;
-    assert_eq!(rt; dear, Some(BushyError::Budget { least: top - 1 }));
+    assert_eq!(rt; dear, Some(PlanError::Budget { least: top - 1 }));
     Ok(())
 }

@@ -8,8 +8,6 @@ use Rattle.tree_plans.specs.declared.bushy.Join.{Join}
 use Rattle.bushy_plan.specs.BestTree.{AreOfBest, IsBest as IsBestOver, cost as tree_cost}
 use Rattle.bushy_plan.specs.Causes.{IsCause as IsTreeCauseOver}
 use Rattle.bushy_plan.specs.JoinTrees.{joins_from}
-use Rattle.bushy_plan.specs.declared.refusal.BushyError.{BushyError}
-use Rattle.bushy_plan.specs.declared.refusal.BushyError.TheVariants as tree_error
 use Rattle.safebound_lists.specs.Written.{IsFilled}
 use Rattle.safebound_plans.specs.declared.ordering.Level.{Level}
 use Rattle.safebound_plans.specs.declared.shaping.JoinNode.{JoinNode}
@@ -58,10 +56,10 @@ module _ (bounds wide : List ℕ) (n scans budget : ℕ) (same : wide ≡ all_wi
             (subst (IsFilled (map node_of written) old new) (ap length are ∙ sym counted) filled);
       }
 
-  pub tree_cause : (e : BushyError) → IsTreeCauseOver wide scans budget e → IsTreeCauseOver (all_widened bounds) n budget e
+  pub tree_cause : (e : PlanError) → IsTreeCauseOver wide scans budget e → IsTreeCauseOver (all_widened bounds) n budget e
   tree_cause e h = subst (λ (s : List ℕ). IsTreeCauseOver s n budget e) same (subst (λ k. IsTreeCauseOver wide k budget e) count h)
 
-  pub tree_fits : ((k : ℕ) → get_or bounds k 0 < 2 ^ 64) → (least : ℕ) → IsTreeCauseOver wide scans budget (tree_error.Budget least) → least < 2 ^ 64
+  pub tree_fits : ((k : ℕ) → get_or bounds k 0 < 2 ^ 64) → (least : ℕ) → IsTreeCauseOver wide scans budget (plan_error.Budget least) → least < 2 ^ 64
   tree_fits fits least refused =
-      let cause : IsTreeCauseOver (all_widened bounds) n budget (tree_error.Budget least) = tree_cause (tree_error.Budget least) refused in
+      let cause : IsTreeCauseOver (all_widened bounds) n budget (plan_error.Budget least) = tree_cause (plan_error.Budget least) refused in
       omega (arith, tree_narrow bounds fits cause.0.tree (omega (arith, cause.0.costs, cause.2)), cause.0.costs)

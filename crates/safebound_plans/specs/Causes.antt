@@ -5,7 +5,6 @@ use Rattle.limits.specs.Profile.{greatest_budget}
 use Rattle.order_search.specs.Causes.{IsCause}
 use Rattle.order_search.specs.declared.refusal.PlanError.TheVariants as plan_error
 use Rattle.bushy_plan.specs.Causes.{IsCause as IsBushyCause}
-use Rattle.bushy_plan.specs.declared.refusal.BushyError.TheVariants as tree_error
 use Rattle.safebound_lists.specs.declared.refusal.Refusal.{Refusal}
 use Rattle.safebound_lists.specs.declared.refusal.Refusal.TheVariants as refusal
 use Rattle.safebound_plans.specs.Given.{AreOfSets, MayPlan}
@@ -38,8 +37,8 @@ IsTreeCause bounds budget room (refusal.Bounds count) = AreOfNoSets bounds count
 IsTreeCause bounds budget room (refusal.GivenBudget given) = IsBudgetCause bounds budget given
 IsTreeCause bounds budget room (refusal.Room needed) = MayPlan bounds (needed + 1) budget × (room < needed)
 IsTreeCause bounds budget room (refusal.Budget least) =
-    (n : ℕ) × MayPlan bounds n budget × (n ≤ room + 1) × IsBushyCause (all_widened bounds) n budget (tree_error.Budget least)
+    (n : ℕ) × MayPlan bounds n budget × (n ≤ room + 1) × IsBushyCause (all_widened bounds) n budget (plan_error.Budget least)
 IsTreeCause bounds budget room refusal.PastBits =
-    (n : ℕ) × MayPlan bounds n budget × (n ≤ room + 1) × IsBushyCause (all_widened bounds) n budget tree_error.PastBits
+    (n : ℕ) × MayPlan bounds n budget × (n ≤ room + 1) × IsBushyCause (all_widened bounds) n budget plan_error.PastBits
 IsTreeCause bounds budget room refusal.NoMemory = ⊤
 IsTreeCause bounds budget room _ = ⊥

@@ -5,8 +5,9 @@ ghost use Rattle.safebound_plans.specs.Causes.{IsTreeCause};
 ghost use Rattle.safebound_plans.specs.Trees.{IsBestTree, node_of as node_of_join};
 
 use crate::narrow::{entries_of, no_scans, widened_bounds};
-use bushy_plan::{BushyError, choose_bushy};
+use bushy_plan::choose_bushy;
 use limits::GREATEST_BUDGET;
+use order_search::PlanError;
 use safebound_lists::Refusal;
 use std::alloc::Global;
 use tree_plans::Join;
@@ -71,10 +72,10 @@ pub fn tree(
             write_joins(plan.joins.as_slice(), into);
             Ok(plan.joins.len() as u64)
         }
-        Err(BushyError::Budget { least }) => Err(Refusal::Budget {
+        Err(PlanError::Budget { least }) => Err(Refusal::Budget {
             least: least as u64,
         }),
-        Err(BushyError::PastBits) => Err(Refusal::PastBits),
-        Err(BushyError::NoMemory) => Err(Refusal::NoMemory),
+        Err(PlanError::PastBits) => Err(Refusal::PastBits),
+        Err(PlanError::NoMemory) => Err(Refusal::NoMemory),
     }
 }

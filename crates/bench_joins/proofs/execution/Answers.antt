@@ -2,7 +2,6 @@ use Rattle.std.proofs.Common.{◌≡◌, ℕ, ◌≤◌, [], ◌∷◌, List, ap
 use Rattle.std.specs.Prelude.{All}
 use Rattle.std.specs.List.{AllZip}
 use Rattle.std.proofs.lemmas.List.{take_at}
-use Rattle.row_buf.specs.Rows.{Rows}
 use Rattle.reserve_plan.specs.Rooms.{rooms, HasRooms, IsRoomFor}
 use Rattle.sql_meaning.specs.Tables.{tables_of}
 use Rattle.join_steps.specs.Lists.{list_sizes, lists_of, scans_of, AreOfScans}

@@ -2,7 +2,7 @@ use Rattle.bushy_planning.proofs.NeverUnder.{never_under, planned_never_under}
 use Rattle.bushy_planning.proofs.laws.best_trees_are_never_under.Goals as goal
 
 pub returns-clause-over_bounds : goal.returns-clause-over_bounds
-returns-clause-over_bounds c = λ query db bounds plan never is within best. never_under query db bounds plan never is within best
+returns-clause-over_bounds c = never_under
 
 pub returns-clause-of_query : goal.returns-clause-of_query
-returns-clause-of_query c = λ query db accuracy plan scans is within best. planned_never_under query db accuracy plan scans is within best
+returns-clause-of_query c = planned_never_under

@@ -1,6 +1,9 @@
-use Rattle.std.proofs.Common.{length, ap, ◌∙◌, arith}
+use Rattle.std.proofs.Common.{◌≡◌, ℕ, List, length, ap, sym, ◌∙◌, subst, arith}
 use Rattle.std.proofs.lemmas.List.{take_at}
-use Rattle.join_steps.specs.Lists.{lists_of}
+use Rattle.sql_meaning.specs.Tables.{tables_of}
+use Rattle.join_steps.specs.Lists.{lists_of, scans_of, AreOfScans}
+use Rattle.join_steps.proofs.WholeScans.{whole_of_scans}
+use Rattle.bushy_join.specs.Trees.{IsTreePlanOf}
 use Rattle.join_tests.proofs.TreeNodes.{has_nodes, own_size}
 use Rattle.join_tests.proofs.trees.joined.Goals as goal
 
@@ -15,7 +18,19 @@ scan_all-requires-clause-room c = rw c.as_mut_slice.ensures.value c.in_ok-lists.
 
 pub execute_bushy-done-requires-clause-lists : goal.execute_bushy-done-requires-clause-lists
 execute_bushy-done-requires-clause-lists c =
-    ap lists_of (take_at c.scan_all.new.lists _ c.in_ok-lists.lists.len (omega (arith, c.scan_all.auto.lists, c.as_mut_slice.ensures.len))) ∙ c.scan_all.ensures
+    let query = c.args.query.now in
+    let tables = tables_of c.args.db.now in
+    subst (AreOfScans query tables)
+    (sym (ap lists_of (take_at c.scan_all.new.lists _ c.in_ok-lists.lists.len (omega (arith, c.scan_all.auto.lists, c.as_mut_slice.ensures.len))) ∙ c.scan_all.ensures))
+    (whole_of_scans query tables)
+
+pub execute_bushy-done-requires-clause-plan : goal.execute_bushy-done-requires-clause-plan
+execute_bushy-done-requires-clause-plan c =
+    let query = c.args.query.now in
+    let tables = tables_of c.args.db.now in
+    subst (λ (s : List (List ℕ)). IsTreePlanOf query tables s c.in_ok-plan.plan)
+    (sym (ap lists_of (take_at c.scan_all.new.lists _ c.in_ok-lists.lists.len (omega (arith, c.scan_all.auto.lists, c.as_mut_slice.ensures.len))) ∙ c.scan_all.ensures))
+    c.in_ok-plan.ensures.never_under
 
 pub returns : goal.returns
 returns c =

@@ -1,6 +1,6 @@
 use Rattle.std.proofs.Common.{◌<◌, ◌^◌, length, ap, sym, ◌∙◌, arith}
 use Rattle.std.proofs.lemmas.List.{length-map}
-use Rattle.bushy_plan.specs.declared.refusal.BushyError.TheVariants as tree_error
+use Rattle.order_search.specs.declared.refusal.PlanError.TheVariants as plan_error
 use Rattle.safebound_plans.specs.Widened.{widened}
 use Rattle.safebound_plans.proofs.Best.{best_tree, tree_cause, tree_fits}
 use Rattle.safebound_plans.proofs.shaping.tree.Goals as goal
@@ -37,7 +37,7 @@ returns-in-Err-Budget-clause-refused c =
       record { sets = c.in-Some.ensures; within = omega arith },
       omega arith,
       tree_cause c.args.bounds.now c.in_ok-wide.wide c.in-Some.entries (length c.in_ok-scans.scans) c.args.budget c.in_ok-wide.ensures c.in_ok-scans.ensures
-          (tree_error.Budget c.in-Err-Budget.least) refused,
+          (plan_error.Budget c.in-Err-Budget.least) refused,
     )
 
 pub returns-in-Err-PastBits-clause-refused : goal.returns-in-Err-PastBits-clause-refused
@@ -47,5 +47,5 @@ returns-in-Err-PastBits-clause-refused c =
       record { sets = c.in-Some.ensures; within = omega arith },
       omega arith,
       tree_cause c.args.bounds.now c.in_ok-wide.wide c.in-Some.entries (length c.in_ok-scans.scans) c.args.budget c.in_ok-wide.ensures c.in_ok-scans.ensures
-          tree_error.PastBits refused,
+          plan_error.PastBits refused,
     )
