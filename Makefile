@@ -12,13 +12,14 @@ EXAMPLE := trips
 DATA := examples/$(EXAMPLE)
 WORDS := run schema.sql query.sql
 
-.PHONY: help run build install uninstall deb library engines test edits bench memory limits clean
+.PHONY: help run build install uninstall deb library command engines test edits bench memory limits clean
 
 ## make run       runs a query over examples/trips, or over a folder of yours: make run DATA=FOLDER
 ##                (2 seconds with the proved program; a minute without it, and then nothing is proved)
 ## make build     proves and builds the program (about 20 minutes the first time; it says how long is left)
 ## make library   proves and builds the library for C, Python and Rust (docs/EMBEDDING.md; under ten minutes the first time)
-## make install   lays what was built, program and library, below PREFIX, /usr/local (2 seconds); make uninstall takes it away
+## make command   proves and builds the whole program as a library over files in memory (a minute, once make build has been)
+## make install   lays what was built, program and libraries, below PREFIX, /usr/local (2 seconds); make uninstall takes it away
 ## make deb       makes a Debian package of both in out/ (2 seconds, once they are built)
 ## make engines   tests safebound-sql on SQLite and on a PostgreSQL of its own, over the library (docs/ENGINES.md; minutes)
 ## make test      the gate: every proof, the gate's own edits, every test (about 40 minutes from nothing; it says how far it is)
@@ -36,7 +37,7 @@ help:
 run:
 	@tools/run "$(DATA)" $(WORDS)
 
-# The program alone, proved.
+# The program, proved.
 build:
 	@tools/build
 
@@ -50,13 +51,18 @@ uninstall:
 deb:
 	@test -f "$(PROGRAM)" || $(MAKE) build
 	@test -f "$(LIBRARY)/libsafebound.so" || $(MAKE) library
+	@test -f "$(LIBRARY)/libsafebound_command.so" || $(MAKE) command
 	@PROGRAM="$(PROGRAM)" LIBRARY="$(LIBRARY)" tools/deb "$(PACKAGES)"
 
 # The library for C, Python and Rust, proved: library/out has it, docs/EMBEDDING.md says how it is used.
 library:
-	@echo "proving and building the library (long the first time: it proves each crate that it is made of)"
-	@cd crates/safebound_c && { rt lib > build.log 2>&1 || { cat build.log; exit 1; }; }
+	@tools/build safebound_c
 	@library/build
+
+# The whole program over files in memory, for C, Python and Rust.
+command:
+	@tools/build safebound_command
+	@library/build --command
 
 # Everything: each proof that this machine hasn't kept, the gate's own edits, the tests, the stored runs, random ones.
 test:

@@ -1,6 +1,6 @@
 """Builds the package as a wheel (the build backend of pyproject.toml), with the standard library alone.
 
-The shared object that `make library` left goes into the package, so that what is installed has it beside itself.
+The shared objects that `make library` and `make command` left go into the package, so that what is installed has them beside itself.
 """
 
 import base64
@@ -12,7 +12,7 @@ import zipfile
 
 HERE = os.path.dirname(os.path.abspath(__file__))
 PACKAGE = os.path.join(HERE, "safebound")
-BUILT = os.path.join(HERE, "..", "library", "out", "libsafebound.so")
+BUILT = [path for name in ("libsafebound.so", "libsafebound_command.so") for path in [os.path.join(HERE, "..", "library", "out", name)] if os.path.isfile(path)]
 VERSION = runpy.run_path(os.path.join(PACKAGE, "_version.py"))["VERSION"]
 INFO = f"safebound-{VERSION}.dist-info"
 
@@ -35,7 +35,7 @@ def read(*path):
 
 def tag():
     """What has a shared object is of this platform."""
-    platform = sysconfig.get_platform().replace("-", "_").replace(".", "_") if os.path.isfile(BUILT) else "any"
+    platform = sysconfig.get_platform().replace("-", "_").replace(".", "_") if BUILT else "any"
     return f"py3-none-{platform}"
 
 
@@ -45,7 +45,7 @@ def sources():
 
 
 def library():
-    return {"safebound/libsafebound.so": read(BUILT)} if os.path.isfile(BUILT) else {}
+    return {"safebound/" + os.path.basename(path): read(path) for path in BUILT}
 
 
 def record(files):

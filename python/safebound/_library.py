@@ -13,7 +13,7 @@ from typing import Iterator
 from . import errors
 from ._version import VERSION
 
-NAME = "libsafebound.so"
+NAME, VARIABLE = "libsafebound.so", "SAFEBOUND_LIBRARY"
 NO_BOUND = 2**64 - 1
 MOST = 2**64 - 1
 
@@ -65,18 +65,27 @@ WRONG = {
 }
 
 
-def _candidates() -> Iterator[Path]:
-    named = os.environ.get("SAFEBOUND_LIBRARY")
+def _candidates(name: str, variable: str) -> Iterator[Path]:
+    named = os.environ.get(variable)
     if named:
         yield Path(named)
         return
     here = Path(__file__).resolve().parent
-    yield here / NAME
-    yield from (folder / NAME for folder in here.parents if folder.name == "lib")
-    yield Path(sys.prefix) / "lib" / NAME
+    yield here / name
+    yield from (folder / name for folder in here.parents if folder.name == "lib")
+    yield Path(sys.prefix) / "lib" / name
     for prefix in ("/usr/local", "/usr"):
-        yield Path(prefix) / "lib" / NAME
-    yield here.parents[1] / "library" / "out" / NAME
+        yield Path(prefix) / "lib" / name
+    yield here.parents[1] / "library" / "out" / name
+
+
+def find(name: str, variable: str) -> Path:
+    """The shared object of this name, or the file that the variable names."""
+    looked = list(_candidates(name, variable))
+    for candidate in looked:
+        if candidate.is_file():
+            return candidate
+    raise errors.LibraryNotFound(f"no {name}: looked for " + ", ".join(map(str, looked)))
 
 
 def path() -> Path:
@@ -89,11 +98,7 @@ def path() -> Path:
     Raises:
         LibraryNotFound: none is there.
     """
-    looked = list(_candidates())
-    for candidate in looked:
-        if candidate.is_file():
-            return candidate
-    raise errors.LibraryNotFound("no libsafebound.so: looked for " + ", ".join(map(str, looked)))
+    return find(NAME, VARIABLE)
 
 
 @functools.lru_cache(maxsize=None)

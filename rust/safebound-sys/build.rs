@@ -1,6 +1,7 @@
 //! Finds the library: in the folder that SAFEBOUND_LIBRARY_DIR names, and then no other; by pkg-config, where `make install`
 //! laid it; or in a clone of the repository, where `make library` leaves it. The archive is taken where it is there, so
-//! that the program needs no library when it runs; else the shared object.
+//! that the program needs no library when it runs; else the shared object. With the feature `command` the library for the
+//! whole program is taken from the same folder.
 
 use std::env;
 use std::path::{Path, PathBuf};
@@ -13,14 +14,21 @@ fn main() {
         println!("cargo:rerun-if-env-changed={name}");
     }
     let folder = folder();
-    let (archive, shared) = (folder.join("libsafebound.a"), folder.join("libsafebound.so"));
+    println!("cargo:rustc-link-search=native={}", folder.display());
+    link(&folder, "safebound");
+    if env::var_os("CARGO_FEATURE_COMMAND").is_some() {
+        link(&folder, "safebound_command");
+    }
+}
+
+fn link(folder: &Path, name: &str) {
+    let (archive, shared) = (folder.join(format!("lib{name}.a")), folder.join(format!("lib{name}.so")));
     let (kind, file) = if archive.is_file() { ("static", archive) } else { ("dylib", shared) };
     if !file.is_file() {
-        panic!("neither libsafebound.a nor libsafebound.so is in {}", folder.display());
+        panic!("neither lib{name}.a nor lib{name}.so is in {}", folder.display());
     }
     println!("cargo:rerun-if-changed={}", file.display());
-    println!("cargo:rustc-link-search=native={}", folder.display());
-    println!("cargo:rustc-link-lib={kind}=safebound");
+    println!("cargo:rustc-link-lib={kind}={name}");
 }
 
 fn folder() -> PathBuf {

@@ -11,6 +11,11 @@
 
 use core::ffi::{c_char, c_void};
 
+#[cfg(feature = "command")]
+mod command;
+#[cfg(feature = "command")]
+pub use command::*;
+
 /// The most entries of a query.
 pub const SAFEBOUND_MOST_ENTRIES: usize = 12;
 /// The most equalities of a query.

@@ -131,3 +131,47 @@ pub fn version() -> Result<String, Error> {
     let bytes = text.map_err(Error::from_refusal)?;
     Ok(bytes.iter().take_while(|&&byte| byte != 0).map(|&byte| char::from(byte)).collect())
 }
+
+/// The command's exit status, and how much of each room was written.
+#[cfg(feature = "command")]
+pub(crate) struct Ended {
+    pub(crate) status: u32,
+    pub(crate) out: usize,
+    pub(crate) notes: usize,
+}
+
+#[cfg(feature = "command")]
+fn text(bytes: &[u8]) -> sys::safebound_text {
+    sys::safebound_text { bytes: bytes.as_ptr().cast(), length: bytes.len() }
+}
+
+/// Runs a command line, and puts into both vectors what was written, as far as they have room without growing.
+#[cfg(feature = "command")]
+pub(crate) fn command(words: &[&[u8]], files: &[(&[u8], &[u8])], out: &mut Vec<u8>, notes: &mut Vec<u8>) -> Ended {
+    let words: Vec<_> = words.iter().map(|word| text(word)).collect();
+    let files: Vec<_> =
+        files.iter().map(|(name, bytes)| sys::safebound_file { name: text(name), bytes: text(bytes) }).collect();
+    let (mut out_length, mut notes_length) = (0, 0);
+    let status = unsafe {
+        sys::safebound_command(
+            words.as_ptr(),
+            words.len(),
+            files.as_ptr(),
+            files.len(),
+            out.as_mut_ptr().cast(),
+            out.capacity(),
+            notes.as_mut_ptr().cast(),
+            notes.capacity(),
+            &mut out_length,
+            &mut notes_length,
+        )
+    };
+    let ended = Ended { status, out: out_length as usize, notes: notes_length as usize };
+    assert!(ended.out <= out.capacity() && ended.notes <= notes.capacity());
+    // SAFETY: so many bytes were written, and there is room for them.
+    unsafe {
+        out.set_len(ended.out);
+        notes.set_len(ended.notes);
+    }
+    ended
+}

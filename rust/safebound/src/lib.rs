@@ -19,6 +19,9 @@
 //! # Ok::<(), safebound::Error>(())
 //! ```
 //!
+//! With the feature `command` there is also the whole program over files in memory, `Command`: plans, rows and audits of a
+//! query in SQL over tables in CSV.
+//!
 //! The bounds are proved; this crate around them is tested. No call keeps anything, so any number of threads may call at
 //! once. Numbers of rows have 64 bits.
 
@@ -26,6 +29,8 @@
 
 mod bounds;
 mod calls;
+#[cfg(feature = "command")]
+mod command;
 mod errors;
 mod lists;
 mod plans;
@@ -33,6 +38,8 @@ mod query;
 
 pub use bounds::{Bound, Bounds};
 pub use calls::version;
+#[cfg(feature = "command")]
+pub use command::{Command, Output};
 pub use errors::{Column, Error};
 pub use lists::{append, compress, degree_sequence, degree_sequence_of_keys, Run};
 pub use plans::{Join, Order, Shape, Tree};

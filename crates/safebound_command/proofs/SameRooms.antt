@@ -1,0 +1,152 @@
+-- However a call ends, its streams still tell the name with which they began.
+use Rattle.std.proofs.Common.{◌≡◌, ℕ, List, [], ◌∷◌, ◌++◌, Option, None, Some, Result, Ok, Err, refl, ap, subst, ◌∙◌}
+use Rattle.std.specs.Prelude.{IsOkAnd, codes}
+use Rattle.base_io.specs.Devices.{Reading}
+use Rattle.base_io.specs.Files.{Files}
+use Rattle.base_io.specs.Sinks.{GrewByPrefix, appended}
+use Rattle.outcomes.specs.Reads.{IsOfWhatIsThere}
+use Rattle.outcomes.specs.Statuses.{refused}
+use Rattle.outcomes.specs.declared.names.SinkId.TheVariants as sink
+use Rattle.outcomes.specs.declared.refusal.Refusal.{Refusal}
+use Rattle.outcomes.specs.declared.refusal.Refusal.TheVariants as refusal
+use Rattle.outcomes.specs.declared.status.Status.{Status}
+use Rattle.outcomes.specs.declared.status.Status.TheVariants as status
+use Rattle.safebound_top.specs.Accepted.{Accepted}
+use Rattle.safebound_top.specs.Call.{Call, CutThenTold, Tells}
+use Rattle.safebound_top.specs.Faults.{fault_text}
+use Rattle.safebound_top.specs.Headline.{DidNotGrow, GrewWhole, Headline, WasCut}
+use Rattle.safebound_top.specs.Shops.{store_read}
+use Rattle.safebound_top.specs.Texts.{out_text_of, plan_text}
+use Rattle.safebound_top.specs.Verdict.{verdict}
+use Rattle.demo_files.specs.Files.{demo_files}
+use Rattle.safebound_command.proofs.Behind.{LeftByCutNotes, LeftByCutOut, LeftByDone, headline_behind, named_call, with_name, without_name}
+
+-- the name that a stream tells
+abbrev pub name_in : Option (List ℕ) → ℕ
+name_in None = 0
+name_in (Some []) = 0
+name_in (Some (name ∷ text)) = name
+
+prefix_name : (name : ℕ) (before : List ℕ) (after : Option (List ℕ)) (text : List ℕ) → GrewByPrefix (Some (name ∷ before)) after text → name_in after ≡ name
+prefix_name name before after text h = ap name_in h.grew
+
+cut_name : (name : ℕ) (before : List ℕ) (after : Option (List ℕ)) (text line : List ℕ)
+    → CutThenTold (Some (name ∷ before)) after text line → name_in after ≡ name
+cut_name name before after text line h = ap name_in (h.told.grew ∙ ap (λ mid. appended mid h.told.front) h.cut.grew)
+
+whole_name : (name : ℕ) (before : List ℕ) (after : Option (List ℕ)) (f f' : ℕ) (text : Option (List ℕ))
+    → GrewWhole (with_name name before after f f') text → name_in after ≡ name
+whole_name name before after f f' None h = ap name_in h.0
+whole_name name before after f f' (Some text) h = ap name_in h
+
+was_cut_name : (name : ℕ) (before : List ℕ) (after : Option (List ℕ)) (f f' : ℕ) (text : Option (List ℕ))
+    → WasCut (with_name name before after f f') text → name_in after ≡ name
+was_cut_name name before after f f' None h = absurd h
+was_cut_name name before after f f' (Some text) h = prefix_name name before after text h
+
+-- what follows from a fact on the value
+from_ok : {A E : Type 0} (P : A → Type 0) (Q : Type 0) (r : Result A E) → ((x : A) → P x → Q) → IsOkAnd r P → Q
+from_ok P Q (Ok x) so h = so x h
+from_ok P Q (Err e) so h = absurd h
+
+module _ (words : List (List ℕ)) (store : Reading) (files : Files) (tells : store.files ≡ Some files)
+    (out_name : ℕ) (out_before : List ℕ) (out_after : Option (List ℕ)) (o o' : ℕ)
+    (notes_name : ℕ) (notes_before : List ℕ) (notes_after : Option (List ℕ)) (n n' : ℕ) where
+  abbrev call_with : Status → Call
+  call_with s = named_call words s store out_name out_before out_after o o' notes_name notes_before notes_after n n'
+
+  -- both names
+  abbrev Same : Type 0
+  Same = (name_in out_after ≡ out_name) × (name_in notes_after ≡ notes_name)
+
+  told_name : (line : List ℕ) → Tells (Some (notes_name ∷ notes_before)) notes_after n n' line → name_in notes_after ≡ notes_name
+  told_name line h = prefix_name notes_name notes_before notes_after line h.prefix
+
+  out_name_kept : DidNotGrow (with_name out_name out_before out_after o o') → name_in out_after ≡ out_name
+  out_name_kept h = ap name_in h.0
+
+  refused_names : (r : Refusal) (s : Status) → IsOfWhatIsThere r → s ≡ refused r → Headline (call_with s) → Same
+  refused_names r s there is h = (
+    out_name_kept (h.refusals_are_the_verdict.told r there is).0,
+    told_name (fault_text s words files) ((h.refusals_are_the_verdict.told r there is).1 files tells).1,
+  )
+
+  done_names : (s : Status) (run : Accepted) → LeftByDone (call_with s).out (call_with s).notes run → Same
+  done_names s run h = (whole_name out_name out_before out_after o o' (out_text_of run) h.1, ap name_in h.0)
+
+  cut_notes_names : (s : Status) (line : List ℕ) (run : Accepted) → LeftByCutNotes (call_with s).notes line run → name_in notes_after ≡ notes_name
+  cut_notes_names s line run h = cut_name notes_name notes_before notes_after (plan_text run) line h
+
+  cut_out_names : (s : Status) (line : List ℕ) (run : Accepted) → LeftByCutOut (call_with s).out (call_with s).notes line run → Same
+  cut_out_names s line run h = (
+    was_cut_name out_name out_before out_after o o' (out_text_of run) h.0,
+    prefix_name notes_name (notes_before ++ plan_text run) notes_after line h.1.prefix,
+  )
+
+  pub same_names : (s : Status) → Headline (call_with s) → Same
+  same_names status.Done h =
+      from_ok (LeftByDone (call_with status.Done).out (call_with status.Done).notes) Same (verdict words files) (done_names status.Done)
+      (h.done_is_exact refl files tells)
+  same_names status.Usage h = refused_names refusal.Usage status.Usage (λ file e. cc) refl h
+  same_names (status.ReadFault file) h = (
+    out_name_kept (h.read_faults_have_their_cause.told file refl).0,
+    told_name (fault_text (status.ReadFault file) words files) ((h.read_faults_have_their_cause.told file refl).1 files tells).1,
+  )
+  same_names (status.Schema cause at) h = refused_names (refusal.Schema cause at) (status.Schema cause at) (λ file e. cc) refl h
+  same_names (status.Query cause at) h = refused_names (refusal.Query cause at) (status.Query cause at) (λ file e. cc) refl h
+  same_names (status.Table table cause) h = refused_names (refusal.Table table cause) (status.Table table cause) (λ file e. cc) refl h
+  same_names (status.Limit which file found) h = refused_names (refusal.Limit which file found) (status.Limit which file found) (λ other e. cc) refl h
+  same_names (status.Budget least) h = refused_names (refusal.Budget least) (status.Budget least) (λ file e. cc) refl h
+  same_names status.PastBits h = refused_names refusal.PastBits status.PastBits (λ file e. cc) refl h
+  same_names (status.WriteFault sink.Out) h =
+      from_ok (LeftByCutOut (call_with (status.WriteFault sink.Out)).out (call_with (status.WriteFault sink.Out)).notes (fault_text (status.WriteFault sink.Out) words files))
+      Same (verdict words files) (cut_out_names (status.WriteFault sink.Out) (fault_text (status.WriteFault sink.Out) words files))
+      ((h.write_faults_have_their_cause.of_out refl).1 files tells)
+  same_names (status.WriteFault sink.Notes) h = (
+    out_name_kept (h.write_faults_have_their_cause.of_notes refl).1,
+    from_ok (LeftByCutNotes (call_with (status.WriteFault sink.Notes)).notes (fault_text (status.WriteFault sink.Notes) words files))
+        (name_in notes_after ≡ notes_name) (verdict words files) (cut_notes_names (status.WriteFault sink.Notes) (fault_text (status.WriteFault sink.Notes) words files))
+        ((h.write_faults_have_their_cause.of_notes refl).2 files tells),
+  )
+  same_names status.NoMemory h =
+      (out_name_kept (h.want_of_memory_leaves_its_line refl).1, told_name (codes "error memory\n") (h.want_of_memory_leaves_its_line refl).0)
+
+-- whichever store was read, it tells its files
+pub files_told : (shop : Option ℕ) (store : Reading) (files : Files) → store.files ≡ Some files → (told : Files) × ((store_read shop store).files ≡ Some told)
+files_told None store files is = (files, is)
+files_told (Some number) store files is = (demo_files number, refl)
+
+-- ---- over rooms: the names are the same, and the streams that began empty have the headline
+
+-- a call whose streams told these names and texts, and then these
+module _ (words : List (List ℕ)) (status : Status) (shop : Option ℕ) (store : Reading)
+    (out_name : ℕ) (out_before : List ℕ) (out_name' : ℕ) (out_text : List ℕ) (o o' : ℕ)
+    (notes_name : ℕ) (notes_before : List ℕ) (notes_name' : ℕ) (notes_text : List ℕ) (n n' : ℕ) where
+  abbrev pub told_call : Call
+  told_call = named_call words status (store_read shop store) out_name out_before (Some (out_name' ∷ out_text)) o o'
+      notes_name notes_before (Some (notes_name' ∷ notes_text)) n n'
+
+  pub same_rooms : (files : Files) → store.files ≡ Some files → Headline told_call → (out_name' ≡ out_name) × (notes_name' ≡ notes_name)
+  same_rooms files is h =
+      let told = files_told shop store files is in
+      same_names words (store_read shop store) told.0 told.1 out_name out_before (Some (out_name' ∷ out_text)) o o'
+      notes_name notes_before (Some (notes_name' ∷ notes_text)) n n' status h
+
+  abbrev bare : List ℕ → ℕ → List ℕ → ℕ → Call
+  bare b f d g = record {
+    words = words;
+    status = status;
+    store = store_read shop store;
+    out = without_name b (Some (out_name' ∷ out_text)) f o';
+    notes = without_name d (Some (notes_name' ∷ notes_text)) g n';
+  }
+
+  pub begun_empty : out_before ≡ [] → o ≡ 0 → notes_before ≡ [] → n ≡ 0 → Headline told_call → Headline (bare [] 0 [] 0)
+  begun_empty b f d g h =
+      let whole : Headline (bare out_before o notes_before n)
+      = headline_behind words status (store_read shop store) out_name out_before (Some (out_name' ∷ out_text)) o o'
+      notes_name notes_before (Some (notes_name' ∷ notes_text)) n n' h in
+      subst (λ (x : ℕ). Headline (bare [] 0 [] x)) g
+      (subst (λ (x : List ℕ). Headline (bare [] 0 x n)) d
+      (subst (λ (x : ℕ). Headline (bare [] x notes_before n)) f
+      (subst (λ (x : List ℕ). Headline (bare x o notes_before n)) b whole)))

@@ -1,0 +1,73 @@
+-- What a call of the program over files in memory answers.
+use Rattle.std.specs.Prelude.{ℕ, ◌≡◌, ◌⊎◌, ◌<◌, ◌≤◌, List, [], length, take, Some}
+use Rattle.std.specs.List.{Any}
+use Rattle.std.specs.Str.{IsUtf8}
+use Rattle.base_io.specs.Devices.{Growth, Reading}
+use Rattle.base_io.specs.Files.{Files}
+use Rattle.outcomes.specs.Statuses.{code_of}
+use Rattle.outcomes.specs.declared.status.Status.{Status}
+use Rattle.safebound_top.specs.Headline.{Headline}
+use Rattle.safebound_top.specs.Shops.{shop_of, store_read}
+
+-- a store that tells its files, and of which no read fails
+abbrev pub read_from : Files → Files → ℕ → ℕ → Reading
+read_from files after misses_before misses_after = record {
+  files = Some files;
+  files_after = Some after;
+  faults_before = 0;
+  faults_after = 0;
+  misses_before = misses_before;
+  misses_after = misses_after;
+}
+
+-- a stream that began empty, has taken this text, and has failed so often
+abbrev pub stream : List ℕ → ℕ → Growth
+stream text faults = record {
+  taken_before = Some [];
+  taken_after = Some text;
+  faults_before = 0;
+  faults_after = faults;
+}
+
+-- a room after a call, and how many bytes of it, from its front on, were written
+pub record Written : Type 0 where
+  pub room : List ℕ
+  pub count : ℕ
+
+abbrev pub written : List ℕ → ℕ → Written
+written room count = record { room = room; count = count }
+
+abbrev pub text_of : Written → List ℕ
+text_of w = take w.count w.room
+
+-- the text is within the room, and a write failed only where it fills the room
+pub record IsWithin (w : Written) (faults : ℕ) : Type 0 where
+  pub within : w.count ≤ length w.room
+  pub full : 0 < faults → w.count ≡ length w.room
+
+-- The program was run: the code is its exit status, both texts stand in their rooms, and the run has the headline, over a store that tells
+-- just these files and never fails.
+pub record Ran (words : List (List ℕ)) (files : Files) (out notes : Written) (code : ℕ) : Type 0 where
+  pub status : Status
+  pub told : code ≡ code_of status
+  pub files_after : Files
+  pub misses : ℕ
+  pub out_faults : ℕ
+  pub notes_faults : ℕ
+  pub out_within : IsWithin out out_faults
+  pub notes_within : IsWithin notes notes_faults
+  pub headline : Headline (record {
+    words = words;
+    status = status;
+    store = store_read (shop_of words) (read_from files files_after 0 misses);
+    out = stream (text_of out) out_faults;
+    notes = stream (text_of notes) notes_faults;
+  })
+
+-- the words can't be had: 15 where one isn't UTF-8, 11 where memory for them was wanting
+abbrev pub HasNoWords : List (List ℕ) → ℕ → Type 0
+HasNoWords words code = ((code ≡ 15) × Any (λ word. ¬ (IsUtf8 word)) words) ⊎ (code ≡ 11)
+
+-- the program was run, or the words can't be had, and then both texts are empty
+abbrev pub Answers : List (List ℕ) → Files → Written → Written → ℕ → Type 0
+Answers words files out notes code = Ran words files out notes code ⊎ (HasNoWords words code × (out.count ≡ 0) × (notes.count ≡ 0))

@@ -1,0 +1,41 @@
+//! The call that C makes.
+ghost use Rattle.std.specs.Prelude.{map};
+ghost use Rattle.slice_devices.specs.Slices.{files_of};
+ghost use Rattle.safebound_command.specs.Command.{Answers, written};
+
+use crate::rooms::run_over;
+use crate::words::{NoWords, texts};
+use slice_devices::SliceFile;
+use std::alloc::Global;
+
+// As the program's own: `NO_MEMORY` is a status of the top call, too, `NO_WORDS` is none.
+const NO_MEMORY: u32 = 11;
+
+const NO_WORDS: u32 = 15;
+
+/// Runs the program over these files, and writes what it writes to its two streams into two rooms. Answers its exit status.
+#[unsafe(no_mangle)]
+pub extern "C" fn safebound_command(
+    alloc: Global,
+    words: &[&[u8]],
+    files: &[SliceFile],
+    out: &mut [u8],
+    notes: &mut [u8],
+    out_length: &mut u64,
+    notes_length: &mut u64,
+) -> u32
+    ensures { Answers (map (λ w. w.now) words.now) (files_of files.now) (written out.new out_length.new)
+        (written notes.new notes_length.new) result }
+{
+    *out_length = 0;
+    *notes_length = 0;
+    let texts = match texts(alloc, words) {
+        Ok(texts) => texts,
+        Err(NoWords::NotUtf8) => return NO_WORDS,
+        Err(NoWords::NoMemory) => return NO_MEMORY,
+    };
+    let ended = run_over(alloc, texts.as_slice(), files, out, notes);
+    *out_length = ended.out;
+    *notes_length = ended.notes;
+    ended.status.code() as u32
+}

@@ -1,0 +1,33 @@
+//! The top call over lent memory.
+ghost use Rattle.std.specs.Prelude.{◌≡◌, map, take};
+ghost use Rattle.safebound_top.specs.Headline.{Headline};
+ghost use Rattle.safebound_top.specs.Shops.{shop_of, store_read};
+ghost use Rattle.slice_devices.specs.Slices.{files_of};
+ghost use Rattle.safebound_command.specs.Command.{read_from, stream};
+
+use safebound_top::{Status, safebound};
+use slice_devices::{SliceSink, SliceStore};
+use std::alloc::Global;
+
+/// Runs the program. Both streams still have their rooms, and what they took stands there.
+pub(crate) fn run(
+    alloc: Global,
+    words: &[&str],
+    store: &mut SliceStore<'_, '_>,
+    out: &mut SliceSink<'_>,
+    notes: &mut SliceSink<'_>,
+) -> Status
+    requires out { (out.old.used ≡ 0) × (out.old.faults ≡ 0) }
+    requires notes { (notes.old.used ≡ 0) × (notes.old.faults ≡ 0) }
+    ensures same_out { out.new.room.ghost_name ≡ out.old.room.ghost_name }
+    ensures same_notes { notes.new.room.ghost_name ≡ notes.old.room.ghost_name }
+    ensures headline { Headline (record {
+      words = map (λ w. w.now) words.now;
+      status = result;
+      store = store_read (shop_of (map (λ w. w.now) words.now)) (read_from (files_of store.old.files.now) (files_of store.new.files.now) store.old.misses store.new.misses);
+      out = stream (take out.new.used out.new.room.now) out.new.faults;
+      notes = stream (take notes.new.used notes.new.room.now) notes.new.faults;
+    }) }
+{
+    safebound(alloc, words, store, out, notes)
+}

@@ -1,0 +1,13 @@
+-- What a store and a sink over slices tell.
+use Rattle.std.specs.Prelude.{ℕ, ◌∷◌, List, map, take, Option, Some}
+use Rattle.base_io.specs.Files.{Files}
+use Rattle.slice_devices.specs.declared.slice_store.SliceFile.{SliceFile}
+
+-- the files of a list, in its order
+abbrev pub files_of : List SliceFile → Files
+files_of files = map (λ file. (file.name.now, file.bytes.now)) files
+
+-- A sink tells the name of its loan, and then the bytes that were written. Who hands it on learns by the name that it still has the same
+-- room, so that what it took stands there.
+abbrev pub told_of : ℕ → ℕ → List ℕ → Option (List ℕ)
+told_of name used room = Some (name ∷ take used room)

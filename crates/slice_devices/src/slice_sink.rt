@@ -1,0 +1,50 @@
+//! A room of the caller's, which is filled from its front.
+ghost use Rattle.std.specs.Prelude.{◌≡◌, ◌<◌, ◌≤◌, length};
+ghost use Rattle.slice_devices.specs.Slices.{told_of};
+
+use base_io::{Failed, Sink};
+
+/// A room and how many bytes at its front were written. A piece is taken as far as there is room. A write fails, and is counted, only
+/// where the room is full and the piece has bytes.
+#[derive(Drop)]
+pub struct SliceSink<'a> {
+    pub room: &'a mut [u8],
+    pub used: usize,
+    pub faults: u64,
+    pub ghost within: { used ≤ length room.now },
+    pub ghost full: { 0 < faults → used ≡ length room.now },
+}
+
+impl<'a> SliceSink<'a> {
+    /// A sink that has taken nothing.
+    pub fn new(room: &'a mut [u8]) -> SliceSink<'a>
+        ensures same_room { result.room.ghost_name ≡ room.entry.ghost_name }
+        ensures used { result.used ≡ 0 }
+        ensures faults { result.faults ≡ 0 }
+    {
+        SliceSink {
+            room,
+            used: 0,
+            faults: 0,
+        }
+    }
+}
+
+impl Sink for SliceSink<'_> {
+    ghost taken = { λ s. told_of s.room.ghost_name s.used s.room.now };
+
+    ghost faults = { λ s. s.faults };
+
+    fn write(&mut self, bytes: &[u8]) -> Result<usize, Failed> {
+        let left = self.room.len() - self.used;
+        if left == 0 && !bytes.is_empty() {
+            self.faults = self.faults.saturating_add(1);
+            return Err(Failed);
+        }
+        let count = left.min(bytes.len());
+        let end = self.used + count;
+        self.room[self.used..end].copy_from_slice(&bytes[..count]);
+        self.used = end;
+        Ok(count)
+    }
+}

@@ -1,0 +1,76 @@
+//! Files in a list of the caller's.
+ghost use Rattle.std.specs.Prelude.{◌≡◌, ◌-◌, ◌<◌, length, min, option_map, Some};
+ghost use Rattle.base_io.specs.Files.{Fills, file_of};
+ghost use Rattle.slice_devices.specs.Slices.{files_of};
+
+use base_io::{Store, StoreError};
+
+/// A file: its name and its bytes.
+#[repr(C)]
+#[derive(Clone, Copy, Debug)]
+pub struct SliceFile<'a> {
+    pub name: &'a [u8],
+    pub bytes: &'a [u8],
+}
+
+/// The files of a list. Of two files with one name the first counts. It tells its files, and no read fails.
+#[derive(Drop)]
+pub struct SliceStore<'a, 'b> {
+    pub files: &'a [SliceFile<'b>],
+    pub misses: u64,
+}
+
+impl<'a, 'b> SliceStore<'a, 'b> {
+    /// A store of these files, before its first read.
+    pub fn new(files: &'a [SliceFile<'b>]) -> SliceStore<'a, 'b>
+        ensures files { result.files.now ≡ files.now }
+        ensures misses { result.misses ≡ 0 }
+    {
+        SliceStore { files, misses: 0 }
+    }
+}
+
+// The bytes of the first file with this name.
+fn find_file<'b>(files: &[SliceFile<'b>], name: &str) -> Option<&'b [u8]>
+    ensures { option_map (λ s. s.now) result ≡ file_of (files_of files.now) name.now }
+{
+    'files: for file in files {
+        if file.name == name.as_bytes() {
+            return Some(file.bytes);
+        }
+    }
+    None
+}
+
+// Copies bytes from a place on to the front of a buffer, as many as there are and as fit.
+fn copy_front(bytes: &[u8], place: u64, into: &mut [u8]) -> usize
+    requires { 0 < length into.old }
+    ensures count { result ≡ min (length bytes.now - place) (length into.new) }
+    ensures fills { Fills bytes.now place result into.new }
+{
+    if place >= bytes.len() as u64 {
+        return 0;
+    }
+    let rest = &bytes[place as usize..];
+    let count = rest.len().min(into.len());
+    into[..count].copy_from_slice(&rest[..count]);
+    count
+}
+
+impl Store for SliceStore<'_, '_> {
+    ghost files = { λ s. Some (files_of s.files.now) };
+
+    ghost faults = { λ s. 0 };
+
+    ghost misses = { λ s. s.misses };
+
+    fn read_at(&mut self, name: &str, at: u64, into: &mut [u8]) -> Result<usize, StoreError> {
+        match find_file(self.files, name) {
+            None => {
+                self.misses = self.misses.saturating_add(1);
+                Err(StoreError::Missing)
+            }
+            Some(bytes) => Ok(copy_front(bytes, at, into)),
+        }
+    }
+}

@@ -1,0 +1,10 @@
+/* Linked beside command.c: the other library is in the same program, and both have one memory. */
+#include "safebound.h"
+
+#include <stdlib.h>
+
+__attribute__((constructor)) static void both(void) {
+    uint64_t keys[] = {8, 8, 2}, detail;
+    safebound_run runs[4];
+    if (safebound_degrees(keys, 3, runs, 4, &detail) != SAFEBOUND_OK || detail != 2) abort();
+}

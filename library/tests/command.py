@@ -1,0 +1,124 @@
+"""The whole program over files in memory, from Python, and from C with requests for memory refused: `library/test-command` runs it.
+
+SAFEBOUND_COMMAND names the C program (command.c), linked with both libraries.
+"""
+
+import doctest
+import os
+import subprocess
+import sys
+import tempfile
+import threading
+import unittest
+
+HERE = os.path.dirname(os.path.abspath(__file__))
+ROOT = os.path.dirname(os.path.dirname(HERE))
+sys.dont_write_bytecode = True
+sys.path[:0] = [os.path.join(ROOT, "python")]
+
+import safebound  # noqa: E402
+from safebound import command  # noqa: E402
+
+PROGRAM = os.environ["SAFEBOUND_COMMAND"]
+SCHEMA = "CREATE TABLE R (X INTEGER NOT NULL); CREATE TABLE S (X INTEGER NOT NULL)"
+QUERY = "SELECT R.X FROM R, S WHERE R.X = S.X"
+RUN, PLAN = ["run", "schema.sql", "query.sql"], ["plan", "schema.sql", "query.sql"]
+# The worked tables of docs/DEFINITIONS.md.
+FILES = {"schema.sql": SCHEMA, "query.sql": QUERY, "r.csv": "X\r\n1\r\n1\r\n1\r\n2\r\n2\r\n3\r\n", "s.csv": "X\r\n1\r\n1\r\n4\r\n5\r\n6\r\n"}
+NOTES = b"scan R 6\nscan S 5\nlevel 1 S 5\nlevel 2 R 12\n"
+ROWS = b"X\r\n" + 6 * b"1\r\n"
+
+
+class Texts(unittest.TestCase):
+    def test_what_the_docstring_shows(self):
+        failed, tried = doctest.testmod(command)
+        self.assertEqual((failed, tried > 0), (0, True))
+
+    def test_a_run_and_a_plan(self):
+        self.assertEqual(safebound.run(RUN, FILES), (0, ROWS, NOTES))
+        self.assertEqual(safebound.run(PLAN, FILES), (0, b"", NOTES))
+        self.assertEqual(safebound.run((word.encode() for word in RUN), {name.encode(): memoryview(text.encode()) for name, text in FILES.items()}), (0, ROWS, NOTES))
+
+    def test_texts_that_are_larger_than_the_first_rooms(self):
+        table = "X\n" + "7\n" * 600
+        output = safebound.run(RUN, {**FILES, "r.csv": table, "s.csv": table})
+        self.assertEqual(output, (0, b"X\r\n" + 360_000 * b"7\r\n", b"scan R 600\nscan S 600\nlevel 1 R 600\nlevel 2 S 360000\n"))
+        for length in (4096 - 12, 4096 - 11, 4096 - 10, 100_000):
+            name = "s" * length
+            self.assertEqual(safebound.run(["plan", name, "q"], {}), (3, b"", f"error read {name}\n".encode()))
+
+    def test_texts_that_fill_the_first_room(self):
+        # A header of 3 bytes and 3 bytes for each row: 21844 rows leave one byte, and 21845 are two too many.
+        for rows in (21843, 21844, 21845):
+            table = "X\n" + "7\n" * rows
+            output = safebound.run(RUN, {**FILES, "r.csv": table, "s.csv": "X\n7\n"})
+            self.assertEqual((output.status, output.out), (0, b"X\r\n" + rows * b"7\r\n"))
+
+    def test_refusals(self):
+        for words, files, expected in [
+            ([], {}, (2, b"error usage\n")),
+            (PLAN, {}, (3, b"error read schema.sql\n")),
+            (PLAN, {**FILES, "schema.sql": ""}, (4, b"error schema syntax 0\n")),
+            (PLAN, {**FILES, "query.sql": ""}, (5, b"error query syntax 0\n")),
+            (PLAN, {**FILES, "s.csv": b"X\r\n\xff\r\n"}, (6, b"error table s.csv utf8 3\n")),
+            (PLAN, {**FILES, "query.sql": " " * (2**20 + 1)}, (7, b"error limit file-bytes query.sql 1048577\n")),
+            (PLAN + ["--budget", "11"], FILES, (8, b"error budget 12\n")),
+            (PLAN, {name: text for name, text in FILES.items() if name != "s.csv"}, (3, b"error read s.csv\n")),
+        ]:
+            self.assertEqual(safebound.run(words, files), (expected[0], b"", expected[1]))
+
+    def test_words_and_names_of_any_bytes(self):
+        for word in (b"\xff", "\udcff"):
+            self.assertEqual(safebound.run([word], FILES), (15, b"", b""))
+        odd = {b"\xff": "", "": QUERY, "é\0": SCHEMA, "r.csv": FILES["r.csv"], "s.csv": FILES["s.csv"]}
+        self.assertEqual(safebound.run(["run", "é\0", ""], odd), (0, ROWS, NOTES))
+        self.assertEqual(safebound.run(["run"] * 100_000, FILES), (2, b"", b"error usage\n"))
+
+
+class Library(unittest.TestCase):
+    def test_threads(self):
+        answers = []
+        threads = [threading.Thread(target=lambda: answers.extend(safebound.run(RUN, FILES) for _ in range(50))) for _ in range(4)]
+        for thread in threads:
+            thread.start()
+        for thread in threads:
+            thread.join()
+        self.assertEqual(set(answers), {(0, ROWS, NOTES)})
+        self.assertEqual(len(answers), 200)
+
+    def test_where_it_isn_t(self):
+        script = "import safebound\ntry: safebound.run([], {})\nexcept safebound.LibraryNotFound as error: print(error)"
+        with tempfile.TemporaryDirectory() as folder:
+            where = os.path.join(folder, "none.so")
+            done = subprocess.run([sys.executable, "-c", script], env={**os.environ, "SAFEBOUND_COMMAND_LIBRARY": where}, capture_output=True, text=True)
+        self.assertEqual((done.stdout, done.stderr), (f"no libsafebound_command.so: looked for {where}\n", ""))
+
+    def test_exits_are_the_header_s(self):
+        with open(os.path.join(ROOT, "include", "safebound_command.h"), encoding="utf-8") as f:
+            header = f.read()
+        self.assertIn(f"SAFEBOUND_EXIT_WRITE = {command.WRITE_FAULT},", header)
+
+
+class Memory(unittest.TestCase):
+    """From C, each request for memory refused in turn: the line, or, where words can't be had, nothing; and no row is written."""
+
+    def ends(self, refuse, words):
+        with tempfile.TemporaryDirectory() as folder:
+            for name, text in FILES.items():
+                with open(os.path.join(folder, name), "w", newline="", encoding="utf-8") as f:
+                    f.write(text)
+            done = subprocess.run([PROGRAM, *words], cwd=folder, env={**os.environ, "REFUSE": str(refuse)}, capture_output=True)
+        return done.returncode, done.stdout, done.stderr
+
+    def test_each_request_refused(self):
+        for words, out in ((RUN, ROWS), (PLAN, b""), (RUN + ["--reduce"], ROWS)):
+            whole = self.ends(10**9, words)
+            self.assertEqual((whole[0], whole[1]), (0, out))
+            answers = []
+            while answers[-5:] != [whole] * 5:
+                answers.append(self.ends(len(answers), words))
+            self.assertEqual(answers[0], (11, b"", b""))
+            self.assertEqual(set(answers) - {whole}, {(11, b"", b""), (11, b"", b"error memory\n")})
+
+
+unittest.main()

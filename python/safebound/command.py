@@ -1,0 +1,94 @@
+"""The whole program over files in memory."""
+
+from __future__ import annotations
+
+import ctypes
+import functools
+from typing import Iterable, Mapping, NamedTuple, Union
+
+from . import errors
+from ._library import find
+from ._version import VERSION
+
+NAME, VARIABLE = "libsafebound_command.so", "SAFEBOUND_COMMAND_LIBRARY"
+WRITE_FAULT = 10
+LEAST_OUT, LEAST_NOTES, GROWS = 65536, 4096, 8
+
+Text = Union[str, bytes]
+
+
+class _Text(ctypes.Structure):
+    _fields_ = [("bytes", ctypes.c_char_p), ("length", ctypes.c_size_t)]
+
+
+class _File(ctypes.Structure):
+    _fields_ = [("name", _Text), ("bytes", _Text)]
+
+
+class Output(NamedTuple):
+    """What a run answers: the program's exit status, and what it wrote on standard output and on standard error."""
+
+    status: int
+    out: bytes
+    notes: bytes
+
+
+@functools.lru_cache(maxsize=None)
+def _library() -> ctypes.CDLL:
+    where = find(NAME, VARIABLE)
+    found = ctypes.CDLL(str(where))
+    version = ctypes.string_at(ctypes.addressof(ctypes.c_char.in_dll(found, "safebound_command_version"))).decode()
+    if version != VERSION:
+        raise errors.LibraryNotFound(f"{where} isn't of version {VERSION}")
+    size, number = ctypes.c_size_t, ctypes.POINTER(ctypes.c_uint64)
+    found.safebound_command.argtypes = [ctypes.POINTER(_Text), size, ctypes.POINTER(_File), size, ctypes.c_char_p, size, ctypes.c_char_p, size, number, number]
+    found.safebound_command.restype = ctypes.c_uint32
+    return found
+
+
+def _text(value: Text) -> _Text:
+    """The bytes of a text where they lie. The structure keeps them."""
+    held = value.encode("utf-8", "surrogateescape") if isinstance(value, str) else bytes(value)
+    return _Text(held, len(held))
+
+
+def run(words: Iterable[Text], files: Mapping[Text, Text]) -> Output:
+    """Runs the program over files in memory.
+
+    The words are those of its command line, without its own name; files go by the names by which words and tables ask for
+    them. Both texts, the statuses and the limits are the program's: docs/USING.md and docs/ERRORS.md say them.
+
+    >>> files = {
+    ...     "schema.sql": "CREATE TABLE R (X INTEGER NOT NULL); CREATE TABLE S (X INTEGER NOT NULL)",
+    ...     "query.sql": "SELECT R.X FROM R, S WHERE R.X = S.X",
+    ...     "r.csv": "X\\n1\\n1\\n2\\n",
+    ...     "s.csv": "X\\n1\\n3\\n",
+    ... }
+    >>> output = run(["run", "schema.sql", "query.sql"], files)
+    >>> output.status, output.out
+    (0, b'X\\r\\n1\\r\\n1\\r\\n')
+    >>> print(output.notes.decode(), end="")
+    scan R 3
+    scan S 2
+    level 1 S 2
+    level 2 R 3
+    >>> run(["plan", "schema.sql", "query.sql", "--budget", "2"], files)
+    Output(status=8, out=b'', notes=b'error budget 3\\n')
+
+    Raises:
+        LibraryNotFound: libsafebound_command.so isn't there, or is of another version.
+    """
+    call = _library().safebound_command
+    given = [_text(word) for word in words]
+    named = [_File(_text(name), _text(data)) for name, data in files.items()]
+    word_array, file_array = (_Text * len(given))(*given), (_File * len(named))(*named)
+    room, notes_room = LEAST_OUT, LEAST_NOTES
+    while True:
+        out, notes = ctypes.create_string_buffer(room), ctypes.create_string_buffer(notes_room)
+        length, notes_length = ctypes.c_uint64(), ctypes.c_uint64()
+        status = call(word_array, len(given), file_array, len(named), out, room, notes, notes_room, ctypes.byref(length), ctypes.byref(notes_length))
+        # A line that finds too little room is cut at any status.
+        is_cut = notes_length.value == notes_room
+        if not is_cut and not (status == WRITE_FAULT and length.value == room):
+            return Output(status, ctypes.string_at(out, length.value), ctypes.string_at(notes, notes_length.value))
+        room, notes_room = room if is_cut else room * GROWS, notes_room * GROWS if is_cut else notes_room

@@ -1,0 +1,89 @@
+//! The whole program over files in memory.
+
+use crate::calls;
+use crate::errors::Error;
+use safebound_sys as sys;
+
+const LEAST_OUT: usize = 65536;
+const LEAST_NOTES: usize = 4096;
+const GROWS: usize = 8;
+
+/// A command line of the program, over files in memory.
+///
+/// The words are those of its command line, without its own name; files go by the names by which words and tables ask for
+/// them. Both texts, the exit statuses and the limits are the program's: docs/USING.md and docs/ERRORS.md of the repository
+/// say them.
+///
+/// ```
+/// use safebound::Command;
+///
+/// let output = Command::new(["run", "schema.sql", "query.sql"])
+///     .file("schema.sql", "CREATE TABLE R (X INTEGER NOT NULL); CREATE TABLE S (X INTEGER NOT NULL)")
+///     .file("query.sql", "SELECT R.X FROM R, S WHERE R.X = S.X")
+///     .file("r.csv", "X\n1\n1\n2\n")
+///     .file("s.csv", "X\n1\n3\n")
+///     .run()?;
+/// assert_eq!(output.status, 0);
+/// assert_eq!(output.out, b"X\r\n1\r\n1\r\n");
+/// assert_eq!(output.notes, b"scan R 3\nscan S 2\nlevel 1 S 2\nlevel 2 R 3\n");
+/// # Ok::<(), safebound::Error>(())
+/// ```
+#[derive(Clone, Debug)]
+pub struct Command<'a> {
+    words: Vec<&'a [u8]>,
+    files: Vec<(&'a [u8], &'a [u8])>,
+}
+
+/// What a run answers.
+#[derive(Clone, Debug, PartialEq, Eq, Hash)]
+pub struct Output {
+    /// The program's exit status: 0 where it is done.
+    pub status: u32,
+    /// What it wrote on standard output.
+    pub out: Vec<u8>,
+    /// What it wrote on standard error: the plan, or the line that says why there is none.
+    pub notes: Vec<u8>,
+}
+
+impl<'a> Command<'a> {
+    /// A command line over no files yet.
+    pub fn new<W: AsRef<[u8]> + ?Sized + 'a>(words: impl IntoIterator<Item = &'a W>) -> Command<'a> {
+        Command { words: words.into_iter().map(AsRef::as_ref).collect(), files: Vec::new() }
+    }
+
+    /// Adds a file. Of two with one name the first counts.
+    pub fn file<N, B>(&mut self, name: &'a N, bytes: &'a B) -> &mut Command<'a>
+    where
+        N: AsRef<[u8]> + ?Sized,
+        B: AsRef<[u8]> + ?Sized,
+    {
+        self.files.push((name.as_ref(), bytes.as_ref()));
+        self
+    }
+
+    /// Runs it.
+    ///
+    /// # Errors
+    ///
+    /// [`OutOfMemory`](Error::OutOfMemory) where there is no memory for both texts. Want of memory in the run itself is its
+    /// exit status 11.
+    pub fn run(&self) -> Result<Output, Error> {
+        let (mut out, mut notes) = (Vec::new(), Vec::new());
+        let (mut room, mut notes_room) = (LEAST_OUT, LEAST_NOTES);
+        loop {
+            out.try_reserve_exact(room).map_err(|_| Error::OutOfMemory)?;
+            notes.try_reserve_exact(notes_room).map_err(|_| Error::OutOfMemory)?;
+            let ended = calls::command(&self.words, &self.files, &mut out, &mut notes);
+            // A line that finds too little room is cut at any status.
+            if ended.notes == notes.capacity() {
+                notes_room = notes.capacity().saturating_mul(GROWS);
+            } else if ended.status == sys::SAFEBOUND_EXIT_WRITE && ended.out == out.capacity() {
+                room = out.capacity().saturating_mul(GROWS);
+            } else {
+                return Ok(Output { status: ended.status, out, notes });
+            }
+            out.clear();
+            notes.clear();
+        }
+    }
+}
