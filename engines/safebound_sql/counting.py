@@ -1,45 +1,20 @@
 """The one statement that counts: each entry's rows under its own conditions, and how often the values of each joined column
-repeat.
-
-Reduced, an entry keeps those of its rows that meet a row of each entry that it is joined with, found by semi-joins up and
-down the equalities. Each step is a materialised part of the statement, so that the engine computes it once.
+repeat. Reduced, it counts the rows that can take part.
 """
 
 from __future__ import annotations
 
 import csv
-import re
-from dataclasses import dataclass, field
+from dataclasses import dataclass
 from typing import Collection, Iterable
 
 from .engine import Engine
 from .faults import Unreadable, WrongCounts
-from .query import Column, Entry, Query
+from .query import Column, Query
+from .reducing import own_conditions
+from .servers import Source, rows_to_count
 
 HEADER = ("entry", "column", "degree", "keys")
-
-
-@dataclass
-class Parts:
-    """Materialised parts of a statement by their names, and for each entry where its rows are: a part, or its table.
-
-    `sizes` are how many parts a part names, with all that these name in turn.
-    """
-
-    texts: list[tuple[str, str]] = field(default_factory=list)
-    rows: dict[int, str] = field(default_factory=dict)
-    sizes: dict[int, int] = field(default_factory=dict)
-
-    def within(self, entry: int, others: list[int], most: int | None) -> list[int]:
-        """As many of the entries as a new part for this entry may name."""
-        size, kept = self.sizes.get(entry, 0) + 1, []
-        for other in others:
-            if most is None or size + self.sizes[other] <= most:
-                size += self.sizes[other]
-                kept.append(other)
-        if kept or entry not in self.sizes:
-            self.sizes[entry] = size
-        return kept
 
 
 @dataclass
@@ -48,96 +23,6 @@ class Counts:
 
     rows: dict[str, int]
     runs: dict[tuple[str, str], list[tuple[int, int]]]
-
-
-def partners(query: Query) -> dict[int, dict[int, list[tuple[Column, Column]]]]:
-    """For each entry those that it is joined with, and the pairs of columns: its own one first."""
-    found: dict[int, dict[int, list[tuple[Column, Column]]]] = {entry.number: {} for entry in query.entries}
-    for left, right in query.equalities:
-        found[left.entry].setdefault(right.entry, []).append((left.column, right.column))
-        found[right.entry].setdefault(left.entry, []).append((right.column, left.column))
-    return found
-
-
-def components(joined: dict[int, dict]) -> Iterable[list[tuple[int, int | None]]]:
-    """The entries that equalities connect: each list has an entry behind the one by which it was reached."""
-    seen: set[int] = set()
-    for start in joined:
-        if start in seen:
-            continue
-        reached: list[tuple[int, int | None]] = [(start, None)]
-        seen.add(start)
-        for entry, _ in reached:
-            new = [other for other in joined[entry] if other not in seen]
-            seen.update(new)
-            reached += [(other, entry) for other in new]
-        yield reached
-
-
-def steps(query: Query) -> Iterable[tuple[int, list[int]]]:
-    """The semi-joins in their order: an entry, and the entries in whose rows it needs a partner.
-
-    Up and down a tree; where equalities close a cycle by all of them, and up and down once more.
-    """
-    joined = partners(query)
-    for reached in components(joined):
-        down = [entry for entry, _ in reached]
-        up = down[::-1]
-        if sum(len(joined[entry]) for entry in down) == 2 * (len(down) - 1):
-            yield from ((entry, [other for other, parent in reached if parent == entry]) for entry in up)
-            yield from ((entry, [parent]) for entry, parent in reached if parent is not None)
-            continue
-        for at, entry in enumerate(up):
-            yield entry, [other for other in joined[entry] if other in up[:at]]
-        for way in (down[1:], up[1:], down[1:]):
-            yield from ((entry, list(joined[entry])) for entry in way)
-
-
-def reduced(query: Query, engine: Engine, columns: dict[int, list[Column]], prefix: str) -> Parts:
-    """The entries' reduced rows with these of their columns."""
-    joined, parts = partners(query), Parts()
-    for entry, others in steps(query):
-        first = entry not in parts.rows
-        conditions = own_conditions(query.entries[entry]) if first else []
-        others = parts.within(entry, others, engine.most_parts_of_a_part)
-        for other in others:
-            conditions.append(_semi_join(query, engine, entry, other, joined[entry][other], parts.rows[other]))
-        if first or others:
-            _add(parts, query.entries[entry], engine, columns[entry], conditions, prefix)
-    return parts
-
-
-def _add(parts: Parts, entry: Entry, engine: Engine, columns: list[Column], conditions: list[str], prefix: str) -> None:
-    name = f"{prefix}{len(parts.texts) + 1}"
-    outputs = ", ".join(f"{entry.alias}.{engine.quote(column.name)}" for column in columns) or f"1 AS {engine.quote(prefix)}"
-    rows = parts.rows.get(entry.number, entry.table)
-    text = f"SELECT {outputs} FROM {rows} AS {entry.alias}{where(conditions)}"
-    parts.texts.append((name, text))
-    parts.rows[entry.number] = name
-
-
-def _semi_join(query: Query, engine: Engine, entry: int, other: int, pairs: list[tuple[Column, Column]], rows: str) -> str:
-    """By IN, for which SQLite makes an index once, and PostgreSQL a hash. Not every engine takes several columns there."""
-    mine, yours = query.entries[entry].alias, query.entries[other].alias
-    if len(pairs) > 1 and not engine.takes_rows_in:
-        meet = [f"{yours}.{engine.quote(right.name)} = {mine}.{engine.quote(left.name)}" for left, right in pairs]
-        return f"EXISTS (SELECT 1 FROM {rows} AS {yours}{where(meet)})"
-    left = ", ".join(f"{mine}.{engine.quote(column.name)}" for column, _ in pairs)
-    right = ", ".join(f"{yours}.{engine.quote(column.name)}" for _, column in pairs)
-    return f"{left if len(pairs) == 1 else f'({left})'} IN (SELECT {right} FROM {rows} AS {yours})"
-
-
-def own_conditions(entry: Entry) -> list[str]:
-    return [bracketed(str(text)) for text in entry.own]
-
-
-def bracketed(condition: str) -> str:
-    """The condition as a part of an AND: in parentheses where it may have an OR."""
-    return f"({condition})" if re.search(r"\bOR\b", condition, re.IGNORECASE) else condition
-
-
-def where(conditions: list[str]) -> str:
-    return f" WHERE {' AND '.join(conditions)}" if conditions else ""
 
 
 def prefix_for(texts: Iterable[str]) -> str:
@@ -155,19 +40,20 @@ def counting(query: Query, engine: Engine, prefix: str, reduce: bool, known: Col
     degrees are known only that is asked.
     """
     columns = {entry.number: [] if entry.number in known else query.joined(entry.number) for entry in query.entries}
-    parts = reduced(query, engine, columns, prefix) if reduce else Parts()
-    selects = []
-    for entry in query.entries:
-        kept = entry.number in parts.rows
-        rows = f"FROM {parts.rows.get(entry.number, entry.table)} AS {entry.alias}{where([] if kept else own_conditions(entry))}"
-        selects += histograms(entry, columns[entry.number], engine, rows)
-    return engine.with_parts(parts.texts, "\nUNION ALL ".join(selects))
+    texts: list[tuple[str, str]] = []
+    sources = {entry.number: Source(entry, own_conditions(entry)) for entry in query.entries}
+    if reduce:
+        texts, sources = rows_to_count(query, engine, columns, prefix)
+    selects = [text for number, source in sources.items() for text in histograms(source, columns[number], engine)]
+    return engine.with_parts(texts, "\nUNION ALL ".join(selects))
 
 
-def histograms(entry: Entry, columns: list[Column], engine: Engine, rows: str) -> list[str]:
-    """The parts of a counting statement that are of one entry, over what `rows` says: its FROM and WHERE."""
-    total = _line(engine, _text(entry.name), "''", "COUNT(*)", "1", rows)
-    return [total] + [_histogram(entry, column, engine, rows) for column in columns]
+def histograms(source: Source, columns: list[Column], engine: Engine) -> list[str]:
+    """What a counting statement asks of one entry."""
+    name = _text(source.entry.name)
+    degree, rows = source.total()
+    total = _line(engine, name, "''", degree, "1", rows)
+    return [total] + [_histogram(name, column, engine, source) for column in columns]
 
 
 def _line(engine: Engine, entry: str, column: str, degree: str, keys: str, rows: str) -> str:
@@ -175,11 +61,9 @@ def _line(engine: Engine, entry: str, column: str, degree: str, keys: str, rows:
     return f"SELECT {values} {rows}"
 
 
-def _histogram(entry: Entry, column: Column, engine: Engine, rows: str) -> str:
-    """COUNT of the column, not of rows: where it is NULL the degree is 0."""
-    value = f"{entry.alias}.{engine.quote(column.name)}"
-    degrees = f"FROM (SELECT COUNT({value}) AS d {rows} GROUP BY {value}) AS degrees GROUP BY d"
-    return _line(engine, _text(entry.name), _text(column.name), "d", "COUNT(*)", degrees)
+def _histogram(entry: str, column: Column, engine: Engine, source: Source) -> str:
+    degrees = f"FROM ({source.degrees(column, engine)}) AS degrees GROUP BY d"
+    return _line(engine, entry, _text(column.name), "d", "COUNT(*)", degrees)
 
 
 def _text(name: str) -> str:

@@ -55,6 +55,10 @@ class Engine(ABC):
         """Whether there a function begins that asks for the time, which may be another one at each statement."""
         return False
 
+    def sent(self, value: str, column: Column, rows: str) -> str:
+        """A condition for other servers: the value is among those of a column of a part, which go along."""
+        raise NotImplementedError(f"{self.title} has no tables on other servers")
+
     @abstractmethod
     def table(self, name: list[Token]) -> Table | None:
         """The table or view of this name, or None."""

@@ -12,12 +12,14 @@ import os
 from dataclasses import dataclass, field
 from typing import Iterable, List, Tuple
 
-from .counting import counts_among, histograms, own_conditions, where
+from .counting import counts_among, histograms
 from .engine import Engine
 from .faults import Missing, Unreadable, WrongCounts
 from .levels import library
 from .meaning import Meaning
 from .query import Column, Entry, Query
+from .reducing import own_conditions
+from .servers import Source
 
 FORM = "safebound-sql kept counts 1"
 
@@ -109,7 +111,7 @@ class Kept:
             columns[identity] = [c for c in entry.about.by_key.values() if c in own or (c.name in before and c.kind is not None)]
         parts = [
             part for identity, entry in entries.items()
-            for part in histograms(_called(entry, identity), columns[identity], engine, f"FROM {entry.table} AS {entry.alias}")
+            for part in histograms(Source(_called(entry, identity), []), columns[identity], engine)
         ]
         counts = counts_among(columns, engine.rows("\nUNION ALL ".join(parts)))
         for identity, entry in entries.items():
@@ -135,9 +137,8 @@ class Kept:
         if kept is None or len(columns) < len(kept.types) or not all(map(kept.has, columns)):
             raise WrongCounts(f"{self.file} has no counts of {table} as it is; keep them anew")
         conditions = own_conditions(entry) + list(map(str, query.constants))
-        whole, new = _called(entry, "whole"), _called(entry, "new")
-        source = f"FROM {entry.table} AS {entry.alias}"
-        parts = histograms(whole, [], engine, source) + histograms(new, columns, engine, source + where(conditions))
+        whole, new = Source(_called(entry, "whole"), []), Source(_called(entry, "new"), conditions)
+        parts = histograms(whole, [], engine) + histograms(new, columns, engine)
         counts = counts_among({"whole": [], "new": columns}, engine.rows("\nUNION ALL ".join(parts)))
         if kept.rows + counts.rows["new"] != counts.rows["whole"]:
             told = f"{kept.rows} rows are kept and {counts.rows['new']} come to them, but {table} has {counts.rows['whole']}"

@@ -10,7 +10,7 @@ from typing import Iterator
 
 from .engine import Engine, one_line, with_names
 from .faults import EngineFault, Missing
-from .query import Column, Table
+from .query import Column, Spread, Table
 from .tokens import POSTGRES, Token, written
 
 try:
@@ -42,6 +42,22 @@ WHERE provolatile = 'v' AND oprname = ANY(%(bare)s) AND pg_operator_is_visible(o
 
 VIEWS = """
 SELECT name, pg_get_viewdef(oid) FROM unnest(%s::text[]) AS name JOIN pg_class ON oid = to_regclass(name) WHERE relkind = 'v'
+"""
+
+# The leaves of a partitioned table of which at least one is a foreign table, or a foreign table alone. A leaf is asked as the table
+# would be: whoever may read the table may read it, and no policy hides rows of it. The column is that of which PostgreSQL
+# sends a whole GROUP BY to each leaf.
+SPREAD = """
+WITH leaves AS (
+    SELECT relid, level FROM pg_partition_tree(%(table)s) WHERE isleaf
+    UNION SELECT oid, 0 FROM pg_class WHERE oid = %(table)s AND relkind = 'f' AND NOT relhassubclass)
+SELECT array_agg(format('%%I.%%I', nspname, relname) ORDER BY relid),
+       (SELECT attname FROM pg_partitioned_table p JOIN pg_attribute a ON a.attrelid = partrelid AND a.attnum = partattrs[0]
+        WHERE partrelid = %(table)s AND partnatts = 1 AND max(level) = 1 AND partcollation[0] = attcollation
+        AND current_setting('enable_partitionwise_aggregate')::boolean)
+FROM leaves JOIN pg_class c ON c.oid = relid JOIN pg_namespace n ON n.oid = relnamespace
+HAVING bool_or(relkind = 'f') AND bool_and(has_table_privilege(relid, 'SELECT')) AND NOT bool_or(relrowsecurity)
+    AND NOT (SELECT relrowsecurity FROM pg_class WHERE oid = %(table)s)
 """
 
 TABLE = """
@@ -94,7 +110,26 @@ class Postgres(Engine):
             if found is None:
                 return None
             columns = tuple(Column(*row) for row in self.connection.execute(COLUMNS, found[:1]))
-        return Table(columns, {column.name: column for column in columns}, f"{self.cluster} {found[1]}")
+            spread = self._spread(found[0])
+        return Table(columns, {column.name: column for column in columns}, f"{self.cluster} {found[1]}", spread)
+
+    def _spread(self, table: int) -> Spread | None:
+        """PostgreSQL takes the values that go along for ten, and would join by nested loops what it takes for few rows.
+
+        Where there is no other way it still does, at a price that it would compile the statement for.
+        """
+        found = self.connection.execute(SPREAD, {"table": table}).fetchone()
+        if found is None:
+            return None
+        self.connection.execute("SET LOCAL enable_nestloop = off; SET LOCAL jit = off")
+        self.keeps_order = f"{Postgres.keeps_order}; SET enable_nestloop = off; SET jit = off"
+        return Spread(tuple(found[0]), found[1])
+
+    def sent(self, value: str, column: Column, rows: str) -> str:
+        """postgres_fdw sends no conversion of an array, and texts of any length are compared as texts without a length."""
+        name = self.quote(column.name)
+        values = f"CAST({name} AS TEXT)" if column.type.startswith("character varying") else name
+        return f"{value} = ANY(ARRAY(SELECT {values} FROM {rows}))"
 
     @functools.cached_property
     def cluster(self) -> str:

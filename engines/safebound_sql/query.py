@@ -17,16 +17,26 @@ class Column(NamedTuple):
     kind: Hashable | None
 
 
+class Spread(NamedTuple):
+    """Where the rows of a table are that lie on other servers: its parts, as SQL names them, and the column of which each
+    value is in one part alone, if the engine groups by it part by part."""
+
+    parts: tuple[str, ...]
+    by: str | None
+
+
 class Table(NamedTuple):
     """A table or view: its columns in declared order, and by the key that the engine finds them by.
 
     `columns` are those that a star stands for. `identity` tells it from all other tables, where that is known:
-    what it is called where, # and what is another number when it was made anew.
+    what it is called where, # and what is another number when it was made anew. `spread` says where its rows are, if they
+    lie on other servers.
     """
 
     columns: tuple[Column, ...]
     by_key: dict[str, Column]
     identity: str | None = None
+    spread: Spread | None = None
 
 
 class Named(NamedTuple):

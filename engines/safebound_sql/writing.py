@@ -2,10 +2,11 @@
 
 from __future__ import annotations
 
-from .counting import Parts, bracketed, own_conditions, reduced, where
 from .engine import Engine
 from .levels import Level, Plan, Shape, entries_of
 from .query import Named, Query, Text
+from .reducing import Parts, bracketed, own_conditions, where
+from .servers import rows_to_join
 
 
 class Writer:
@@ -14,7 +15,7 @@ class Writer:
     def __init__(self, query: Query, engine: Engine, prefix: str, reduce: bool) -> None:
         self.query, self.engine, self.prefix = query, engine, prefix
         self.columns = {entry.number: query.used(entry.number) for entry in query.entries}
-        self.parts = reduced(query, engine, self.columns, prefix) if reduce else Parts()
+        self.parts = rows_to_join(query, engine, self.columns, prefix) if reduce else Parts()
 
     def query_in_order(self, plan: Plan) -> str:
         """The query with its joins written in the planned order."""

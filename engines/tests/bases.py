@@ -16,6 +16,7 @@ from safebound_sql.planner import Planner
 
 ROOT = Path(__file__).resolve().parents[2]
 POSTGRES = os.environ.get("SAFEBOUND_SQL_POSTGRES")
+CLUSTER = os.environ.get("SAFEBOUND_SQL_CLUSTER")
 
 
 class SqliteBase:
@@ -74,6 +75,46 @@ class PostgresBase:
         self.connection.close()
 
 
+class ClusterBase:
+    """The cluster's database, emptied. The same tables and rows are on one server, which is asked for what is true."""
+
+    engine = "postgres"
+
+    def __init__(self) -> None:
+        from cluster import Cluster
+
+        self.cluster, self.alone = Cluster(CLUSTER), PostgresBase()
+        for server in self.cluster.all:
+            self.on(server, "DROP SCHEMA public CASCADE; CREATE SCHEMA public")
+        self.url = self.cluster.url
+
+    def on(self, server, sql: str) -> list[tuple]:
+        from cluster import connected
+
+        with connected(server) as connection:
+            answer = connection.execute(sql)
+            return answer.fetchall() if answer.description else []
+
+    def script(self, text: str) -> None:
+        self.cluster.script(text)
+        self.alone.script(text)
+
+    def fill(self, table: str, rows: list[tuple]) -> None:
+        import psycopg
+
+        with psycopg.connect(self.url, autocommit=True) as connection, connection.cursor() as cursor:
+            with cursor.copy(f"COPY {table} FROM STDIN") as into:
+                for row in rows:
+                    into.write_row(row)
+        self.alone.fill(table, rows)
+
+    def rows(self, sql: str) -> list[tuple]:
+        return self.alone.rows(sql)
+
+    def close(self) -> None:
+        self.alone.close()
+
+
 class OnEachEngine(unittest.TestCase):
     """Tests that run on SQLite, and on PostgreSQL by a class below them. `schema` and `fill` make the tables."""
 
@@ -123,6 +164,13 @@ def on_postgres(test: type[OnEachEngine]) -> type[OnEachEngine]:
     """The same tests on PostgreSQL, passed over where there is none."""
     return unittest.skipUnless(POSTGRES, "no PostgreSQL")(
         type(test.__name__ + "OnPostgres", (test,), {"base_class": PostgresBase, "__module__": test.__module__})
+    )
+
+
+def on_cluster(test: type[OnEachEngine]) -> type[OnEachEngine]:
+    """The same tests on the cluster, passed over where there is none."""
+    return unittest.skipUnless(CLUSTER, "no cluster")(
+        type(test.__name__ + "OnCluster", (test,), {"base_class": ClusterBase, "__module__": test.__module__})
     )
 
 

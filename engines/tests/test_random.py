@@ -15,9 +15,12 @@ QUERIES_OF_A_DATABASE = 10
 
 
 class RandomQueries(OnEachEngine):
+    def queries(self) -> int:
+        return QUERIES
+
     def test_random_queries(self) -> None:
         done = joined = 0
-        for number in range(SEED, SEED + QUERIES):
+        for number in range(SEED, SEED + self.queries()):
             randomly = Randomly(number, self.base.engine)
             if (number - SEED) % QUERIES_OF_A_DATABASE == 0:
                 self.doCleanups()
@@ -28,8 +31,8 @@ class RandomQueries(OnEachEngine):
             with self.subTest(number=number, query=found.text):
                 joined += self.check(randomly, found)
                 done += 1
-        self.assertEqual(done, QUERIES)
-        self.assertGreater(joined, QUERIES // 4)
+        self.assertEqual(done, self.queries())
+        self.assertGreater(joined, self.queries() // 4)
 
     def check(self, randomly: Randomly, found) -> bool:
         """Checks one query. Answers whether bounds had an equality to go by."""

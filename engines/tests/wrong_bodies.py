@@ -13,7 +13,7 @@ from pathlib import Path
 HERE = Path(__file__).resolve().parent
 PACKAGE = HERE.parent / "safebound_sql"
 ROOT = HERE.parents[1]
-POSTGRES = "OnPostgres"
+WANTS_SERVERS = ("OnPostgres", "OfPostgres", "test_cluster")
 
 
 @dataclass
@@ -28,7 +28,7 @@ class Edit:
 
 
 EDITS = [
-    Edit("NULLs are counted as one value", "counting.py", "SELECT COUNT({value}) AS d", "SELECT COUNT(*) AS d",
+    Edit("NULLs are counted as one value", "servers.py", "SELECT COUNT({value}) AS d", "SELECT COUNT(*) AS d",
          "test_meaning.Counted.test_null_is_no_value"),
     Edit("an equality of a number with a text is an edge", "meaning.py",
          "one.column.kind is None or one.column.kind != other.column.kind", "one.column.kind is None",
@@ -42,8 +42,8 @@ EDITS = [
     Edit("ANY of a strict table is numeric", "sqlite.py", ' or (strict and name == "ANY")', "",
          "test_meaning.EdgesOfSqlite.test_any_of_a_strict_table"),
     Edit("the histogram is of values without the entry's own condition", "counting.py",
-         "where([] if kept else own_conditions(entry))", "where([])", "test_meaning.Counted.test_own_conditions_come_first"),
-    Edit("rows are reduced without the entry's own condition", "counting.py",
+         "Source(entry, own_conditions(entry))", "Source(entry, [])", "test_meaning.Counted.test_own_conditions_come_first"),
+    Edit("rows are reduced without the entry's own condition", "reducing.py",
          "own_conditions(query.entries[entry]) if first else []", "[]", "test_meaning.Counted.test_rows_without_a_partner_go"),
     Edit("an OR over two entries is an edge", "reading.py",
          '        if word.says("OR"):\n            return [condition]\n',
@@ -117,8 +117,8 @@ EDITS = [
     Edit("levels aren't tables where no setting keeps the order", "writing.py",
          "(self._side if self.engine.makes_tables else self._from)(left)", "self._from(left)",
          "test_dialects.Written.test_the_way_to_keep_the_order"),
-    Edit("counts under a condition are kept", "kept.py", 'f"FROM {entry.table} AS {entry.alias}")\n        ]\n',
-         'f"FROM {entry.table} AS {entry.alias}{where(own_conditions(entry))}")\n        ]\n',
+    Edit("counts under a condition are kept", "kept.py", "Source(_called(entry, identity), [])",
+         "Source(_called(entry, identity), own_conditions(entry))",
          "test_kept.Taken.test_whole_tables_are_kept"),
     Edit("kept counts are taken for an entry with a condition", "kept.py", "if table and not entry.own and all(", "if table and all(",
          "test_kept.Taken.test_an_entry_with_a_condition_is_counted_now"),
@@ -139,6 +139,40 @@ EDITS = [
          "test_kept.Taken.test_rows_that_came_later"),
     Edit("degrees of new rows stand beside the old ones", "kept.py", "proved.append(old, new)", "sorted(old + new, reverse=True)",
          "test_kept.Taken.test_rows_that_are_appended"),
+    Edit("NULLs of several servers are counted as one value", "servers.py", "SELECT COUNT({value}) AS n", "SELECT COUNT(*) AS n",
+         "test_cluster.OtherTables.test_a_value_of_two_servers"),
+    Edit("what two servers say of a value isn't added up", "servers.py",
+         "SELECT CAST(SUM(n) AS BIGINT) AS d FROM ({counts}) AS servers GROUP BY v", "SELECT n AS d FROM ({counts}) AS servers",
+         "test_cluster.OtherTables.test_a_value_of_two_servers"),
+    Edit("a server isn't asked", "servers.py", "return spread.parts if spread", "return spread.parts[:1] if spread",
+         "test_cluster.OtherTables.test_a_value_of_two_servers"),
+    Edit("the rows of a table are fetched to be counted", "servers.py", "            return \"COUNT(*)\", self._rows(*self._tables())\n",
+         "            return \"COUNT(*)\", self._rows(*self._tables())\n        return \"COUNT(*)\", self._rows(self.entry.table)\n",
+         "test_cluster.TheShop.test_no_whole_table_is_fetched"),
+    Edit("the rows of a table are fetched to be grouped", "servers.py", "self.entry.about.spread.by == column.name", "True",
+         "test_cluster.TheShop.test_no_whole_table_is_fetched"),
+    Edit("the rows of a table are fetched for a semi-join", "postgres.py", "{value} = ANY(ARRAY(SELECT {values} FROM {rows}))",
+         "{value} IN (SELECT {values} FROM {rows})", "test_cluster.TheShop.test_no_whole_table_is_fetched"),
+    Edit("texts of some length stay where they are", "postgres.py", 'f"CAST({name} AS TEXT)" if', "name if",
+         "test_cluster.OtherTables.test_texts_of_any_length_go_along"),
+    Edit("entries under no condition send all of their values", "servers.py", "for other in others if other in limited]", "for other in others]",
+         "test_cluster.TheShop.test_entries_under_no_condition_tell_nothing_at_first"),
+    Edit("entries under no condition never tell anything", "servers.py", "        if silent:\n", "        if False:\n",
+         "test_cluster.OtherTables.test_entries_under_no_condition_tell_in_the_end"),
+    Edit("what was left at first is all that goes along", "servers.py",
+         "self.among[entry][other] = self._among(entry, other, joined[entry][other])",
+         "self.among[entry].setdefault(other, self._among(entry, other, joined[entry][other]))",
+         "test_cluster.OtherTables.test_entries_under_no_condition_tell_in_the_end"),
+    Edit("values of two columns needn't be of one row", "servers.py", "return sent if len(sent) == 1 else sent + [exact]", "return sent",
+         "test_cluster.OtherTables.test_two_equalities_of_the_same_entries"),
+    Edit("an entry's own condition isn't of what it tells", "servers.py",
+         "return own_conditions(self.query.entries[entry]) + [text", "return [text", "test_cluster.OtherTables.test_cycles"),
+    Edit("rows that are taken for few are joined by nested loops", "postgres.py",
+         "SET LOCAL enable_nestloop = off", "SET LOCAL enable_nestloop = on", "test_cluster.TheShop.test_no_nested_loops"),
+    Edit("parts are asked that may not be read", "postgres.py", "bool_and(has_table_privilege(relid, 'SELECT')) AND ", "",
+         "test_cluster.OtherTables.test_parts_that_may_not_be_read"),
+    Edit("parts are asked of which rows are hidden", "postgres.py", " AND NOT bool_or(relrowsecurity)", "",
+         "test_cluster.OtherTables.test_policies_of_parts"),
     Edit("appended rows needn't add up", "kept.py", 'if kept.rows + counts.rows["new"] != counts.rows["whole"]:', "if False:",
          "test_kept.Taken.test_rows_that_dont_add_up"),
 ]
@@ -152,7 +186,7 @@ def tried(edit: Edit) -> str:
         if text.count(edit.old) != 1:
             return f"stands {text.count(edit.old)} times"
         (copy / edit.file).write_text(text.replace(edit.old, edit.new))
-        path = os.pathsep.join([folder, str(HERE), *filter(None, [os.environ.get("PYTHONPATH")]), str(ROOT / "python")])
+        path = os.pathsep.join([folder, str(HERE), str(HERE.parent / "servers"), *filter(None, [os.environ.get("PYTHONPATH")]), str(ROOT / "python")])
         ran = subprocess.run(
             [sys.executable, "-B", "-m", "unittest", edit.test], cwd=HERE, env={**os.environ, "PYTHONPATH": path},
             capture_output=True, text=True,
@@ -165,7 +199,7 @@ def tried(edit: Edit) -> str:
 def main() -> int:
     wrong = 0
     for edit in EDITS:
-        if (POSTGRES in edit.test or "OfPostgres" in edit.test) and not os.environ.get("SAFEBOUND_SQL_POSTGRES"):
+        if any(word in edit.test for word in WANTS_SERVERS) and not os.environ.get("SAFEBOUND_SQL_POSTGRES"):
             print(f"passed over  {edit.name}")
             continue
         result = tried(edit)

@@ -1,0 +1,134 @@
+"""Rows that can take part: semi-joins up and down the equalities, and the parts of a statement that they are written as.
+
+Reduced, an entry keeps those of its rows that meet a row of each entry that it is joined with. Each step is a materialised
+part of the statement, so that the engine computes it once.
+"""
+
+from __future__ import annotations
+
+import re
+from dataclasses import dataclass, field
+from typing import Iterable
+
+from .engine import Engine
+from .query import Column, Entry, Query
+
+
+@dataclass
+class Parts:
+    """Materialised parts of a statement by their names, and for each entry where its rows are: a part, or its table.
+
+    `sizes` are how many parts a part names, with all that these name in turn.
+    """
+
+    texts: list[tuple[str, str]] = field(default_factory=list)
+    rows: dict[int, str] = field(default_factory=dict)
+    sizes: dict[int, int] = field(default_factory=dict)
+
+    def within(self, entry: int, others: list[int], most: int | None) -> list[int]:
+        """As many of the entries as a new part for this entry may name."""
+        size, kept = self.sizes.get(entry, 0) + 1, []
+        for other in others:
+            if most is None or size + self.sizes[other] <= most:
+                size += self.sizes[other]
+                kept.append(other)
+        if kept or entry not in self.sizes:
+            self.sizes[entry] = size
+        return kept
+
+    def add(self, entry: Entry, engine: Engine, columns: list[Column], conditions: list[str], prefix: str) -> None:
+        """A new part with these columns of an entry's rows, as far as the conditions are true."""
+        name = f"{prefix}{len(self.texts) + 1}"
+        outputs = ", ".join(f"{entry.alias}.{engine.quote(column.name)}" for column in columns) or f"1 AS {engine.quote(prefix)}"
+        rows = self.rows.get(entry.number, entry.table)
+        self.texts.append((name, f"SELECT {outputs} FROM {rows} AS {entry.alias}{where(conditions)}"))
+        self.rows[entry.number] = name
+
+
+def partners(query: Query) -> dict[int, dict[int, list[tuple[Column, Column]]]]:
+    """For each entry those that it is joined with, and the pairs of columns: its own one first."""
+    found: dict[int, dict[int, list[tuple[Column, Column]]]] = {entry.number: {} for entry in query.entries}
+    for left, right in query.equalities:
+        found[left.entry].setdefault(right.entry, []).append((left.column, right.column))
+        found[right.entry].setdefault(left.entry, []).append((right.column, left.column))
+    return found
+
+
+def components(joined: dict[int, dict]) -> Iterable[list[tuple[int, int | None]]]:
+    """The entries that equalities connect: each list has an entry behind the one by which it was reached."""
+    seen: set[int] = set()
+    for start in joined:
+        if start in seen:
+            continue
+        reached: list[tuple[int, int | None]] = [(start, None)]
+        seen.add(start)
+        for entry, _ in reached:
+            new = [other for other in joined[entry] if other not in seen]
+            seen.update(new)
+            reached += [(other, entry) for other in new]
+        yield reached
+
+
+def closes_a_cycle(joined: dict[int, dict], reached: list[tuple[int, int | None]]) -> bool:
+    return sum(len(joined[entry]) for entry, _ in reached) != 2 * (len(reached) - 1)
+
+
+def along_a_tree(reached: list[tuple[int, int | None]]) -> Iterable[tuple[int, list[int]]]:
+    """Up and down: after it, whatever can go has gone."""
+    yield from ((entry, [other for other, parent in reached if parent == entry]) for entry, _ in reversed(reached))
+    yield from ((entry, [parent]) for entry, parent in reached if parent is not None)
+
+
+def around_a_cycle(joined: dict[int, dict], reached: list[tuple[int, int | None]]) -> Iterable[tuple[int, list[int]]]:
+    """By all equalities, up and down, and once more. More could go."""
+    down = [entry for entry, _ in reached]
+    up = down[::-1]
+    for at, entry in enumerate(up):
+        yield entry, [other for other in joined[entry] if other in up[:at]]
+    for way in (down[1:], up[1:], down[1:]):
+        yield from ((entry, list(joined[entry])) for entry in way)
+
+
+def steps(query: Query) -> Iterable[tuple[int, list[int]]]:
+    """The semi-joins in their order: an entry, and the entries in whose rows it needs a partner."""
+    joined = partners(query)
+    for reached in components(joined):
+        yield from around_a_cycle(joined, reached) if closes_a_cycle(joined, reached) else along_a_tree(reached)
+
+
+def reduced(query: Query, engine: Engine, columns: dict[int, list[Column]], prefix: str) -> Parts:
+    """The entries' reduced rows with these of their columns."""
+    joined, parts = partners(query), Parts()
+    for entry, others in steps(query):
+        first = entry not in parts.rows
+        conditions = own_conditions(query.entries[entry]) if first else []
+        others = parts.within(entry, others, engine.most_parts_of_a_part)
+        for other in others:
+            conditions.append(semi_join(query, engine, entry, other, joined[entry][other], parts.rows[other]))
+        if first or others:
+            parts.add(query.entries[entry], engine, columns[entry], conditions, prefix)
+    return parts
+
+
+def semi_join(query: Query, engine: Engine, entry: int, other: int, pairs: list[tuple[Column, Column]], rows: str) -> str:
+    """By IN, for which SQLite makes an index once, and PostgreSQL a hash. Not every engine takes several columns there."""
+    mine, yours = query.entries[entry].alias, query.entries[other].alias
+    if len(pairs) > 1 and not engine.takes_rows_in:
+        meet = [f"{yours}.{engine.quote(right.name)} = {mine}.{engine.quote(left.name)}" for left, right in pairs]
+        return f"EXISTS (SELECT 1 FROM {rows} AS {yours}{where(meet)})"
+    left = ", ".join(f"{mine}.{engine.quote(column.name)}" for column, _ in pairs)
+    right = ", ".join(f"{yours}.{engine.quote(column.name)}" for _, column in pairs)
+    return f"{left if len(pairs) == 1 else f'({left})'} IN (SELECT {right} FROM {rows} AS {yours})"
+
+
+def own_conditions(entry: Entry) -> list[str]:
+    return [bracketed(str(text)) for text in entry.own]
+
+
+def bracketed(condition: str) -> str:
+    """The condition as a part of an AND: in parentheses where it may have an OR."""
+    return f"({condition})" if re.search(r"\bOR\b", condition, re.IGNORECASE) else condition
+
+
+def where(conditions: list[str]) -> str:
+    return f" WHERE {' AND '.join(conditions)}" if conditions else ""

@@ -1,0 +1,146 @@
+"""Tables whose rows lie on other servers: these filter and count their own rows, and send what is left of a column.
+
+PostgreSQL sends a server a whole count or GROUP BY over one of its tables, and a comparison with the values of an array. It
+sends neither a semi-join nor a part of an aggregate, and would fetch the rows for it. So each part of a table is asked by
+itself, what the servers say of a value is added up here, and in place of a semi-join the values that are left of the other
+column go along.
+"""
+
+from __future__ import annotations
+
+from dataclasses import dataclass
+from typing import Iterable
+
+from .engine import Engine
+from .query import Column, Entry, Query
+from .reducing import Parts, along_a_tree, around_a_cycle, closes_a_cycle, components, own_conditions, partners, reduced, semi_join, where
+
+
+@dataclass
+class Source:
+    """Where an entry's rows are asked for: in a part of the statement, or in its table under conditions."""
+
+    entry: Entry
+    conditions: list[str]
+    part: str | None = None
+
+    def total(self) -> tuple[str, str]:
+        """The number of rows, and where it is taken from."""
+        if len(self._tables()) == 1:
+            return "COUNT(*)", self._rows(*self._tables())
+        counts = " UNION ALL ".join(f"SELECT COUNT(*) AS n {self._rows(table)}" for table in self._tables())
+        return "CAST(SUM(n) AS BIGINT)", f"FROM ({counts}) AS servers"
+
+    def degrees(self, column: Column, engine: Engine) -> str:
+        """How many rows each value of the column has: those of all servers, unless each value is on one alone.
+
+        COUNT of the column, not of rows: where it is NULL the degree is 0.
+        """
+        value = f"{self.entry.alias}.{engine.quote(column.name)}"
+        if len(self._tables()) == 1 or self.entry.about.spread.by == column.name:
+            return f"SELECT COUNT({value}) AS d {self._rows(self.part or self.entry.table)}{self._groups(value)}"
+        counts = " UNION ALL ".join(
+            f"SELECT COUNT({value}) AS n, {value} AS v {self._rows(table)}{self._groups(value)}" for table in self._tables()
+        )
+        return f"SELECT CAST(SUM(n) AS BIGINT) AS d FROM ({counts}) AS servers GROUP BY v"
+
+    def values(self, columns: list[Column], engine: Engine) -> str:
+        """The values of these columns, from each server once."""
+        values = ", ".join(f"{self.entry.alias}.{engine.quote(column.name)}" for column in columns)
+        return " UNION ALL ".join(f"SELECT {values} {self._rows(table)}{self._groups(values)}" for table in self._tables())
+
+    def _groups(self, values: str) -> str:
+        """Where there are as many groups as rows PostgreSQL may fetch the rows. It takes any HAVING to leave fewer groups."""
+        return f" GROUP BY {values}" + (" HAVING COUNT(*) > 0" if self.entry.about.spread and not self.part else "")
+
+    def _tables(self) -> tuple[str, ...]:
+        """What is asked one by one."""
+        spread = None if self.part else self.entry.about.spread
+        return spread.parts if spread else (self.part or self.entry.table,)
+
+    def _rows(self, table: str) -> str:
+        return f"FROM {table} AS {self.entry.alias}{where(self.conditions)}"
+
+
+class Limits:
+    """For each entry what its rows have to satisfy: its own conditions, and that its values are among those that are left of
+    its partners. `texts` are the parts of a statement with these values."""
+
+    def __init__(self, query: Query, engine: Engine, prefix: str) -> None:
+        self.query, self.engine, self.prefix = query, engine, prefix
+        self.names: dict[str, str] = {}
+        self.among: dict[int, dict[int, list[str]]] = {entry.number: {} for entry in query.entries}
+        joined = partners(query)
+        for entry, others in steps_elsewhere(query, joined):
+            for other in others:
+                # What is left of the other is less than before, so the new condition says all of the old one.
+                self.among[entry][other] = self._among(entry, other, joined[entry][other])
+
+    @property
+    def texts(self) -> list[tuple[str, str]]:
+        return [(name, text) for text, name in self.names.items()]
+
+    def of(self, entry: int) -> list[str]:
+        return own_conditions(self.query.entries[entry]) + [text for texts in self.among[entry].values() for text in texts]
+
+    def _among(self, entry: int, other: int, pairs: list[tuple[Column, Column]]) -> list[str]:
+        source = Source(self.query.entries[other], self.of(other))
+        text = source.values(list(dict.fromkeys(right for _, right in pairs)), self.engine)
+        values = self.names.setdefault(text, f"{self.prefix}{len(self.names) + 1}")
+        exact = semi_join(self.query, self.engine, entry, other, pairs, values)
+        if not self.query.entries[entry].about.spread:
+            return [exact]
+        mine = self.query.entries[entry].alias
+        sent = [self.engine.sent(f"{mine}.{self.engine.quote(left.name)}", right, values) for left, right in pairs]
+        return sent if len(sent) == 1 else sent + [exact]
+
+
+def steps_elsewhere(query: Query, joined: dict[int, dict]) -> Iterable[tuple[int, list[int]]]:
+    """The semi-joins in their order. They leave the same rows as `steps`.
+
+    Along a tree an entry under no condition first tells the others nothing, since all of its values would go along.
+    """
+    limited = {entry.number for entry in query.entries if entry.own}
+    for reached in components(joined):
+        if closes_a_cycle(joined, reached):
+            yield from around_a_cycle(joined, reached)
+            continue
+        silent = False
+        for entry, others in along_a_tree(reached):
+            telling = [other for other in others if other in limited]
+            silent |= telling != others
+            if telling:
+                limited.add(entry)
+                yield entry, telling
+        if silent:
+            yield from along_a_tree(reached)
+
+
+def lies_elsewhere(query: Query) -> bool:
+    return any(entry.about.spread for entry in query.entries)
+
+
+def rows_to_count(
+    query: Query, engine: Engine, columns: dict[int, list[Column]], prefix: str
+) -> tuple[list[tuple[str, str]], dict[int, Source]]:
+    """Parts of a statement, and where by them each entry's reduced rows are."""
+    if lies_elsewhere(query):
+        limits = Limits(query, engine, prefix)
+        return limits.texts, {entry.number: Source(entry, limits.of(entry.number)) for entry in query.entries}
+    parts = reduced(query, engine, columns, prefix)
+    return parts.texts, {
+        entry.number: Source(entry, [] if entry.number in parts.rows else own_conditions(entry), parts.rows.get(entry.number))
+        for entry in query.entries
+    }
+
+
+def rows_to_join(query: Query, engine: Engine, columns: dict[int, list[Column]], prefix: str) -> Parts:
+    """The rows that were counted, with these of their columns."""
+    if not lies_elsewhere(query):
+        return reduced(query, engine, columns, prefix)
+    limits = Limits(query, engine, prefix)
+    parts = Parts(limits.texts)
+    for entry in query.entries:
+        if limits.among[entry.number]:
+            parts.add(entry, engine, columns[entry.number], limits.of(entry.number), prefix)
+    return parts

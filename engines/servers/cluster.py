@@ -1,0 +1,122 @@
+"""A cluster on this machine: a coordinator, and servers that hold the rows of its tables.
+
+Each table of the coordinator is partitioned by the hash of its first column, and each part is a table of another server,
+reached by postgres_fdw. Plans join and count part by part.
+"""
+
+from __future__ import annotations
+
+import contextlib
+import os
+import re
+import secrets
+import shutil
+from concurrent.futures import ThreadPoolExecutor
+from typing import Callable, Iterable, Iterator
+
+from server import Server, free_ports, new_folder, owner
+
+SERVERS = 2
+PART_BY_PART = ("enable_partitionwise_join=on", "enable_partitionwise_aggregate=on")
+# Rows come and go in large pieces, and from all servers at once.
+OPTIONS = {"dbname": "postgres", "host": "127.0.0.1", "fetch_size": "10000", "batch_size": "1000", "async_capable": "true"}
+
+
+class Cluster:
+    """The cluster of a folder. It goes on running until `stop`, whichever process calls that."""
+
+    def __init__(self, folder: str) -> None:
+        self.folder = folder
+        self.coordinator = Server(os.path.join(folder, "coordinator"), settings=PART_BY_PART)
+        self.servers = [Server(os.path.join(folder, f"server{number}")) for number in range(1, SERVERS + 1)]
+        self.all = [self.coordinator, *self.servers]
+
+    def start(self) -> None:
+        password = secrets.token_urlsafe(24)
+        for server, port in zip(self.all, free_ports(len(self.all))):
+            server.port = port
+            os.mkdir(server.folder, 0o700)
+            if owner():
+                shutil.chown(server.folder, owner())
+        at_once((lambda server=server: server.make(password) or server.start()) for server in self.all)
+        with connected(self.coordinator) as coordinator:
+            coordinator.execute("CREATE SCHEMA servers; CREATE EXTENSION postgres_fdw SCHEMA servers")
+            for number, server in enumerate(self.servers, 1):
+                options = ", ".join(f"{name} '{value}'" for name, value in {**OPTIONS, "port": server.port}.items())
+                coordinator.execute(f"CREATE SERVER server{number} FOREIGN DATA WRAPPER postgres_fdw OPTIONS ({options})")
+                mapping = f"OPTIONS (user 'postgres', password '{password}')"
+                coordinator.execute(f"CREATE USER MAPPING FOR postgres SERVER server{number} {mapping}")
+
+    def stop(self) -> None:
+        at_once(server.stop for server in self.all if os.path.exists(os.path.join(server.data, "postmaster.pid")))
+
+    @property
+    def url(self) -> str:
+        return self.coordinator.url
+
+    def script(self, text: str) -> None:
+        """Runs statements, of which each CREATE TABLE makes a table whose rows lie on the servers."""
+        with connected(self.coordinator) as coordinator:
+            for statement in filter(str.strip, text.split(";")):
+                made = re.match(r"\s*CREATE TABLE (\w+)\s*\((.*)\)\s*$", statement, re.DOTALL)
+                dropped = re.match(r"\s*DROP TABLE ", statement)
+                if made or dropped:
+                    self.on_servers(statement)
+                if made:
+                    self._partitioned(coordinator, *made.groups())
+                else:
+                    coordinator.execute(statement)
+
+    def _partitioned(self, coordinator, name: str, columns: str) -> None:
+        """Keys are of single parts, and the whole table has none."""
+        keyless = re.sub(r"\s+(PRIMARY KEY|UNIQUE)\b", " NOT NULL", columns)
+        coordinator.execute(f"CREATE TABLE {name} ({keyless}) PARTITION BY HASH ({columns.split()[0]})")
+        for number in range(1, SERVERS + 1):
+            values = f"WITH (MODULUS {SERVERS}, REMAINDER {number - 1})"
+            part = f"{name}_{number} PARTITION OF {name} FOR VALUES {values} SERVER server{number}"
+            coordinator.execute(f"CREATE FOREIGN TABLE {part} OPTIONS (table_name '{name}')")
+
+    def on_servers(self, statement: str) -> None:
+        """Runs a statement on each server. It may name {number} of {servers}, from 0."""
+        texts = [statement.replace("{number}", str(number)).replace("{servers}", str(SERVERS)) for number in range(SERVERS)]
+        at_once((lambda server=server, text=text: _executed(server, text)) for server, text in zip(self.servers, texts))
+
+
+def _executed(server: Server, statement: str) -> None:
+    with connected(server) as connection:
+        connection.execute(statement)
+
+
+@contextlib.contextmanager
+def connected(server: Server) -> Iterator:
+    import psycopg
+
+    with psycopg.connect(server.url, autocommit=True) as connection:
+        yield connection
+
+
+def at_once(calls: Iterable[Callable[[], None]]) -> None:
+    with ThreadPoolExecutor() as pool:
+        for done in [pool.submit(call) for call in calls]:
+            done.result()
+
+
+class Here(Cluster):
+    """A cluster that starts on entering, and is gone on leaving."""
+
+    def __init__(self) -> None:
+        super().__init__(new_folder())
+
+    def __enter__(self) -> Here:
+        try:
+            self.start()
+        except BaseException:
+            self.__exit__()
+            raise
+        return self
+
+    def __exit__(self, *_) -> None:
+        try:
+            self.stop()
+        finally:
+            shutil.rmtree(self.folder, ignore_errors=True)

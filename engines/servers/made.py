@@ -1,0 +1,41 @@
+"""Tables that the servers of a cluster make for themselves, or one server alone, at so many times a size."""
+
+from __future__ import annotations
+
+from fractions import Fraction
+from typing import NamedTuple
+
+from cluster import Cluster, connected
+from server import Server
+
+# Every server makes all rows, and keeps those that the coordinator's partitions put there.
+PLACES = "CREATE TABLE IF NOT EXISTS place (k INTEGER) PARTITION BY HASH (k)"
+KEPT = " WHERE satisfies_hash_partition('place'::regclass, {servers}, {number}, k)"
+
+
+class Made(NamedTuple):
+    """Tables by their schema, and for each a query for its rows at size {s}. Its first column is called k, and says where a row lies."""
+
+    schema: str
+    rows: dict[str, str]
+
+    def fill(self, cluster: Cluster, times: int | Fraction) -> None:
+        cluster.script(self.schema)
+        cluster.on_servers(PLACES)
+        for table in self.rows:
+            cluster.on_servers(self.filling(table, times, KEPT))
+        cluster.on_servers("ANALYZE")
+        # By name, since ANALYZE alone passes over what lies on servers.
+        cluster.script(f"ANALYZE {', '.join(self.rows)}")
+
+    def fill_one(self, server: Server, times: int | Fraction) -> None:
+        with connected(server) as connection:
+            connection.execute(self.schema)
+            for table in self.rows:
+                connection.execute(self.filling(table, times))
+            connection.execute("ANALYZE")
+
+    def filling(self, table: str, times: int | Fraction, kept: str = "") -> str:
+        size = Fraction(times)
+        rows = self.rows[table].format(s=f"{size.numerator} / {size.denominator}")
+        return f"INSERT INTO {table} SELECT * FROM ({rows}) AS made{kept}"

@@ -1,0 +1,110 @@
+"""A PostgreSQL of our own: its data in a folder, reached by a socket there, or by a port of this machine and a password."""
+
+from __future__ import annotations
+
+import glob
+import os
+import shutil
+import socket
+import subprocess
+import tempfile
+
+SETTINGS = ("fsync=off", "full_page_writes=off", "synchronous_commit=off", "max_wal_size=4GB")
+
+
+def programs() -> str | None:
+    """The folder of PostgreSQL's programs, the newest one's; None where none is installed."""
+    folders = sorted(glob.glob("/usr/lib/postgresql/*/bin"), key=lambda folder: int(folder.split("/")[-2]))
+    found = shutil.which("initdb")
+    if found:
+        folders.append(os.path.dirname(found))
+    return folders[-1] if folders else None
+
+
+def owner() -> str | None:
+    """The user that servers run as, where it is another one: PostgreSQL refuses to be root."""
+    return "postgres" if os.geteuid() == 0 else None
+
+
+def free_ports(count: int) -> list[int]:
+    """Ports of this machine that nobody listens on."""
+    sockets = [socket.socket() for _ in range(count)]
+    for one in sockets:
+        one.bind(("127.0.0.1", 0))
+    ports = [one.getsockname()[1] for one in sockets]
+    for one in sockets:
+        one.close()
+    return ports
+
+
+def new_folder() -> str:
+    folder = tempfile.mkdtemp(prefix="safebound-sql-")
+    if owner():
+        shutil.chown(folder, owner())
+    return folder
+
+
+class Server:
+    """A server in a folder of its own, which no other user may look into."""
+
+    def __init__(self, folder: str, port: int | None = None, settings: tuple[str, ...] = ()) -> None:
+        self.folder, self.port, self.settings = folder, port, SETTINGS + settings
+        self.data = os.path.join(folder, "data")
+
+    def make(self, password: str | None = None) -> None:
+        words = ["-D", self.data, "-U", "postgres", "-E", "UTF8", "--locale=C.UTF-8", "--no-sync", "--auth-local=trust"]
+        if password is None:
+            return self._run("initdb", *words)
+        with tempfile.NamedTemporaryFile("w", dir=self.folder) as file:
+            file.write(password)
+            file.flush()
+            if owner():
+                shutil.chown(file.name, owner())
+            self._run("initdb", *words, "--auth-host=scram-sha-256", f"--pwfile={file.name}")
+
+    def start(self) -> None:
+        where = f"-c listen_addresses=127.0.0.1 -p {self.port}" if self.port else "-c listen_addresses="
+        options = " ".join([f"-k {self.folder}", where, *(f"-c {setting}" for setting in self.settings)])
+        self._run("pg_ctl", "-D", self.data, "-w", "-l", os.path.join(self.folder, "log"), "-o", options, "start")
+
+    def stop(self) -> None:
+        self._run("pg_ctl", "-D", self.data, "-m", "immediate", "stop")
+
+    def _run(self, program: str, *words: str) -> None:
+        front = ["runuser", "-u", owner(), "--"] if owner() else []
+        command = front + [os.path.join(programs(), program), *words]
+        # To a file, since the server that pg_ctl starts would hold a pipe.
+        with tempfile.TemporaryFile("w+") as said:
+            done = subprocess.run(command, cwd=self.folder, stdout=said, stderr=subprocess.STDOUT)
+            if done.returncode:
+                said.seek(0)
+                raise RuntimeError(f"{program}: {said.read()}")
+
+    @property
+    def url(self) -> str:
+        """Where it is reached while it runs, whichever process started it."""
+        with open(os.path.join(self.data, "postmaster.pid"), encoding="utf-8") as told:
+            port = told.read().split("\n")[3]
+        return f"postgresql://postgres@/postgres?host={self.folder}&port={port}"
+
+
+class Alone(Server):
+    """A server that starts on entering, and is gone on leaving."""
+
+    def __init__(self, settings: tuple[str, ...] = ()) -> None:
+        super().__init__(new_folder(), settings=settings)
+
+    def __enter__(self) -> Alone:
+        try:
+            self.make()
+            self.start()
+        except BaseException:
+            shutil.rmtree(self.folder, ignore_errors=True)
+            raise
+        return self
+
+    def __exit__(self, *_) -> None:
+        try:
+            self.stop()
+        finally:
+            shutil.rmtree(self.folder, ignore_errors=True)
