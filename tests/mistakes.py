@@ -320,6 +320,20 @@ LIMITS = [
     Mistake("error limit text-length 1000001", ("at most 1,000,000", "1,000,001"), {"schema.sql": b"CREATE TABLE AUTHOR (NAME VARCHAR(1000001) NOT NULL)"}),
     Mistake("error limit file-bytes query.sql 1048577", ("longer than 1 MiB", "query.sql"), {"query.sql": b" " * 1_048_577}),
 ]
+def stats(line, text, *says):
+    return Mistake(line, says, {"old.stats": text} if text else {}, ("plan", "schema.sql", "query.sql", "--stats", "old.stats"))
+
+
+STATISTICS = [
+    stats("error stats syntax 1", b"hello\n", "old.stats is no statistics file from line 1 on", "Make it anew: safebound stats schema.sql query.sql > old.stats"),
+    stats("error stats rule 1", b"safebound-stats 1 0\nend\n", "Line 1 of old.stats can't follow", "Make it anew"),
+    stats("error stats missing 0", b"safebound-stats 1 1\nend\n", "needs statistics that old.stats doesn't have", "Make it anew"),
+    stats("error read old.stats", None, "There is no file old.stats"),
+    usage("plan schema.sql query.sql --stats old.stats --accuracy 3", "--accuracy can't stand beside --stats"),
+    usage("plan schema.sql query.sql --stats=-", "has the value -", "the name of a file"),
+    usage("run schema.sql query.sql --stats old.stats", "run has no option --stats"),
+]
+
 KINDS = [
     ("a column that isn't there", COLUMNS), ("a column that several entries have", SEVERAL), ("a table that isn't there", TABLES), ("an alias or a table twice", TWICE),
     ("a missing comma", COMMAS), ("two queries in one text", QUERIES), ("functions", FUNCTIONS), ("clauses that aren't part", CLAUSES), ("joins that aren't part", JOINS), ("words that are spelled or placed wrong", WORDS),
@@ -328,5 +342,5 @@ KINDS = [
     ("a column without NOT NULL", NULLABLE), ("names of a schema", LISTS), ("schema and query swapped", SWAPPED), ("a field that is no number", CELLS),
     ("a number out of range", RANGES), ("a key that repeats", KEYS), ("a field too many or too few", WIDTHS), ("headers", HEADERS), ("bytes that are no UTF-8", BYTES),
     ("a file that is missing", FILES), ("outside of the data's folder", ELSEWHERE), ("no command", NO_COMMAND), ("options", OPTIONS), ("place words", PLACES),
-    ("past the budget", BUDGETS), ("limits", LIMITS),
+    ("past the budget", BUDGETS), ("limits", LIMITS), ("statistics files", STATISTICS),
 ]

@@ -3,6 +3,7 @@ import re
 
 FORMS = [re.compile(form, re.DOTALL) for form in (
     r"error (?P<kind>usage)", r"error (?P<kind>read) (?P<file>.*)", r"error (?P<kind>schema|query) (?P<cause>\w+) (?P<at>\d+)",
+    r"error (?P<kind>stats) (?P<cause>syntax|rule|missing) (?P<at>\d+)",
     r"error (?P<kind>table) (?P<file>\S+) (?P<cause>utf8) (?P<at>\d+)",
     r"error (?P<kind>table) (?P<file>\S+) (?P<cause>header) (?P<column>.*)",
     r"error (?P<kind>table) (?P<file>\S+) (?P<cause>width) (?P<record>\d+) (?P<found>\d+)",

@@ -84,7 +84,7 @@ def picture(path, line):
     plan = read_plan(notes.decode())
     tables = {entry.name: entry.table.name for entry in run.query.entries}
     budget = option_of(words, BUDGET.word)
-    svg = draw(plan, read_audit(out.decode(), plan.levels), tables, int(budget) if budget else None)
+    svg = draw(plan, read_audit(out.decode(), plan), tables, int(budget) if budget else None)
     return save(svg, line.own.get(OUTPUT.word, "plan.svg"))
 
 

@@ -4,14 +4,14 @@ import textwrap
 
 from . import VERSION
 from .places import page
-from .table import BY_WORD, COMMANDS, HELP, SHELLS, VERSION as VERSION_OPTION, valued
+from .table import BY_WORD, COMMANDS, HELP, SHELLS, VERSION as VERSION_OPTION, numbered
 
 SUMMARY = "joins tables with bounds that are proved"
 ABOUT = ("A schema text, a query text (select-project-join SQL-92) and one CSV file for each table: SafeBound bounds every scan and every "
          "intermediate join, picks the best order, refuses a query whose bound passes the budget, and then lists every row. No bound is too low; that is proved.")
 OWN_OPTIONS = ("Options of this command stand before `--`; all other words go to the proved program as they are, and its streams and exit status come "
                "back as they are. Where standard error is a terminal, a fault is explained below its line.")
-STATUSES = "0 done; 2 the words; 3 a file; 4 the schema; 5 the query; 6 a table; 7 a limit; 8 the budget; 9 past every budget; 10 a stream; 11 memory. `safebound help errors` lists each line."
+STATUSES = "0 done; 2 the words; 3 a file; 4 the schema; 5 the query; 6 a table; 7 a limit; 8 the budget; 9 past every budget; 10 a stream; 11 memory; 14 a statistics file. `safebound help errors` lists each line."
 LIMITS = "One to 12 entries in FROM; 64 MiB and 4,000,000 rows for each table; budgets up to 20,000,000."
 
 
@@ -102,7 +102,7 @@ def completion(shell):
     words = {c.word: " ".join(o.word for o in options_of(c)) for c in COMMANDS}
     cases = "\n".join(f"        {word}) known={options!r};;" for word, options in words.items())
     commands = " ".join([*words, HELP.word, VERSION_OPTION.word])
-    return {"bash": BASH, "zsh": ZSH}[shell].format(commands=commands, cases=cases, numbers="|".join(sorted(valued())), topics=" ".join(TOPICS), shells=" ".join(SHELLS))
+    return {"bash": BASH, "zsh": ZSH}[shell].format(commands=commands, cases=cases, numbers="|".join(sorted(numbered())), topics=" ".join(TOPICS), shells=" ".join(SHELLS))
 
 
 BASH = """# bash completion for safebound

@@ -3,11 +3,41 @@ import re
 from dataclasses import dataclass
 
 
+@dataclass(frozen=True)
+class Node:
+    """An inner node of a join tree: the numbers of the two nodes that it joins, and its bound."""
+    left: int
+    right: int
+    bound: int
+
+
 @dataclass
 class Plan:
-    """The scans' bounds by entry, and the levels along the order, as pairs of an entry and its bound."""
+    """The scans' bounds by entry, in FROM order, and behind them either the levels along the order, as pairs of an entry and its bound, or the
+    inner nodes of a join tree. Nodes have numbers: the entries theirs in FROM order, from 0 on, and behind them the inner nodes."""
     scans: dict
     levels: list
+    nodes: list
+
+    @property
+    def is_tree(self):
+        return not self.levels
+
+    @property
+    def entries(self):
+        return list(self.scans)
+
+    @property
+    def bounds(self):
+        """Those that a budget is compared with: of the levels, of the inner nodes, or of a tree's one entry."""
+        return [bound for _, bound in self.levels] or [node.bound for node in self.nodes] or list(self.scans.values())
+
+    def leaves(self, number):
+        """The entries at the leaves of a node, from left to right."""
+        if number < len(self.scans):
+            return [self.entries[number]]
+        node = self.nodes[number - len(self.scans)]
+        return self.leaves(node.left) + self.leaves(node.right)
 
 
 class NoPlan(Exception):
@@ -18,17 +48,28 @@ def read_plan(text):
     lines = text.split("\n")[:-1]
     scans = [re.fullmatch(r"scan (.*) ([0-9]+)", line) for line in lines if line.startswith("scan ")]
     levels = [re.fullmatch(r"level [0-9]+ (.*) ([0-9]+)", line) for line in lines if line.startswith("level ")]
-    if not levels or None in scans + levels or len(scans) + len(levels) != len(lines):
+    nodes = [re.fullmatch(r"node ([0-9]+) ([0-9]+) ([0-9]+) ([0-9]+)", line) for line in lines if line.startswith("node ")]
+    is_whole = scans and None not in scans + levels + nodes and len(scans) + len(levels) + len(nodes) == len(lines)
+    if not is_whole or not (len(levels) == len(scans) and not nodes or not levels and is_tree(nodes, len(scans))):
         raise NoPlan("this is no plan text: " + (lines[0] if lines else "nothing"))
-    return Plan({m[1]: int(m[2]) for m in scans}, [(m[1], int(m[2])) for m in levels])
+    return Plan({m[1]: int(m[2]) for m in scans}, [(m[1], int(m[2])) for m in levels], [Node(int(m[2]), int(m[3]), int(m[4])) for m in nodes])
 
 
-def read_audit(text, levels):
-    """The true rows of each level."""
-    found = [re.fullmatch(r"level [0-9]+ (.*) ([0-9]+) ([0-9]+)", line) for line in text.split("\n")[:-1]]
-    if None in found or [(m[1], int(m[2])) for m in found] != levels:
+def is_tree(nodes, entries):
+    """Whether inner nodes make one tree of so many entries: each behind the two that it joins, and each node but the last joined once."""
+    joined = sorted(int(m[side]) for m in nodes for side in (2, 3))
+    numbers = [int(m[1]) for m in nodes]
+    behind = all(max(int(m[2]), int(m[3])) < int(m[1]) for m in nodes)
+    return behind and numbers == list(range(entries, 2 * entries - 1)) and joined == list(range(2 * entries - 2))
+
+
+def read_audit(text, plan):
+    """The true rows of each level, or of each inner node."""
+    lines, wanted = text.split("\n")[:-1], [f"level {k} {alias} {bound} " for k, (alias, bound) in enumerate(plan.levels, 1)]
+    wanted += [f"node {k} {node.left} {node.right} {node.bound} " for k, node in enumerate(plan.nodes, len(plan.scans))]
+    if len(lines) != len(wanted) or not all(re.fullmatch(re.escape(start) + "[0-9]+", line) for line, start in zip(lines, wanted)):
         raise NoPlan("the audit text is not of this plan")
-    return [int(m[3]) for m in found]
+    return [int(line.rpartition(" ")[2]) for line in lines]
 
 
 def option_of(words, option):

@@ -1,7 +1,7 @@
 """The table of commands and options. One line adds one: help, man page, completion and explanations all read it."""
 from dataclasses import dataclass
 
-MOST_BUDGET, USUAL_BUDGET = 20_000_000, 1_000_000
+MOST_BUDGET, MOST_BUDGET_OF_A_TREE, USUAL_BUDGET = 20_000_000, 4_000_000, 1_000_000
 
 
 @dataclass(frozen=True)
@@ -40,7 +40,9 @@ class Command:
 BUDGET = Option("--budget", "N", "the most rows that the bound of any level may say; 1,000,000 without it", 1, MOST_BUDGET)
 ACCURACY = Option("--accuracy", "K", "how closely lists of degrees are kept: more takes longer and mostly lowers bounds; 1 without it", 1, 64)
 REDUCE = Option("--reduce", None, "puts rows aside that lack a partner, and makes bounds over those that are left")
-OF_PLANS = (BUDGET, ACCURACY, REDUCE)
+BUSHY = Option("--bushy", None, "joins by the best tree of any shape and not along an order; N is then at most 4,000,000")
+OF_PLANS = (BUDGET, ACCURACY, REDUCE, BUSHY)
+STATS = Option("--stats", "FILE", "plans from this statistics file, which `stats` wrote, and reads no table; beside it only --budget may stand")
 
 DATA = Option("--data", "DIR", "runs in the folder DIR, where the tables are; SCHEMA and QUERY are looked up there too", is_own=True)
 EXPLAIN = Option("--explain", None, "explains a fault also where standard error is no terminal", is_own=True)
@@ -57,11 +59,15 @@ COMMANDS = (
             "Where the bound of some level is past the budget, nothing is joined and the least budget is told.",
             ("safebound run schema.sql query.sql", "safebound run schema.sql query.sql --data shop --budget 50000 > rows.csv")),
     Command("plan", TEXTS, "the plan on standard error, and no rows",
-            (*OF_PLANS, DATA, EXPLAIN, JSON), "",
-            ("safebound plan schema.sql query.sql --accuracy 8", "safebound plan schema.sql query.sql --json")),
+            (*OF_PLANS, STATS, DATA, EXPLAIN, JSON), "",
+            ("safebound plan schema.sql query.sql --accuracy 8", "safebound plan schema.sql query.sql --json",
+             "safebound plan schema.sql query.sql --stats trips.stats")),
     Command("audit", TEXTS, "the plan, and beside each level's bound the number of its rows",
             (*OF_PLANS, DATA, EXPLAIN, JSON), "",
             ("safebound audit schema.sql query.sql --reduce",)),
+    Command("stats", TEXTS, "the statistics file of the query's tables on standard output, for `plan --stats`",
+            (ACCURACY, DATA, EXPLAIN), "The file serves every query that compares and joins the same columns. Make it anew where rows have changed.",
+            ("safebound stats schema.sql query.sql > trips.stats",)),
     Command("demo", ("NUMBER",), "the audit of a query over a shop of 670,000 rows, made in memory",
             (EXPLAIN,), "NUMBER is from 0 to 4,294,967,295, and another one makes other rows.",
             ("safebound demo 7",)),
@@ -92,6 +98,11 @@ def program_options(command):
 def valued():
     """The words of all options of the program that have a value."""
     return {o.word for command in COMMANDS for o in program_options(command) if o.value}
+
+
+def numbered():
+    """Those of the options whose value is a number."""
+    return {o.word for command in COMMANDS for o in program_options(command) if o.least is not None}
 
 
 def own_options():

@@ -14,7 +14,7 @@ import shutil
 from concurrent.futures import ThreadPoolExecutor
 from typing import Callable, Iterable, Iterator
 
-from server import Server, free_ports, new_folder, owner
+from server import GoneOnLeaving, Server, free_ports, new_folder, owner
 
 SERVERS = 2
 PART_BY_PART = ("enable_partitionwise_join=on", "enable_partitionwise_aggregate=on")
@@ -101,7 +101,7 @@ def at_once(calls: Iterable[Callable[[], None]]) -> None:
             done.result()
 
 
-class Here(Cluster):
+class Here(Cluster, GoneOnLeaving):
     """A cluster that starts on entering, and is gone on leaving."""
 
     def __init__(self) -> None:
@@ -114,9 +114,3 @@ class Here(Cluster):
             self.__exit__()
             raise
         return self
-
-    def __exit__(self, *_) -> None:
-        try:
-            self.stop()
-        finally:
-            shutil.rmtree(self.folder, ignore_errors=True)

@@ -88,7 +88,22 @@ class Server:
         return f"postgresql://postgres@/postgres?host={self.folder}&port={port}"
 
 
-class Alone(Server):
+class GoneOnLeaving:
+    """Stops on leaving, and takes its folder away."""
+
+    folder: str
+
+    def stop(self) -> None:
+        raise NotImplementedError
+
+    def __exit__(self, *_) -> None:
+        try:
+            self.stop()
+        finally:
+            shutil.rmtree(self.folder, ignore_errors=True)
+
+
+class Alone(Server, GoneOnLeaving):
     """A server that starts on entering, and is gone on leaving."""
 
     def __init__(self, settings: tuple[str, ...] = ()) -> None:
@@ -102,9 +117,3 @@ class Alone(Server):
             shutil.rmtree(self.folder, ignore_errors=True)
             raise
         return self
-
-    def __exit__(self, *_) -> None:
-        try:
-            self.stop()
-        finally:
-            shutil.rmtree(self.folder, ignore_errors=True)

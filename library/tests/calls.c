@@ -10,7 +10,7 @@
    memory is kept, nothing past the answer is written, and where the status isn't OK nothing at all but the detail. */
 #define _GNU_SOURCE
 #include "safebound.h"
-#include "safebound_memory.h"
+#include "counted_memory.h"
 
 #include <inttypes.h>
 #include <stdio.h>
@@ -25,28 +25,9 @@
 
 /* ---- memory */
 
-static long requests, refused, kept;
+static long requests, refused;
 
 static bool is_refused(void) { return ++requests == refused; }
-
-rattle_memory rattle_alloc(size_t size, size_t align) {
-    (void)align;
-    if (is_refused()) return (rattle_memory){false, NULL};
-    kept++;
-    return (rattle_memory){true, malloc(size + 1)};
-}
-
-rattle_memory rattle_realloc(void *at, size_t size, size_t new_size, size_t align) {
-    (void)size;
-    (void)align;
-    if (is_refused()) return (rattle_memory){false, NULL};
-    return (rattle_memory){true, realloc(at, new_size + 1)};
-}
-
-void rattle_dealloc(void *at) {
-    kept--;
-    free(at);
-}
 
 /* ---- arrays before a page that can't be touched */
 

@@ -8,7 +8,7 @@
    one isn't. */
 #define _GNU_SOURCE
 #include "safebound_command.h"
-#include "safebound_memory.h"
+#include "counted_memory.h"
 
 #include <dirent.h>
 #include <fcntl.h>
@@ -30,28 +30,9 @@ static void stop(const char *why) {
 
 /* ---- memory */
 
-static long kept, answered = -1;
+static long answered = -1;
 
 static bool is_refused(void) { return answered == 0 || (answered > 0 && answered-- == 0); }
-
-rattle_memory rattle_alloc(size_t size, size_t align) {
-    (void)align;
-    if (is_refused()) return (rattle_memory){false, NULL};
-    kept++;
-    return (rattle_memory){true, malloc(size + 1)};
-}
-
-rattle_memory rattle_realloc(void *at, size_t size, size_t new_size, size_t align) {
-    (void)size;
-    (void)align;
-    if (is_refused()) return (rattle_memory){false, NULL};
-    return (rattle_memory){true, realloc(at, new_size + 1)};
-}
-
-void rattle_dealloc(void *at) {
-    kept--;
-    free(at);
-}
 
 /* ---- bytes before a page that can't be touched */
 

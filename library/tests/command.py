@@ -75,6 +75,39 @@ class Texts(unittest.TestCase):
         self.assertEqual(safebound.run(["run"] * 100_000, FILES), (2, b"", b"error usage\n"))
 
 
+class Statistics(unittest.TestCase):
+    """Plans from the text of a statistics file: the lines of `plan`, and an exception for each way to be refused."""
+
+    def setUp(self):
+        self.stats = safebound.run(["stats", "schema.sql", "query.sql"], FILES).out
+
+    def test_the_plan_is_that_of_the_tables(self):
+        plan = safebound.plan_stats(SCHEMA, QUERY, self.stats)
+        self.assertEqual(plan, ((("R", 6), ("S", 5)), (("S", "R"), (5, 12))))
+        self.assertEqual(plan.order.cost, 12)
+
+    def test_names_of_any_characters(self):
+        query = 'SELECT "A B\x85".X FROM R "A B\x85"'
+        stats = safebound.run(["stats", "schema.sql", "query.sql"], {**FILES, "query.sql": query}).out
+        self.assertEqual(safebound.plan_stats(SCHEMA, query, stats), ((("A B\x85", 6),), (("A B\x85",), (6,))))
+
+    def test_refusals(self):
+        with self.assertRaises(safebound.BudgetExceeded) as refused:
+            safebound.plan_stats(SCHEMA, QUERY, self.stats, budget=11)
+        self.assertEqual(refused.exception.least, 12)
+        cut = self.stats[: self.stats.rindex(b"end")]
+        for query, stats, budget, status, line in [
+            (QUERY, b"", None, 14, "stats syntax 1"),
+            (QUERY, cut, None, 14, f"stats syntax {cut.count(10) + 1}"),
+            ("SELECT X FROM R WHERE X = 1 AND X = 2", b"safebound-stats 1 1\nend\n", None, 14, "stats missing 0"),
+            ("", self.stats, None, 5, "query syntax 0"),
+            (QUERY, self.stats, 0, 2, "usage"),
+        ]:
+            with self.assertRaises(safebound.Refused) as refused:
+                safebound.plan_stats(SCHEMA, query, stats, budget)
+            self.assertEqual((refused.exception.status, refused.exception.line), (status, line))
+
+
 class Library(unittest.TestCase):
     def test_threads(self):
         answers = []

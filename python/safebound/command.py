@@ -4,14 +4,15 @@ from __future__ import annotations
 
 import ctypes
 import functools
-from typing import Iterable, Mapping, NamedTuple, Union
+from typing import Iterable, Mapping, NamedTuple, Optional, Tuple, Union
 
 from . import errors
 from ._library import find
 from ._version import VERSION
+from .query import Order
 
 NAME, VARIABLE = "libsafebound_command.so", "SAFEBOUND_COMMAND_LIBRARY"
-WRITE_FAULT = 10
+BUDGET, PAST_BITS, WRITE_FAULT, NO_MEMORY = 8, 9, 10, 11
 LEAST_OUT, LEAST_NOTES, GROWS = 65536, 4096, 8
 
 Text = Union[str, bytes]
@@ -92,3 +93,53 @@ def run(words: Iterable[Text], files: Mapping[Text, Text]) -> Output:
         if not is_cut and not (status == WRITE_FAULT and length.value == room):
             return Output(status, ctypes.string_at(out, length.value), ctypes.string_at(notes, notes_length.value))
         room, notes_room = room if is_cut else room * GROWS, notes_room * GROWS if is_cut else notes_room
+
+
+class Plan(NamedTuple):
+    """A plan as the program prints it: the bound of each scan in FROM's order, in rows, and the best order."""
+
+    scans: Tuple[Tuple[str, int], ...]
+    order: Order
+
+
+def plan_stats(schema: Text, query: Text, stats: Text, budget: Optional[int] = None) -> Plan:
+    """Plans a query from the text of a statistics file, without tables.
+
+    The file is what `stats` writes, here or as a program. No bound of the plan is too low for the tables that the file was
+    made from, while their rows stay as they are.
+
+    >>> schema = "CREATE TABLE R (X INTEGER NOT NULL)"
+    >>> files = {"schema": schema, "query": "SELECT X FROM R", "r.csv": "X\\n1\\n2\\n"}
+    >>> stats = run(["stats", "schema", "query"], files).out
+    >>> plan_stats(schema, "SELECT X FROM R", stats)
+    Plan(scans=(('R', 2),), order=Order(entries=('R',), levels=(2,)))
+
+    Args:
+        budget: the most rows of a level, from 1 to 20,000,000; without it the program's, 1,000,000.
+
+    Raises:
+        BudgetExceeded, PastBits: as for an order.
+        Refused: a text isn't right, or the file lacks something that the query needs.
+        OutOfMemory: memory was wanting.
+        LibraryNotFound: libsafebound_command.so isn't there, or is of another version.
+    """
+    words = ["plan", "schema", "query", "--stats", "stats", *(["--budget", str(budget)] if budget is not None else [])]
+    output = run(words, {"schema": schema, "query": query, "stats": stats})
+    if output.status:
+        raise _refusal(output)
+    scans, levels = [], []
+    for line in output.notes.decode().split("\n")[:-1]:
+        kind, rest = line.split(" ", 1)
+        # A name may have blanks: the bound is what stands behind the last one.
+        name, bound = (rest if kind == "scan" else rest.split(" ", 1)[1]).rsplit(" ", 1)
+        (scans if kind == "scan" else levels).append((name, int(bound)))
+    return Plan(tuple(scans), Order(*map(tuple, zip(*levels))))
+
+
+def _refusal(output: Output) -> errors.SafeBoundError:
+    line = output.notes.decode().split("\n")[0].split(" ", 1)[1]
+    if output.status == BUDGET:
+        return errors.BudgetExceeded(int(line.split()[1]))
+    if output.status == PAST_BITS:
+        return errors.PastBits()
+    return errors.OutOfMemory(line) if output.status == NO_MEMORY else errors.Refused(output.status, line)

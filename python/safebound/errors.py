@@ -1,4 +1,4 @@
-"""What a call raises in place of an answer: one class for each status of the library."""
+"""What a call raises in place of an answer: one class for each status of the library, and one for the program's refusals."""
 
 from __future__ import annotations
 
@@ -100,3 +100,16 @@ class BadBounds(WrongValue):
 
 class BadBudget(WrongValue):
     """The budget isn't from 0 to 2**59. `place` is the budget."""
+
+
+class Refused(SafeBoundError):
+    """The program refuses a text or a file. docs/ERRORS.md says why by the status and the line.
+
+    Attributes:
+        status: the program's exit status.
+        line: its line of standard error, without `error ` and the line's end.
+    """
+
+    def __init__(self, status: int, line: str) -> None:
+        super().__init__(f"{line} (status {status})")
+        self.status, self.line = status, line

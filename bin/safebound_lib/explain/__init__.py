@@ -3,10 +3,12 @@ import importlib
 import shutil
 import textwrap
 
+from ..plans import option_of
+from ..table import STATS
 from ..words import places
 
 PARTS = {"usage": "usage", "read": "reads", "schema": "schemas", "query": "queries", "table": "tables", "limit": "limits",
-         "budget": "budgets", "past-bits": "budgets", "write": "streams", "memory": "streams"}
+         "stats": "statistics", "budget": "budgets", "past-bits": "budgets", "write": "streams", "memory": "streams"}
 
 
 class Run:
@@ -17,6 +19,7 @@ class Run:
         self.command = words[0] if words else ""
         found = places(words[1:])
         self.schema_file, self.query_file = (found + ["", ""])[:2] if self.command != "demo" else ("schema.sql", "query.sql")
+        self.stats_file = option_of(words[1:], STATS.word) if self.command == "plan" else None
 
     @property
     def schema(self):

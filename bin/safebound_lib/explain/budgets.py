@@ -5,7 +5,7 @@ from ..near import listed
 from ..plans import option_of, read_plan
 from ..program import answer
 from ..query import groups
-from ..table import ACCURACY, BUDGET, MOST_BUDGET, REDUCE, USUAL_BUDGET
+from ..table import ACCURACY, BUDGET, BUSHY, MOST_BUDGET, MOST_BUDGET_OF_A_TREE, REDUCE, USUAL_BUDGET
 from ..faults import fault_of
 
 SECONDS = 60
@@ -13,16 +13,21 @@ CLOSER = "8"
 
 
 def explain(fault, run):
-    budget = int(option_of(run.words, BUDGET.word) or USUAL_BUDGET)
-    least = fault.get("least")
+    budget, most = int(option_of(run.words, BUDGET.word) or USUAL_BUDGET), most_of(run)
+    least, (shape, step) = fault.get("least"), ("join tree", "node") if has(run, BUSHY) else ("order", "level")
     if least is None:
-        first = "In every order some level has a bound of 2^128 - 1 rows or more. No budget helps."
-    elif least > MOST_BUDGET:
-        first = f"The best order has a level whose bound is {least:,} rows. No --budget goes that far: the most is {MOST_BUDGET:,}."
+        first = f"In every {shape} some {step} has a bound of 2^128 - 1 rows or more. No budget helps."
+    elif least > most:
+        first = f"The best {shape} has a {step} whose bound is {least:,} rows. No --budget goes that far: the most is {most:,}."
     else:
-        first = f"The best order has a level whose bound is {least:,} rows, and the budget is {budget:,}. The least budget is --budget {least}."
+        first = f"The best {shape} has a {step} whose bound is {least:,} rows, and the budget is {budget:,}. The least budget is --budget {least}."
     apart = not_connected(run)
     return [first, at_fault(run, least, budget), apart, *tried(run, budget, apart)]
+
+
+def most_of(run):
+    """The greatest budget that the run may have."""
+    return MOST_BUDGET_OF_A_TREE if has(run, BUSHY) else MOST_BUDGET
 
 
 def not_connected(run):
@@ -61,18 +66,22 @@ def planned_words(words):
             return found + [word, *left]
         if word in (BUDGET.word, ACCURACY.word):
             del left[:1]
-        elif word != REDUCE.word and not word.startswith((BUDGET.word + "=", ACCURACY.word + "=")):
+        elif word not in (REDUCE.word, BUSHY.word) and not word.startswith((BUDGET.word + "=", ACCURACY.word + "=")):
             found.append(word)
     return found
 
 
 def at_fault(run, least, budget):
-    """Which level is past the budget, where the least budget shows the plan."""
-    if least is None or least > MOST_BUDGET:
+    """Which level or node is past the budget, where the least budget shows the plan."""
+    if least is None or least > most_of(run):
         return ""
     plan = with_words(run, given(run, least))
     if plan is None or isinstance(plan, int):
         return ""
+    if plan.is_tree:
+        past = [(number, node.bound) for number, node in enumerate(plan.nodes, len(plan.scans)) if node.bound > budget]
+        said = listed(f"node {number} ({listed(plan.leaves(number))}), of {bound:,} rows" for number, bound in past)
+        return f"Past the budget: {said}." if past else ""
     past = [(number + 1, alias, bound) for number, (alias, bound) in enumerate(plan.levels) if bound > budget]
     if not past:
         return ""
@@ -81,28 +90,30 @@ def at_fault(run, least, budget):
     return f"That order is {order}. Past the budget: {said}."
 
 
-def given(run, budget, accuracy=None, reduce=False):
+def given(run, budget, accuracy=None, reduce=False, bushy=False):
     """The options of the run, with these in their place."""
     kept = accuracy or option_of(run.words, ACCURACY.word)
     words = [BUDGET.word, str(budget)] + ([ACCURACY.word, kept] if kept else [])
-    return words + ([REDUCE.word] if reduce or has_reduce(run) else [])
+    return words + [REDUCE.word] * (reduce or has(run, REDUCE)) + [BUSHY.word] * (bushy or has(run, BUSHY))
 
 
-def has_reduce(run):
+def has(run, flag):
     before = run.words[:run.words.index("--")] if "--" in run.words else run.words
-    return REDUCE.word in before
+    return flag.word in before
 
 
 def tried(run, budget, apart):
     """What the other options come to, and what else there is to do."""
     is_close = int(option_of(run.words, ACCURACY.word) or 1) >= int(CLOSER)
     ways = []
-    if not has_reduce(run):
+    if not has(run, REDUCE):
         ways.append((f"With {REDUCE.word}", dict(reduce=True)))
     if not is_close:
         ways.append((f"With {ACCURACY.word} {CLOSER}", dict(accuracy=CLOSER)))
     if len(ways) == 2:
         ways.append(("With both", dict(reduce=True, accuracy=CLOSER)))
+    if not has(run, BUSHY) and len(run.query.entries) > 3 and budget <= MOST_BUDGET_OF_A_TREE:
+        ways.append((f"With {BUSHY.word}", dict(bushy=True)))
     found = [f"    {name} {said_of(with_words(run, given(run, budget, **how)), budget)}" for name, how in ways]
     found = [line for line in found if not line.endswith(" None")]
     rest = "" if apart else "A condition on a column of one entry lowers bounds most: = or a range."
@@ -114,4 +125,4 @@ def said_of(found, budget):
         return None
     if isinstance(found, int):
         return f"the least budget is {found:,}."
-    return f"it fits: no level has a bound of more than {max(bound for _, bound in found.levels):,} rows."
+    return f"it fits: no {'node' if found.is_tree else 'level'} has a bound of more than {max(found.bounds):,} rows."

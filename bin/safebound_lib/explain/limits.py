@@ -23,6 +23,8 @@ def explain(fault, run):
     if fault["found"] == BYTES_OF_TEXT + 1:
         return [f"{file} is longer than 1 MiB ({BYTES_OF_TEXT:,} bytes), which is the most for a schema or a query.",
                 "Is it a text of SQL at all? The words are SCHEMA and then QUERY."]
+    if run.stats_file is not None and fault.get("file") == run.stats_file:
+        return [f"{file} is longer than 64 MiB ({BYTES_OF_TABLE:,} bytes), which is the most for a statistics file. With a lower --accuracy `stats` writes a shorter one."]
     return [f"{file} is longer than 64 MiB ({BYTES_OF_TABLE:,} bytes), which is the most for a table.", beyond()]
 
 

@@ -3,7 +3,7 @@ import re
 
 from ..near import hint, listed
 from ..spot import plain
-from ..table import BY_WORD, COMMANDS, MOST_SEED, program_options
+from ..table import ACCURACY, BUDGET, BUSHY, BY_WORD, COMMANDS, MOST_BUDGET_OF_A_TREE, MOST_SEED, REDUCE, STATS, program_options
 
 DIGITS = re.compile(r"[0-9]+", re.ASCII)
 
@@ -33,7 +33,7 @@ def wrong_command(word):
 def first_wrong(command, words):
     """The first word that can't stand where it stands, as a sentence."""
     options = {o.word: o for o in program_options(command)}
-    found, seen, left = [], set(), list(words)
+    found, seen, left, budget = [], set(), list(words), None
     while left:
         word = left.pop(0)
         if word == "--":
@@ -45,11 +45,13 @@ def first_wrong(command, words):
             continue
         if head not in options:
             return unknown(command, head)
-        wrong = wrong_option(options[head], head in seen, value if equals else left.pop(0) if options[head].value and left else None)
+        value = value if equals else left.pop(0) if options[head].value and left else None
+        wrong = wrong_option(options[head], head in seen, value)
         if wrong:
             return wrong
         seen.add(head)
-    return wrong_places(command, found)
+        budget = value if head == BUDGET.word else budget
+    return wrong_places(command, found) or wrong_beside(seen) or (wrong_budget(budget) if BUSHY.word in seen and budget else None)
 
 
 def unknown(command, word):
@@ -59,12 +61,27 @@ def unknown(command, word):
     return f"There is no option {plain(word)}.{hint(word, [o.word for o in command.options])} {may} A file whose name begins with - stands behind the word --."
 
 
+def wrong_beside(seen):
+    """Which option can't stand beside a statistics file, if one does."""
+    others = [option.word for option in (ACCURACY, REDUCE, BUSHY) if STATS.word in seen and option.word in seen]
+    return f"{others[0]} can't stand beside {STATS.word}: a statistics file has its own accuracy, and tells of whole tables." if others else None
+
+
+def wrong_budget(value):
+    """What is wrong with the budget of a join tree."""
+    if int(value[-4000:]) <= MOST_BUDGET_OF_A_TREE:
+        return None
+    return f"{BUDGET.word} has the value {plain(value)}. With {BUSHY.word} it takes a number from {BUDGET.least:,} to {MOST_BUDGET_OF_A_TREE:,}."
+
+
 def wrong_option(option, is_again, value):
     """What is wrong with an option and its value, or nothing."""
     if is_again:
         return f"{option.word} stands twice; it may stand once."
     if not option.value:
         return f"{option.word} takes no value." if value is not None else None
+    if option.least is None:
+        return wrong_file(option, value)
     between = f"a number from {option.least:,} to {option.most:,}, in digits alone: {option.spelled}"
     if value is None:
         return f"{option.word} lacks its value, {between}."
@@ -72,6 +89,15 @@ def wrong_option(option, is_again, value):
         return f"{option.word} has the value {plain(value) or 'of no characters'}. It takes {between}.{spelled_out(value)}"
     if not option.least <= int(value[-4000:]) <= option.most:
         return f"{option.word} has the value {plain(value)}. It takes {between}."
+    return None
+
+
+def wrong_file(option, value):
+    """What is wrong with a file's name as a value, or nothing."""
+    if value is None:
+        return f"{option.word} lacks its value, the name of a file: {option.spelled}."
+    if not value or value.startswith("-"):
+        return f"{option.word} has the value {plain(value) or 'of no characters'}. It takes the name of a file, which doesn't begin with -: {option.spelled}."
     return None
 
 

@@ -32,7 +32,8 @@ use Rattle.join_steps.specs.Sides.{is_between}
 use Rattle.join_steps.proofs.KeyFacts.{key_holds, sides_between, IsKeyOf}
 use Rattle.hash_join.specs.Levels.{joined, list_level_sizes}
 use Rattle.hash_join.proofs.AllLevels.{next_joined, placed_joined}
-use Rattle.join_steps.proofs.ListedRows.{scan_below}
+use Rattle.join_steps.proofs.ListedRows.{scan_below, below}
+use Rattle.join_steps.proofs.WholeScans.{weaker}
 use Rattle.bench_joins.specs.Tables.{compared, join_of, repeated, table_of, tables_of_two, AreNumbers}
 
 -- ---- how many rows have a key
@@ -72,14 +73,6 @@ in_key key times row some hit =
 filter_agree_on : (p q : ℕ → Bool) (xs : List ℕ) → AllByRecursion (λ x. p x ≡ q x) xs → filter p xs ≡ filter q xs
 filter_agree_on p q [] same = refl
 filter_agree_on p q (x ∷ xs) same = rw (same.0, filter_agree_on p q xs same.1) refl
-
-below : (a n end : ℕ) → a + n ≤ end → AllByRecursion (λ x. x < end) (range_with_len a n)
-below a zero end fits = tt
-below a (suc n) end fits = (omega arith, below (a + 1) n end (omega arith))
-
-weaker : (P Q : ℕ → Type 0) → ((x : ℕ) → P x → Q x) → (xs : List ℕ) → AllByRecursion P xs → AllByRecursion Q xs
-weaker P Q more [] all = tt
-weaker P Q more (x ∷ xs) all = (more x all.0, weaker P Q more xs all.1)
 
 repeated_at : (rows times row : ℕ) → row < rows → get_or (repeated rows times) row 0 ≡ row / times
 repeated_at rows times row low =

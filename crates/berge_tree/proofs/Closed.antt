@@ -3,6 +3,7 @@ use Rattle.std.proofs.Common.{◌≡◌, ◌≢◌, ℕ, List, [], ◌∷◌, �
 use Rattle.std.specs.List.{Contains}
 use Rattle.std.proofs.lemmas.Bool.{cases_Bool}
 use Rattle.std.proofs.lemmas.List.Elements.{Contains-append_left, Contains-append_right, Contains-append_cases}
+use Rattle.entry_sets.proofs.Listing.{in_rest, in_front, in_none, one_in}
 use Rattle.berge_tree.specs.Trees.{Classes, no_class, and_class, Members, one_member, and_member, JoinTree}
 use Rattle.berge_tree.specs.Trees.{entries_below, entries_within, entries}
 use Rattle.berge_tree.specs.declared.edges.Place.{Place}
@@ -11,7 +12,7 @@ use Rattle.berge_tree.specs.Equalities.{same_place, merged, classes_from, class_
 use Rattle.berge_tree.specs.Equalities.{place, places_of}
 use Rattle.berge_tree.specs.Rooted.{class_columns, member_places, AreItsColumns, AreItsOthers, FollowsBelow, FollowsWithin}
 use Rattle.berge_tree.proofs.NoCycle.{same_place-true, merged-yes, merged-no}
-use Rattle.berge_tree.proofs.Steps.{are_same, in_rest, in_front, in_none, one_in, none_some}
+use Rattle.berge_tree.proofs.Steps.{are_same, none_some}
 
 -- ---- a column that is in a class with another one is named
 

@@ -1,10 +1,12 @@
 -- One tree for each component.
-use Rattle.std.proofs.Common.{◌≡◌, ◌≢◌, ℕ, Bool, true, false, eqb, List, [], ◌∷◌, ◌++◌, ◌+◌, ◌<◌, ◌≤◌, arith, refl, sym, ◌∙◌, subst, ◌⊎◌, inl, inr, None}
+use Rattle.std.proofs.Common.{◌≡◌, ◌≢◌, ℕ, true, false, eqb, List, [], ◌∷◌, ◌++◌, ◌+◌, ◌<◌, ◌≤◌, arith, refl, sym, ◌∙◌, subst, ◌⊎◌, inl, inr, None}
 use Rattle.std.specs.List.{Contains, AllByRecursion, AllPairs}
 use Rattle.std.specs.List.Sorted.{IsStrictlyIncreasing}
 use Rattle.std.proofs.lemmas.Bool.{cases_Bool, eq-eqb, eqb-true, false≢true}
 use Rattle.std.proofs.lemmas.List.Elements.{Contains-append_left, Contains-append_right, Contains-append_cases}
 use Rattle.std.proofs.lemmas.List.Kept.{AllPairs-from_increasing}
+use Rattle.std.specs.Cmp.{both_ways}
+use Rattle.entry_sets.proofs.Listing.{rising, in_rest, in_front, in_none, each, one_in}
 use Rattle.berge_tree.specs.Trees.{JoinTree}
 use Rattle.berge_tree.specs.Trees.{entries, entries_below, entries_of_all}
 use Rattle.berge_tree.specs.declared.edges.Place.{Place}
@@ -16,10 +18,10 @@ use Rattle.berge_tree.specs.Rooted.{class_columns, AreItsColumns, FollowsBelow, 
 use Rattle.berge_tree.proofs.NoCycle.{has_no_cycle, ends_differ}
 use Rattle.berge_tree.specs.Equalities.{ClosesNoCycle, AreWithin}
 use Rattle.berge_tree.specs.Walk.{AreColumnsOf, walked, tree_at, is_among, forest}
-use Rattle.berge_tree.proofs.Steps.{are_same, in_rest, in_front, in_none, one_in, root_reached}
+use Rattle.berge_tree.proofs.Steps.{are_same, root_reached}
 use Rattle.berge_tree.proofs.Separate.{Distinct, all_append, all_map, later_above, pairs_tail, once_tree, one_side, pairs_from}
 use Rattle.berge_tree.proofs.Closed.{named, closed_tree}
-use Rattle.berge_tree.proofs.Made.{rising, walked_follows}
+use Rattle.berge_tree.proofs.Made.{walked_follows}
 
 pub among : (xs : List ℕ) (x : ℕ) → is_among xs x ≡ true → Contains xs x
 among [] x = λ e. absurd (false≢true e)
@@ -38,18 +40,9 @@ is_in (y ∷ ys) x k = elim (cases_Bool (eqb y x)) [
   ])
 ]
 
-alike : (a b : Bool) → (a ≡ true → b ≡ true) → (b ≡ true → a ≡ true) → a ≡ b
-alike true b f g = sym (f refl)
-alike false true f g = g refl
-alike false false f g = refl
-
 pub all_in : (Q : ℕ → Type 0) (xs : List ℕ) → ((x : ℕ) → Contains xs x → Q x) → AllByRecursion Q xs
 all_in Q [] h = tt
 all_in Q (x ∷ xs) h = (h x (in_front x xs x refl), all_in Q xs (λ y k. h y (in_rest x xs y k)))
-
-pub each : (Q : ℕ → Type 0) (xs : List ℕ) → AllByRecursion Q xs → (x : ℕ) → Contains xs x → Q x
-each Q [] h x k = absurd (in_none x k)
-each Q (y ∷ ys) h x k = elim (one_in y ys x k) [ inl old ↦ each Q ys h.1 x old | inr is ↦ subst Q (sym is) h.0 ]
 
 distinct_avoiding : (xs ys : List ℕ) → Distinct xs → Distinct ys → AllByRecursion (λ e. Contains xs e → ⊥) ys → Distinct (xs ++ ys)
 distinct_avoiding [] ys dx dy h = dy
@@ -63,11 +56,11 @@ abbrev pub IsClosed : List Edge → List ℕ → Type 0
 IsClosed es done = (u v : Place) → class_of es u ≡ class_of es v → Contains done u.entry → Contains done v.entry
 
 pub closed_side : (es : List Edge) (done : List ℕ) → IsClosed es done → (u v : Place) → class_of es u ≡ class_of es v → is_among done u.entry ≡ is_among done v.entry
-closed_side es done h u v e = alike (is_among done u.entry) (is_among done v.entry)
+closed_side es done h u v e = both_ways (is_among done u.entry) (is_among done v.entry)
     (λ t. is_in done v.entry (h u v e (among done u.entry t)))
     (λ t. is_in done u.entry (h v u (sym e) (among done v.entry t)))
 
-within_place : (set : List ℕ) (es : List Edge) → AreWithin set es → (p : Place) → Contains (places_of es) p → Contains set p.entry
+pub within_place : (set : List ℕ) (es : List Edge) → AreWithin set es → (p : Place) → Contains (places_of es) p → Contains set p.entry
 within_place set [] h p k = absurd (in_none p k)
 within_place set (e ∷ es) h p k = elim (one_in e.left (e.right ∷ places_of es) p k) [
   | inr is ↦ subst (λ (u : Place). Contains set u.entry) (sym is) h.0.0

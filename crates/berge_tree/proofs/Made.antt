@@ -1,10 +1,11 @@
 -- The walk makes a tree that follows the equalities.
-use Rattle.std.proofs.Common.{◌≡◌, ◌≢◌, ℕ, Bool, true, false, not, ◌&&◌, eqb, List, [], ◌∷◌, ◌+◌, ◌<◌, ◌≤◌, zero, suc, length, map, arith, refl, ap, sym, ◌∙◌, subst, inl, inr, Option, Some, None}
+use Rattle.std.proofs.Common.{◌≡◌, ◌≢◌, ℕ, Bool, true, false, not, eqb, List, [], ◌∷◌, ◌+◌, ◌<◌, ◌≤◌, zero, suc, length, map, arith, refl, ap, sym, ◌∙◌, subst, inl, inr, Option, Some, None}
 use Rattle.std.specs.Prelude.{filter}
 use Rattle.std.specs.List.{Contains, AllByRecursion, IsDistinct, list_any}
 use Rattle.std.specs.List.Sorted.{IsStrictlyIncreasing}
-use Rattle.std.proofs.lemmas.Bool.{cases_Bool, eq-eqb, eqb-true, false≢true}
+use Rattle.std.proofs.lemmas.Bool.{cases_Bool, eq-eqb, eqb-true, false≢true, and_parts, and_from, not_from_false, not-true}
 use Rattle.std.proofs.lemmas.Map.Steps.{length-le_from_distinct_below}
+use Rattle.entry_sets.proofs.Listing.{rising, in_rest, in_front, in_none, one_in}
 use Rattle.berge_tree.specs.declared.edges.Place.{Place}
 use Rattle.berge_tree.specs.declared.edges.Edge.{Edge}
 use Rattle.berge_tree.specs.declared.columns.Column.{Column}
@@ -14,23 +15,9 @@ use Rattle.berge_tree.specs.Rooted.{class_columns, member_places, member_entries
 use Rattle.berge_tree.specs.Walk.{is_before, Ascend, AreColumnsOf, is_above, is_at, is_other, joined_members, members_with, classes_with, walked, HaveOthers}
 use Rattle.berge_tree.proofs.NoCycle.{same_place-true}
 use Rattle.berge_tree.proofs.Joining.{keeps, joins}
-use Rattle.berge_tree.proofs.Steps.{same_place-is, in_rest, in_front, in_none, one_in, none_some, IsReached, avoided, step}
+use Rattle.berge_tree.proofs.Steps.{same_place-is, none_some, IsReached, avoided, step}
 use Rattle.berge_tree.proofs.Separate.{Distinct}
-use Rattle.berge_tree.proofs.Listing.{Has, before_cases}
-
-both : (a b : Bool) → (a && b) ≡ true → (a ≡ true) × (b ≡ true)
-both true b e = (refl, e)
-both false b e = absurd (false≢true e)
-
-both_are : (a b : Bool) → a ≡ true → b ≡ true → (a && b) ≡ true
-both_are a b e f = rw (e, f) refl
-
-not_true : (b : Bool) → not b ≡ true → b ≡ false
-not_true true e = absurd (false≢true e)
-not_true false e = refl
-
-not_false : (b : Bool) → b ≡ false → not b ≡ true
-not_false b e = rw e refl
+use Rattle.berge_tree.proofs.Listing.{Has, before_cases, by_parts}
 
 abbrev pub Differ : List Edge → Type 0
 Differ es = AllByRecursion (λ e. e.left.entry ≢ e.right.entry) es
@@ -59,11 +46,6 @@ another_one (e ∷ es) h d p k = elim (one_in e.left (e.right ∷ places_of es) 
 ]
 
 -- ---- lists in order
-
-pub rising : (x : ℕ) (xs : List ℕ) → AllByRecursion (λ y. x < y) xs → IsStrictlyIncreasing xs → IsStrictlyIncreasing (x ∷ xs)
-rising x [] h r k l = absurd (omega (arith, l))
-rising x (y ∷ ys) h r zero l = h.0
-rising x (y ∷ ys) h r (suc k) l = let e : suc k + 1 ≡ suc (k + 1) = omega arith in rw e (r k (omega (arith, l)))
 
 filter_all : (Q : Column → Type 0) (test : Column → Bool) (cs : List Column) → AllByRecursion Q cs → AllByRecursion Q (filter test cs)
 filter_all Q test [] h = tt
@@ -169,9 +151,6 @@ map_map : (cs : List Column) → map (λ (p : Place). p.entry) (map (λ (c : Col
 map_map [] = refl
 map_map (c ∷ cs) = ap (λ xs. c.place.entry ∷ xs) (map_map cs)
 
-by_parts : (p q : Place) → p.entry ≡ q.entry → p.column ≡ q.column → p ≡ q
-by_parts p q e f = rw (e, f) refl
-
 -- ---- what the tests say
 
 above_false : (above : Option ℕ) (c : ℕ) → is_above above c ≡ false → above ≢ Some c
@@ -196,16 +175,16 @@ module _ (es : List Edge) (nc : HasNoCycle (class_of es)) (differ : Differ es) (
   at_some : (y : ℕ) (above : Option ℕ) (c : Column) → Contains (filter (is_at y above) columns) c → Contains columns c × (c.place.entry ≡ y) × (above ≢ Some c.place.column)
   at_some y above c k =
       let g : Contains columns c × (is_at y above c ≡ true) = filter_some (is_at y above) columns c k in
-      let t : (eqb c.place.entry y ≡ true) × (not (is_above above c.place.column) ≡ true) = both (eqb c.place.entry y) (not (is_above above c.place.column)) g.1 in
-      (g.0, eqb-true c.place.entry y t.0, above_false above c.place.column (not_true (is_above above c.place.column) t.1))
+      let t : (eqb c.place.entry y ≡ true) × (not (is_above above c.place.column) ≡ true) = and_parts (eqb c.place.entry y) (not (is_above above c.place.column)) g.1 in
+      (g.0, eqb-true c.place.entry y t.0, above_false above c.place.column (not-true (is_above above c.place.column) t.1))
 
   at_all : (y : ℕ) (above : Option ℕ) (p : Place) → Contains (places_of es) p → p.entry ≡ y → above ≢ Some p.column → Has (filter (is_at y above) columns) p
   at_all y above p k at off =
       let h : Has columns p = are.all p k in (
         h.0,
         filter_in (is_at y above) columns h.0 h.1
-            (both_are (eqb h.0.place.entry y) (not (is_above above h.0.place.column)) (eq-eqb h.0.place.entry y (ap (λ (u : Place). u.entry) h.2 ∙ at))
-            (not_false (is_above above h.0.place.column) (above_not above h.0.place.column (λ is. off (is ∙ ap (λ (u : Place). Some u.column) h.2))))),
+            (and_from (eqb h.0.place.entry y) (not (is_above above h.0.place.column)) (eq-eqb h.0.place.entry y (ap (λ (u : Place). u.entry) h.2 ∙ at))
+            (not_from_false (is_above above h.0.place.column) (above_not above h.0.place.column (λ is. off (is ∙ ap (λ (u : Place). Some u.column) h.2))))),
         h.2,
       )
 
@@ -223,10 +202,10 @@ module _ (es : List Edge) (nc : HasNoCycle (class_of es)) (differ : Differ es) (
   other_some : (c d : Column) → Contains columns c → Contains (filter (is_other c) columns) d → Contains columns d × (class_of es c.place ≡ class_of es d.place) × (d.place ≢ c.place)
   other_some c d c_in k =
       let g : Contains columns d × (is_other c d ≡ true) = filter_some (is_other c) columns d k in
-      let t : (same_place c.class d.class ≡ true) × (not (same_place c.place d.place) ≡ true) = both (same_place c.class d.class) (not (same_place c.place d.place)) g.1 in (
+      let t : (same_place c.class d.class ≡ true) × (not (same_place c.place d.place) ≡ true) = and_parts (same_place c.class d.class) (not (same_place c.place d.place)) g.1 in (
         g.0,
         sym (are.named c c_in).1 ∙ same_place-true c.class d.class t.0 ∙ (are.named d g.0).1,
-        λ is. false≢true (sym (not_true (same_place c.place d.place) t.1) ∙ same_place-is c.place d.place (sym is)),
+        λ is. false≢true (sym (not-true (same_place c.place d.place) t.1) ∙ same_place-is c.place d.place (sym is)),
       )
 
   other_all : (c : Column) → Contains columns c → (q : Place) → Contains (places_of es) q → class_of es c.place ≡ class_of es q → q ≢ c.place → Has (filter (is_other c) columns) q
@@ -234,9 +213,9 @@ module _ (es : List Edge) (nc : HasNoCycle (class_of es)) (differ : Differ es) (
       let h : Has columns q = are.all q k in (
         h.0,
         filter_in (is_other c) columns h.0 h.1
-            (both_are (same_place c.class h.0.class) (not (same_place c.place h.0.place))
+            (and_from (same_place c.class h.0.class) (not (same_place c.place h.0.place))
             (same_place-is c.class h.0.class ((are.named c c_in).1 ∙ e ∙ ap (class_of es) (sym h.2) ∙ sym (are.named h.0 h.1).1))
-            (not_false (same_place c.place h.0.place) (off h.0 (λ is. ne (sym h.2 ∙ sym is))))),
+            (not_from_false (same_place c.place h.0.place) (off h.0 (λ is. ne (sym h.2 ∙ sym is))))),
         h.2,
       )
     where

@@ -1,7 +1,7 @@
 -- Equalities that close no cycle between entries make no cycle of entries and classes.
-use Rattle.std.proofs.Common.{◌≡◌, ◌≢◌, ℕ, Bool, true, false, cond, not, ◌&&◌, eqb, List, [], ◌∷◌, refl, ap, sym, ◌∙◌, subst, inl, inr}
+use Rattle.std.proofs.Common.{◌≡◌, ◌≢◌, ℕ, Bool, true, false, cond, not, eqb, List, [], ◌∷◌, refl, ap, sym, ◌∙◌, subst, inl, inr}
 use Rattle.std.specs.List.{AllByRecursion}
-use Rattle.std.proofs.lemmas.Bool.{cases_Bool, eq-eqb, eqb-true, eqb-false, false≢true}
+use Rattle.std.proofs.lemmas.Bool.{cases_Bool, eq-eqb, eqb-true, eqb-false, and_parts}
 use Rattle.berge_tree.specs.declared.edges.Place.{Place}
 use Rattle.berge_tree.specs.declared.edges.Edge.{Edge}
 use Rattle.berge_tree.specs.Equalities.{same_place, merged, classes_from, class_of, side_seen, IsBridge, HasNoCycle, AreApart, ClosesNoCycleAfter, ClosesNoCycle}
@@ -10,16 +10,12 @@ use Rattle.berge_tree.specs.Equalities.{same_place, merged, classes_from, class_
 abbrev pub merged_by : {A : Type 0} → (A → A → Bool) → (A → A) → A → A → A → A
 merged_by same name a b x = cond (same (name x) (name b)) (name a) (name x)
 
-both : (a b : Bool) → (a && b) ≡ true → (a ≡ true) × (b ≡ true)
-both true b e = (refl, e)
-both false b e = absurd (false≢true e)
-
 place_by : (p q : Place) → p.entry ≡ q.entry → p.column ≡ q.column → p ≡ q
 place_by p q e f = rw (e, f) refl
 
 pub same_place-true : (p q : Place) → same_place p q ≡ true → p ≡ q
 same_place-true p q h =
-    let t : (eqb p.entry q.entry ≡ true) × (eqb p.column q.column ≡ true) = both (eqb p.entry q.entry) (eqb p.column q.column) h in
+    let t : (eqb p.entry q.entry ≡ true) × (eqb p.column q.column ≡ true) = and_parts (eqb p.entry q.entry) (eqb p.column q.column) h in
     place_by p q (eqb-true p.entry q.entry t.0) (eqb-true p.column q.column t.1)
 
 pub merged-yes : {A : Type 0} (same : A → A → Bool) (name : A → A) (a b x : A) → same (name x) (name b) ≡ true → merged_by same name a b x ≡ name a
@@ -42,10 +38,6 @@ merged-same same name a b x y e = ap (λ n. cond (same n (name b)) (name a) n) e
 abbrev flip : Bool → Bool → Bool
 flip true b = not b
 flip false b = b
-
-not_not : (b : Bool) → not (not b) ≡ b
-not_not true = refl
-not_not false = refl
 
 flip-flip : (a b : Bool) → flip (flip a b) b ≡ a
 flip-flip true true = refl

@@ -18,12 +18,11 @@ use Rattle.entry_sets.specs.Sets.{entries_from, entries_of_set}
 use Rattle.entry_sets.proofs.Listing.{from_next, from_skip, set_from, set_has, set_increases, set_low}
 use Rattle.berge_tree.specs.Valid.{entries_in, IsValid}
 use Rattle.berge_tree.specs.Walk.{HaveOthers, columns_of, is_among, stands_in, added, tree_at, forest, walked}
-use Rattle.berge_tree.proofs.Steps.{in_front, in_rest}
 use Rattle.berge_tree.proofs.NoCycle.{has_no_cycle, ends_differ}
 use Rattle.berge_tree.proofs.Listing.{columns_are}
 use Rattle.berge_tree.proofs.Separate.{once_tree, pairs_from}
-use Rattle.berge_tree.proofs.Made.{have_others, rising}
-use Rattle.berge_tree.proofs.Forest.{all_trees, each}
+use Rattle.berge_tree.proofs.Made.{have_others}
+use Rattle.berge_tree.proofs.Forest.{all_trees}
 use Rattle.berge_tree.proofs.Sizes.{tree_small}
 use Rattle.berge_tree.proofs.Validity.{entries_in-nodes, nodes_valid}
 
@@ -39,10 +38,6 @@ nodes_of_trees trees = map (λ (t : Tree). t.nodes) trees
 stands_is : (trees : List Tree) (x : ℕ) → stands_in trees x ≡ stands_among (nodes_of_trees trees) x
 stands_is [] x = refl
 stands_is (t ∷ trees) x = ap (λ b. is_among (entries_in t.nodes) x || b) (stands_is trees x)
-
-or_none : (b : Bool) → (b || false) ≡ b
-or_none true = refl
-or_none false = refl
 
 or_swap : (a b c : Bool) → (a || (b || c)) ≡ (b || (a || c))
 or_swap true true c = refl

@@ -3,6 +3,7 @@ use Rattle.std.proofs.Common.{◌≡◌, ◌≢◌, ℕ, Bool, true, false, not,
 use Rattle.std.specs.Prelude.{⊤}
 use Rattle.std.specs.List.{Contains, AllByRecursion, AllPairs}
 use Rattle.std.proofs.lemmas.List.Kept.{AllPairs-from_increasing}
+use Rattle.entry_sets.proofs.Listing.{in_rest, in_front, in_none, one_in}
 use Rattle.berge_tree.specs.Trees.{Classes, no_class, and_class, Members, one_member, and_member, JoinTree}
 use Rattle.berge_tree.specs.Trees.{entries_below, entries_within, entries}
 use Rattle.berge_tree.specs.declared.edges.Place.{Place}
@@ -10,7 +11,7 @@ use Rattle.berge_tree.specs.declared.edges.Edge.{Edge}
 use Rattle.berge_tree.specs.Equalities.{place, class_of, IsBridge}
 use Rattle.berge_tree.specs.Rooted.{class_columns, member_places, member_entries, AreItsColumns, FollowsBelow, FollowsWithin}
 use Rattle.berge_tree.specs.Equalities.{HasNoCycle}
-use Rattle.berge_tree.proofs.Steps.{not_itself, in_rest, in_front, in_none, one_in, IsReached, root_reached, avoided, off_class, far, step}
+use Rattle.berge_tree.proofs.Steps.{not_itself, IsReached, root_reached, avoided, off_class, far, step}
 
 pub all_append : {X : Type 0} (Q : X → Type 0) (xs ys : List X) → AllByRecursion Q xs → AllByRecursion Q ys → AllByRecursion Q (xs ++ ys)
 all_append Q [] ys h k = k

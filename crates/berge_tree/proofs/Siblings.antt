@@ -1,11 +1,10 @@
 -- The siblings that a link leads to.
 use Rattle.std.proofs.Common.{◌≡◌, ℕ, zero, suc, ◌+◌, ◌<◌, ◌≤◌, List, [], ◌∷◌, length, get_or, refl, ap, sym, ◌∙◌, subst, arith}
 use Rattle.std.specs.Prelude.{Option, Some, None}
-use Rattle.std.specs.Iterator.{MakesProgress, item_count}
 use Rattle.berge_tree.specs.declared.tree.Node.{Node}
 use Rattle.berge_tree.specs.Valid.{LeadsLater, sibling_of, siblings, AreLinked}
 
-siblings-none : (most : ℕ) (nodes : List Node) → siblings most nodes None ≡ []
+pub siblings-none : (most : ℕ) (nodes : List Node) → siblings most nodes None ≡ []
 siblings-none zero nodes = refl
 siblings-none (suc most) nodes = refl
 
@@ -35,7 +34,3 @@ siblings-step nodes i d link next is to linked =
     let here : AreLinked nodes (Some i) = subst (AreLinked nodes) is linked in
     ap (siblings (length nodes) nodes) is ∙ siblings-next (length nodes) nodes i (omega arith) here
     ∙ ap (λ (l : Option ℕ). i ∷ siblings (length nodes) nodes l) (sibling_of-is nodes i d here.link_within ∙ sym to)
-
--- an iterator that gives the first item of a list leaves fewer
-pub goes_on : (can : List ℕ → Type 0) → ((xs : List ℕ) → can xs) → (xs rest : List ℕ) (i : ℕ) → xs ≡ i ∷ rest → MakesProgress can (item_count (λ (left : List ℕ). left)) xs (Some i) rest
-goes_on can may xs rest i is = rw is (record { on = λ _. (may rest, tt, omega arith); keeps = may rest; rests = λ _. tt })

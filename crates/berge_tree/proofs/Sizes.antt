@@ -3,6 +3,7 @@ use Rattle.std.proofs.Common.{◌≡◌, ℕ, ◌+◌, ◌*◌, ◌<◌, ◌≤�
 use Rattle.std.specs.Prelude.{None}
 use Rattle.std.specs.List.{Contains, AllByRecursion}
 use Rattle.std.proofs.lemmas.List.{length-append}
+use Rattle.entry_sets.proofs.Listing.{each}
 use Rattle.berge_tree.specs.declared.edges.Edge.{Edge}
 use Rattle.berge_tree.specs.declared.columns.Column.{Column}
 use Rattle.berge_tree.specs.Equalities.{AreWithin, ClosesNoCycle}
@@ -13,7 +14,7 @@ use Rattle.berge_tree.specs.Walk.{AreColumnsOf, walked, tree_at, is_among}
 use Rattle.berge_tree.proofs.NoCycle.{has_no_cycle}
 use Rattle.berge_tree.proofs.Separate.{once_tree, one_side}
 use Rattle.berge_tree.proofs.Made.{few}
-use Rattle.berge_tree.proofs.Forest.{among, is_in, each, all_in, closed_side, set_closed, follows}
+use Rattle.berge_tree.proofs.Forest.{among, is_in, all_in, closed_side, set_closed, follows}
 
 mutual
   -- each class has a member

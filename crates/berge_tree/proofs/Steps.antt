@@ -1,8 +1,9 @@
 -- One step of a walk from an entry through a class.
-use Rattle.std.proofs.Common.{◌≡◌, ◌≢◌, ℕ, Bool, true, false, not, List, [], ◌∷◌, ◌<◌, zero, suc, length, get_or, arith, refl, ap, sym, ◌∙◌, subst, ◌⊎◌, inl, inr, Option, Some, None}
+use Rattle.std.proofs.Common.{◌≡◌, ◌≢◌, ℕ, Bool, true, false, not, List, [], ◌∷◌, ◌<◌, suc, arith, refl, ap, sym, ◌∙◌, subst, ◌⊎◌, inl, inr, Option, Some, None}
 use Rattle.std.specs.Prelude.{⊤}
 use Rattle.std.specs.List.{Contains}
 use Rattle.std.proofs.lemmas.Bool.{cases_Bool, eq-eqb, false≢true}
+use Rattle.entry_sets.proofs.Listing.{in_rest, in_front, in_none, one_in}
 use Rattle.berge_tree.specs.declared.edges.Place.{Place}
 use Rattle.berge_tree.specs.Equalities.{same_place, side_seen, IsBridge}
 use Rattle.berge_tree.proofs.NoCycle.{same_place-true}
@@ -32,22 +33,6 @@ seen_off side p q ne = elim (cases_Bool (same_place q p)) [
 
 pub seen_at : (side : ℕ → Bool) (p : Place) → side_seen side p p ≡ not (side p.entry)
 seen_at side p = rw (same_place-refl p) refl
-
-pub one_in : {X : Type 0} (x : X) (xs : List X) (y : X) → Contains (x ∷ xs) y → Contains xs y ⊎ (y ≡ x)
-one_in x xs y h = at h.0 h.1 h.2
-  where
-    at : (k : ℕ) → k < suc (length xs) → get_or (x ∷ xs) k y ≡ y → Contains xs y ⊎ (y ≡ x)
-    at zero l e = inr (sym e)
-    at (suc k) l e = inl (k, omega arith, e)
-
-pub in_rest : {X : Type 0} (x : X) (xs : List X) (y : X) → Contains xs y → Contains (x ∷ xs) y
-in_rest x xs y h = (suc h.0, omega (arith, h.1), h.2)
-
-pub in_front : {X : Type 0} (x : X) (xs : List X) (y : X) → y ≡ x → Contains (x ∷ xs) y
-in_front x xs y e = (0, omega arith, sym e)
-
-pub in_none : {X : Type 0} (y : X) → Contains [] y → ⊥
-in_none y h = omega (arith, h.1)
 
 pub another : (c : ℕ) → Some c ≢ Some (suc c)
 another c e = less (subst (λ o. below o) e arith_own)

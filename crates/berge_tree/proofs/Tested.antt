@@ -1,36 +1,25 @@
 -- What the tests by computation show.
-use Rattle.std.proofs.Common.{◌≡◌, ℕ, zero, suc, Bool, true, false, not, ◌&&◌, eqb, ltb, List, [], ◌∷◌, refl, sym, ◌∙◌, subst, inl, inr, arith, Some}
-use Rattle.std.specs.Prelude.{slice_get}
+use Rattle.std.proofs.Common.{◌≡◌, ℕ, true, false, not, ◌&&◌, eqb, ltb, List, [], ◌∷◌, refl, sym, ◌∙◌, subst, inl, inr}
 use Rattle.std.specs.Int.{bit_at}
-use Rattle.std.specs.List.{All, AllByRecursion}
-use Rattle.std.proofs.lemmas.Bool.{cases_Bool, eq-eqb, ltb-true, false≢true}
+use Rattle.std.specs.List.{AllByRecursion}
+use Rattle.std.proofs.lemmas.Bool.{cases_Bool, eq-eqb, ltb-true, false≢true, and_parts, not-true}
 use Rattle.berge_tree.specs.declared.edges.Edge.{Edge}
-use Rattle.berge_tree.specs.declared.tree.Tree.{Tree}
-use Rattle.berge_tree.specs.Valid.{IsValid}
 use Rattle.berge_tree.specs.Equalities.{AreWithin, ClosesNoCycleAfter, ClosesNoCycle}
 use Rattle.entry_sets.specs.Sets.{entries_of_set, has_entry}
 use Rattle.berge_tree.specs.Testing.{joined_parts, joins_parts, has_entries}
 use Rattle.berge_tree.proofs.NoCycle.{apart_by}
 use Rattle.entry_sets.proofs.Listing.{set_has}
 
-both : (a b : Bool) → (a && b) ≡ true → (a ≡ true) × (b ≡ true)
-both true b e = (refl, e)
-both false b e = absurd (false≢true e)
-
-not_true : (b : Bool) → not b ≡ true → b ≡ false
-not_true true e = absurd (false≢true e)
-not_true false e = refl
-
 abbrev Kept : (ℕ → ℕ) → List Edge → Type 0
 Kept name es = AllByRecursion (λ e. name e.left.entry ≡ name e.right.entry) es
 
-joined_same : (name : ℕ → ℕ) (a b x y : ℕ) → name x ≡ name y → joined_parts name a b x ≡ joined_parts name a b y
+pub joined_same : (name : ℕ → ℕ) (a b x y : ℕ) → name x ≡ name y → joined_parts name a b x ≡ joined_parts name a b y
 joined_same name a b x y is = elim (cases_Bool (eqb (name x) (name b))) [
   | inl t ↦ rw (t, subst (λ n. eqb n (name b) ≡ true) is t) refl
   | inr n ↦ rw (n, subst (λ m. eqb m (name b) ≡ false) is n) is
 ]
 
-joined_ends : (name : ℕ → ℕ) (a b : ℕ) → joined_parts name a b a ≡ joined_parts name a b b
+pub joined_ends : (name : ℕ → ℕ) (a b : ℕ) → joined_parts name a b a ≡ joined_parts name a b b
 joined_ends name a b = elim (cases_Bool (eqb (name a) (name b))) [
   | inl t ↦ rw (t, eq-eqb (name b) (name b) refl) refl
   | inr n ↦ rw (n, eq-eqb (name b) (name b) refl) refl
@@ -43,8 +32,8 @@ joined_kept name a b (e ∷ es) h = (joined_same name a b e.left.entry e.right.e
 joins_after : (name : ℕ → ℕ) (earlier es : List Edge) → Kept name earlier → joins_parts name es ≡ true → ClosesNoCycleAfter earlier es
 joins_after name earlier [] kept t = tt
 joins_after name earlier (e ∷ es) kept t =
-    let h : (not (eqb (name e.left.entry) (name e.right.entry)) ≡ true) × (joins_parts (joined_parts name e.left.entry e.right.entry) es ≡ true) = both (not (eqb (name e.left.entry) (name e.right.entry))) (joins_parts (joined_parts name e.left.entry e.right.entry) es) t in (
-      apart_by earlier e.left.entry e.right.entry name kept (λ is. false≢true (sym (not_true (eqb (name e.left.entry) (name e.right.entry)) h.0) ∙ eq-eqb (name e.left.entry) (name e.right.entry) is)),
+    let h : (not (eqb (name e.left.entry) (name e.right.entry)) ≡ true) × (joins_parts (joined_parts name e.left.entry e.right.entry) es ≡ true) = and_parts (not (eqb (name e.left.entry) (name e.right.entry))) (joins_parts (joined_parts name e.left.entry e.right.entry) es) t in (
+      apart_by earlier e.left.entry e.right.entry name kept (λ is. false≢true (sym (not-true (eqb (name e.left.entry) (name e.right.entry)) h.0) ∙ eq-eqb (name e.left.entry) (name e.right.entry) is)),
       joins_after (joined_parts name e.left.entry e.right.entry) (e ∷ earlier) es (joined_ends name e.left.entry e.right.entry, joined_kept name e.left.entry e.right.entry earlier kept) h.1,
     )
 
@@ -54,20 +43,8 @@ joins_no_cycle es t = joins_after (λ e. e) [] es tt t
 pub has_within : (subset : ℕ) (es : List Edge) → has_entries subset es ≡ true → AreWithin (entries_of_set subset) es
 has_within subset [] t = tt
 has_within subset (e ∷ es) t =
-    let h : (has_entry subset e.left.entry ≡ true) × ((has_entry subset e.right.entry && has_entries subset es) ≡ true) = both (has_entry subset e.left.entry) (has_entry subset e.right.entry && has_entries subset es) t in
-    let k : (has_entry subset e.right.entry ≡ true) × (has_entries subset es ≡ true) = both (has_entry subset e.right.entry) (has_entries subset es) h.1 in
-    let l : (ltb e.left.entry 16 ≡ true) × (eqb (bit_at subset e.left.entry) 1 ≡ true) = both (ltb e.left.entry 16) (eqb (bit_at subset e.left.entry) 1) h.0 in
-    let r : (ltb e.right.entry 16 ≡ true) × (eqb (bit_at subset e.right.entry) 1 ≡ true) = both (ltb e.right.entry 16) (eqb (bit_at subset e.right.entry) 1) k.0 in
+    let h : (has_entry subset e.left.entry ≡ true) × ((has_entry subset e.right.entry && has_entries subset es) ≡ true) = and_parts (has_entry subset e.left.entry) (has_entry subset e.right.entry && has_entries subset es) t in
+    let k : (has_entry subset e.right.entry ≡ true) × (has_entries subset es ≡ true) = and_parts (has_entry subset e.right.entry) (has_entries subset es) h.1 in
+    let l : (ltb e.left.entry 16 ≡ true) × (eqb (bit_at subset e.left.entry) 1 ≡ true) = and_parts (ltb e.left.entry 16) (eqb (bit_at subset e.left.entry) 1) h.0 in
+    let r : (ltb e.right.entry 16 ≡ true) × (eqb (bit_at subset e.right.entry) 1 ≡ true) = and_parts (ltb e.right.entry 16) (eqb (bit_at subset e.right.entry) 1) k.0 in
     ((set_has subset e.left.entry (ltb-true e.left.entry 16 l.0) l.1, set_has subset e.right.entry (ltb-true e.right.entry 16 r.0) r.1), has_within subset es k.1)
-
-pub no_cycle_along : (es known : List Edge) → es ≡ known → joins_parts (λ e. e) known ≡ true → ClosesNoCycle es
-no_cycle_along es known is t = subst ClosesNoCycle (sym is) (joins_no_cycle known t)
-
-pub within_along : (subset : ℕ) (es known : List Edge) → es ≡ known → has_entries subset known ≡ true → AreWithin (entries_of_set subset) es
-within_along subset es known is t = subst (AreWithin (entries_of_set subset)) (sym is) (has_within subset known t)
-
--- each tree of a list of valid ones is valid
-pub valid_got : (trees : List Tree) (i : ℕ) (t : Tree) → All (λ tree. IsValid tree.nodes) trees → slice_get trees i ≡ Some t → IsValid t.nodes
-valid_got [] i t all is = absurd (cc)
-valid_got (tree ∷ trees) zero t all is = let same : tree ≡ t = cc in subst (λ (u : Tree). IsValid u.nodes) same (all 0 tree (omega arith))
-valid_got (tree ∷ trees) (suc i) t all is = valid_got trees i t (λ k d h. all (suc k) d (omega arith)) is

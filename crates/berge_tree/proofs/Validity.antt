@@ -14,7 +14,7 @@ use Rattle.berge_tree.proofs.Counted.{length-of_classes, length-of_members, some
 use Rattle.berge_tree.proofs.Steps.{none_some}
 
 -- every link leads to a later node
-abbrev AreLater : List Node → Type 0
+abbrev pub AreLater : List Node → Type 0
 AreLater nodes = (i : ℕ) (d : Node) → i < length nodes
     → LeadsLater i (length nodes) (get_or nodes i d).first_child × LeadsLater i (length nodes) (get_or nodes i d).next_sibling
 

@@ -20,5 +20,5 @@ pub use laws::{
     joined_parts_close_no_cycle, names_keep_entries_apart, no_cycle_of_classes,
     trees_stand_in_nodes,
 };
-pub use tree::{Children, Node, NodeKind, Tree};
+pub use tree::{Node, NodeKind, Tree};
 pub use walk::rooted;

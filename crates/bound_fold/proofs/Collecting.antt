@@ -4,7 +4,7 @@ use Rattle.std.specs.Borrow.{Bor}
 use Rattle.std.specs.Prelude.{Option, Some, None, IsSome, slice_get, unwrap_or}
 use Rattle.std.specs.Option.{option_copied}
 use Rattle.std.specs.List.{AllByRecursion}
-use Rattle.std.proofs.lemmas.List.{append_assoc, append-nil, get_or_default, map_push}
+use Rattle.std.proofs.lemmas.List.{append_assoc, get_or_default, map_push}
 use Rattle.std.proofs.lemmas.Option.{slice_get-get_or}
 use Rattle.degree_sequences.specs.Composition.{ChildLists}
 use Rattle.piece_math.specs.declared.weights.Child.{Child}
@@ -14,7 +14,7 @@ use Rattle.berge_tree.specs.Valid.{IsValid, LeadsLater, children_of, siblings}
 use Rattle.tree_bounds.specs.NodeBounds.{child_at, via_of}
 use Rattle.tree_bounds.specs.TreeBounds.{EntryBounds}
 use Rattle.bound_fold.specs.Folding.{AreDone, saturated_list}
-use Rattle.bound_fold.proofs.Links.{siblings-none, siblings_at, first_child_of-is, still_later, there}
+use Rattle.bound_fold.proofs.Links.{siblings_at, still_later, there}
 
 -- what is gathered and what stands at the link are all that stands below node `from`
 pub record Collecting (nodes : List Node) (f : ℕ → ChildLists) (P : ℕ → Type 0) (from : ℕ) (at : Option ℕ) (children : List Child) : Type 0 where
@@ -23,11 +23,6 @@ pub record Collecting (nodes : List Node) (f : ℕ → ChildLists) (P : ℕ → 
   pub listed : AllByRecursion P (siblings (length nodes) nodes at)
 
 module _ (nodes : List Node) (f : ℕ → ChildLists) (P : ℕ → Type 0) (from : ℕ) (v : IsValid nodes) where
-  pub starts : (d : Node) → from < length nodes → AllByRecursion P (children_of nodes from) → Collecting nodes f P from (get_or nodes from d).first_child []
-  starts d h all =
-      let e : children_of nodes from ≡ siblings (length nodes) nodes (get_or nodes from d).first_child = ap (siblings (length nodes) nodes) (first_child_of-is nodes from d h) in
-      record { later = (v.later from d h).0; whole = ap (map f) (sym e); listed = subst (AllByRecursion P) e all }
-
   -- the class at the link has its list
   pub listed_here : (at : Option ℕ) (children : List Child) (i : ℕ) → Node → Collecting nodes f P from at children → at ≡ Some i → P i
   listed_here at children i d c is = (subst (AllByRecursion P) (siblings_at nodes v from i d at (get_or nodes i d).next_sibling c.later is refl) c.listed).0
@@ -48,10 +43,6 @@ module _ (nodes : List Node) (f : ℕ → ChildLists) (P : ℕ → Type 0) (from
             ∙ c.whole;
         listed = (subst (AllByRecursion P) step c.listed).1;
       }
-
-  pub ends : (at : Option ℕ) (children : List Child) → at ≡ None → Collecting nodes f P from at children → map lists_of children ≡ map f (children_of nodes from)
-  ends at children is c =
-      sym (append-nil (map lists_of children)) ∙ sym (ap (λ js. map lists_of children ++ map f js) (siblings-none (length nodes) nodes at is)) ∙ c.whole
 
 -- ---- one class
 

@@ -1,33 +1,18 @@
 -- The fold, node by node, and what its answer bounds.
-use Rattle.std.proofs.Common.{◌≡◌, ◌⊎◌, inl, inr, ℕ, ◌+◌, ◌-◌, ◌^◌, ◌<◌, ◌≤◌, List, [], length, get_or, set, refl, ap, sym, ◌∙◌, subst, arith, get_or-set_other, get_or-set_same, length-set}
+use Rattle.std.proofs.Common.{◌≡◌, ◌⊎◌, ℕ, ◌-◌, ◌^◌, ◌≤◌, List, [], length, refl, sym, subst}
 use Rattle.std.specs.Prelude.{Option, Some, None, IsSome, unwrap_or}
 use Rattle.std.specs.List.{AllByRecursion}
-use Rattle.std.proofs.lemmas.Bool.{cases_lt}
 use Rattle.degree_sequences.specs.Falling.{IsFalling}
 use Rattle.degree_sequences.specs.Saturation.{saturated}
-use Rattle.berge_tree.specs.declared.tree.Node.{Node}
 use Rattle.berge_tree.specs.Trees.{Classes, no_class, and_class, Members, one_member, and_member, JoinTree, entries}
 use Rattle.tree_bounds.specs.Columns.{EachColumnBelow, EachColumnWithin}
 use Rattle.tree_bounds.specs.Tables.{KeyedTables, Agrees, AreDifferent, TreeDominates}
-use Rattle.tree_bounds.specs.TreeBounds.{EntryBounds, HasList, HasLists, bound_of_tree}
+use Rattle.tree_bounds.specs.TreeBounds.{HasList, HasLists, bound_of_tree}
 use Rattle.tree_bounds.proofs.Injected.{choices_within}
 use Rattle.tree_bounds.proofs.Saturated.{within_saturated}
 use Rattle.bound_fold.specs.declared.lists.EntryLists.{EntryLists}
-use Rattle.bound_fold.specs.Folding.{AreDone, saturated_list}
 use Rattle.bound_fold.specs.Lists.{bounds_of, list_of, IsListed}
 use Rattle.bound_fold.proofs.OneNode.{listed_total}
-
--- one node more
-pub one_more : (b : EntryBounds) (nodes : List Node) (done : List (List ℕ)) (i : ℕ) (list : List ℕ) → i < length nodes → AreDone b nodes done (i + 1) → list ≡ saturated_list b nodes i
-    → AreDone b nodes (set done i list) i
-one_more b nodes done i list h before is = record {
-  one_each = omega (arith, length-set done i list, before.one_each);
-  lists = λ k from within. elim (cases_lt i k) [
-    | inl later ↦ get_or-set_other done i k list [] (λ e. omega arith) ∙ before.lists k (omega arith) within
-    | inr here ↦ (let e : k ≡ i = omega arith in
-        ap (λ j. get_or (set done i list) j []) e ∙ get_or-set_same done i list [] (omega (arith, before.one_each)) ∙ is ∙ sym (ap (saturated_list b nodes) e))
-  ];
-}
 
 -- ---- what holds at each column
 

@@ -82,6 +82,3 @@ module _ (nodes : List Node) (done : List (List ℕ)) (from : ℕ) (v : IsValid 
       let all : p.passed ≡ children_of nodes from =
       sym (append-nil p.passed) ∙ sym (ap (λ js. p.passed ++ js) (siblings-none (length nodes) nodes at is)) ∙ p.whole in
       p.is ∙ ap (λ js. map saturated (rank_product_of (map (node_list b nodes) js))) all
-
-  pub none_below : (d : Node) → from < length nodes → (get_or nodes from d).first_child ≡ None → children_of nodes from ≡ []
-  none_below d h is = siblings-none (length nodes) nodes _ (first_child_of-is nodes from d h ∙ is)

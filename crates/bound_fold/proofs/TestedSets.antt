@@ -1,16 +1,15 @@
 -- What holds of each entry whose bit is set, and of each equality, holds of a set.
 use Rattle.std.proofs.Common.{Bor, zero, ◌≡◌, ℕ, suc, ◌+◌, ◌<◌, Bool, true, false, eqb, ltb, List, [], ◌∷◌, get_or, length, refl, ap, ◌∙◌, sym, subst, arith, inl, inr}
-use Rattle.std.specs.Prelude.{Option, Some, None, IsSome, IsTrue, MatchBool, ◌↔◌, is_some, ◌&&◌}
+use Rattle.std.specs.Prelude.{Option, Some, None, IsSome, IsTrue, MatchBool, ◌↔◌, is_some}
 use Rattle.std.specs.Option.{option_copied}
 use Rattle.std.specs.Int.{bit_at}
 use Rattle.std.specs.List.{AllByRecursion, Contains}
-use Rattle.std.proofs.lemmas.Bool.{cases_Bool, cases_lt, eq-eqb, eqb-true, lt-ltb, ltb-true}
+use Rattle.std.proofs.lemmas.Bool.{cases_Bool, cases_lt, eq-eqb, eqb-true, lt-ltb, ltb-true, and_parts}
 use Rattle.std.proofs.lemmas.List.{get_or_default}
 use Rattle.std.proofs.lemmas.List.Elements.{All-contains_itself, All-weaker, recursion_from_All}
 use Rattle.berge_tree.specs.declared.edges.Edge.{Edge}
 use Rattle.entry_sets.specs.Sets.{entries_of_set, has_entry}
-use Rattle.berge_tree.proofs.Forest.{each}
-use Rattle.entry_sets.proofs.Listing.{set_bits, set_bits_only}
+use Rattle.entry_sets.proofs.Listing.{set_bits, set_bits_only, each}
 use Rattle.join_graph.specs.Kept.{equalities_within, joins_within}
 use Rattle.tree_bounds.specs.Columns.{EachNamedColumn}
 
@@ -78,12 +77,8 @@ named_at Q subset (e ∷ es) h (suc k) d low joins = named_at Q subset es (later
 -- what an entry of the set does not have, the set does not have
 pub entry_at : (P : ℕ → Type 0) (subset : ℕ) → AllByRecursion P (entries_of_set subset) → (k : ℕ) → has_entry subset k ≡ true → P k
 entry_at P subset h k has =
-    let bits : (ltb k 16 ≡ true) × (eqb (bit_at subset k) 1 ≡ true) = both (ltb k 16) (eqb (bit_at subset k) 1) has in
+    let bits : (ltb k 16 ≡ true) × (eqb (bit_at subset k) 1 ≡ true) = and_parts (ltb k 16) (eqb (bit_at subset k) 1) has in
     each P (entries_of_set subset) h k (set_bits_only subset k (ltb-true k 16 bits.0, eqb-true (bit_at subset k) 1 bits.1))
-  where
-    both : (x y : Bool) → (x && y) ≡ true → (x ≡ true) × (y ≡ true)
-    both true y e = (refl, e)
-    both false y e = absurd (cc e)
 
 -- ---- answers of tests
 

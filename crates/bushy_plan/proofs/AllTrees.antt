@@ -2,10 +2,11 @@
 use Rattle.std.proofs.Common.{◌≡◌, ℕ, zero, suc, ◌+◌, ◌-◌, ◌^◌, ◌<◌, Bool, true, false, cond, refl, ap, sym, ◌∙◌, subst, arith, inl, inr}
 use Rattle.std.specs.Prelude.{◌⊎◌}
 use Rattle.std.specs.Int.{bit_at}
-use Rattle.std.proofs.lemmas.Bool.{cases_eq, cases_lt, cases_order, false≢true}
+use Rattle.std.proofs.lemmas.Bool.{cases_eq, cases_lt, cases_order}
 use Rattle.std.proofs.lemmas.Nat.{pow_pos}
 use Rattle.std.proofs.lemmas.Nat.Bits.{bit_at-lt, bit_at-pow_other, bit_at_above, bit_at_ones}
 use Rattle.entry_sets.proofs.Bits.{bit_without_other, bit_without_same, power_within, twice}
+use Rattle.order_search.proofs.Tested.{both_true}
 use Rattle.bushy_plan.specs.BestTree.{all_of}
 use Rattle.bushy_plan.specs.JoinTrees.{IsFirstEntry, IsSplit, IsTreeOver, JoinTree, leaf, node, entries_of}
 use Rattle.bushy_plan.proofs.LeftDeep.{tree_first}
@@ -22,10 +23,6 @@ abbrev pub each_tree : ℕ → (JoinTree → Bool) → Bool
 each_tree zero test = true
 each_tree (suc zero) test = test (leaf 0)
 each_tree (suc (suc n)) test = each_tree (suc n) (λ t. each_with (suc n) test t)
-
-pub both_true : (a b : Bool) → cond a b false ≡ true → (a ≡ true) × (b ≡ true)
-both_true true b h = (refl, h)
-both_true false b h = absurd (false≢true h)
 
 -- ---- the last entry is taken out of a split
 

@@ -8,6 +8,7 @@ use Rattle.std.proofs.lemmas.Nat.{pow_pos}
 use Rattle.std.proofs.lemmas.Nat.Bits.{bit_at-lt, bit_at-pow_other, bit_at_above}
 use Rattle.entry_sets.proofs.Bits.{twice}
 use Rattle.order_search.specs.Orders.{IsNotAfter}
+use Rattle.order_search.proofs.NoWorse.{place_either, place_both}
 use Rattle.bushy_plan.specs.BestTree.{IsBefore, IsBest, all_of, cost, total}
 use Rattle.bushy_plan.specs.JoinTrees.{IsFirstEntry, IsSplit, IsTreeOver, JoinTree, leaf, node, entries_of, inner_count}
 use Rattle.bushy_plan.proofs.AllTrees.{IsWith, only_last, without_last}
@@ -209,35 +210,6 @@ least_of_all R order (suc (suc n)) some =
 abbrev left_sets : JoinTree → List ℕ
 left_sets (leaf entry) = []
 left_sets (node left right) = entries_of left ∷ (left_sets left ++ left_sets right)
-
-place_either : (a b : List ℕ) → IsNotAfter a b ⊎ IsNotAfter b a
-place_either [] b = inl tt
-place_either (x ∷ a) [] = inr tt
-place_either (x ∷ a) (y ∷ b) = elim (cases_order x y) [
-  | inl same ↦ elim (place_either a b) [
-    | inl p ↦ inl (inr (same, p))
-    | inr q ↦ inr (inr (sym same, q))
-  ]
-  | inr apart ↦ elim apart [
-    | inl below ↦ inl (inl below)
-    | inr above ↦ inr (inl above)
-  ]
-]
-
-place_both : (a b c : List ℕ) → IsNotAfter a b → IsNotAfter b c → IsNotAfter a c
-place_both [] b c p q = tt
-place_both (x ∷ a) [] c p q = absurd p
-place_both (x ∷ a) (y ∷ b) [] p q = absurd q
-place_both (x ∷ a) (y ∷ b) (z ∷ c) p q = elim p [
-  | inl below ↦ elim q [
-    | inl further ↦ inl (omega arith)
-    | inr same ↦ inl (omega (arith, same.0))
-  ]
-  | inr here ↦ elim q [
-    | inl further ↦ inl (omega (arith, here.0))
-    | inr same ↦ inr (here.0 ∙ same.0, place_both a b c here.1 same.1)
-  ]
-]
 
 abbrev First : (JoinTree → ℕ) → (JoinTree → JoinTree → Type 0) → JoinTree → JoinTree → Type 0
 First f Then a b = (f a < f b) ⊎ ((f a ≡ f b) × Then a b)

@@ -1,27 +1,12 @@
 -- A test that one tree is no worse than another, which computes: how small examples of a best tree are shown.
-use Rattle.std.proofs.Common.{◌≡◌, ℕ, ◌<◌, Bool, true, false, eqb, leb, cond, List, refl, sym, ◌∙◌, subst, eq-eqb, arith, inl, inr}
+use Rattle.std.proofs.Common.{◌≡◌, ℕ, ◌<◌, Bool, true, false, eqb, cond, List, refl, subst, eq-eqb, arith, inl, inr}
 use Rattle.std.specs.Prelude.{◌⊎◌}
-use Rattle.std.proofs.lemmas.Bool.{cases_lt, false≢true, le-leb, lt-leb}
+use Rattle.order_search.proofs.Tested.{both_true, first_test, first_told}
 use Rattle.bushy_plan.specs.BestTree.{IsBefore, IsBest, all_of, cost, total}
 use Rattle.bushy_plan.specs.JoinTrees.{IsTreeOver, JoinTree, leaf, node, entries_of}
-use Rattle.bushy_plan.proofs.AllTrees.{at_tree, both_true, each_tree}
+use Rattle.bushy_plan.proofs.AllTrees.{at_tree, each_tree}
 
 -- ---- no worse
-
--- by numbers, and by another test where they are equal
-abbrev pub first_test : ℕ → ℕ → Bool → Bool
-first_test m n behind = cond (leb n m) (cond (leb m n) behind false) true
-
-first_told : (m n : ℕ) (behind : Bool) → first_test m n behind ≡ true → (m < n) ⊎ ((m ≡ n) × (behind ≡ true))
-first_told m n behind h = elim (cases_lt m n) [
-  | inl below ↦ inl below
-  | inr not_below ↦ (let inner : cond (leb m n) behind false ≡ true = rw (le-leb n m not_below) at h in
-      let parts : (leb m n ≡ true) × (behind ≡ true) = both_true (leb m n) behind inner in
-      elim (cases_lt n m) [
-        | inl above ↦ absurd (false≢true (sym (lt-leb m n above) ∙ parts.0))
-        | inr not_above ↦ inr (omega arith, parts.1)
-      ])
-]
 
 abbrev pub same_tree : JoinTree → JoinTree → Bool
 same_tree (leaf a) (leaf b) = eqb a b

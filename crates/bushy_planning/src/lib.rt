@@ -4,8 +4,8 @@
 //! all scans and of all sets of entries are planning's, whatever they were made from, and the tree of least cost over them is chosen. Out: the
 //! plan, or why there is none within the budget.
 //!
-//! Callers cite `IsTreePlanOf` of bushy_join for a plan of which no bound is too low, and `IsBestPlan` of bushy_plan for the tree. `BoundLevels`
-//! and `BoundLists` of planning say when bounds serve.
+//! Callers cite `tree_answer` of tree_answers for the answer, and `IsTreePlanOf` of bushy_join for a plan of which no bound is too low.
+//! `BoundLevels` and `BoundLists` of planning say when bounds serve.
 //!
 //! ```text
 //! let plan = plan_bushy(alloc, &query, &db, accuracy, budget)?;

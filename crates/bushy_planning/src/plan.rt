@@ -1,15 +1,11 @@
 //! The plan of a query over a join tree.
-ghost use Rattle.std.specs.Prelude.{◌≡◌, ◌^◌, ◌<◌, ◌≤◌, ℕ, List, length, IfErr, IfOk};
+ghost use Rattle.std.specs.Prelude.{◌≡◌, ◌⊎◌, ◌^◌, ◌<◌, ◌≤◌, ℕ, Err, length, IfOk};
 ghost use Rattle.limits.specs.Profile.{greatest_budget, most_accuracy, most_entries, most_rows};
+ghost use Rattle.order_search.specs.declared.refusal.PlanError.TheVariants as error;
 ghost use Rattle.sql_meaning.specs.Databases.{IsDatabaseOf};
-ghost use Rattle.sql_meaning.specs.Tables.{Tables, row_counts, tables_of};
-ghost use Rattle.query_types.specs.declared.types.Query.{Query};
-ghost use Rattle.level_bounds.specs.Keys.{HaveDifferentCharacters};
+ghost use Rattle.sql_meaning.specs.Tables.{row_counts, tables_of};
 ghost use Rattle.planning.specs.Bounds.{scan_bounds_of, set_bounds_of};
-ghost use Rattle.planning.specs.Standing.{BoundLevels, BoundLists};
-ghost use Rattle.tree_plans.specs.TreePlans.{IsTreePlan};
-ghost use Rattle.bushy_plan.specs.BestTree.{IsBestPlan};
-ghost use Rattle.bushy_plan.specs.Causes.{IsCause};
+ghost use Rattle.tree_answers.specs.TreeAnswer.{tree_answer};
 ghost use Rattle.join_steps.specs.Lists.{scans_of};
 ghost use Rattle.bushy_join.specs.Trees.{IsTreePlanOf};
 
@@ -24,23 +20,13 @@ use tree_plans::BushyPlan;
 /// The best join tree of the entries by these bounds, with those of its scans and nodes, in rows; or why there is none within the budget, at
 /// most 2^59 rows.
 ///
-/// `Budget` and `PastBits` come exactly where `IsCause` says; `NoMemory` where memory is wanting.
+/// `Budget` and `PastBits` come exactly where `tree_answer` says; `NoMemory` where memory is wanting.
 pub fn plan_tree_from(alloc: Global, known: &Known, budget: u64) -> Result<BushyPlan, PlanError>
     requires some { 1 ≤ length known.now.scans }
     requires few { length known.now.scans ≤ most_entries }
     requires sets { length known.now.sets ≡ 2 ^ length known.now.scans }
     requires budget { budget ≤ greatest_budget }
-
-    // whatever rows stand in the lists, of tables as large as they may be
-    ensures never_under { (query : Query) (tables : Tables) (lists : List (List ℕ))
-        → BoundLevels query tables lists known.now.sets → BoundLists query tables lists known.now.scans
-        → ((entry : ℕ) → entry < length query.from → row_counts tables entry ≤ most_rows) → budget ≤ most_rows
-        → IfOk result (IsTreePlanOf query tables lists) }
-    ensures plan { IfOk result (IsTreePlan (length known.now.scans)) }
-    ensures best { IfOk result (IsBestPlan known.now.sets (length known.now.scans)) }
-    ensures scans { IfOk result (λ plan. plan.scans ≡ known.now.scans) }
-    ensures within { IfOk result (λ plan. plan.cost ≤ budget) }
-    ensures refused { IfErr result (IsCause known.now.sets (length known.now.scans) budget) }
+    ensures { (result ≡ Err error.NoMemory) ⊎ (result ≡ tree_answer known.now.sets known.now.scans budget) }
 {
     choose_bushy(alloc, &known.sets, &known.scans, budget)
 }
@@ -50,7 +36,7 @@ pub fn plan_tree_from(alloc: Global, known: &Known, budget: u64) -> Result<Bushy
 /// The accuracy of compressed lists is from 1 to 64 (SafeBound, SIGMOD 2023), the budget at most 4,000,000 rows. Statistics are gathered
 /// once.
 ///
-/// `Budget` and `PastBits` come exactly where `IsCause` says; `NoMemory` where memory is wanting.
+/// `Budget` and `PastBits` come exactly where `tree_answer` says; `NoMemory` where memory is wanting.
 pub fn plan_bushy(
     alloc: Global,
     query: &Query,
@@ -59,16 +45,12 @@ pub fn plan_bushy(
     budget: u64,
 ) -> Result<BushyPlan, PlanError>
     requires database { IsDatabaseOf query.now db.now }
-    requires texts { HaveDifferentCharacters db.now.pool }
     requires few_rows { (entry : ℕ) → entry < length query.now.from → row_counts (tables_of db.now) entry ≤ most_rows }
     requires accuracy { (0 < accuracy) × (accuracy ≤ most_accuracy) }
     requires budget { budget ≤ most_rows }
-
+    ensures plan { (result ≡ Err error.NoMemory) ⊎ (result
+        ≡ tree_answer (set_bounds_of query.now (tables_of db.now) accuracy) (scan_bounds_of query.now (tables_of db.now) accuracy) budget) }
     ensures never_under { IfOk result (IsTreePlanOf query.now (tables_of db.now) (scans_of query.now (tables_of db.now))) }
-    ensures best { IfOk result (IsBestPlan (set_bounds_of query.now (tables_of db.now) accuracy) (length query.now.from)) }
-    ensures scans { IfOk result (λ plan. plan.scans ≡ scan_bounds_of query.now (tables_of db.now) accuracy) }
-    ensures within { IfOk result (λ plan. plan.cost ≤ budget) }
-    ensures refused { IfErr result (IsCause (set_bounds_of query.now (tables_of db.now) accuracy) (length query.now.from) budget) }
 {
     let known = from_statistics(alloc, query, db, accuracy)?;
     plan_tree_from(alloc, &known, budget)

@@ -46,13 +46,21 @@ module _ (texts : List (List ℕ)) (cells : Cells) (filter joined : ℕ) (has_fi
   pub rows_are : length (rows_of_pair cells filter joined) ≡ cells.rows
   rows_are = omega (arith, length-zip (cells_of_column cells filter) (cells_of_column cells joined), has_filter.are_cells.height, has_joined.are_cells.height)
 
-  -- the statistics, part by part
-  pub made_are : (k count : ℕ) (kind_got : Kind) (values keys : List ℕ) (column : CellColumn) (all : List ℕ) (frequents : List FrequentList) (others places : List ℕ)
-      (nodes_got : List (List ℕ)) → count ≡ cells.rows → kind_got ≡ kind_of_column cells filter → values ≡ cells_of_column cells filter → keys ≡ cells_of_column cells joined
-      → column ≡ record { texts = texts; kind = kind_got; cells = values } → all ≡ compressed_degrees k keys → frequents ≡ frequent_lists k (zip column.cells keys)
-      → others ≡ rest k (zip column.cells keys) → places ≡ cuts (cell_le column.texts column.kind) column.cells
-      → nodes_got ≡ node_lists (cell_le column.texts column.kind) k (zip column.cells keys)
-      → (let stats : ColumnStats = record { kind = kind_got; rows = count; whole = all; frequent = frequents; rest = others; cuts = places; nodes = nodes_got } in stats)
-      ≡ stats_of texts (kind_of_column cells filter) k (rows_of_pair cells filter joined)
-  made_are k count kind_got values keys column all frequents others places nodes_got count_is kind_is values_are keys_are column_is all_is frequents_are others_are places_are nodes_are =
-      rw (all_is, frequents_are, others_are, places_are, nodes_are, column_is, count_is, kind_is, values_are, keys_are, joined_is, filter_is, rows_are) refl
+  -- the statistics of the columns as they are read
+  pub made_are : (k : ℕ) (kind_got : Kind) (values keys : List ℕ) (column : CellColumn) → kind_got ≡ kind_of_column cells filter → values ≡ cells_of_column cells filter
+      → keys ≡ cells_of_column cells joined → column ≡ record { texts = texts; kind = kind_got; cells = values }
+      → stats_of column.texts column.kind k (zip column.cells keys) ≡ stats_of texts (kind_of_column cells filter) k (rows_of_pair cells filter joined)
+  made_are k kind_got values keys column kind_is values_are keys_are column_is = rw (column_is, kind_is, values_are, keys_are) refl
+
+-- the statistics of a sorted column, part by part
+pub sorted_are : (k count : ℕ) (column : CellColumn) (keys : List ℕ) (kind_got : Kind) (all : List ℕ) (frequents : List FrequentList) (others places : List ℕ)
+    (nodes_got : List (List ℕ)) → length keys ≡ length column.cells → kind_got ≡ column.kind → count ≡ length keys → all ≡ compressed_degrees k keys
+    → frequents ≡ frequent_lists k (zip column.cells keys) → others ≡ rest k (zip column.cells keys) → places ≡ cuts (cell_le column.texts column.kind) column.cells
+    → nodes_got ≡ node_lists (cell_le column.texts column.kind) k (zip column.cells keys)
+    → (let stats : ColumnStats = record { kind = kind_got; rows = count; whole = all; frequent = frequents; rest = others; cuts = places; nodes = nodes_got } in stats)
+    ≡ stats_of column.texts column.kind k (zip column.cells keys)
+sorted_are k count column keys kind_got all frequents others places nodes_got as_high kind_is count_is all_is frequents_are others_are places_are nodes_are =
+    let firsts : filter_values (zip column.cells keys) ≡ column.cells = firsts-zip column.cells keys as_high in
+    let seconds : joined_keys (zip column.cells keys) ≡ keys = seconds-zip column.cells keys as_high in
+    let rows : length (zip column.cells keys) ≡ length keys = omega (arith, length-zip column.cells keys, as_high) in
+    rw (all_is, frequents_are, others_are, places_are, nodes_are, kind_is, count_is, seconds, firsts, rows) refl

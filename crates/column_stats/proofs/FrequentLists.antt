@@ -1,5 +1,5 @@
 -- The lists of the frequent values, and that the values are different.
-use Rattle.std.proofs.Common.{◌≡◌, ℕ, ◌≤◌, Bool, true, false, ◌||◌, eqb, List, [], ◌∷◌, map, length, take, Option, None, Some, refl, ap, sym, ◌∙◌, inl, inr}
+use Rattle.std.proofs.Common.{◌≡◌, ℕ, ◌≤◌, Bool, true, false, eqb, List, [], ◌∷◌, map, length, take, Option, None, Some, refl, ap, sym, ◌∙◌, inl, inr}
 use Rattle.std.specs.Prelude.{find}
 use Rattle.std.specs.List.{AllByRecursion, IsDistinct, list_any, zip}
 use Rattle.std.specs.Option.{option_map_or}
@@ -7,6 +7,7 @@ use Rattle.std.proofs.lemmas.Bool.{cases_Bool, cond_both, eq-eqb, eqb-true, eqb-
 use Rattle.std.proofs.lemmas.List.{take_all}
 use Rattle.std.proofs.lemmas.Map.Keys.{IsDistinct-cons, IsDistinct-head, IsDistinct-tail}
 use Rattle.std.proofs.lemmas.Slice.Zip.{firsts-zip}
+use Rattle.std.proofs.Math.Bool.{or-true}
 use Rattle.degree_sequences.proofs.Counting.{IsDistinct-different}
 use Rattle.degree_sequences.proofs.ProductDominates.{IsDistinct-first}
 use Rattle.degree_sequences.specs.Degrees.{different}
@@ -16,33 +17,24 @@ use Rattle.cond_stats.specs.Leaves.{put_in_order, in_order}
 use Rattle.cond_stats.specs.Lists.{compressed_degrees, is_frequent, keys_with, list_of_value, rest}
 use Rattle.cond_stats.specs.Rows.{filter_values}
 use Rattle.cond_stats.proofs.ValueLists.{of_frequent, of_none, of_others}
+use Rattle.cond_stats.proofs.Sorting.{all-put, all-in_order}
 use Rattle.column_stats.specs.declared.stats.FrequentList.{FrequentList}
 use Rattle.column_stats.specs.Stats.{frequent_list, frequent_lists, list_for_value, stats_of}
 
 -- ---- the values are different
-
-All-put : (Q : ℕ → Type 0) (le : ℕ → ℕ → Bool) (a : ℕ) (bs : List ℕ) → Q a → AllByRecursion Q bs → AllByRecursion Q (put_in_order le a bs)
-All-put Q le a [] q h = (q, tt)
-All-put Q le a (b ∷ bs) q h = cond_both (le a b) (a ∷ (b ∷ bs)) (b ∷ put_in_order le a bs) (AllByRecursion Q)
-    (λ e. (q, h))
-    (λ e. (h.0, All-put Q le a bs q h.1))
-
-All-in_order : (Q : ℕ → Type 0) (le : ℕ → ℕ → Bool) (A : List ℕ) → AllByRecursion Q A → AllByRecursion Q (in_order le A)
-All-in_order Q le [] h = tt
-All-in_order Q le (a ∷ A) h = All-put Q le a (in_order le A) h.0 (All-in_order Q le A h.1)
 
 IsDistinct-put : (le : ℕ → ℕ → Bool) (a : ℕ) (bs : List ℕ) → AllByRecursion (λ y. eqb a y ≡ false) bs → IsDistinct eqb bs → IsDistinct eqb (put_in_order le a bs)
 IsDistinct-put le a [] new apart = IsDistinct-cons eqb a [] tt apart
 IsDistinct-put le a (b ∷ bs) new apart = cond_both (le a b) (a ∷ (b ∷ bs)) (b ∷ put_in_order le a bs) (IsDistinct eqb)
     (λ e. IsDistinct-cons eqb a (b ∷ bs) new apart)
     (λ e. IsDistinct-cons eqb b (put_in_order le a bs)
-    (All-put (λ y. eqb b y ≡ false) le a bs (ne_eqb b a (λ same. eqb-false a b new.0 (sym same))) (IsDistinct-head eqb b bs apart))
+    (all-put (λ y. eqb b y ≡ false) le a bs (ne_eqb b a (λ same. eqb-false a b new.0 (sym same))) (IsDistinct-head eqb b bs apart))
     (IsDistinct-put le a bs new.1 (IsDistinct-tail eqb b bs apart)))
 
 IsDistinct-in_order : (le : ℕ → ℕ → Bool) (A : List ℕ) → IsDistinct eqb A → IsDistinct eqb (in_order le A)
 IsDistinct-in_order le [] apart = apart
 IsDistinct-in_order le (a ∷ A) apart = IsDistinct-put le a (in_order le A)
-    (All-in_order (λ y. eqb a y ≡ false) le A (IsDistinct-head eqb a A apart))
+    (all-in_order (λ y. eqb a y ≡ false) le A (IsDistinct-head eqb a A apart))
     (IsDistinct-in_order le A (IsDistinct-tail eqb a A apart))
 
 pub IsDistinct-frequent : (column : List ℕ) → IsDistinct eqb (frequent column)
@@ -97,10 +89,6 @@ same_lists k rows (v ∷ vs) h = rw (of_frequent k rows v h.0, same_lists k rows
 all_any : (values : List ℕ) → AllByRecursion (λ w. list_any (λ x. eqb x w) values ≡ true) values
 all_any values = each values (λ w h. h)
   where
-    or-true : (b : Bool) → (b || true) ≡ true
-    or-true true = refl
-    or-true false = refl
-
     each : (vs : List ℕ) → ((w : ℕ) → list_any (λ x. eqb x w) vs ≡ true → list_any (λ x. eqb x w) values ≡ true) → AllByRecursion (λ w. list_any (λ x. eqb x w) values ≡ true) vs
     each [] inside = tt
     each (w ∷ ws) inside = (inside w (rw (eq-eqb w w refl) refl), each ws (λ x h. inside x (rw h (or-true (eqb w x)))))

@@ -1,6 +1,6 @@
 //! All statistics of a pair of columns, out of one sort.
-ghost use Rattle.std.specs.Prelude.{◌≡◌, ◌<◌, ◌≤◌, IfOk};
-ghost use Rattle.std.specs.List.{sum};
+ghost use Rattle.std.specs.Prelude.{◌≡◌, ◌^◌, ◌<◌, ◌≤◌, IfOk, length};
+ghost use Rattle.std.specs.List.{sum, zip};
 ghost use Rattle.cond_stats.specs.Columns.{cell_le};
 ghost use Rattle.column_stats.specs.Pairs.{HasColumn, kind_of_column, rows_of_pair};
 ghost use Rattle.column_stats.specs.Promises.{AnswerRanges, AnswerValues};
@@ -12,6 +12,7 @@ use crate::stats::ColumnStats;
 use base_io::{NoMemory, Seq};
 use cond_stats::{FilterColumn, whole_list};
 use csv_tables::{Cells, Pool};
+use schema_types::Kind;
 use std::alloc::Global;
 
 // How many rows there are.
@@ -21,7 +22,40 @@ fn row_count(cells: &Cells) -> u32
     cells.rows
 }
 
-// The statistics, part by part.
+/// The statistics of a sorted filter column for the keys of a joined column, row by row, part by part: for whoever makes those of several
+/// joined columns. The accuracy is that of compression, from 1 to 64.
+pub fn gather_sorted(
+    alloc: Global,
+    column: &FilterColumn<'_>,
+    kind: Kind,
+    joined: &[u64],
+    accuracy: u8,
+) -> Result<ColumnStats, NoMemory>
+    requires kind { kind ≡ column.now.kind }
+    requires joined { length joined.now ≡ length column.now.cells }
+    requires rows { length joined.now < 2 ^ 32 }
+    requires accuracy { (0 < accuracy) × (accuracy ≤ 64) }
+    ensures { IfOk result (λ stats. stats ≡
+        stats_of column.now.texts column.now.kind accuracy (zip column.now.cells joined.now)) }
+{
+    let rows = joined.len() as u32;
+    let whole = whole_list(alloc, joined, accuracy)?;
+    let frequent = frequent_lists(alloc, column, joined, accuracy)?;
+    let rest = column.rest(joined, accuracy)?;
+    let cuts = Vec::from_slice(alloc, column.cuts())?;
+    let nodes = node_lists(alloc, column, joined, accuracy)?;
+    Ok(ColumnStats {
+        kind,
+        rows,
+        whole,
+        frequent,
+        rest,
+        cuts: Seq::from_vec(cuts),
+        nodes,
+    })
+}
+
+// The statistics of two columns of a table.
 fn made(
     alloc: Global,
     cells: &Cells,
@@ -36,25 +70,12 @@ fn made(
     ensures { IfOk result (λ stats. stats ≡
         stats_of pool.now (kind_of_column cells.now filter) accuracy (rows_of_pair cells.now filter joined)) }
 {
-    let rows = row_count(cells);
+    let _rows = row_count(cells);
     let kind = *cells.kinds.get(filter as usize);
     let keys = cells.columns.get(joined as usize).as_slice();
     let values = cells.columns.get(filter as usize).as_slice();
     let column = FilterColumn::new(alloc, pool, kind, values)?;
-    let whole = whole_list(alloc, keys, accuracy)?;
-    let frequent = frequent_lists(alloc, &column, keys, accuracy)?;
-    let rest = column.rest(keys, accuracy)?;
-    let cuts = Vec::from_slice(alloc, column.cuts())?;
-    let nodes = node_lists(alloc, &column, keys, accuracy)?;
-    Ok(ColumnStats {
-        kind,
-        rows,
-        whole,
-        frequent,
-        rest,
-        cuts: Seq::from_vec(cuts),
-        nodes,
-    })
+    gather_sorted(alloc, &column, kind, keys, accuracy)
 }
 
 /// The statistics of a filter column for a joined column, each by its number in the table (SafeBound, SIGMOD 2023). The accuracy is

@@ -1,9 +1,9 @@
 //! Statistics of a filter column for a joined column, made once and asked without memory (SafeBound, SIGMOD 2023, conditional
 //! degree sequences).
 //!
-//! Beside the way of a query: a run makes only the lists that its conditions ask for (`cond_stats`); these are all of them, for
-//! whoever keeps statistics. In come two columns of a table's cells; out goes a `ColumnStats` with the list of all rows, up to 32
-//! lists of frequent values, the rest list, 32 cuts and the lists of 63 nodes.
+//! A plan from tables makes only the lists that its conditions ask for (`cond_stats`); these are all of them, for whoever keeps
+//! statistics, as filed_stats does. In come two columns of a table's cells; out goes a `ColumnStats` with the list of all rows, up to
+//! 32 lists of frequent values, the rest list, 32 cuts and the lists of 63 nodes.
 //!
 //! Callers cite `stats_of`, `list_for_value`, `list_for_range`, `leaf_by_cuts` and `IsValid` (in `specs/Stats.antt`). That these
 //! are the lists of `cond_stats`, and what they dominate, is in the contract of `gather`; what the list of a node dominates that is
@@ -21,5 +21,5 @@ pub mod laws;
 mod parts;
 mod stats;
 
-pub use gathering::gather;
-pub use stats::{ColumnStats, FrequentList};
+pub use gathering::{gather, gather_sorted};
+pub use stats::{ColumnStats, FrequentList, place_of_node};

@@ -91,8 +91,8 @@ impl ColumnStats {
     }
 }
 
-// The place among the nodes of the least one that holds both leaves.
-fn place_of_node(low: u8, high: u8) -> u8
+/// The place among the nodes of the least one that holds both leaves.
+pub fn place_of_node(low: u8, high: u8) -> u8
     requires low { low < 32 }
     ensures place { result ≡ node_place (node_size low high) low }
     ensures below { result < 63 }

@@ -5,15 +5,11 @@ use Rattle.std.proofs.lemmas.Bool.{cases_lt}
 use Rattle.std.proofs.lemmas.List.{length_push, take_more}
 use Rattle.degree_sequences.specs.ByRank.{rank_maximum}
 use Rattle.degree_sequences.specs.Falling.{IsFalling}
-use Rattle.degree_sequences.specs.RunningSums.{running_sum, with_running_sums, cut_at}
+use Rattle.degree_sequences.specs.RunningSums.{running_sum, cut_at}
 use Rattle.degree_sequences.proofs.FallingLists.{same_by_sums, falls_to}
-use Rattle.degree_sequences.proofs.Minima.{running_sum-cut_at, IsFalling-cut_at}
+use Rattle.degree_sequences.proofs.Minima.{running_sum-cut_at}
 use Rattle.degree_sequences.proofs.RunningSums.{running_sum-mono, running_sum-past, running_sum-suc}
-use Rattle.piece_math.proofs.RunningMinima.{positive-falling_trimmed}
-
--- a cut list is positive
-pub positive-cut_at : (s : List ℕ) (n : ℕ) → IsFalling s → AllByRecursion (λ y. 0 < y) (cut_at s n)
-positive-cut_at s n fall = positive-falling_trimmed (with_running_sums (λ r. min (running_sum s r) n) (length s)) (IsFalling-cut_at s n fall)
+use Rattle.piece_math.proofs.Cutting.{positive-cut_at}
 
 -- the list is cut up to rank i, and so much of the number is left
 pub record IsCutTo (falling : List ℕ) (most : ℕ) (i left : ℕ) (list : List ℕ) : Type 0 where

@@ -1,9 +1,10 @@
 -- The last place of a list whose element passes.
-use Rattle.std.proofs.Common.{◌≡◌, ℕ, zero, suc, ◌+◌, ◌<◌, ◌≤◌, Bool, true, false, cond, ◌||◌, not, ltb, List, [], ◌∷◌, ◌++◌, length, get_or, take, length-take, refl, ap, sym, ◌∙◌, arith, inl, inr}
+use Rattle.std.proofs.Common.{◌≡◌, ℕ, zero, suc, ◌+◌, ◌<◌, ◌≤◌, Bool, true, false, cond, not, ltb, List, [], ◌∷◌, ◌++◌, length, get_or, take, length-take, refl, ap, sym, ◌∙◌, arith, inl, inr}
 use Rattle.std.specs.List.{list_any}
-use Rattle.std.proofs.lemmas.Bool.{cases_Bool, cases_lt, cond_both, false≢true, or_cases, lt-ltb, le-ltb}
+use Rattle.std.proofs.lemmas.Bool.{cases_Bool, cases_lt, cond_both, false≢true, or_cases, lt-ltb, le-ltb, or_parts}
 use Rattle.std.proofs.lemmas.List.Folds.{list_any-append}
 use Rattle.std.proofs.lemmas.List.{take_more, take_all}
+use Rattle.std.proofs.Math.Bool.{or-true, or-false}
 use Rattle.cond_stats.specs.Leaves.{last_place}
 
 any-mono : (p q : ℕ → Bool) → ((x : ℕ) → p x ≡ true → q x ≡ true) → (xs : List ℕ) → list_any p xs ≡ true → list_any q xs ≡ true
@@ -12,10 +13,6 @@ any-mono p q weaker (x ∷ xs) h = elim (or_cases (p x) (list_any p xs) h) [
   | inl here ↦ rw (weaker x here) refl
   | inr there ↦ (let later : list_any q xs ≡ true = any-mono p q weaker xs there in rw later (or-true (q x)))
 ]
-  where
-    or-true : (b : Bool) → (b || true) ≡ true
-    or-true true = refl
-    or-true false = refl
 
 -- where more elements pass, the last of them doesn't come earlier
 pub last_place-mono : (p q : ℕ → Bool) → ((x : ℕ) → p x ≡ true → q x ≡ true) → (xs : List ℕ) → last_place p xs ≤ last_place q xs
@@ -45,18 +42,6 @@ last_place-push p (y ∷ ys) x = elim (cases_Bool (p x)) [
       let rest : last_place p (ys ++ x ∷ []) ≡ last_place p ys = rw e at (last_place-push p ys x) in
       rw (same, rest, e) refl)
 ]
-  where
-    or-true : (b : Bool) → (b || true) ≡ true
-    or-true true = refl
-    or-true false = refl
-
-    or-false : (b : Bool) → (b || false) ≡ b
-    or-false true = refl
-    or-false false = refl
-
-or_none : (a b : Bool) → (a || b) ≡ false → (a ≡ false) × (b ≡ false)
-or_none true b h = absurd (false≢true (sym h))
-or_none false b h = (refl, h)
 
 -- where some element passes, one at some place does
 any-place : (p : ℕ → Bool) (xs : List ℕ) → list_any p xs ≡ true → (i : ℕ) × (i < length xs) × (p (get_or xs i 0) ≡ true)
@@ -68,8 +53,8 @@ any-place p (x ∷ xs) h = elim (or_cases (p x) (list_any p xs) h) [
 
 none-place : (p : ℕ → Bool) (xs : List ℕ) (i : ℕ) → list_any p xs ≡ false → i < length xs → p (get_or xs i 0) ≡ false
 none-place p [] i h within = absurd (omega arith)
-none-place p (x ∷ xs) zero h within = (or_none (p x) (list_any p xs) h).0
-none-place p (x ∷ xs) (suc i) h within = none-place p xs i (or_none (p x) (list_any p xs) h).1 (omega arith)
+none-place p (x ∷ xs) zero h within = (or_parts (p x) (list_any p xs) h).0
+none-place p (x ∷ xs) (suc i) h within = none-place p xs i (or_parts (p x) (list_any p xs) h).1 (omega arith)
 
 ltb-suc : (a b : ℕ) → ltb (suc a) (suc b) ≡ ltb a b
 ltb-suc a b = elim (cases_lt a b) [

@@ -8,6 +8,7 @@ use Rattle.degree_sequences.specs.RunningSums.{IsAbove}
 use Rattle.degree_sequences.proofs.ByRank.{get_or-rank_maximum, IsFalling-rank_maximum}
 use Rattle.degree_sequences.proofs.Counting.{is_in}
 use Rattle.degree_sequences.proofs.RunningSums.{running_sum-suc, sum-above}
+use Rattle.cond_stats.proofs.CutLists.{rank_maximum-nil}
 use Rattle.cond_stats.specs.Lists.{maxima, greatest}
 
 -- a list that is at each rank at least another is above it
@@ -44,10 +45,6 @@ greatest-le-sum f g same (v ∷ vs) =
     let left : sum s ≤ sum (rank_maximum s t) = sum-above (rank_maximum s t) s (above_by_rank (rank_maximum s t) s (λ r. omega (arith, get_or-rank_maximum s t r))) in
     let right : sum t ≤ sum (rank_maximum s t) = sum-above (rank_maximum s t) t (above_by_rank (rank_maximum s t) t (λ r. omega (arith, get_or-rank_maximum s t r))) in
     omega (arith, left, right, same v, greatest-le-sum f g same vs)
-
-rank_maximum-nil : (s : List ℕ) → rank_maximum s [] ≡ s
-rank_maximum-nil [] = refl
-rank_maximum-nil (x ∷ s) = refl
 
 rank_maximum-assoc : (s t u : List ℕ) → rank_maximum s (rank_maximum t u) ≡ rank_maximum (rank_maximum s t) u
 rank_maximum-assoc [] t u = refl

@@ -1,5 +1,5 @@
 -- The lists of a sorted column are those of its definition.
-use Rattle.std.proofs.Common.{◌≡◌, ℕ, zero, suc, ◌+◌, ◌-◌, ◌*◌, ◌/◌, ◌<◌, ◌≤◌, min, Bool, true, false, ◌||◌, eqb, List, [], ◌∷◌, map, length, take, drop, get_or, refl, ap, sym, ◌∙◌, subst, arith, inl, inr}
+use Rattle.std.proofs.Common.{◌≡◌, ℕ, zero, suc, ◌+◌, ◌-◌, ◌*◌, ◌/◌, ◌<◌, ◌≤◌, min, Bool, true, eqb, List, [], ◌∷◌, map, length, take, drop, get_or, refl, ap, sym, ◌∙◌, subst, arith, inl, inr}
 use Rattle.std.specs.List.{All, Contains, zip, list_any, range_with_len}
 use Rattle.std.specs.Prelude.{slice_range}
 use Rattle.std.proofs.Math.Nat.{div-mul-le_self, mul-le-mul_right}
@@ -9,6 +9,7 @@ use Rattle.std.proofs.lemmas.List.{take_all, drop_all}
 use Rattle.std.proofs.lemmas.List.Elements.{All-take, All-drop, All-contains, All-from_get_or}
 use Rattle.std.proofs.lemmas.List.FromFn.{length-range_with_len, get_or-range_with_len}
 use Rattle.std.proofs.lemmas.List.Sorted.{All-permutation, length_permutation}
+use Rattle.std.proofs.Math.Bool.{or-true}
 use Rattle.degree_sequences.specs.Compression.{compressed}
 use Rattle.degree_sequences.specs.Degrees.{degree, degree_list}
 use Rattle.degree_sequences.specs.RunningSums.{cut_at}
@@ -53,10 +54,6 @@ any_contained : {X : Type 0} (f : X → ℕ) (xs : List X) (x : X) (v : ℕ) →
 any_contained f [] x v (k, h, at) is = absurd (omega arith)
 any_contained f (y ∷ xs) x v (zero, h, at) is = (let here : eqb (f y) v ≡ true = eq-eqb (f y) v (ap f at ∙ is) in rw here refl)
 any_contained f (y ∷ xs) x v (suc k, h, at) is = (let rest : list_any (λ w. eqb w v) (map f xs) ≡ true = any_contained f xs x v (k, omega arith, at) is in rw rest (or-true (eqb (f y) v)))
-  where
-    or-true : (b : Bool) → (b || true) ≡ true
-    or-true true = refl
-    or-true false = refl
 
 -- an element, whatever stands past the end
 pub at_zero : (xs : List ℕ) (i d x : ℕ) → i < length xs → x ≡ get_or xs i d → x ≡ get_or xs i 0

@@ -5,6 +5,7 @@ use Rattle.std.specs.List.Sorted.{IsPermutation}
 use Rattle.std.proofs.lemmas.Bool.{cases_Bool}
 use Rattle.std.proofs.lemmas.List.Sums.{sum_by-cons}
 use Rattle.std.proofs.lemmas.List.Sorted.{sum_by-IsPermutation}
+use Rattle.std.proofs.Math.Bool.{and-true}
 use Rattle.degree_sequences.specs.Degrees.{degree, degree_list}
 use Rattle.degree_sequences.proofs.Counting.{sum_by-same, all-count}
 use Rattle.degree_sequences.proofs.Places.{sum_by-shift, sum_by-places}
@@ -98,7 +99,3 @@ window_count column places p from count moved window =
     ∙ sum_by-same (λ x. one (p (get_or column x 0) && true)) h (λ x. ap one (and-true (p (get_or column x 0)))) places
     ∙ sum_by-IsPermutation h (range_with_len 0 (length column)) places moved
     ∙ sym (sum_by-places (λ v. one (p v)) column)
-  where
-    and-true : (b : Bool) → (b && true) ≡ b
-    and-true true = refl
-    and-true false = refl

@@ -1,10 +1,8 @@
 -- The last place before a place that has a key.
-use Rattle.std.proofs.Common.{◌≡◌, ℕ, zero, suc, ◌+◌, ◌<◌, ◌≤◌, List, [], ◌∷◌, ◌++◌, length, get_or, set, refl, ap, sym, ◌∙◌, subst, arith, inl, inr, length-append}
+use Rattle.std.proofs.Common.{◌≡◌, ℕ, zero, suc, ◌<◌, ◌≤◌, [], ◌∷◌, length, refl, ap, sym, ◌∙◌, subst, arith, inl, inr}
 use Rattle.std.specs.Prelude.{◌⊎◌}
-use Rattle.std.proofs.Math.ListN.{get_or-append}
-use Rattle.std.proofs.lemmas.Bool.{cases_eq, cases_lt, eq-eqb, ne_eqb}
-use Rattle.std.proofs.lemmas.List.{get_or_push, get_or-set_same, get_or-set_other, length-set}
-use Rattle.counted_sets.specs.Chains.{AreChains, last_before}
+use Rattle.std.proofs.lemmas.Bool.{cases_eq, eq-eqb, ne_eqb}
+use Rattle.counted_sets.specs.Chains.{last_before}
 
 last_here : (key_of : ℕ → ℕ) (key n : ℕ) → key_of n ≡ key → last_before key_of key (suc n) ≡ suc n
 last_here key_of key n is = rw (eq-eqb (key_of n) key is) refl
@@ -37,22 +35,3 @@ none_after key_of key (suc n) p from below is = elim (cases_eq (key_of n) key) [
     | inr before ↦ none_after key_of key n p (omega (arith, last_other key_of key n apart)) (omega arith) is
   ]
 ]
-
--- one more place is linked
-pub one_more : (key_of : ℕ → ℕ) (keys places key last : ℕ) (lasts befores : List ℕ) → key_of places ≡ key → key < keys → get_or lasts key 0 ≡ last → AreChains key_of keys places lasts befores
-    → AreChains key_of keys (places + 1) (set lasts key (places + 1)) (befores ++ last ∷ [])
-one_more key_of keys places key last lasts befores is low was are = record {
-  key_count = length-set lasts key (places + 1) ∙ are.key_count;
-  place_count = omega (arith, are.place_count, length-append befores (last ∷ []));
-  last = λ k h. (let n : places + 1 ≡ suc places = omega arith in elim (cases_eq k key) [
-    | inl same ↦ (let now : get_or (set lasts key (places + 1)) k 0 ≡ places + 1 = ap (λ j. get_or (set lasts key (places + 1)) j 0) same ∙ get_or-set_same lasts key (places + 1) 0 (omega (arith, are.key_count)) in
-        now ∙ n ∙ sym (last_here key_of k places (is ∙ sym same)) ∙ ap (last_before key_of k) (sym n))
-    | inr apart ↦ get_or-set_other lasts key k (places + 1) 0 apart ∙ are.last k h ∙ sym (last_other key_of k places (λ e. apart (sym e ∙ is))) ∙ ap (last_before key_of k) (sym n)
-  ]);
-  before = λ place h. elim (cases_lt place places) [
-    | inl earlier ↦ get_or-append befores (last ∷ []) 0 place (omega (arith, are.place_count)) ∙ are.before place earlier
-    | inr here ↦ (let same : place ≡ places = omega arith in
-        get_or_push befores last 0 place (omega (arith, are.place_count)) ∙ sym was ∙ are.last key low
-        ∙ ap (λ k. last_before key_of k places) (sym is) ∙ ap (λ p. last_before key_of (key_of p) p) (sym same))
-  ];
-}

@@ -4,7 +4,7 @@ use Rattle.std.specs.Prelude.{◌⊎◌}
 use Rattle.std.specs.List.{Contains}
 use Rattle.std.proofs.Math.ListN.{get_or-append}
 use Rattle.std.proofs.lemmas.Bool.{cases_eq, cases_lt}
-use Rattle.std.proofs.lemmas.List.{get_or_push, get_or-set_same, get_or-set_other, length-set, take_all, take_more, length-take-le}
+use Rattle.std.proofs.lemmas.List.{get_or_push, get_or-set_same, get_or-set_other, length-set, take_more, length-take-le}
 use Rattle.std.proofs.lemmas.List.Elements.{Contains-append_left, Contains-append_right}
 use Rattle.row_buf.specs.Rows.{Rows}
 use Rattle.counted_sets.specs.Counts.{AreListed, Extends, IsWorkOf, positives}
@@ -46,22 +46,10 @@ pushed_place P work q p h old last = elim (cases_lt p (length work)) [
 pub extends_same : (work : List ℕ) → Extends work work
 extends_same work = record { longer = omega arith; same = λ p h. refl }
 
-pub extends_push : (work : List ℕ) (q : ℕ) → Extends work (work ++ q ∷ [])
-extends_push work q = record { longer = omega (arith, length-append work (q ∷ [])); same = λ p h. get_or-append work (q ∷ []) 0 p h }
-
 pub extends_more : (a b c : List ℕ) → Extends a b → Extends b c → Extends a c
 extends_more a b c f g = record {
   longer = omega (arith, f.longer, g.longer);
   same = λ p h. g.same p (omega (arith, f.longer)) ∙ f.same p h;
-}
-
--- counts are made one after another
-pub listed_none : AreListed [] []
-listed_none = record {
-  within = λ p h. absurd (omega arith);
-  zero_there = λ p h. refl;
-  all_there = λ q h zero. absurd (omega arith);
-  room = refl;
 }
 
 pub listed_zero : (counts work : List ℕ) → AreListed counts work → AreListed (counts ++ 0 ∷ []) (work ++ length counts ∷ [])
@@ -152,11 +140,3 @@ zeros_some counts work slot h some listed = by_cases (get_or counts slot 0) refl
     by_cases : (c : ℕ) → get_or counts slot 0 ≡ c → AreListed (take (slot + 1) counts) work
     by_cases zero is = absurd (some is)
     by_cases (suc m) is = subst (λ l. AreListed l work) (sym (take_more counts slot 0 h ∙ ap (λ c. take slot counts ++ c ∷ []) is)) (listed_some (take slot counts) work m listed)
-
-pub zeros_room : (counts : List ℕ) (work : Rows ℕ) (slot : ℕ) → slot < length counts → length work.items + work.spare ≡ length counts → AreListed (take slot counts) work.items → 1 ≤ work.spare
-zeros_room counts work slot h all listed = omega (arith, listed.room, length-take-le slot counts (omega arith))
-
-pub zeros_all : (counts : List ℕ) (work : Rows ℕ) (slot : ℕ) → length counts ≤ slot → length work.items + work.spare ≡ length counts → AreListed (take slot counts) work.items → IsWorkOf counts work
-zeros_all counts work slot ended all listed =
-    let whole : AreListed counts work.items = subst (λ l. AreListed l work.items) (take_all slot counts ended) listed in
-    record { listed = whole; spare = omega (arith, whole.room) }

@@ -176,9 +176,6 @@ gone_one uses slot keys (suc place) item next lasts befores marks chains some is
       ];
     }
 
-pub gone_all : (uses : List Use) (slot at : ℕ) (marks : List Bool) → at ≤ 0 → AreGoneFrom uses slot at marks → AreGone uses slot marks
-gone_all uses slot at marks ended so_far k h needs = so_far.gone k (omega arith) h needs
-
 gone_still : (items : ℕ) (uses : List Use) (old new : List Bool) (slot : ℕ) → IsSafe items uses old new → AreGone uses slot old → AreGone uses slot new
 gone_still items uses old new slot safe gone k h needs = elim (cases_Bool (marked new (item_at uses k))) [
   | inl stays ↦ absurd (false≢true (sym (gone k h needs) ∙ safe.fewer (item_at uses k) stays))
@@ -241,10 +238,6 @@ slot_within items slots uses marks counts work at slot h is so_far = omega (arit
 pub slot_is_none : (items slots : ℕ) (uses : List Use) (marks : List Bool) (counts : List ℕ) (work : Rows ℕ) (at slot : ℕ) → at < length work.items → slot ≡ get_or work.items at 0
     → Reducing items slots uses marks counts work at → get_or counts slot 0 ≡ 0
 slot_is_none items slots uses marks counts work at slot h is so_far = ap (λ q. get_or counts q 0) is ∙ so_far.counted.listed.listed.zero_there at h
-
--- each slot is listed once, so the list is never longer than there are slots
-pub work_left : (items slots : ℕ) (uses : List Use) (marks : List Bool) (counts : List ℕ) (work : Rows ℕ) (at : ℕ) → Reducing items slots uses marks counts work at → length work.items ≤ slots
-work_left items slots uses marks counts work at so_far = omega (arith, so_far.counted.listed.listed.room, so_far.counted.slot_count)
 
 pub reduced : (items slots : ℕ) (uses : List Use) (marks : List Bool) (counts : List ℕ) (work : Rows ℕ) (at : ℕ) → ((k : ℕ) → k < length uses → need_at uses k < slots) → length work.items ≤ at
     → Reducing items slots uses marks counts work at → IsGreatest items uses (marked marks)

@@ -4,6 +4,7 @@ use Rattle.std.specs.Prelude.{◌⊎◌, ◌==◌, ◌&&◌, if◌then◌else◌
 use Rattle.std.specs.List.{Contains}
 use Rattle.std.proofs.lemmas.Bool.{cases_eq, cases_lt, cases_Bool, eq-eqb, ne_eqb, eqb-true, false≢true}
 use Rattle.std.proofs.lemmas.List.{get_or_default, get_or-set_same, get_or-set_other}
+use Rattle.std.proofs.Math.Bool.{and-false}
 use Rattle.counted_sets.specs.declared.uses.Use.{Use}
 use Rattle.counted_sets.specs.Chains.{last_before}
 use Rattle.counted_sets.specs.Sets.{IsGiven, marked}
@@ -17,12 +18,8 @@ supply_one kept uses slot n stands gives = rw (stands, eq-eqb (use_at uses n).gi
 pub supply_gone : (kept : ℕ → Bool) (uses : List Use) (slot n : ℕ) → kept (item_at uses n) ≡ false → supply kept uses slot (suc n) ≡ supply kept uses slot n
 supply_gone kept uses slot n gone = rw gone (omega arith)
 
-and_false : (b : Bool) → (b && false) ≡ false
-and_false true = refl
-and_false false = refl
-
 pub supply_other : (kept : ℕ → Bool) (uses : List Use) (slot n : ℕ) → ((use_at uses n).gives ≡ slot → ⊥) → supply kept uses slot (suc n) ≡ supply kept uses slot n
-supply_other kept uses slot n apart = rw (ne_eqb (use_at uses n).gives slot apart, and_false (kept (item_at uses n))) (omega arith)
+supply_other kept uses slot n apart = rw (ne_eqb (use_at uses n).gives slot apart, and-false (kept (item_at uses n))) (omega arith)
 
 pub supply-within : (kept : ℕ → Bool) (uses : List Use) (slot n : ℕ) → supply kept uses slot n ≤ n
 supply-within kept uses slot zero = omega arith

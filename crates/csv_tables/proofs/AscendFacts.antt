@@ -4,6 +4,7 @@ use Rattle.std.specs.Prelude.{nat_eq}
 use Rattle.std.specs.List.{range_with_len}
 use Rattle.std.proofs.lemmas.Bool.{cases_lt, ne_eqb}
 use Rattle.std.proofs.lemmas.List.FromFn.{length-range_with_len, get_or-range_with_len}
+use Rattle.std.proofs.Math.Bool.{and-false}
 use Rattle.csv_tables.specs.Groups.{have_same_cells, repeat_from, IsFirst, IsRepeat}
 
 abbrev pub Ascend : List ℕ → ℕ → Type 0
@@ -24,16 +25,12 @@ ascends_more cells at some more so_far i j l m = elim (cases_lt j at) [
 abbrev same_in : List (List ℕ) → ℕ → ℕ → ℕ → Bool
 same_in columns column i j = nat_eq (get_or (get_or columns column []) i 0) (get_or (get_or columns column []) j 0)
 
-false_right : (b : Bool) → (b && false) ≡ false
-false_right true = refl
-false_right false = refl
-
 -- rows that differ in one column of a key
 pub apart : (columns : List (List ℕ)) (key : List ℕ) (at column i j : ℕ) → at < length key → column ≡ get_or key at 0 → same_in columns column i j ≡ false → have_same_cells columns key i j ≡ false
 apart columns [] at column i j l c other = absurd (omega (arith, l))
 apart columns (k ∷ key) zero column i j l c other = ap (λ b. b && have_same_cells columns key i j) (ap (λ n. same_in columns n i j) (sym c) ∙ other)
 apart columns (k ∷ key) (suc at) column i j l c other =
-    ap (λ b. same_in columns k i j && b) (apart columns key at column i j (omega (arith, l)) c other) ∙ false_right (same_in columns k i j)
+    ap (λ b. same_in columns k i j && b) (apart columns key at column i j (omega (arith, l)) c other) ∙ and-false (same_in columns k i j)
 
 -- rows whose cells ascend in one column of a key
 pub ascending_apart : (columns : List (List ℕ)) (key cells : List ℕ) (at column rows : ℕ) → at < length key → column ≡ get_or key at 0 → cells ≡ get_or columns column []

@@ -1,6 +1,6 @@
 -- The fields of a text are texts: a character beyond ASCII joins the field at hand whole.
 use Rattle.std.proofs.Common.{◌≡◌, ◌⊎◌, inl, inr, ℕ, suc, ◌+◌, ◌≤◌, List, [], ◌∷◌, ◌++◌, length, Option, None, Some, Bool, true, false, ◌&&◌, refl, sym, ap, ◌∙◌, subst, arith, cond, append_assoc, append-nil, if◌then◌else◌, ltb}
-use Rattle.std.proofs.lemmas.Bool.{cases_lt, eqb-true, le-ltb}
+use Rattle.std.proofs.lemmas.Bool.{cases_lt, eqb-true, le-ltb, and_parts}
 use Rattle.std.specs.Prelude.{◌==◌, IsUtf8}
 use Rattle.std.specs.Str.{all_scalars, encode_utf8_all}
 use Rattle.std.proofs.lemmas.Str.{IsUtf8-append, IsUtf8-nil, IsUtf8-past_char, encode_ascii}
@@ -124,10 +124,6 @@ high c h = rw (le-ltb c 128 h) (high_by _ _ _ _ _ _ _ _ _ (ltb c 2048) (ltb c 65
 char_text : (c : ℕ) → scalar c ≡ true → IsUtf8 (encode c)
 char_text c h = (c ∷ [], (rw h refl, append-nil (encode c)))
 
-both : (a b : Bool) → (a && b) ≡ true → (a ≡ true) × (b ≡ true)
-both true b e = (refl, e)
-both false b e = absurd (cc e)
-
 -- what a read of a text leaves
 record Kept (p : Read) : Type 0 where
   pub fields : AllText p.0
@@ -169,7 +165,7 @@ kept : (cs : List ℕ) (s : State) (fields : List (List ℕ)) (field : List ℕ)
 unfolding next_record
 kept [] s fields field p h all one e = at_end (ends_at_end s) fields field p all one e
 kept (c ∷ cs) s fields field p h all one e =
-    let ok = both (scalar c) (all_scalars cs) h in
+    let ok = and_parts (scalar c) (all_scalars cs) h in
     let rest : IsUtf8 (encode_utf8_all cs) = (cs, (ok.1, refl)) in
     elim (cases_lt c 128) [
       | inl low ↦

@@ -1,9 +1,9 @@
 -- Places that are numbered one after another by the first place that is like them.
-use Rattle.std.proofs.Common.{◌≡◌, inl, inr, ℕ, zero, suc, ◌+◌, ◌<◌, ◌≤◌, Bool, true, false, ◌&&◌, List, [], ◌∷◌, ◌++◌, length, get_or, set, take, Option, None, Some, refl, sym, ap, ◌∙◌, subst, arith, get_or-set_other, get_or-set_same, length-set}
-use Rattle.std.specs.Prelude.{nat_eq, replicate, unwrap_or, if◌then◌else◌}
+use Rattle.std.proofs.Common.{◌≡◌, inl, inr, ℕ, ◌+◌, ◌<◌, ◌≤◌, Bool, true, false, ◌&&◌, List, [], ◌∷◌, ◌++◌, length, get_or, set, take, Option, None, Some, refl, sym, ap, ◌∙◌, subst, arith, get_or-set_other, get_or-set_same, length-set}
+use Rattle.std.specs.Prelude.{nat_eq, unwrap_or, if◌then◌else◌}
 use Rattle.std.specs.List.{list_all}
 use Rattle.std.proofs.lemmas.List.{take_more}
-use Rattle.std.proofs.lemmas.Bool.{cases_eq, cases_lt, eqb-true, ne_eqb}
+use Rattle.std.proofs.lemmas.Bool.{cases_eq, cases_lt, eqb-true, ne_eqb, and_parts}
 use Rattle.csv_tables.specs.Groups.{are_alike, have_same_cells, same_pair, AreFirsts, IsFirst}
 
 same_itself : (a : ℕ × ℕ) → same_pair a a ≡ true
@@ -23,9 +23,6 @@ eqb_symm a b = grind arith
 same_symm : (a b : ℕ × ℕ) → same_pair a b ≡ same_pair b a
 same_symm a b = ap (λ x. x && nat_eq a.1 b.1) (eqb_symm a.0 b.0) ∙ ap (λ y. nat_eq b.0 a.0 && y) (eqb_symm a.1 b.1)
 
-abbrev pair_at : List ℕ → List ℕ → ℕ → ℕ × ℕ
-pair_at old cells i = (get_or old i 0, get_or cells i 0)
-
 -- what is kept for a pair: the first of the places so far that has it
 abbrev pub IsKept : List ℕ → List ℕ → ℕ → ℕ × ℕ → Option ℕ → Type 0
 IsKept old cells at q None = (j : ℕ) → j < at → same_pair q (get_or old j 0, get_or cells j 0) ≡ false
@@ -37,14 +34,6 @@ pub record Numbered (old cells group : List ℕ) (kept_for : ℕ × ℕ → Opti
   pub done : (i : ℕ) → i < at → IsFirst (are_alike old cells) i (get_or group i 0)
   pub rest : (i : ℕ) → at ≤ i → get_or group i 0 ≡ get_or old i 0
   pub kept : (q : ℕ × ℕ) → IsKept old cells at q (kept_for q)
-
-pub numbered_none : (old cells : List ℕ) (kept_for : ℕ × ℕ → Option ℕ) → ((q : ℕ × ℕ) → kept_for q ≡ None) → Numbered old cells old kept_for 0
-numbered_none old cells kept_for e = record {
-  long = refl;
-  done = λ i l. absurd (omega (arith, l));
-  rest = λ i l. refl;
-  kept = λ q. subst (IsKept old cells 0 q) (sym (e q)) (λ j l. absurd (omega (arith, l)));
-}
 
 first_at : (old cells : List ℕ) (at : ℕ) (o : Option ℕ) → IsKept old cells at (get_or old at 0, get_or cells at 0) o → IsFirst (are_alike old cells) at (unwrap_or o at)
 first_at old cells at None k = record { at_most = omega arith; same = same_itself (get_or old at 0, get_or cells at 0); least = k }
@@ -94,29 +83,9 @@ numbered_more old cells group before after at first l so_far f a =
           (kept_if old cells at first q (before q) (same_pair (get_or old at 0, get_or cells at 0) q) refl (so_far.kept q) this);
     }
 
--- every place
-pub numbered_all : (old cells group : List ℕ) (kept_for : ℕ × ℕ → Option ℕ) (at : ℕ) → length group ≤ at → Numbered old cells group kept_for at → AreFirsts (are_alike old cells) group
-numbered_all old cells group kept_for at end so_far = λ i l. so_far.done i (omega (arith, l, end))
-
-abbrev zeros : ℕ → List ℕ
-zeros n = replicate n 0
-
-zeros-at : (n i : ℕ) → ◌≡◌ {A = ℕ} (get_or (zeros n) i 0) 0
-zeros-at zero i = refl
-zeros-at (suc n) zero = refl
-zeros-at (suc n) (suc i) = zeros-at n i
-
--- all places are alike
-pub none_apart : (n : ℕ) → AreFirsts (λ i j. true) (zeros n)
-none_apart n = λ i l. record { at_most = omega (arith, zeros-at n i); same = refl; least = λ j h. absurd (omega (arith, h, zeros-at n i)) }
-
 -- rows with the same cells in a column
 abbrev same_in : List (List ℕ) → ℕ → ℕ → ℕ → Bool
 same_in columns column i j = nat_eq (get_or (get_or columns column []) i 0) (get_or (get_or columns column []) j 0)
-
-both : (a b : Bool) → (a && b) ≡ true → (a ≡ true) × (b ≡ true)
-both true b e = (refl, e)
-both false b e = absurd (cc e)
 
 cells-symm : (columns : List (List ℕ)) (key : List ℕ) (i j : ℕ) → have_same_cells columns key i j ≡ have_same_cells columns key j i
 cells-symm columns [] i j = refl
@@ -127,8 +96,8 @@ cells-symm columns (c ∷ key) i j =
 cells-trans : (columns : List (List ℕ)) (key : List ℕ) (i j k : ℕ) → have_same_cells columns key i j ≡ true → have_same_cells columns key j k ≡ true → have_same_cells columns key i k ≡ true
 cells-trans columns [] i j k p q = refl
 cells-trans columns (c ∷ key) i j k p q =
-    let a = both (same_in columns c i j) (have_same_cells columns key i j) p in
-    let b = both (same_in columns c j k) (have_same_cells columns key j k) q in
+    let a = and_parts (same_in columns c i j) (have_same_cells columns key i j) p in
+    let b = and_parts (same_in columns c j k) (have_same_cells columns key j k) q in
     let here : same_in columns c i k ≡ true =
     let e : get_or (get_or columns c []) i 0 ≡ get_or (get_or columns c []) k 0 = eqb-true _ _ a.0 ∙ eqb-true _ _ b.0 in grind (arith, e) in
     rw here (cells-trans columns key i j k a.1 b.1)

@@ -1,8 +1,8 @@
 -- The fields of a header, gone through one after another.
-use Rattle.std.proofs.Common.{ℕ, ◌≡◌, ◌+◌, ◌<◌, ◌≤◌, List, [], ◌∷◌, ◌++◌, length, drop, Option, None, Some, true, false, refl, ap, sym, ◌∙◌, append-nil, get_or}
+use Rattle.std.proofs.Common.{ℕ, ◌≡◌, ◌+◌, ◌<◌, List, [], ◌∷◌, ◌++◌, length, drop, Option, None, Some, true, false, refl, ap, sym, ◌∙◌, get_or}
 use Rattle.std.specs.Option.{is_some}
 use Rattle.std.specs.Str.{str_eq_ignore_ascii_case}
-use Rattle.std.proofs.lemmas.List.{drop_more, drop_all}
+use Rattle.std.proofs.lemmas.List.{drop_more}
 use Rattle.csv.specs.Records.{field_at}
 use Rattle.csv.proofs.RecordFacts.{field-get}
 use Rattle.csv_tables.specs.Header.{only, places_from, column_place as place_of, column_places}
@@ -45,15 +45,6 @@ found_two name fields None at field within e matches second so_far = absurd (cc 
 found_two name fields (Some place) at field within e matches second so_far =
     let both : places_from at name (field ∷ drop (at + 1) fields) ≡ at ∷ places_from (at + 1) name (drop (at + 1) fields) = rw matches refl in
     ap only (so_far ∙ ap (λ places. place ∷ places) (places_here name fields at field within e ∙ both))
-
-only-listed : (found : Option ℕ) → only (listed found) ≡ found
-only-listed None = refl
-only-listed (Some place) = refl
-
--- no further field
-pub found_all : (name : List ℕ) (fields : Record) (found : Option ℕ) (at : ℕ) → length fields ≤ at → FoundSoFar name fields found at → place_of name fields ≡ found
-found_all name fields found at end so_far =
-    ap only (so_far ∙ ap (λ rest. listed found ++ places_from at name rest) (drop_all at fields end) ∙ append-nil (listed found)) ∙ only-listed found
 
 -- the places from a column on
 pub places_of_next : (columns : List Column) (number : ℕ) (column : Column) (header : Record) → number < length columns → column ≡ get_or columns number column

@@ -14,6 +14,7 @@ use Rattle.std.proofs.lemmas.List.Elements.{All-cons, All-get_or, All-head, All-
 use Rattle.std.proofs.lemmas.Int.{of_z-to_z}
 use Rattle.std.proofs.lemmas.List.Sums.{position_or_len_is}
 use Rattle.std.proofs.lemmas.Slice.Eq.{bytes_eq-Decides}
+use Rattle.std.specs.Cmp.{both_ways}
 use Rattle.schema_types.specs.Validity.{AreColumnsOf, IsValidTable}
 use Rattle.schema_types.specs.declared.types.Column.{Column}
 use Rattle.schema_types.specs.declared.types.Table.{Table}
@@ -34,23 +35,17 @@ use Rattle.csv_tables.specs.Values.{Value, Int, is_same}
 pub bits_back : (x : ℕ) → x < 2 ^ 64 → bits_of (number_in x) ≡ x
 bits_back x l = of_z-to_z w64 x l
 
--- a test that decides an equation of two sides answers as another that decides the same
-alike : (a b : Bool) → (a ≡ true → b ≡ true) → (b ≡ true → a ≡ true) → a ≡ b
-alike true b f g = sym (f refl)
-alike false true f g = g refl
-alike false false f g = refl
-
 -- equal values have equal cells
 same_value : (texts : List (List ℕ)) → AreDifferent texts → (k : Kind) (x y : ℕ) → IsCell texts k x → IsCell texts k y
     → is_same (value_of_cell texts k x) (value_of_cell texts k y) ≡ (x == y)
 same_value texts different kind.Int x y p q =
-    alike (int_eq (number_in x) (number_in y)) (x == y)
+    both_ways (int_eq (number_in x) (number_in y)) (x == y)
     (λ e.
     let same : x ≡ y = sym (bits_back x p) ∙ ap bits_of ((Decides-int_eq (number_in x) (number_in y)).0 e) ∙ bits_back y q in
     grind (arith, same))
     (λ e. (Decides-int_eq (number_in x) (number_in y)).1 (ap number_in (eqb-true x y e)))
 same_value texts different (kind.Text most) x y p q =
-    alike (bytes_eq (get_or texts x []) (get_or texts y [])) (x == y)
+    both_ways (bytes_eq (get_or texts x []) (get_or texts y [])) (x == y)
     (λ e.
     let same : x ≡ y = same_place x y p q ((bytes_eq-Decides (get_or texts x []) (get_or texts y [])).0 e) in
     grind (arith, same))

@@ -11,7 +11,7 @@ use Rattle.std.proofs.lemmas.Bool.{cases_eq, cases_lt, le-ltb}
 use Rattle.std.proofs.lemmas.Nat.{shr-shr, div-add-mod'}
 use Rattle.std.proofs.lemmas.Str.{encodes-chars}
 
-less : (a b : ℕ) → a < b → nat_cmp a b ≡ Less
+pub less : (a b : ℕ) → a < b → nat_cmp a b ≡ Less
 less a b l = let t : nat_lt a b ≡ true = grind (arith, l) in rw t refl
 
 same : (a b : ℕ) → a ≡ b → nat_cmp a b ≡ Equal

@@ -12,6 +12,7 @@ use Rattle.std.proofs.lemmas.List.{map-append, length-map}
 use Rattle.std.proofs.lemmas.List.Elements.{All-from_recursion}
 use Rattle.std.proofs.lemmas.Str.{IsUtf8-string_bytes}
 use Rattle.std.specs.Prelude.{All}
+use Rattle.std.proofs.Math.Bool.{or-true}
 use Rattle.indexmap.specs.IndexSet.{insert_key}
 use Rattle.csv_tables.specs.Pools.{with_text, AreDifferent}
 
@@ -31,11 +32,7 @@ module _ {X : Type 0} (p : X → Bool) where
   any_at : (xs : List X) (i : ℕ) (x : X) → slice_get xs i ≡ Some x → p x ≡ true → list_any p xs ≡ true
   any_at [] i x e h = absurd (cc e)
   any_at (y ∷ ys) zero x e h = let is : y ≡ x = cc in ap (λ z. p z || list_any p ys) is ∙ rw h refl
-  any_at (y ∷ ys) (suc i) x e h = rw (any_at ys i x e h) (or_true (p y))
-    where
-      or_true : (b : Bool) → (b || true) ≡ true
-      or_true true = refl
-      or_true false = refl
+  any_at (y ∷ ys) (suc i) x e h = rw (any_at ys i x e h) (or-true (p y))
 
 pub same_text : (a b : List ℕ) → bytes_eq a b ≡ true → a ≡ b
 same_text a b e = (bytes_eq-Decides a b).0 e

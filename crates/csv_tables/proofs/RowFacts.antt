@@ -1,17 +1,17 @@
 -- The values of a record, read one after another.
-use Rattle.std.proofs.Common.{◌≡◌, ℕ, ◌+◌, ◌<◌, ◌≤◌, List, [], ◌∷◌, ◌++◌, length, get_or, take, drop, None, Some, Err, refl, sym, ap, ◌∙◌, subst, arith}
-use Rattle.std.proofs.lemmas.List.{drop_more, drop_all, take_more, take_all, map-append}
+use Rattle.std.proofs.Common.{◌≡◌, ℕ, ◌+◌, ◌<◌, ◌≤◌, List, [], ◌∷◌, ◌++◌, length, get_or, take, drop, Some, refl, sym, ap, ◌∙◌, subst, arith}
+use Rattle.std.proofs.lemmas.List.{drop_more, take_more, map-append}
 use Rattle.schema_types.specs.declared.types.Column.{Column}
 use Rattle.csv_tables.specs.declared.types.TableError.TheVariants as error
 use Rattle.csv_tables.specs.Cells.{value_of_cell, IsCell}
 use Rattle.csv_tables.specs.Pools.{BeginsWith}
-use Rattle.csv_tables.specs.Reads.{kinds_of, AreCellsOfRow, HoldsRow}
+use Rattle.csv_tables.specs.Reads.{kinds_of, AreCellsOfRow}
 use Rattle.csv_tables.specs.Records.{Record}
 use Rattle.csv_tables.specs.Rows.{values_of_record, Row}
 use Rattle.csv_tables.specs.Steps.{or_refuse, then_all}
 use Rattle.csv_tables.specs.Values.{value_of_field}
-use Rattle.csv_tables.proofs.GrowFacts.{begins_itself, begins_then, row-grown, row-push}
-use Rattle.csv_tables.proofs.StepFacts.{ReadTo, read_all, read_none, read_one, read_refused}
+use Rattle.csv_tables.proofs.GrowFacts.{begins_then, row-grown, row-push}
+use Rattle.csv_tables.proofs.StepFacts.{ReadTo, read_one}
 
 -- the cells of a record's first values, in a pool that grew
 pub record RowSoFar (number at : ℕ) (columns : List Column) (places : List ℕ) (fields : Record) (old texts : List (List ℕ)) (cells : List ℕ) : Type 0 where
@@ -21,16 +21,6 @@ pub record RowSoFar (number at : ℕ) (columns : List Column) (places : List ℕ
   pub begins : BeginsWith old texts
   pub few : length texts ≤ length old + at
 
-pub row_none : (number : ℕ) (columns : List Column) (places : List ℕ) (fields : Record) (texts : List (List ℕ)) (cells : List ℕ)
-    → cells ≡ [] → RowSoFar number 0 columns places fields texts texts cells
-row_none number columns places fields texts cells e = record {
-  row = [];
-  read = read_none _;
-  cells_of_row = subst (AreCellsOfRow texts [] []) (sym e) tt;
-  begins = begins_itself texts;
-  few = omega arith;
-}
-
 values_next : (number at : ℕ) (columns : List Column) (places : List ℕ) (fields : Record) (column : Column)
     → at < length columns → at < length places → column ≡ get_or columns at column
     → values_of_record number at (drop at columns) (drop at places) fields
@@ -39,15 +29,6 @@ values_next : (number at : ℕ) (columns : List Column) (places : List ℕ) (fie
 values_next number at columns places fields column l m c =
     ap (λ cs. values_of_record number at cs (drop at places) fields) (drop_more columns at column l ∙ ap (λ k. k ∷ drop (at + 1) columns) (sym c))
     ∙ ap (λ ps. values_of_record number at (column ∷ drop (at + 1) columns) ps fields) (drop_more places at 0 m)
-
--- a field without a value of its column
-pub row_bad : (number at : ℕ) (columns : List Column) (places : List ℕ) (fields : Record) (old texts : List (List ℕ)) (cells : List ℕ) (column : Column) (field : List ℕ)
-    → at < length columns → at < length places → column ≡ get_or columns at column → field ≡ get_or fields (get_or places at 0) []
-    → RowSoFar number at columns places fields old texts cells → None ≡ value_of_field column.kind field
-    → values_of_record number 0 columns places fields ≡ Err (error.Field number at)
-row_bad number at columns places fields old texts cells column field l m c f so_far bad =
-    read_refused _ _ _ _ _ _ so_far.read (values_next number at columns places fields column l m c)
-    (ap (λ x. or_refuse (error.Field number at) (value_of_field column.kind x)) (sym f) ∙ ap (or_refuse (error.Field number at)) (sym bad))
 
 -- a field with one
 pub row_more : (number at : ℕ) (columns : List Column) (places : List ℕ) (fields : Record) (old texts new : List (List ℕ)) (cells : List ℕ) (column : Column) (field : List ℕ) (cell : ℕ)
@@ -68,13 +49,3 @@ row_more number at columns places fields old texts new cells column field cell l
       begins = begins_then old texts new so_far.begins grew;
       few = omega (arith, so_far.few, few);
     }
-
--- no more fields
-pub row_all : (number at : ℕ) (columns : List Column) (places : List ℕ) (fields : Record) (old texts : List (List ℕ)) (cells : List ℕ)
-    → length columns ≤ at → RowSoFar number at columns places fields old texts cells
-    → HoldsRow (values_of_record number 0 columns places fields) texts (kinds_of columns) cells
-row_all number at columns places fields old texts cells end so_far = record {
-  row = so_far.row;
-  is_row = read_all _ _ _ so_far.read (ap (λ cs. values_of_record number at cs (drop at places) fields) (drop_all at columns end));
-  cells_of_row = subst (λ cs. AreCellsOfRow texts (kinds_of cs) so_far.row cells) (take_all at columns end) so_far.cells_of_row;
-}

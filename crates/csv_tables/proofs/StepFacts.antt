@@ -1,5 +1,5 @@
 -- Lists that are read item by item: what is read, and then what the rest gives.
-use Rattle.std.proofs.Common.{◌≡◌, List, [], ◌∷◌, ◌++◌, Result, Ok, Err, refl, ap, append_assoc, append-nil, sym, ◌∙◌}
+use Rattle.std.proofs.Common.{◌≡◌, List, [], ◌∷◌, ◌++◌, Result, Ok, Err, refl, ap, append_assoc, sym, ◌∙◌}
 use Rattle.csv_tables.specs.declared.types.TableError.{TableError}
 use Rattle.csv_tables.specs.Steps.{then_all}
 
@@ -32,7 +32,3 @@ read_one whole items rest first x after r e f = record { so_far = r.so_far ∙ a
 pub read_refused : {A : Type 0} (whole : Result (List A) TableError) (items : List A) (rest : Result (List A) TableError) (first : Result A TableError) (e : TableError) (after : Result (List A) TableError)
     → ReadTo whole items rest → rest ≡ then_all first after → first ≡ Err e → whole ≡ Err e
 read_refused whole items rest first e after r is f = r.so_far ∙ ap (after_all items) (is ∙ ap (λ a. then_all a after) f)
-
--- no more items
-pub read_all : {A : Type 0} (whole : Result (List A) TableError) (items : List A) (rest : Result (List A) TableError) → ReadTo whole items rest → rest ≡ Ok [] → whole ≡ Ok items
-read_all whole items rest r e = r.so_far ∙ ap (after_all items) e ∙ ap Ok (append-nil items)

@@ -1,5 +1,5 @@
 -- Columns that grow by a row, over a pool that grows.
-use Rattle.std.proofs.Common.{◌≡◌, ℕ, zero, suc, ◌+◌, ◌*◌, ◌<◌, ◌≤◌, List, [], ◌∷◌, ◌++◌, length, get_or, Result, Err, refl, sym, ap, ◌∙◌, arith, add-one, length-append}
+use Rattle.std.proofs.Common.{◌≡◌, ℕ, zero, suc, ◌+◌, ◌*◌, ◌<◌, ◌≤◌, List, [], ◌∷◌, ◌++◌, length, get_or, Result, refl, sym, ap, ◌∙◌, arith, add-one, length-append}
 use Rattle.std.specs.Prelude.{replicate}
 use Rattle.std.proofs.Math.ListN.{get_or-append}
 use Rattle.std.proofs.lemmas.List.{length-map}
@@ -10,11 +10,11 @@ use Rattle.schema_types.specs.declared.types.Kind.{Kind}
 use Rattle.csv_tables.specs.declared.types.TableError.{TableError}
 use Rattle.csv_tables.specs.Cells.{value_of_cell, row_of_columns, rows_of_columns, AreColumns, IsCell}
 use Rattle.csv_tables.specs.Pools.{BeginsWith}
-use Rattle.csv_tables.specs.Reads.{add_row, kinds_of, AreCellsOfRow, HoldsColumns, HoldsRow}
+use Rattle.csv_tables.specs.Reads.{add_row, kinds_of, AreCellsOfRow, HoldsRow}
 use Rattle.csv_tables.specs.Records.{Record}
 use Rattle.csv_tables.specs.Rows.{row_of_record, rows_of_records, Row}
 use Rattle.csv_tables.proofs.GrowFacts.{begins_itself, begins_then, is_cell-grown, value-grown}
-use Rattle.csv_tables.proofs.StepFacts.{ReadTo, read_all, read_none, read_one, read_refused}
+use Rattle.csv_tables.proofs.StepFacts.{ReadTo, read_none, read_one}
 
 -- no rows
 pub columns_none : (texts : List (List ℕ)) (kinds : List Kind) (n : ℕ) → n ≡ length kinds → AreColumns texts 0 kinds (replicate n [])
@@ -132,22 +132,6 @@ rows_more columns places width records left after fields old texts new found row
       few = omega (arith, so_far.few, few);
       limit = limit;
     }
-
--- a record that is refused
-pub rows_bad : (columns : List Column) (places : List ℕ) (width : ℕ) (records left after : List Record) (fields : Record) (old texts found : List (List ℕ)) (rows : ℕ) (e : TableError)
-    → RowsSoFar columns places width records left old texts found rows → left ≡ fields ∷ after
-    → row_of_record columns places width (rows + 1) fields ≡ Err e → rows_of_records columns places width 1 records ≡ Err e
-rows_bad columns places width records left after fields old texts found rows e so_far is bad =
-    read_refused _ _ _ _ e _ so_far.read (ap (rows_of_records columns places width (rows + 1)) is) bad
-
--- no more records
-pub rows_all : (columns : List Column) (places : List ℕ) (width : ℕ) (records left : List Record) (old texts found : List (List ℕ)) (rows : ℕ)
-    → RowsSoFar columns places width records left old texts found rows → left ≡ []
-    → HoldsColumns (rows_of_records columns places width 1 records) texts (kinds_of columns) found rows
-rows_all columns places width records left old texts found rows so_far e = record {
-  rows_are = read_all _ _ _ so_far.read (ap (rows_of_records columns places width (rows + 1)) e);
-  are_columns = so_far.are;
-}
 
 pub columns_long : (texts : List (List ℕ)) (rows : ℕ) (kinds : List Kind) (columns : List (List ℕ)) → AreColumns texts rows kinds columns → length columns ≡ length kinds
 columns_long texts rows [] [] h = refl

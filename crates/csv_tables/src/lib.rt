@@ -21,7 +21,7 @@ mod table;
 mod types;
 
 pub use cases::examples;
-pub use cell::{cell_of, compare, value_of};
+pub use cell::{cell_of, value_of};
 pub use pool::Pool;
 pub use table::read_table;
 pub use types::{Cells, Database, TableError};

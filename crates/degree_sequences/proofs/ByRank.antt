@@ -1,7 +1,8 @@
 -- The rank-wise product, sum and maximum.
-use Rattle.std.proofs.Common.{List, [], arith, get_or, length, max, refl, suc, sym, zero, ℕ, ◌*◌, ◌+◌, ◌∷◌, ◌≡◌, ◌≤◌}
+use Rattle.std.proofs.Common.{List, [], arith, get_or, length, max, refl, suc, sum, sym, zero, ℕ, ◌*◌, ◌+◌, ◌∷◌, ◌≡◌, ◌≤◌}
 use Rattle.std.proofs.Math.Nat.{mul-le-mul, mul-zero, mul_comm, zero-mul}
 use Rattle.std.specs.List.{AllByRecursion, AllZip}
+use Rattle.std.proofs.lemmas.List.Sums.{sum_by-cons}
 use Rattle.degree_sequences.proofs.FallingLists.{IsFalling-from_sums, sums_fall}
 use Rattle.degree_sequences.proofs.Summation.{sum_below, sum_below-list, sum_below-mul-le, sum_below-product, sum_below-same}
 use Rattle.degree_sequences.specs.ByRank.{rank_maximum, rank_product, rank_product_with, rank_product_of, rank_sum}
@@ -81,6 +82,19 @@ get_or-rank_sum [] t r = omega arith
 get_or-rank_sum (x ∷ s) [] r = omega arith
 get_or-rank_sum (x ∷ s) (y ∷ t) zero = refl
 get_or-rank_sum (x ∷ s) (y ∷ t) (suc r) = get_or-rank_sum s t r
+
+-- and so are all elements together
+pub sum-rank_sum : (s t : List ℕ) → sum (rank_sum s t) ≡ sum s + sum t
+sum-rank_sum [] t = omega arith
+sum-rank_sum (x ∷ s) [] = omega arith
+sum-rank_sum (x ∷ s) (y ∷ t) =
+    omega (
+      arith,
+      sum-rank_sum s t,
+      sum_by-cons (λ (z : ℕ). z) x s,
+      sum_by-cons (λ (z : ℕ). z) y t,
+      sum_by-cons (λ (z : ℕ). z) (x + y) (rank_sum s t),
+    )
 
 -- each element is the greater of the two
 pub get_or-rank_maximum : (s t : List ℕ) (r : ℕ) → get_or (rank_maximum s t) r 0 ≡ max (get_or s r 0) (get_or t r 0)

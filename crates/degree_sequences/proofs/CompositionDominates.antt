@@ -5,10 +5,11 @@ use Rattle.std.proofs.lemmas.Bool.{cases_Bool, lt-ltb, ltb-true}
 use Rattle.std.proofs.lemmas.List.{get_or-replicate, length-map}
 use Rattle.std.proofs.lemmas.List.Sums.{count_by-le-length, length-filter, sum_by-cons}
 use Rattle.std.specs.List.{AllByRecursion, AllZip, IsDistinct, filter, range_with_len, sum_by}
+use Rattle.std.proofs.lemmas.List.FromFn.{length-range_with_len}
 use Rattle.degree_sequences.proofs.ByRank.{get_or-rank_product}
 use Rattle.degree_sequences.proofs.Counting.{All-filter, IsDistinct-different, IsDistinct-filter, everywhere, is_in, is_in-different, sum_by-both, sum_by-filter, sum_by-map, sum_by-nothing, sum_by-same, weaker}
 use Rattle.degree_sequences.proofs.DegreeLists.{places_fit}
-use Rattle.degree_sequences.proofs.Places.{All-range, IsDistinct-range, count_by-degree, count_by-le-places, is_in-range, key_weight, length-le-members, length-range, sum_by-keys, sum_by-places}
+use Rattle.degree_sequences.proofs.Places.{All-range, IsDistinct-range, count_by-degree, count_by-le-places, is_in-range, key_weight, length-le-members, sum_by-keys, sum_by-places}
 use Rattle.degree_sequences.proofs.ProductDominates.{rank_product_dominates}
 use Rattle.degree_sequences.proofs.RowWeights.{get_or-row_weights, spreads}
 use Rattle.degree_sequences.proofs.RunningSums.{running_sum-agree, running_sum-block_sums, running_sum-le-sum, running_sum-mono, running_sum-ones, running_sum-trimmed}
@@ -77,7 +78,7 @@ pub rows_dominated : (total n : ℕ) → n ≤ total → (cs : List ChildLists) 
 rows_dominated total n fits [] [] all A apart =
     let B : List ℕ = filter (λ i. ltb i n) A in
     let few : length B ≤ length (range_with_len 0 n) = length-le-members B (range_with_len 0 n) (IsDistinct-filter (λ i. ltb i n) A apart) (members B (All-below n A)) in
-    omega (arith, few, length-range 0 n, length-filter (λ i. ltb i n) A, count_by-le-length (λ i. ltb i n) A, running_sum-ones total (length A))
+    omega (arith, few, length-range_with_len 0 n, length-filter (λ i. ltb i n) A, count_by-le-length (λ i. ltb i n) A, running_sum-ones total (length A))
   where
     members : (B : List ℕ) → AllByRecursion (λ a. a < n) B → AllByRecursion (λ b. is_in (range_with_len 0 n) b ≡ true) B
     members B h = weaker (λ a. a < n) (λ b. is_in (range_with_len 0 n) b ≡ true) (λ b k. is_in-range 0 n b (omega arith) (omega arith)) B h
@@ -118,7 +119,7 @@ rows_within total n fits cs ks all R apart below =
     (weaker (λ a. a < n) (λ b. is_in (range_with_len 0 n) b ≡ true) (λ b k. is_in-range 0 n b (omega arith) (omega arith)) R below) in
     let agree : running_sum (spreads cs total) (length R) ≡ running_sum (row_weights cs total) (length R) =
     running_sum-agree (spreads cs total) (row_weights cs total) (length R)
-    (λ k h. get_or-spreads total n fits cs ks all k (omega (arith, few, length-range 0 n)) ∙ sym (get_or-row_weights cs total k (omega (arith, few, length-range 0 n)))) in
+    (λ k h. get_or-spreads total n fits cs ks all k (omega (arith, few, length-range_with_len 0 n)) ∙ sym (get_or-row_weights cs total k (omega (arith, few, length-range_with_len 0 n)))) in
     omega (arith, agree, whole R below, rows_dominated total n fits cs ks all R apart)
   where
     whole : (R : List ℕ) → AllByRecursion (λ i. i < n) R → sum_by (weight_of_row ks) R ≡ sum_by (λ i. cond (ltb i n) (weight_of_row ks i) 0) R

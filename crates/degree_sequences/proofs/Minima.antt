@@ -3,6 +3,7 @@ use Rattle.std.proofs.Common.{List, add-zero, ap, arith, inl, inr, length, map, 
 use Rattle.std.proofs.lemmas.Bool.{cases_lt}
 use Rattle.std.proofs.lemmas.List.{length-map}
 use Rattle.std.specs.List.{range_with_len}
+use Rattle.std.proofs.lemmas.List.FromFn.{length-range_with_len}
 use Rattle.degree_sequences.proofs.FallingLists.{IsFalling-from_sums, sums_fall}
 use Rattle.degree_sequences.proofs.RunningSums.{running_sum-mono, running_sum-past, running_sum-trimmed}
 use Rattle.degree_sequences.specs.Falling.{IsFalling}
@@ -21,11 +22,6 @@ running_sum-steps f up a (suc n) (suc r) h =
     let here : a + 1 ≡ suc a = omega arith in
     let there : a + 1 + r ≡ a + suc r = omega arith in
     omega (arith, ih, ap f here, ap f there, up a)
-
--- a range has its length
-pub length-range_with_len : (a n : ℕ) → length (range_with_len a n) ≡ n
-length-range_with_len a zero = refl
-length-range_with_len a (suc n) = ap suc (length-range_with_len (a + 1) n)
 
 -- such a list has its length
 pub length-with_running_sums : (f : ℕ → ℕ) (n : ℕ) → length (with_running_sums f n) ≡ n

@@ -84,11 +84,6 @@ pub All-range : (a n m : ℕ) → a + n ≤ m → AllByRecursion (λ i. i < m) (
 All-range a zero m h = tt
 All-range a (suc n) m h = (omega arith, All-range (a + 1) n m (omega arith))
 
--- a range has its length
-pub length-range : (a n : ℕ) → length (range_with_len a n) ≡ n
-length-range a zero = refl
-length-range a (suc n) = ap suc (length-range (a + 1) n)
-
 -- all places pass
 pub count_by-passing : (p : ℕ → Bool) (xs : List ℕ) → AllByRecursion (λ x. p x ≡ true) xs → count_by p xs ≡ length xs
 count_by-passing p [] h = refl

@@ -2,11 +2,10 @@
 use Rattle.std.proofs.Common.{List, [], ap, arith, get_or, replicate, suc, sum, sym, ℕ, ◌*◌, ◌+◌, ◌-◌, ◌<◌, ◌∙◌, ◌∷◌, ◌≡◌, ◌≤◌}
 use Rattle.std.proofs.Math.Nat.{mul_comm}
 use Rattle.std.proofs.lemmas.List.{get_or-map, get_or-replicate}
-use Rattle.std.proofs.lemmas.List.FromFn.{get_or-range_with_len}
+use Rattle.std.proofs.lemmas.List.FromFn.{get_or-range_with_len, length-range_with_len}
 use Rattle.std.specs.List.{AllByRecursion, AllZip, range_with_len}
 use Rattle.degree_sequences.proofs.ByRank.{IsFalling-rank_product, get_or-rank_product, rank_product-above}
 use Rattle.degree_sequences.proofs.FallingLists.{IsFalling-from_sums, window}
-use Rattle.degree_sequences.proofs.Places.{length-range}
 use Rattle.degree_sequences.proofs.RunningSums.{sum-above, running_sum-agree, running_sum-block_sums, running_sum-le-sum, running_sum-mono, running_sum-ones, running_sum-suc, running_sum-trimmed}
 use Rattle.degree_sequences.proofs.Spread.{IsFalling-spread, get_or-spread, spread, spread-above}
 use Rattle.degree_sequences.specs.ByRank.{rank_product}
@@ -33,7 +32,7 @@ IsFalling-spreads total n (c ∷ cs) all = IsFalling-rank_product (spreads cs n)
 -- element k of the row weights
 pub get_or-row_weights : (cs : List ChildLists) (total k : ℕ) → k < total → get_or (row_weights cs total) k 0 ≡ weight_by_rank cs (suc k)
 get_or-row_weights cs total k h =
-    get_or-map (weight_by_rank cs) (range_with_len 1 total) k 0 0 (omega (arith, length-range 1 total))
+    get_or-map (weight_by_rank cs) (range_with_len 1 total) k 0 0 (omega (arith, length-range_with_len 1 total))
     ∙ ap (weight_by_rank cs) (get_or-range_with_len 1 total k 0 h ∙ omega arith)
 
 -- they are the row weights, for children with that sum

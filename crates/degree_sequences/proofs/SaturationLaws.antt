@@ -1,5 +1,5 @@
 -- Saturation carries sums, products and what is made of them.
-use Rattle.std.proofs.Common.{List, [], ap, arith, drop, inl, inr, map, min, refl, suc, sym, zero, ℕ, ◌*◌, ◌+◌, ◌-◌, ◌<◌, ◌^◌, ◌∙◌, ◌∷◌, ◌≡◌, ◌≤◌}
+use Rattle.std.proofs.Common.{List, [], ap, arith, drop, inl, inr, map, min, refl, suc, sym, zero, ℕ, ◌*◌, ◌-◌, ◌<◌, ◌^◌, ◌∙◌, ◌∷◌, ◌≡◌, ◌≤◌}
 use Rattle.std.proofs.Math.Nat.{mul-le-mul_left, mul-le-mul_right, mul-zero, mul_comm}
 use Rattle.std.proofs.lemmas.Bool.{cases_lt}
 use Rattle.degree_sequences.specs.ByRank.{rank_product}
@@ -7,10 +7,6 @@ use Rattle.degree_sequences.specs.Composition.{block_sums}
 use Rattle.degree_sequences.specs.Falling.{onto, trimmed}
 use Rattle.degree_sequences.specs.RunningSums.{running_sum}
 use Rattle.degree_sequences.specs.Saturation.{saturated}
-
--- over any cap m
-pub min-add-min : (a b m : ℕ) → min (min a m + min b m) m ≡ min (a + b) m
-min-add-min a b m = omega arith
 
 -- one factor
 pub min-mul-min_left : (a b m : ℕ) → min (min a m * b) m ≡ min (a * b) m
@@ -27,10 +23,6 @@ min-mul-min_left a (suc b) m = elim (cases_lt a m) [
 pub min-mul-min : (a b m : ℕ) → min (min a m * min b m) m ≡ min (a * b) m
 min-mul-min a b m =
     min-mul-min_left a (min b m) m ∙ ap (λ k. min k m) (mul_comm a (min b m)) ∙ min-mul-min_left b a m ∙ ap (λ k. min k m) (mul_comm b a)
-
--- a saturated sum
-pub saturated-add : (a b : ℕ) → saturated (saturated a + saturated b) ≡ saturated (a + b)
-saturated-add a b = min-add-min a b (2 ^ 128 - 1)
 
 -- a saturated product
 pub saturated-mul : (a b : ℕ) → saturated (saturated a * saturated b) ≡ saturated (a * b)

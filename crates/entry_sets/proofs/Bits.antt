@@ -1,5 +1,5 @@
--- An entry is taken out of a set: what the number and its other bits are then.
-use Rattle.std.proofs.Common.{◌≡◌, ℕ, zero, suc, ◌-◌, ◌*◌, ◌/◌, ◌%◌, ◌^◌, ◌<◌, ◌≤◌, refl, ap, sym, ◌∙◌, arith, inl, inr}
+-- An entry is taken out of a set, or put into it: what the number and its bits are then.
+use Rattle.std.proofs.Common.{◌≡◌, ℕ, zero, suc, ◌+◌, ◌-◌, ◌*◌, ◌/◌, ◌%◌, ◌^◌, ◌<◌, ◌≤◌, refl, ap, sym, ◌∙◌, arith, inl, inr}
 use Rattle.std.specs.Int.{bit_at}
 use Rattle.std.proofs.lemmas.Nat.Bits.{bit_at_lowest, bit_at-suc, bit_at_above}
 use Rattle.std.proofs.lemmas.Bool.{cases_lt}
@@ -52,3 +52,13 @@ bit_without_same (suc entry) set has =
     bit_at-suc (set - 2 ^ suc entry) entry
     ∙ ap (λ n. bit_at n entry) (half_without entry set has)
     ∙ bit_without_same entry (set / 2) (sym (bit_at-suc set entry) ∙ has)
+
+-- where the bit is 0, the power sets it
+pub bit_added : (entry set : ℕ) → bit_at set entry ≡ 0 → bit_at (2 ^ entry + set) entry ≡ 1
+bit_added zero set out =
+    let even : set % 2 ≡ 0 = sym (bit_at_lowest set) ∙ out in
+    let odd : (1 + set) % 2 ≡ 1 = omega arith in
+    bit_at_lowest (1 + set) ∙ odd
+bit_added (suc entry) set out =
+    let half : (2 ^ suc entry + set) / 2 ≡ 2 ^ entry + set / 2 = omega (arith, twice entry) in
+    bit_at-suc (2 ^ suc entry + set) entry ∙ ap (λ n. bit_at n entry) half ∙ bit_added entry (set / 2) (sym (bit_at-suc set entry) ∙ out)

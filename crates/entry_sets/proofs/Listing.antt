@@ -1,11 +1,12 @@
 -- The list of a set's entries, from a first one on.
-use Rattle.std.proofs.Common.{◌≡◌, ℕ, zero, suc, ◌+◌, ◌-◌, ◌<◌, ◌≤◌, Bool, true, false, eqb, ltb, List, [], ◌∷◌, refl, ap, sym, ◌∙◌, subst, arith, inl, inr}
+use Rattle.std.proofs.Common.{◌≡◌, ℕ, zero, suc, ◌+◌, ◌-◌, ◌^◌, ◌<◌, ◌≤◌, Bool, true, false, eqb, ltb, List, [], ◌∷◌, refl, ap, sym, ◌∙◌, subst, arith, inl, inr}
 use Rattle.std.specs.Prelude.{filter, ◌&&◌, ◌⊎◌, Some}
 use Rattle.std.specs.Iterator.{MakesProgress, item_count}
 use Rattle.std.specs.List.{AllByRecursion, Contains, range_with_len}
 use Rattle.std.specs.List.Sorted.{IsStrictlyIncreasing}
 use Rattle.std.specs.Int.{bit_at}
-use Rattle.std.proofs.lemmas.Bool.{cases_Bool, cases_eq, eq-eqb, eqb-true, lt-ltb, ltb-true}
+use Rattle.std.proofs.lemmas.Bool.{cases_Bool, cases_eq, cases_lt, eq-eqb, eqb-true, lt-ltb, ltb-true, and_parts}
+use Rattle.std.proofs.lemmas.Nat.Bits.{bit_at_above}
 use Rattle.entry_sets.specs.Sets.{entries_from, entries_of_set, has_entry}
 
 -- ---- lists
@@ -27,7 +28,7 @@ pub each : (Q : ℕ → Type 0) (xs : List ℕ) → AllByRecursion Q xs → (x :
 each Q [] h x k = absurd (in_none x k)
 each Q (y ∷ ys) h x k = elim (one_in y ys x k) [ inl old ↦ each Q ys h.1 x old | inr is ↦ subst Q (sym is) h.0 ]
 
-rising : (x : ℕ) (xs : List ℕ) → AllByRecursion (λ y. x < y) xs → IsStrictlyIncreasing xs → IsStrictlyIncreasing (x ∷ xs)
+pub rising : (x : ℕ) (xs : List ℕ) → AllByRecursion (λ y. x < y) xs → IsStrictlyIncreasing xs → IsStrictlyIncreasing (x ∷ xs)
 rising x [] h r k l = absurd (omega (arith, l))
 rising x (y ∷ ys) h r zero l = h.0
 rising x (y ∷ ys) h r (suc k) l = let e : suc k + 1 ≡ suc (k + 1) = omega arith in rw e (r k (omega (arith, l)))
@@ -105,13 +106,9 @@ set_bits_only set x h = set_has set x h.0 (eq-eqb (bit_at set x) 1 h.1)
 
 -- ---- membership
 
-both_true : (a b : Bool) → (a && b) ≡ true → (a ≡ true) × (b ≡ true)
-both_true true b h = (refl, h)
-both_true false b h = absurd (cc)
-
 pub has_bit : (set x : ℕ) → has_entry set x ≡ true → (x < 16) × (bit_at set x ≡ 1)
 has_bit set x h =
-    let parts : (ltb x 16 ≡ true) × (eqb (bit_at set x) 1 ≡ true) = both_true (ltb x 16) (eqb (bit_at set x) 1) h in
+    let parts : (ltb x 16 ≡ true) × (eqb (bit_at set x) 1 ≡ true) = and_parts (ltb x 16) (eqb (bit_at set x) 1) h in
     (ltb-true x 16 parts.0, eqb-true (bit_at set x) 1 parts.1)
 
 pub bit_has : (set x : ℕ) → (x < 16) × (bit_at set x ≡ 1) → has_entry set x ≡ true
@@ -123,6 +120,15 @@ set_entries set x k = bit_has set x (set_bits set x k)
 pub set_entries_only : (set x : ℕ) → has_entry set x ≡ true → Contains (entries_of_set set) x
 set_entries_only set x h = set_bits_only set x (has_bit set x h)
 
+-- the entries of a set below 2^n are below n
+pub entry_below : (n subset entry : ℕ) → subset < 2 ^ n → has_entry subset entry ≡ true → entry < n
+entry_below n subset entry fits has =
+    let bit : (entry < 16) × (bit_at subset entry ≡ 1) = has_bit subset entry has in
+    elim (cases_lt entry n) [
+      | inl below ↦ below
+      | inr above ↦ absurd (omega (arith, bit.1, bit_at_above subset n entry fits above))
+    ]
+
 -- ---- an iterator over the entries
 
 not_there : (a b : Bool) → a ≡ true → (a && b) ≡ false → b ≡ false
@@ -132,7 +138,7 @@ not_there false b is h = absurd (cc)
 pub step_to : (set i : ℕ) → i < 16 → has_entry set i ≡ true → entries_from set i (16 - i) ≡ i ∷ entries_from set (i + 1) (16 - (i + 1))
 step_to set i low has =
     let more : 16 - i ≡ suc (16 - (i + 1)) = omega arith in
-    ap (entries_from set i) more ∙ from_next set i (16 - (i + 1)) (both_true (ltb i 16) (eqb (bit_at set i) 1) has).1
+    ap (entries_from set i) more ∙ from_next set i (16 - (i + 1)) (and_parts (ltb i 16) (eqb (bit_at set i) 1) has).1
 
 pub step_over : (set i : ℕ) → i < 16 → has_entry set i ≡ false → entries_from set i (16 - i) ≡ entries_from set (i + 1) (16 - (i + 1))
 step_over set i low out =
@@ -146,7 +152,7 @@ goes_on can may xs rest i is = rw is (record { on = λ _. (may rest, tt, omega a
 -- ---- the bit alone
 
 pub bit_told : (set i : ℕ) → has_entry set i ≡ true → eqb (bit_at set i) 1 ≡ true
-bit_told set i has = (both_true (ltb i 16) (eqb (bit_at set i) 1) has).1
+bit_told set i has = (and_parts (ltb i 16) (eqb (bit_at set i) 1) has).1
 
 pub no_bit_told : (set i : ℕ) → i < 16 → has_entry set i ≡ false → eqb (bit_at set i) 1 ≡ false
 no_bit_told set i low out = not_there (ltb i 16) (eqb (bit_at set i) 1) (lt-ltb i 16 low) out

@@ -1,29 +1,14 @@
 -- The entries of a set with an entry, without one, of two sets together, and of a set within another.
-use Rattle.std.proofs.Common.{◌≡◌, ℕ, zero, suc, ◌+◌, ◌-◌, ◌*◌, ◌%◌, ◌^◌, ◌<◌, ◌≤◌, Bool, true, false, eqb, ltb, max, bit_and, bit_or, refl, ap, sym, ◌∙◌, pow_mono, w16, arith, inl, inr}
+use Rattle.std.proofs.Common.{◌≡◌, ℕ, ◌+◌, ◌-◌, ◌*◌, ◌%◌, ◌^◌, ◌<◌, ◌≤◌, true, false, eqb, ltb, bit_and, bit_or, refl, ap, sym, ◌∙◌, pow_mono, w16, arith, inl, inr}
 use Rattle.std.specs.Prelude.{◌&&◌, ◌||◌, ◌↔◌, not, IsTrue}
 use Rattle.std.specs.Int.{bit_at, bit_not}
 use Rattle.std.proofs.lemmas.Bool.{cases_Bool, cases_eq, cases_lt, eq-eqb, eqb-true, ne_eqb, lt-ltb, ltb-true}
 use Rattle.std.proofs.lemmas.Nat.{and_le_l, or_disjoint}
-use Rattle.std.proofs.lemmas.Nat.Bits.{bit_at-lt, bit_at_and, bit_at_clear_other, bit_at_clear_same, bit_at_or, bit_at_set_other, bit_at_set_same, and_pow, same_from_bits_below}
+use Rattle.std.proofs.lemmas.Nat.Bits.{bit_at-lt, bit_at_and, bit_at_clear_other, bit_at_clear_same, bit_at_set_other, bit_at_set_same, and_pow, same_from_bits_below}
+use Rattle.std.proofs.Math.Bool.{or-true, or-false, and-false, and-true}
 use Rattle.entry_sets.specs.Sets.{IsWithin, has_entry}
 use Rattle.entry_sets.proofs.Bits.{bit_without_other, bit_without_same}
 use Rattle.entry_sets.proofs.Listing.{bit_has, has_bit}
-
-or_true : (b : Bool) → (b || true) ≡ true
-or_true true = refl
-or_true false = refl
-
-or_false : (b : Bool) → (b || false) ≡ b
-or_false true = refl
-or_false false = refl
-
-and_false : (b : Bool) → (b && false) ≡ false
-and_false true = refl
-and_false false = refl
-
-and_true : (b : Bool) → (b && true) ≡ b
-and_true true = refl
-and_true false = refl
 
 -- the number of one entry
 one_bit : (entry : ℕ) → entry < 16 → 1 * 2 ^ entry % 65536 ≡ 2 ^ entry
@@ -34,15 +19,15 @@ one_bit entry low = omega (arith, powers)
 
 pub with_entries : (set entry other : ℕ) → entry < 16 → has_entry (bit_or set (1 * 2 ^ entry % 65536)) other ≡ (has_entry set other || eqb other entry)
 with_entries set entry other low = elim (cases_eq other entry) [
-  | inl same ↦ rw (same, bit_at_set_same w16 set entry low, lt-ltb entry 16 low, eq-eqb entry entry refl) (sym (or_true (true && eqb (bit_at set entry) 1)))
-  | inr apart ↦ rw (bit_at_set_other w16 set entry low other apart, ne_eqb other entry apart) (sym (or_false (has_entry set other)))
+  | inl same ↦ rw (same, bit_at_set_same w16 set entry low, lt-ltb entry 16 low, eq-eqb entry entry refl) (sym (or-true (true && eqb (bit_at set entry) 1)))
+  | inr apart ↦ rw (bit_at_set_other w16 set entry low other apart, ne_eqb other entry apart) (sym (or-false (has_entry set other)))
 ]
 
 pub without_entries : (set entry other : ℕ) → entry < 16 → has_entry (bit_and set (bit_not w16 (1 * 2 ^ entry % 65536))) other ≡ (has_entry set other && not (eqb other entry))
 without_entries set entry other low = elim (cases_lt other 16) [
   | inl small ↦ elim (cases_eq other entry) [
-    | inl same ↦ rw (same, bit_at_clear_same w16 set entry low, eq-eqb entry entry refl) (and_false (ltb entry 16) ∙ sym (and_false (has_entry set entry)))
-    | inr apart ↦ rw (bit_at_clear_other w16 set entry low other small apart, ne_eqb other entry apart) (sym (and_true (has_entry set other)))
+    | inl same ↦ rw (same, bit_at_clear_same w16 set entry low, eq-eqb entry entry refl) (and-false (ltb entry 16) ∙ sym (and-false (has_entry set entry)))
+    | inr apart ↦ rw (bit_at_clear_other w16 set entry low other small apart, ne_eqb other entry apart) (sym (and-true (has_entry set other)))
   ]
   | inr large ↦ (let none : ltb other 16 ≡ false = elim (cases_Bool (ltb other 16)) [ inl t ↦ absurd (omega (arith, ltb-true other 16 t, large)) | inr n ↦ n ] in rw none refl)
 ]
@@ -64,24 +49,6 @@ without_number set entry fits low has =
       | inl same ↦ rw same (bit_at_clear_same w16 set entry low ∙ sym (bit_without_same entry set has))
       | inr apart ↦ bit_at_clear_other w16 set entry low i small apart ∙ sym (bit_without_other entry set i has apart)
     ]
-
-either_bit : (x y : ℕ) → x < 2 → y < 2 → eqb (max x y) 1 ≡ (eqb x 1 || eqb y 1)
-either_bit zero zero h k = refl
-either_bit zero (suc zero) h k = refl
-either_bit (suc zero) zero h k = refl
-either_bit (suc zero) (suc zero) h k = refl
-either_bit (suc (suc x)) y h k = absurd (omega arith)
-either_bit x (suc (suc y)) h k = absurd (omega arith)
-
-and_over : (a b c : Bool) → (a && (b || c)) ≡ ((a && b) || (a && c))
-and_over true b c = refl
-and_over false b c = refl
-
-pub union_entries : (set other entry : ℕ) → has_entry (bit_or set other) entry ≡ (has_entry set entry || has_entry other entry)
-union_entries set other entry =
-    ap (λ bit. ltb entry 16 && eqb bit 1) (bit_at_or set other entry)
-    ∙ ap (λ b. ltb entry 16 && b) (either_bit (bit_at set entry) (bit_at other entry) (bit_at-lt set entry) (bit_at-lt other entry))
-    ∙ and_over (ltb entry 16) (eqb (bit_at set entry) 1) (eqb (bit_at other entry) 1)
 
 within_so : (set other : ℕ) → bit_and set other ≡ set → IsWithin set other
 within_so set other is entry has =

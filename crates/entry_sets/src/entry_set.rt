@@ -78,15 +78,6 @@ impl EntrySet {
         }
     }
 
-    /// All entries of both sets.
-    pub fn union(self, other: EntrySet) -> EntrySet
-        ensures { (entry : ℕ) → has_entry result entry ≡ (has_entry self entry || has_entry other entry) }
-    {
-        EntrySet {
-            bits: self.bits | other.bits,
-        }
-    }
-
     /// Whether each entry of the set is in the other one.
     pub fn is_within(self, other: EntrySet) -> bool
         ensures { IsTrue result ↔ IsWithin self other }

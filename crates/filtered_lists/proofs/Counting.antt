@@ -4,8 +4,8 @@ use Rattle.std.specs.List.{AllByRecursion, count_by, filter, list_all, list_any,
 use Rattle.std.proofs.lemmas.Bool.{cases_Bool, eqb-true, and_parts, and_from, or_cases, false≢true}
 use Rattle.std.proofs.lemmas.List.{length-map}
 use Rattle.std.proofs.lemmas.List.Sums.{sum_by-cons}
+use Rattle.std.proofs.lemmas.List.FromFn.{length-range_with_len}
 use Rattle.degree_sequences.proofs.DegreeLists.{places_fit}
-use Rattle.degree_sequences.proofs.Minima.{length-range_with_len}
 use Rattle.degree_sequences.specs.Domination.{DominatesKeys}
 use Rattle.entry_sets.specs.Naming.{are_within}
 use Rattle.join_graph.specs.Conjuncts.{names_just}
@@ -17,6 +17,7 @@ use Rattle.sql_meaning.specs.Conditions.{cond_holds}
 use Rattle.sql_meaning.specs.Levels as levels
 use Rattle.sql_meaning.specs.Levels.{scan}
 use Rattle.sql_meaning.specs.Tables.{Tables, row_counts}
+use Rattle.degree_sequences.proofs.Counting.{all-count}
 use Rattle.filtered_lists.specs.Filters.{Conjunction, joined, and_answer, conjunction_of, own_conjuncts, filtered}
 use Rattle.filtered_lists.specs.Lists.{ColumnLists, RowCounts, count_answers, filtered_list, row_bound}
 use Rattle.filtered_lists.specs.Ranges.{Range}
@@ -71,7 +72,7 @@ module _ (counted : ℕ → Bool) where
 
 -- ---- conjuncts that name one entry
 
-all_entry : (entry : ℕ) (xs : List ℕ) → are_within xs (entry ∷ []) ≡ true → AllByRecursion (λ e. e ≡ entry) xs
+pub all_entry : (entry : ℕ) (xs : List ℕ) → are_within xs (entry ∷ []) ≡ true → AllByRecursion (λ e. e ≡ entry) xs
 all_entry entry [] h = tt
 all_entry entry (x ∷ xs) h =
     let parts = and_parts (eqb x entry || false) (are_within xs (entry ∷ [])) h in (
@@ -163,19 +164,15 @@ sum_is_enough lists tables entry key conjuncts stands =
       length-map (scan_of tables entry conjuncts) key,
     )
 
-every_row : (rows : List ℕ) → count_by (λ row. true) rows ≡ length rows
-every_row [] = refl
-every_row (row ∷ rows) = omega (arith, sum_by-cons (λ (x : ℕ). cond true 1 0) row rows, every_row rows)
-
 pub count_is_enough : (counts : RowCounts) (tables : Tables) (entry : ℕ) (conjuncts : List Cond) → CountsStandFor counts tables entry
     → length (scan_of tables entry conjuncts) ≤ row_bound counts entry conjuncts
 count_is_enough counts tables entry conjuncts stands =
     let enough : AreEnough tables entry (λ row. true) counts = record {
-      whole = omega (arith, every_row (range_with_len 0 (row_counts tables entry)), range_length (row_counts tables entry) 0, stands.whole);
-      equal = λ column value. omega (arith, every_row (rows_where tables entry (has_value tables entry column value)), stands.equal column value);
-      range = λ range. omega (arith, every_row (rows_where tables entry (is_in_range tables entry range)), stands.range range);
+      whole = omega (arith, all-count (range_with_len 0 (row_counts tables entry)), range_length (row_counts tables entry) 0, stands.whole);
+      equal = λ column value. omega (arith, all-count (rows_where tables entry (has_value tables entry column value)), stands.equal column value);
+      range = λ range. omega (arith, all-count (rows_where tables entry (is_in_range tables entry range)), stands.range range);
     } in
-    omega (arith, every_row (scan_of tables entry conjuncts), scan_is_counted tables entry (λ row. true) counts conjuncts enough)
+    omega (arith, all-count (scan_of tables entry conjuncts), scan_is_counted tables entry (λ row. true) counts conjuncts enough)
   where
     range_length : (n from : ℕ) → length (range_with_len from n) ≡ n
     range_length n from = length-range_with_len from n

@@ -1,10 +1,9 @@
 -- The running sums and the sum of a filtered list, from those of its lists.
 use Rattle.std.proofs.Common.{◌≡◌, ℕ, ◌+◌, ◌<◌, ◌≤◌, min, List, [], length, refl, ◌∙◌, arith}
 use Rattle.std.specs.List.{All, sum}
-use Rattle.degree_sequences.proofs.ByRank.{running_sum-rank_sum, IsFalling-rank_sum}
+use Rattle.degree_sequences.proofs.ByRank.{running_sum-rank_sum, IsFalling-rank_sum, sum-rank_sum}
 use Rattle.degree_sequences.proofs.Minima.{running_sum-lesser, IsFalling-lesser}
 use Rattle.degree_sequences.proofs.RunningSums.{running_sum-nil, running_sum-past}
-use Rattle.degree_sequences.specs.ByRank.{rank_sum}
 use Rattle.degree_sequences.specs.Falling.{IsFalling}
 use Rattle.degree_sequences.specs.RunningSums.{IsAbove, running_sum, lesser}
 use Rattle.query_types.specs.declared.types.Cond.{Cond}
@@ -48,12 +47,6 @@ unfolding past
 sum-lesser s t =
     let r : ℕ = past s t (lesser s t) in
     omega (arith, running_sum-lesser s t r, running_sum-past s r (omega arith), running_sum-past t r (omega arith), running_sum-past (lesser s t) r (omega arith))
-
-pub sum-rank_sum : (s t : List ℕ) → sum (rank_sum s t) ≡ sum s + sum t
-unfolding past
-sum-rank_sum s t =
-    let r : ℕ = past s t (rank_sum s t) in
-    omega (arith, running_sum-rank_sum s t r, running_sum-past s r (omega arith), running_sum-past t r (omega arith), running_sum-past (rank_sum s t) r (omega arith))
 
 pub sum-filtered : (lists : ColumnLists) (counts : RowCounts) (entry : ℕ) (conjuncts : List Cond) → SumTo lists counts
     → sum (filtered_list lists entry conjuncts) ≡ row_bound counts entry conjuncts

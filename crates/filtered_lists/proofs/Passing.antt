@@ -4,7 +4,7 @@ use Rattle.std.specs.List.{AllByRecursion, cons_option, filter_map, flat_map}
 use Rattle.std.specs.Ordering.{is_ne, is_lt, is_le, is_gt, is_ge}
 use Rattle.std.specs.declared.cmp.Ordering.{Ordering}
 use Rattle.std.specs.declared.cmp.Ordering.TheVariants.{Less, Equal, Greater}
-use Rattle.std.proofs.lemmas.Bool.{cases_Bool, eqb-true, and_parts, and_from, or_right}
+use Rattle.std.proofs.lemmas.Bool.{cases_Bool, eqb-true, and_parts, and_from, or_right, or_left}
 use Rattle.csv_tables.specs.Values.{Value, Int, Text, value_cmp}
 use Rattle.query_grammar.specs.declared.tree.Op.{Op}
 use Rattle.query_grammar.specs.declared.tree.Op.TheVariants as op
@@ -37,15 +37,15 @@ row_tests tables entry = record {
   either = λ p q row. p row || q row;
 }
 
-joined_parts : {X : Type 0} (P : X → Type 0) (xs ys : List X) → AllByRecursion P xs → AllByRecursion P ys → AllByRecursion P (xs ++ ys)
+pub joined_parts : {X : Type 0} (P : X → Type 0) (xs ys : List X) → AllByRecursion P xs → AllByRecursion P ys → AllByRecursion P (xs ++ ys)
 joined_parts P [] ys h k = k
 joined_parts P (x ∷ xs) ys h k = (h.0, joined_parts P xs ys h.1 k)
 
-front_part : {X : Type 0} (P : X → Type 0) (xs ys : List X) → AllByRecursion P (xs ++ ys) → AllByRecursion P xs
+pub front_part : {X : Type 0} (P : X → Type 0) (xs ys : List X) → AllByRecursion P (xs ++ ys) → AllByRecursion P xs
 front_part P [] ys h = tt
 front_part P (x ∷ xs) ys h = (h.0, front_part P xs ys h.1)
 
-back_part : {X : Type 0} (P : X → Type 0) (xs ys : List X) → AllByRecursion P (xs ++ ys) → AllByRecursion P ys
+pub back_part : {X : Type 0} (P : X → Type 0) (xs ys : List X) → AllByRecursion P (xs ++ ys) → AllByRecursion P ys
 back_part P [] ys h = h
 back_part P (x ∷ xs) ys h = back_part P xs ys h.1
 
@@ -131,9 +131,6 @@ module _ (tables : Tables) (entry row : ℕ) where
       (up_to_least (value column) (filter_map (λ range. range.high) (ranges_of column ranges)) (ends_hold (λ end. is_up_to (Some end) (value column) ≡ true) (λ range. range.high) column ranges (highs column ranges h)))
 
   -- ---- AND and OR
-
-  or_left : (x y : Bool) → x ≡ true → (x || y) ≡ true
-  or_left x y h = rw h refl
 
   and_more_passes : (t : ℕ → Bool) (ts : List (ℕ → Bool)) → t row ≡ true → AllByRecursion Holds ts → and_more tests t ts row ≡ true
   and_more_passes t [] r h = r

@@ -20,15 +20,16 @@ use Rattle.predicate_bounds.specs.declared.running.ListStep.{ListStep}
 use Rattle.predicate_bounds.specs.declared.steps.Step.{Step}
 use Rattle.predicate_bounds.specs.ListRuns.{listed}
 use Rattle.sql_meaning.specs.Databases.{AreCells}
-use Rattle.sql_meaning.proofs.ColumnFacts.{column_at, column_count}
+use Rattle.sql_meaning.proofs.ColumnFacts.{column_at}
 use Rattle.table_stats.specs.Cells.{StandsFor}
+use Rattle.csv_tables.proofs.TableFacts.{columns_long}
 use Rattle.gathered_stats.specs.Columns.{HaveLists, cells_in, kind_in}
 use Rattle.gathered_stats.specs.Filters.{IsColumnIn}
 use Rattle.gathered_stats.proofs.Sizes.{node_within, value_within, zipped_within}
 
 module _ (texts : List (List ℕ)) (cells : Cells) where
   pub as_many : AreCells texts cells → (column : ℕ) → column < length cells.kinds → column < length cells.columns
-  as_many are column low = omega (arith, low, column_count texts cells.rows cells.kinds cells.columns are)
+  as_many are column low = omega (arith, low, columns_long texts cells.rows cells.kinds cells.columns are)
 
   -- a column as it is read
   module _ (are : AreCells texts cells) (column : ℕ) (low : column < length cells.kinds) (k : Kind) (items read : List ℕ)

@@ -20,7 +20,8 @@ use Rattle.predicate_bounds.specs.Told.{no_columns}
 use Rattle.query_types.specs.declared.types.Query.{Query}
 use Rattle.sql_meaning.specs.Databases.{AreCells, IsDatabaseOf}
 use Rattle.sql_meaning.specs.Tables.{cells_of, no_cells}
-use Rattle.sql_meaning.proofs.ColumnFacts.{column_at, column_count}
+use Rattle.sql_meaning.proofs.ColumnFacts.{column_at}
+use Rattle.csv_tables.proofs.TableFacts.{columns_long}
 use Rattle.gathered_stats.specs.Columns.{HaveLists, keys_in}
 use Rattle.gathered_stats.specs.Asked.{AreStepsOf, AsksWithin, IsGathered, asked_columns}
 use Rattle.gathered_stats.proofs.Known.{steps_within}
@@ -41,7 +42,7 @@ pub keys_high : (texts : List (List ℕ)) (cells : Cells) → AreCells texts cel
     → length read ≡ cells.rows
 keys_high texts cells are column items read low at same =
     ap (λ (s : List ℕ). length s) (same ∙ sym (get_or_from_slice_get cells.columns column items [] at))
-    ∙ (column_at texts cells.rows cells.kinds cells.columns are column kind.Int [] (omega (arith, low, column_count texts cells.rows cells.kinds cells.columns are))).height
+    ∙ (column_at texts cells.rows cells.kinds cells.columns are column kind.Int [] (omega (arith, low, columns_long texts cells.rows cells.kinds cells.columns are))).height
 
 pub keys_there : (cells : Cells) (column : ℕ) (items read : List ℕ) → slice_get cells.columns column ≡ Some items → read ≡ items → read ≡ keys_in cells column
 keys_there cells column items read at same = same ∙ sym (get_or_from_slice_get cells.columns column items (replicate cells.rows 0) at)
@@ -65,9 +66,6 @@ module _ (query : Query) (db : Database) (accuracy : ℕ) where
   pub record AreGathered (n : ℕ) (entries : List EntryStats) : Type 0 where
     pub as_many : length entries ≡ n
     pub each : (entry : ℕ) → entry < n → IsGathered query db accuracy entry (get_or entries entry no_columns)
-
-  pub none_gathered : (entries : List EntryStats) → entries ≡ [] → AreGathered 0 entries
-  none_gathered entries none = record { as_many = ap (λ (s : List EntryStats). length s) none; each = λ entry low. absurd (omega (arith, low)) }
 
   pub one_gathered : (n : ℕ) (old new : List EntryStats) (one : EntryStats) → AreGathered n old → IsGathered query db accuracy n one → new ≡ old ++ one ∷ [] → AreGathered (n + 1) new
   one_gathered n old new one before here pushed = record {

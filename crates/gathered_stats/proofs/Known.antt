@@ -1,7 +1,7 @@
 -- The steps of an entry's own conjuncts ask for columns that the entry's table has.
-use Rattle.std.proofs.Common.{◌≡◌, ℕ, ◌<◌, Bool, true, false, not, ◌||◌, eqb, List, [], ◌∷◌, ◌++◌, map, length, None, sym, subst, inl, inr}
+use Rattle.std.proofs.Common.{◌≡◌, ℕ, ◌<◌, Bool, true, false, not, eqb, List, [], ◌∷◌, ◌++◌, map, length, None, sym, subst, inl, inr}
 use Rattle.std.specs.List.{All, AllByRecursion, flat_map}
-use Rattle.std.proofs.lemmas.Bool.{and_parts, cases_Bool, eqb-true, false≢true, or_cases}
+use Rattle.std.proofs.lemmas.Bool.{and_parts, cases_Bool}
 use Rattle.std.proofs.lemmas.List.Elements.{All-from_recursion, recursion_from_All}
 use Rattle.entry_sets.specs.Naming.{are_within}
 use Rattle.degree_sequences.specs.Degrees.{different}
@@ -30,19 +30,9 @@ use Rattle.filtered_lists.specs.Ranges.{Range, from_value, one_range, range_for_
 use Rattle.predicate_bounds.specs.declared.steps.Step.{Step}
 use Rattle.predicate_bounds.specs.declared.steps.Step.TheVariants as step
 use Rattle.predicate_bounds.specs.Steps.{step_answers, steps_of}
+use Rattle.filtered_lists.proofs.Passing.{joined_parts, front_part, back_part}
+use Rattle.filtered_lists.proofs.Counting.{all_entry}
 use Rattle.gathered_stats.specs.Asked.{AsksWithin}
-
-joined_parts : {X : Type 0} (P : X → Type 0) (xs ys : List X) → AllByRecursion P xs → AllByRecursion P ys → AllByRecursion P (xs ++ ys)
-joined_parts P [] ys h k = k
-joined_parts P (x ∷ xs) ys h k = (h.0, joined_parts P xs ys h.1 k)
-
-front_part : {X : Type 0} (P : X → Type 0) (xs ys : List X) → AllByRecursion P (xs ++ ys) → AllByRecursion P xs
-front_part P [] ys h = tt
-front_part P (x ∷ xs) ys h = (h.0, front_part P xs ys h.1)
-
-back_part : {X : Type 0} (P : X → Type 0) (xs ys : List X) → AllByRecursion P (xs ++ ys) → AllByRecursion P ys
-back_part P [] ys h = h
-back_part P (x ∷ xs) ys h = back_part P xs ys h.1
 
 -- ---- answers
 
@@ -122,14 +112,6 @@ module _ (cells : Cells) where
   comparison_within op.Ge column value h = record { ranges = (h, tt); others = tt }
 
 -- ---- conditions
-
-all_entry : (entry : ℕ) (xs : List ℕ) → are_within xs (entry ∷ []) ≡ true → AllByRecursion (λ e. e ≡ entry) xs
-all_entry entry [] h = tt
-all_entry entry (x ∷ xs) h =
-    let parts = and_parts (eqb x entry || false) (are_within xs (entry ∷ [])) h in (
-      elim (or_cases (eqb x entry) false parts.0) [ inl t ↦ eqb-true x entry t | inr f ↦ absurd (false≢true f) ],
-      all_entry entry xs parts.1,
-    )
 
 module _ (db : Database) (entry : ℕ) where
   abbrev IsIn : Conjunction (List Step) → Type 0

@@ -1,7 +1,7 @@
 -- A column that a table hasn't: all rows have one value there, and one key.
 use Rattle.std.proofs.Common.{◌≡◌, ℕ, zero, suc, ◌+◌, ◌<◌, ◌≤◌, pos, List, [], ◌∷◌, map, length, get_or, replicate, refl, ap, sym, subst, ◌∙◌, inl, inr, arith}
 use Rattle.std.specs.List.{All, range_with_len}
-use Rattle.std.proofs.lemmas.List.{get_or_past}
+use Rattle.std.proofs.lemmas.List.{get_or_past, length-replicate}
 use Rattle.std.proofs.lemmas.Bool.{cases_lt}
 use Rattle.std.proofs.lemmas.List.Elements.{All-nil, All-push}
 use Rattle.schema_types.specs.declared.types.Kind.{Kind}
@@ -16,12 +16,13 @@ use Rattle.filtered_lists.specs.Standing.{value_in_row}
 use Rattle.level_bounds.specs.Keys.{HaveDifferentCharacters}
 use Rattle.sql_meaning.specs.Databases.{AreTables}
 use Rattle.sql_meaning.specs.Tables.{cells_of, row_counts, tables_of}
-use Rattle.sql_meaning.proofs.ColumnFacts.{column_count, row_count}
 use Rattle.sql_meaning.proofs.LoopFacts.{rows_are}
 use Rattle.table_stats.specs.Columns.{column_values, numbered}
 use Rattle.table_stats.specs.Statistics.{column_lists, list_between, list_with}
 use Rattle.table_stats.proofs.CellColumns.{same_equal, same_range, same_whole}
 use Rattle.table_stats.proofs.DatabaseColumns.{cells_are, column_is, values_are}
+use Rattle.csv_tables.proofs.TableFacts.{columns_long}
+use Rattle.csv_tables.proofs.KeyFacts.{rows-length}
 use Rattle.gathered_stats.specs.Columns.{HaveLists, cells_in, keys_in, kind_in}
 
 -- ---- no row is wider than the columns
@@ -46,17 +47,13 @@ all_same : {X Y : Type 0} (f : X → Y) (v : X) (n : ℕ) → map f (replicate n
 all_same f v zero = refl
 all_same f v (suc n) = ap (λ s. f v ∷ s) (all_same f v n)
 
-as_many : (n x : ℕ) → length (replicate n x) ≡ n
-as_many zero x = refl
-as_many (suc n) x = ap suc (as_many n x)
-
 is_cell : (texts : List (List ℕ)) (n i x : ℕ) → i < n → IsCell texts kind.Int (get_or (replicate n 0) i x)
 is_cell texts zero i x low = absurd (omega (arith, low))
 is_cell texts (suc n) zero x low = omega arith
 is_cell texts (suc n) (suc i) x low = is_cell texts n i x (omega (arith, low))
 
 all_cells : (texts : List (List ℕ)) (n : ℕ) → All (IsCell texts kind.Int) (replicate n 0)
-all_cells texts n i x low = is_cell texts n i x (omega (arith, low, as_many n 0))
+all_cells texts n i x low = is_cell texts n i x (omega (arith, low, length-replicate {A = ℕ} n 0))
 
 module _ (db : Database) (are : AreTables db) (differ : HaveDifferentCharacters db.pool) (entry : ℕ) (there : entry < length db.slots)
     (column : ℕ) (past : length (cells_of db entry).kinds ≤ column) (accuracy : ℕ) where
@@ -69,9 +66,9 @@ module _ (db : Database) (are : AreTables db) (differ : HaveDifferentCharacters 
   one_value : (row : ℕ) → value_in_row (tables_of db) entry column row ≡ Int (pos 0)
   one_value row = elim (cases_lt row cells.rows) [
     | inl low ↦ get_or_past (get_or (rows_of_columns db.pool cells.kinds cells.columns cells.rows) row []) column (Int (pos 0))
-        (omega (arith, past, rows_width db.pool cells.kinds cells.columns cells.rows row [] (omega (arith, low, row_count db.pool cells.kinds cells.columns cells.rows))))
+        (omega (arith, past, rows_width db.pool cells.kinds cells.columns cells.rows row [] (omega (arith, low, rows-length db.pool cells.kinds cells.columns cells.rows))))
     | inr high ↦ ap (λ (r : Row). get_or r column (Int (pos 0)))
-        (get_or_past (rows_of_columns db.pool cells.kinds cells.columns cells.rows) row [] (omega (arith, high, row_count db.pool cells.kinds cells.columns cells.rows)))
+        (get_or_past (rows_of_columns db.pool cells.kinds cells.columns cells.rows) row [] (omega (arith, high, rows-length db.pool cells.kinds cells.columns cells.rows)))
   ]
 
   values : map (value_of_cell db.pool kind.Int) keys ≡ column_values (tables_of db) entry column
@@ -82,7 +79,7 @@ module _ (db : Database) (are : AreTables db) (differ : HaveDifferentCharacters 
 
   no_cells_there : keys_in cells column ≡ keys
   no_cells_there =
-      get_or_past cells.columns column keys (omega (arith, past, column_count db.pool cells.rows cells.kinds cells.columns (cells_are db are differ entry there)))
+      get_or_past cells.columns column keys (omega (arith, past, columns_long db.pool cells.rows cells.kinds cells.columns (cells_are db are differ entry there)))
 
   lists_of_keys : HaveLists db.pool cells accuracy keys (column_lists (tables_of db) accuracy entry column)
   lists_of_keys = record {
@@ -94,7 +91,7 @@ module _ (db : Database) (are : AreTables db) (differ : HaveDifferentCharacters 
         ∙ ap (λ (s : List Value). list_with accuracy (column_values (tables_of db) entry filter) s value) values;
     range = λ range low.
         same_range db.pool differ (kind_in cells range.column) kind.Int (cells_in cells range.column) keys (column_is db are differ entry there range.column low).cells (all_cells db.pool cells.rows) accuracy
-        ((column_is db are differ entry there range.column low).height ∙ sym (as_many cells.rows 0)) range.low range.high
+        ((column_is db are differ entry there range.column low).height ∙ sym (length-replicate cells.rows 0)) range.low range.high
         ∙ ap (λ (s : List Value). list_between accuracy s (map (value_of_cell db.pool kind.Int) keys) range.low range.high) (values_are db are differ entry there range.column low)
         ∙ ap (λ (s : List Value). list_between accuracy (column_values (tables_of db) entry range.column) s range.low range.high) values;
   }

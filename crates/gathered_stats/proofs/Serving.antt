@@ -1,5 +1,5 @@
 -- Filter columns for steps.
-use Rattle.std.proofs.Common.{◌≡◌, ℕ, ◌+◌, ◌<◌, ◌≤◌, List, length, take, get_or, sym, subst}
+use Rattle.std.proofs.Common.{◌≡◌, ℕ, ◌+◌, ◌<◌, ◌≤◌, List, length, take, get_or, subst}
 use Rattle.std.specs.List.{All}
 use Rattle.std.proofs.lemmas.List.{take_all}
 use Rattle.std.proofs.lemmas.List.Elements.{All-more, All-weaker}
@@ -10,9 +10,6 @@ use Rattle.gathered_stats.specs.Filters.{Serve}
 -- ---- what holds along a list
 
 module _ {X : Type 0} (P : X → Type 0) where
-  pub at_item : (xs : List X) (i : ℕ) (x : X) → i < length xs → x ≡ get_or xs i x → All P xs → P x
-  at_item xs i x low is all = subst P (sym is) (all i x low)
-
   pub one_item_more : (xs : List X) (i : ℕ) (x : X) → i < length xs → x ≡ get_or xs i x → All P (take i xs) → P x → All P (take (i + 1) xs)
   one_item_more xs i x low is before here = All-more P xs i x low before (subst P is here)
 

@@ -1,12 +1,10 @@
 -- What stands for a literal in a column of cells.
-use Rattle.std.proofs.Common.{◌≡◌, ℕ, zero, suc, ℤ, ◌+◌, ◌<◌, ◌^◌, Bool, false, List, [], ◌∷◌, length, get_or, None, Some, refl, ap, sym, ◌∙◌, inl, inr, arith}
+use Rattle.std.proofs.Common.{◌≡◌, ℕ, zero, suc, ◌+◌, ◌<◌, Bool, false, List, [], ◌∷◌, length, get_or, None, Some, ap, sym, ◌∙◌, inl, inr, arith}
 use Rattle.std.specs.Prelude.{All, position}
-use Rattle.std.specs.Cmp.{int_cmp_is}
 use Rattle.std.specs.Cmp.Lexicographic.{slice_cmp}
 use Rattle.std.specs.List.{position_or_len}
 use Rattle.std.specs.Ordering.{is_eq, nat_cmp}
 use Rattle.std.specs.Str.{IsUtf8, bytes_eq, chars}
-use Rattle.std.specs.declared.cmp.Ordering.TheVariants.{Equal}
 use Rattle.std.proofs.Math.Utf8.{encodes}
 use Rattle.std.proofs.lemmas.Bool.{cases_Bool, cases_lt, false≢true, false_from_ne_true, lt-ltb}
 use Rattle.std.proofs.lemmas.List.Quantifiers.{position-Some}
@@ -14,20 +12,8 @@ use Rattle.std.proofs.lemmas.Map.Text.{is_eq-slice_cmp}
 use Rattle.std.proofs.lemmas.Slice.Eq.{bytes_eq-Decides}
 use Rattle.std.proofs.lemmas.Str.{encodes-chars}
 use Rattle.schema_types.specs.declared.types.Kind.TheVariants as kind
-use Rattle.csv_tables.specs.Numbers.{number_in}
-use Rattle.csv_tables.specs.Values.{Int, Text}
+use Rattle.csv_tables.specs.Values.{Text}
 use Rattle.table_stats.specs.Cells.{StandsFor}
-
--- the cell of a number
-pub number_stands : (texts : List (List ℕ)) (n : ℤ) (cell : ℕ) → cell < 2 ^ 64 → number_in cell ≡ n → StandsFor texts kind.Int (Int n) (Some cell)
-number_stands texts n cell small is = (small, ap is_eq (sym (int_cmp_is (number_in cell) n Equal is)))
-
--- no text is a number, and no number a text
-pub no_number : (texts : List (List ℕ)) (most : ℕ) (n : ℤ) → StandsFor texts (kind.Text most) (Int n) None
-no_number texts most n = λ cell is. refl
-
-pub no_text : (texts : List (List ℕ)) (text : List ℕ) → StandsFor texts kind.Int (Text text) None
-no_text texts text = λ cell is. refl
 
 -- ---- the place of a text
 

@@ -22,10 +22,10 @@ use Rattle.query_types.specs.declared.types.ColumnRef.{ColumnRef}
 use Rattle.query_types.specs.declared.types.Query.{Query}
 use Rattle.sql_meaning.specs.Databases.{AreCells, AreTables, IsColumnOf, IsDatabaseOf}
 use Rattle.sql_meaning.specs.Tables.{cells_of, no_cells, tables_of}
-use Rattle.sql_meaning.proofs.ColumnFacts.{column_count}
 use Rattle.sql_meaning.proofs.LoopFacts.{rows_are}
 use Rattle.table_stats.proofs.DatabaseColumns.{cells_equal, cells_range, cells_whole}
 use Rattle.table_stats.specs.Statistics.{column_lists, entry_counts}
+use Rattle.csv_tables.proofs.TableFacts.{columns_long}
 use Rattle.gathered_stats.specs.Asked.{AreStepsOf, IsGathered, asked_columns}
 use Rattle.gathered_stats.specs.Columns.{HaveLists, cells_in, keys_in}
 use Rattle.gathered_stats.specs.Statistics.{statistics_of}
@@ -34,7 +34,7 @@ use Rattle.gathered_stats.proofs.MissingColumns.{missing_lists}
 
 -- ---- the first of some, and the one of a column
 
-found_one : (P : ColumnSteps → Type 0) (columns : List ColumnSteps) (x : ℕ) → Contains (map (λ g. g.column) columns) x → All P columns
+pub found_one : (P : ColumnSteps → Type 0) (columns : List ColumnSteps) (x : ℕ) → Contains (map (λ g. g.column) columns) x → All P columns
     → (g : ColumnSteps) × (find (λ g. eqb g.column x) columns ≡ Some g) × (g.column ≡ x) × P g
 found_one P columns x k all = by columns k (recursion_from_All P columns all)
   where
@@ -49,7 +49,7 @@ found_one P columns x k all = by columns k (recursion_from_All P columns all)
       ]
     ]
 
-first_one : (P : ColumnSteps → Type 0) (columns : List ColumnSteps) → 0 < length columns → All P columns
+pub first_one : (P : ColumnSteps → Type 0) (columns : List ColumnSteps) → 0 < length columns → All P columns
     → (g : ColumnSteps) × (slice_get columns 0 ≡ Some g) × Contains (map (λ g. g.column) columns) g.column × P g
 first_one P [] some all = absurd (omega (arith, some))
 first_one P (g ∷ columns) some all = (g, refl, in_front g.column (map (λ g. g.column) columns) g.column refl, all 0 g (omega arith))
@@ -84,7 +84,7 @@ module _ (query : Query) (db : Database) (accuracy : ℕ) (of : IsDatabaseOf que
   of_column joined is are =
       let cells : Cells = cells_of db joined.from in
       subst (λ (keys : List ℕ). HaveLists db.pool cells accuracy keys (column_lists (tables_of db) accuracy joined.from joined.column))
-      (same_default cells.columns joined.column [] (replicate cells.rows 0) (omega (arith, is.exists, column_count db.pool cells.rows cells.kinds cells.columns are)))
+      (same_default cells.columns joined.column [] (replicate cells.rows 0) (omega (arith, is.exists, columns_long db.pool cells.rows cells.kinds cells.columns are)))
       (laws joined is)
 
   asked_lists_there : (entry column : ℕ) → entry < length query.from → Contains (asked_columns entry (equalities_of query)) column

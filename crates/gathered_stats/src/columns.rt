@@ -25,8 +25,8 @@ fn add(columns: &mut Seq<u32>, place: Place, entry: u8) -> Result<(), NoMemory>
     columns.push(place.column)
 }
 
-// The columns of an entry that equalities name, each once.
-fn joined_columns(alloc: Global, equalities: &[Edge], entry: u8) -> Result<Seq<u32>, NoMemory>
+/// The columns of an entry that equalities name, each once.
+pub fn joined_columns(alloc: Global, equalities: &[Edge], entry: u8) -> Result<Seq<u32>, NoMemory>
     ensures { IfOk result (λ columns. columns ≡ joined_columns entry equalities.now) }
 {
     let mut columns = Seq::new(alloc);
@@ -39,11 +39,7 @@ fn joined_columns(alloc: Global, equalities: &[Edge], entry: u8) -> Result<Seq<u
 
 /// The columns of an entry that equalities name, each once. Where they name none it is a column that no table has: there all rows have one
 /// key, so that its list is made without a sort, and the row bound is the same over every column.
-pub(crate) fn asked_columns(
-    alloc: Global,
-    equalities: &[Edge],
-    entry: u8,
-) -> Result<Seq<u32>, NoMemory>
+pub fn asked_columns(alloc: Global, equalities: &[Edge], entry: u8) -> Result<Seq<u32>, NoMemory>
     ensures { IfOk result (λ columns. columns ≡ asked_columns entry equalities.now) }
 {
     let columns = joined_columns(alloc, equalities, entry)?;

@@ -19,8 +19,8 @@ pub(crate) struct Filter<'a> {
     pub sorted: FilterColumn<'a>,
 }
 
-// The column that a step compares with literals.
-fn column_asked(step: &Step) -> Option<u32>
+/// The column that a step compares with literals.
+pub fn column_asked(step: &Step) -> Option<u32>
     ensures { result ≡ column_asked step.now }
 {
     match step {

@@ -13,7 +13,7 @@ use crate::columns::asked_columns;
 use crate::entry_table::{EntryTable, row_count};
 use crate::filters::filters_of;
 use base_io::{NoMemory, Seq};
-use csv_tables::{Cells, Database};
+use csv_tables::{Cells, Database, Pool};
 use join_graph::Parts;
 use predicate_bounds::{ColumnSteps, EntryStats, QueryStats, Step, read_steps};
 use query_types::Query;
@@ -100,6 +100,13 @@ fn gather_entry(
     gather_columns(alloc, &table, steps, columns.as_slice())
 }
 
+/// What the pool of a database knows of its texts: no two of them have the same characters. So values are equal where their cells are.
+pub fn characters_differ(pool: &Pool)
+    ensures { HaveDifferentCharacters pool.now }
+{
+    let _ = pool.len();
+}
+
 /// The statistics that the bounds of a query ask for (SafeBound, SIGMOD 2023): for each FROM entry and each column that it joins,
 /// the steps of the entry's own conjuncts, each with its list. The parts are those of `split`. The accuracy is that of compression, from 1
 /// to 64: the larger it is, the nearer are the lists and the more runs they have. Where memory is wanting nothing is kept.
@@ -113,10 +120,10 @@ pub fn gather_query(
     requires local { parts.now.local ≡ local_of query.now }
     requires equalities { parts.now.equalities ≡ equalities_of query.now }
     requires database { IsDatabaseOf query.now db.now }
-    requires texts { HaveDifferentCharacters db.now.pool }
     requires accuracy { (0 < accuracy) × (accuracy ≤ 64) }
     ensures tells { IfOk result (λ stats. Tells query.now stats (statistics_of (tables_of db.now) accuracy)) }
 {
+    characters_differ(&db.pool);
     let mut entries = Seq::new(alloc);
     for entry in 0..query.from.len() as u8 {
         let stats = gather_entry(alloc, query, parts, db, entry, accuracy)?;

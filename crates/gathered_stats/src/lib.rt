@@ -22,4 +22,6 @@ mod lists;
 mod literals;
 mod rests;
 
-pub use gather::gather_query;
+pub use columns::{asked_columns, joined_columns};
+pub use filters::column_asked;
+pub use gather::{characters_differ, gather_query};

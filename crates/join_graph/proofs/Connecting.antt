@@ -1,11 +1,12 @@
 -- Kept equalities, by connection and by the names of parts.
-use Rattle.std.proofs.Common.{◌≡◌, ◌⊎◌, ℕ, Bool, true, false, cond, eqb, List, [], ◌∷◌, refl, ap, sym, ◌∙◌, inl, inr}
+use Rattle.std.proofs.Common.{◌≡◌, ◌⊎◌, ℕ, Bool, true, false, eqb, List, [], ◌∷◌, refl, ap, sym, ◌∙◌, inl, inr}
 use Rattle.std.specs.List.{AllByRecursion}
 use Rattle.std.proofs.lemmas.Bool.{cases_Bool, eqb-true, eqb-false, eq-eqb}
 use Rattle.berge_tree.specs.declared.edges.Edge.{Edge}
 use Rattle.berge_tree.specs.Equalities.{AreApart}
 use Rattle.berge_tree.specs.Testing.{joined_parts, joins_parts}
 use Rattle.berge_tree.proofs.NoCycle.{apart_by}
+use Rattle.berge_tree.proofs.Tested.{joined_same, joined_ends}
 use Rattle.join_graph.specs.Kept.{AreConnected, KeepsAfter, at_end, keeps, leaves_out, kept_by_names}
 
 -- two entries have one name exactly where equalities connect them
@@ -23,15 +24,6 @@ joined_yes name a b x t = rw t refl
 
 joined_no : (name : ℕ → ℕ) (a b x : ℕ) → eqb (name x) (name b) ≡ false → joined_parts name a b x ≡ name x
 joined_no name a b x n = rw n refl
-
-joined_same : (name : ℕ → ℕ) (a b x y : ℕ) → name x ≡ name y → joined_parts name a b x ≡ joined_parts name a b y
-joined_same name a b x y is = ap (λ n. cond (eqb n (name b)) (name a) n) is
-
-joined_ends : (name : ℕ → ℕ) (a b : ℕ) → joined_parts name a b a ≡ joined_parts name a b b
-joined_ends name a b = elim (cases_Bool (eqb (name a) (name b))) [
-  | inl t ↦ joined_yes name a b a t ∙ sym (joined_yes name a b b (eq-eqb (name b) (name b) refl))
-  | inr n ↦ joined_no name a b a n ∙ sym (joined_yes name a b b (eq-eqb (name b) (name b) refl))
-]
 
 joined_along : (name : ℕ → ℕ) (a b : ℕ) (es : List Edge) → AllByRecursion (λ e. name e.left.entry ≡ name e.right.entry) es
     → AllByRecursion (λ e. joined_parts name a b e.left.entry ≡ joined_parts name a b e.right.entry) es

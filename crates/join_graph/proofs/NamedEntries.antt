@@ -1,9 +1,10 @@
 -- What lists of entries name.
-use Rattle.std.proofs.Common.{◌≡◌, ℕ, ◌+◌, ◌<◌, Bool, true, false, ◌&&◌, ◌||◌, eqb, List, [], ◌∷◌, ◌++◌, map, length, get_or, drop, Some, None, refl, ap, sym, ◌∙◌, subst, inl, inr}
+use Rattle.std.proofs.Common.{◌≡◌, ℕ, ◌+◌, ◌<◌, Bool, true, false, ◌&&◌, eqb, List, [], ◌∷◌, ◌++◌, map, length, get_or, drop, Some, None, refl, ap, sym, ◌∙◌, subst, inl, inr}
 use Rattle.std.specs.List.{flat_map, list_all, list_any}
 use Rattle.std.proofs.lemmas.Bool.{cases_Bool, eqb-true, eqb-false, eq-eqb, ne_eqb}
 use Rattle.std.proofs.Math.Numerals.{add-one}
 use Rattle.std.proofs.Math.Seq.{drop-cons}
+use Rattle.std.proofs.Math.Bool.{and-true, and-false, or-false}
 use Rattle.berge_tree.specs.declared.edges.Edge.{Edge}
 use Rattle.query_grammar.specs.declared.tree.Op.{Op}
 use Rattle.query_grammar.specs.declared.tree.Op.TheVariants as op
@@ -81,17 +82,9 @@ apart a b c n = elim (cases_Bool (eqb a c)) [
   | inr m ↦ rw m refl
 ]
 
-alone : (b : Bool) → (b && true) ≡ b
-alone true = refl
-alone false = refl
-
-never : (b : Bool) → (b && false) ≡ false
-never true = refl
-never false = refl
-
 all_with : (entry x : ℕ) (n : Named) → (eqb x entry && tells_all entry n) ≡ tells_all entry (together (named.Just x) n)
-all_with entry x named.Nothing = alone (eqb x entry)
-all_with entry x named.Several = never (eqb x entry)
+all_with entry x named.Nothing = and-true (eqb x entry)
+all_with entry x named.Several = and-false (eqb x entry)
 all_with entry x (named.Just own) = elim (cases_Bool (eqb x own)) [
   | inl t ↦ (let e : x ≡ own = eqb-true x own t in
       rw t (subst (λ o. (eqb x entry && eqb o entry) ≡ eqb x entry) e (twice (eqb x entry))))
@@ -119,22 +112,14 @@ one_with x (named.Just own) = elim (cases_Bool (eqb x own)) [
   | inr n ↦ rw (n, ne_eqb own x (λ e. eqb-false x own n (sym e))) refl
 ]
 
-or_none : (b : Bool) → (b || false) ≡ b
-or_none true = refl
-or_none false = refl
-
-and_all : (b : Bool) → (b && true) ≡ b
-and_all true = refl
-and_all false = refl
-
 within_one : (entry : ℕ) (xs : List ℕ) → are_within xs (entry ∷ []) ≡ list_all (λ e. eqb e entry) xs
 within_one entry [] = refl
-within_one entry (x ∷ xs) = rw (or_none (eqb x entry), within_one entry xs) refl
+within_one entry (x ∷ xs) = rw (or-false (eqb x entry), within_one entry xs) refl
 
 pub just_named : (entry : ℕ) (xs : List ℕ) → are_just xs entry ≡ tells_just entry (named_of xs)
 just_named entry [] = refl
 just_named entry (x ∷ xs) =
-    and_all (are_within (x ∷ xs) (entry ∷ [])) ∙ within_one entry (x ∷ xs) ∙ all_named entry (x ∷ xs) ∙ just_with entry x (named_of xs)
+    and-true (are_within (x ∷ xs) (entry ∷ [])) ∙ within_one entry (x ∷ xs) ∙ all_named entry (x ∷ xs) ∙ just_with entry x (named_of xs)
 
 pub one_named : (xs : List ℕ) → are_one xs ≡ tells_one (named_of xs)
 one_named [] = refl

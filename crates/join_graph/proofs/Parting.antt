@@ -1,6 +1,6 @@
 -- Parts of entries, by the names in a list of sixteen.
 use Rattle.std.proofs.Common.{◌≡◌, ◌≢◌, ℕ, ◌+◌, ◌<◌, ◌≤◌, true, false, cond, eqb, List, [], ◌∷◌, ◌++◌, length, get_or, take, drop, refl, ap, sym, ◌∙◌}
-use Rattle.std.proofs.lemmas.Bool.{eq-eqb, ne_eqb}
+use Rattle.std.proofs.lemmas.Bool.{ne_eqb}
 use Rattle.std.proofs.lemmas.List.{append_assoc, append-nil}
 use Rattle.std.proofs.Math.Numerals.{add-one}
 use Rattle.std.proofs.Math.Seq.{drop-cons}
@@ -40,13 +40,6 @@ taken e names more kept longer rest small named differ is_longer is_more =
     ∙ append_assoc kept (e ∷ []) (kept_by_names (λ x. get_or more x 0) rest)
     ∙ ap (λ s. kept ++ e ∷ s) (kept_agree (λ x. get_or more x 0) (joined_parts g e.left.entry e.right.entry) is_more rest named)
     ∙ ap (λ b. kept ++ cond b (kept_by_names g rest) (e ∷ kept_by_names (joined_parts g e.left.entry e.right.entry) rest)) (sym t)
-
--- an equality that is left out
-pub left_out : (e : Edge) (names : List ℕ) (kept rest : List Edge) → get_or names e.left.entry 0 ≡ get_or names e.right.entry 0
-    → kept ++ kept_by_names (λ x. get_or names x 0) rest ≡ kept ++ kept_by_names (λ x. get_or names x 0) (e ∷ rest)
-left_out e names kept rest same =
-    let g : ℕ → ℕ = λ x. get_or names x 0 in
-    ap (λ b. kept ++ cond b (kept_by_names g rest) (e ∷ kept_by_names (joined_parts g e.left.entry e.right.entry) rest)) (sym (eq-eqb (g e.left.entry) (g e.right.entry) same))
 
 -- ---- going through the equalities of a set
 

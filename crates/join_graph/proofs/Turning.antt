@@ -1,7 +1,7 @@
 -- The equalities of a set, in the order of a turn.
-use Rattle.std.proofs.Common.{◌≡◌, ℕ, zero, suc, ◌<◌, Bool, true, false, ◌&&◌, eqb, List, [], ◌∷◌, ◌++◌, length, take, drop, refl, ap, sym, ◌∙◌, inl, inr}
+use Rattle.std.proofs.Common.{◌≡◌, ℕ, zero, suc, ◌<◌, true, eqb, List, [], ◌∷◌, ◌++◌, length, take, drop, refl, ap, sym, ◌∙◌, inl, inr}
 use Rattle.std.specs.List.{AllByRecursion}
-use Rattle.std.proofs.lemmas.Bool.{cases_Bool, ltb-true}
+use Rattle.std.proofs.lemmas.Bool.{cases_Bool, ltb-true, and_parts}
 use Rattle.std.proofs.lemmas.List.{take-append-drop}
 use Rattle.std.proofs.lemmas.List.Elements.{filter-append}
 use Rattle.std.proofs.Math.Seq.{take-append_seam, drop-append_seam}
@@ -43,14 +43,10 @@ kept_all P name (e ∷ es) h = elim (cases_Bool (eqb (name e.left.entry) (name e
   | inr n ↦ rw n (h.0, kept_all P (joined_parts name e.left.entry e.right.entry) es h.1)
 ]
 
-both : (a b : Bool) → (a && b) ≡ true → (a ≡ true) × (b ≡ true)
-both true b e = (refl, e)
-both false b e = absurd (cc)
-
 have_entries : (subset : ℕ) (es : List Edge) → AreJoining subset es → has_entries subset es ≡ true
 have_entries subset [] h = refl
 have_entries subset (e ∷ es) h =
-    let k : (has_entry subset e.left.entry ≡ true) × (has_entry subset e.right.entry ≡ true) = both (has_entry subset e.left.entry) (has_entry subset e.right.entry) h.0 in
+    let k : (has_entry subset e.left.entry ≡ true) × (has_entry subset e.right.entry ≡ true) = and_parts (has_entry subset e.left.entry) (has_entry subset e.right.entry) h.0 in
     rw (k.0, k.1) (have_entries subset es h.1)
 
 -- the equalities that a set keeps join its entries
@@ -64,11 +60,11 @@ kept_within subset turn es =
 
 joining_named : (subset : ℕ) (e : Edge) → joins_within subset e ≡ true → IsNamed e
 joining_named subset e t =
-    let k : (has_entry subset e.left.entry ≡ true) × (has_entry subset e.right.entry ≡ true) = both (has_entry subset e.left.entry) (has_entry subset e.right.entry) t in
+    let k : (has_entry subset e.left.entry ≡ true) × (has_entry subset e.right.entry ≡ true) = and_parts (has_entry subset e.left.entry) (has_entry subset e.right.entry) t in
     (entry_named e.left.entry k.0, entry_named e.right.entry k.1)
   where
     entry_named : (x : ℕ) → has_entry subset x ≡ true → x < 16
-    entry_named x t = ltb-true x 16 (both _ _ t).0
+    entry_named x t = ltb-true x 16 (and_parts _ _ t).0
 
 pub is_named : (subset : ℕ) (e : Edge) → joins_within subset e ≡ true → IsNamed e
 is_named = joining_named

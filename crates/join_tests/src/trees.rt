@@ -4,7 +4,6 @@ ghost use Rattle.std.specs.List.{AllByRecursion};
 ghost use Rattle.limits.specs.Profile.{most_conjuncts};
 ghost use Rattle.sql_meaning.specs.Databases.{IsDatabaseOf};
 ghost use Rattle.sql_meaning.specs.Tables.{tables_of};
-ghost use Rattle.level_bounds.specs.Keys.{HaveDifferentCharacters};
 ghost use Rattle.planned_joins.specs.PlansOf.{HaveFewRows};
 ghost use Rattle.tree_rows.specs.Nodes.{node_at};
 ghost use Rattle.join_tests.specs.Examples.{HasNodes};
@@ -53,7 +52,6 @@ struct JoinedTree {
 fn joined(alloc: Global, query: &Query, db: &Database) -> Result<JoinedTree, Failed>
     requires database { IsDatabaseOf query.now db.now }
     requires few { length query.now.conjuncts ≤ most_conjuncts }
-    requires texts { HaveDifferentCharacters db.now.pool }
     requires few_rows { HaveFewRows (tables_of db.now) (length query.now.from) }
     ensures { IfOk result (λ joined. HasNodes (length query.now.from) joined.done) }
 {

@@ -1,16 +1,20 @@
 -- The lines of the audit text, one after the other, and the numbers of rows in them.
-use Rattle.std.proofs.Common.{◌≡◌, ℕ, zero, suc, ◌+◌, ◌<◌, List, [], ◌∷◌, ◌++◌, drop, length, map, get_or, refl, ap, sym, ◌∙◌, arith, add-one}
+use Rattle.std.proofs.Common.{◌≡◌, ℕ, zero, suc, ◌+◌, ◌-◌, ◌<◌, List, [], ◌∷◌, ◌++◌, drop, length, map, get_or, refl, ap, sym, ◌∙◌, arith, add-one}
 use Rattle.std.specs.Prelude.{slice_get}
 use Rattle.std.specs.List.{range_with_len}
 use Rattle.std.proofs.Math.Seq.{drop-cons}
-use Rattle.std.proofs.lemmas.List.{length-map}
+use Rattle.std.proofs.lemmas.List.{get_or-drop, get_or-map, length-drop, length-map}
 use Rattle.csv_tables.specs.declared.types.Database.{Database}
 use Rattle.link_index.specs.Forest.{Level, rows_at}
 use Rattle.query_types.specs.declared.types.Query.{Query}
 use Rattle.query_types.specs.declared.types.Source.{Source}
 use Rattle.hash_join.specs.Levels.{level_sizes, query_level}
+use Rattle.tree_plans.specs.declared.bushy.Join.{Join}
+use Rattle.tree_rows.specs.Nodes.{no_node, node_at, Node}
 use Rattle.printed_texts.specs.Plans.{alias_of, audit_line, level_audits}
-use Rattle.joined_texts.specs.Printed.{level_counts}
+use Rattle.printed_texts.specs.TreePlans.{node_audit, node_audits}
+use Rattle.printed_texts.proofs.PlanLines.{left_at as left_in}
+use Rattle.joined_texts.specs.Printed.{level_counts, node_counts}
 
 -- ---- lines
 
@@ -62,3 +66,21 @@ pub counts_are_sizes : (query : Query) (db : Database) (order : List ℕ) (execu
     → ((k : ℕ) → k < length order → rows_at executed k ≡ query_level query db order (k + 1)) → length executed ≡ length order
     → level_counts executed ≡ level_sizes query db order
 counts_are_sizes query db order executed levels count = counts_of_levels (query_level query db order) order executed levels count
+
+-- ---- nodes
+
+-- the next inner node's line comes first
+pub next_node_audit : (k : ℕ) (joins : List Join) (counts : List ℕ) (i : ℕ) (otherwise : Join) (rows : ℕ) → i < length joins → i < length counts → rows ≡ get_or counts i 0
+    → node_audits k (drop i joins) (drop i counts) ≡ node_audit k (get_or joins i otherwise) rows ++ node_audits (k + 1) (drop (i + 1) joins) (drop (i + 1) counts)
+next_node_audit k joins counts i otherwise rows some count counted =
+    let join : Join = get_or joins i otherwise in
+    ap (λ (left : List Join). node_audits k left (drop i counts)) (left_in joins i join otherwise some refl)
+    ∙ ap (λ (left : List ℕ). node_audits k (join ∷ drop (i + 1) joins) left) (left_at counts i rows count counted)
+
+pub node_count_at : (n : ℕ) (nodes : List Node) (i : ℕ) → n + i < length nodes → get_or (node_counts n nodes) i 0 ≡ length (node_at nodes (n + i)).rows
+node_count_at n nodes i low =
+    get_or-map (λ (node : Node). length node.rows) (drop n nodes) i no_node 0 (omega (arith, low, length-drop n nodes))
+    ∙ ap (λ (node : Node). length node.rows) (get_or-drop n nodes i no_node)
+
+pub node_count_long : (n : ℕ) (nodes : List Node) → length (node_counts n nodes) ≡ length nodes - n
+node_count_long n nodes = length-map (drop n nodes) (λ node. length node.rows) ∙ length-drop n nodes

@@ -1,26 +1,33 @@
 -- The row numbers of a choice at the places of their entries.
-use Rattle.std.proofs.Common.{◌≡◌, ℕ, suc, ◌<◌, ◌≤◌, true, false, eqb, List, [], ◌∷◌, ◌++◌, length, take, get_or, slice_index, refl, ap, sym, ◌∙◌, subst, arith, inl, inr}
+use Rattle.std.proofs.Common.{◌≡◌, ℕ, suc, ◌<◌, ◌≤◌, true, false, eqb, List, [], ◌∷◌, length, get_or, slice_index, refl, ap, sym, ◌∙◌, subst, arith, inl, inr}
 use Rattle.std.specs.List.{AllByRecursion, IsDistinct}
 use Rattle.std.proofs.Math.Path.{fun_ext}
 use Rattle.std.proofs.lemmas.Bool.{cases_Bool, cases_lt, false≢true}
-use Rattle.std.proofs.lemmas.List.{get_or_past, take_at}
+use Rattle.std.proofs.lemmas.List.{get_or_past}
 use Rattle.std.proofs.lemmas.List.Elements.{All-from_recursion}
 use Rattle.std.proofs.lemmas.Map.Keys.{IsDistinct-cons}
 use Rattle.std.proofs.lemmas.Map.Steps.{length-le_from_distinct_below}
 use Rattle.std.proofs.lemmas.Simd.{map-map}
+use Rattle.csv_tables.specs.declared.types.Database.{Database}
 use Rattle.query_types.specs.declared.types.Out.{Out}
+use Rattle.query_types.specs.declared.types.Query.{Query}
 use Rattle.row_printer.specs.Fields.{record_text}
 use Rattle.sql_meaning.specs.Answers.{selected}
+use Rattle.sql_meaning.specs.Choices.{IsChoiceOf}
 use Rattle.sql_meaning.specs.Conditions.{column_value}
+use Rattle.sql_meaning.specs.Databases.{IsDatabaseOf}
 use Rattle.sql_meaning.specs.Levels.{row_in}
-use Rattle.sql_meaning.specs.Tables.{cells_of, row_counts, tables_of}
+use Rattle.sql_meaning.specs.Tables.{row_counts, tables_of}
 use Rattle.sql_meaning.proofs.LoopFacts.{choice_length, rows_are}
+use Rattle.join_steps.specs.Lists.{IsOrderOf}
 use Rattle.join_steps.specs.Sides.{is_in}
-use Rattle.hash_join.specs.declared.joining.Joining.{Joining}
-use Rattle.hash_join.proofs.Placed.{apart, choice_at, row_at_place, stands_at}
+use Rattle.hash_join.proofs.Placed.{stands_at}
+use Rattle.tree_rows.specs.Nodes.{put}
+use Rattle.tree_rows.proofs.NodeFacts.{put_length}
+use Rattle.bushy_join.proofs.Putting.{choice_in, put_row}
 use Rattle.printed_texts.specs.Lines.{IsChoice, choice_text}
 use Rattle.printed_texts.specs.Texts.{row_text, value_text}
-use Rattle.joined_texts.specs.Listed.{IsOrdered, IsWhole, choice_record}
+use Rattle.joined_texts.specs.Listed.{choice_record}
 
 -- ---- an order has each entry
 
@@ -65,59 +72,43 @@ row_out (e ∷ order) (row ∷ choice) x gone = elim (cases_Bool (eqb x e)) [
 
 -- ---- the rows of a choice, put at their places
 
--- as many rows as entries, and at the place of each entry the row that the choice has for it
-pub record ArePlaced (joining : Joining) (choice rows : List ℕ) : Type 0 where
-  pub size : length rows ≡ length joining.order.now
-  pub each : (i : ℕ) → i < length joining.order.now → get_or rows (get_or joining.order.now i 0) 0 ≡ get_or choice i 0
+module _ (query : Query) (db : Database) (is : IsDatabaseOf query db) (entries : List ℕ) (order : IsOrderOf query entries) (choice rows : List ℕ)
+    (whole : IsChoiceOf (row_counts (tables_of db)) entries choice) (size : length rows ≡ length query.from) where
+  within : AllByRecursion (λ entry. entry < length rows) entries
+  within = subst (λ (n : ℕ). AllByRecursion (λ entry. entry < n) entries) (sym size) order.entries
 
--- where an array's first places were written
-pub placed_in : (joining : Joining) (choice into rest : List ℕ) → length into ≡ length joining.order.now
-    → ((i : ℕ) → i < length joining.order.now → get_or into (get_or joining.order.now i 0) 0 ≡ get_or choice i 0)
-    → ArePlaced joining choice (take (length joining.order.now) (into ++ rest))
-placed_in joining choice into rest size each =
-    subst (ArePlaced joining choice) (sym (take_at into rest (length joining.order.now) size)) (record { size = size; each = each })
+  long : length choice ≡ length entries
+  long = choice_length (row_counts (tables_of db)) entries choice whole
 
-module _ (joining : Joining) (is : IsOrdered joining) (choice rows : List ℕ) (whole : IsWhole joining choice) (placed : ArePlaced joining choice rows) where
-  abbrev order : List ℕ
-  order = joining.order.now
+  here : (x : ℕ) → x < length query.from → is_in entries x ≡ true
+  here x low = has_each (length query.from) entries order.entries order.once order.all x low
 
-  here : (x : ℕ) → x < length joining.query.now.from → is_in order x ≡ true
-  here x low = has_each (length joining.query.now.from) order is.entries.entries is.entries.once is.entries.all x low
+  put_size : length (put entries choice rows) ≡ length query.from
+  put_size = put_length entries choice rows ∙ size
 
-  long : length choice ≡ length order
-  long = choice_length (row_counts (tables_of joining.db.now)) order choice whole
-
-  row_at : (x : ℕ) → slice_index rows x ≡ row_in order choice x
-  row_at x = elim (cases_Bool (is_in order x)) [
-    | inl t ↦ (let at = stands_at order x t in
-        subst (λ (e : ℕ). slice_index rows e ≡ row_in order choice e) at.is
-        (placed.each at.place at.within ∙ sym (row_at_place order choice at.place (apart order is.entries.once) at.within long)))
-    | inr gone ↦ elim (cases_lt x (length joining.query.now.from)) [
+  row_at : (x : ℕ) → slice_index (put entries choice rows) x ≡ row_in entries choice x
+  row_at x = elim (cases_Bool (is_in entries x)) [
+    | inl there ↦ put_row entries choice rows x order.once long within there
+    | inr gone ↦ elim (cases_lt x (length query.from)) [
       | inl low ↦ absurd (false≢true (sym gone ∙ here x low))
-      | inr high ↦ get_or_past rows x 0 (omega (arith, high, placed.size, is.entries.all)) ∙ sym (row_out order choice x gone)
+      | inr high ↦ get_or_past (put entries choice rows) x 0 (omega (arith, high, put_size)) ∙ sym (row_out entries choice x gone)
     ]
   ]
 
-  same_rows : slice_index rows ≡ row_in order choice
-  same_rows = fun_ext row_at
-
-  exists : (entry : ℕ) → entry < length joining.db.now.slots → slice_index rows entry < (cells_of joining.db.now entry).rows
-  exists entry low =
-      let at = stands_at order entry (here entry (omega (arith, low, is.database.entries))) in
-      subst (λ (e : ℕ). slice_index rows e < (cells_of joining.db.now e).rows) at.is
-      (omega (
-        arith,
-        placed.each at.place at.within,
-        choice_at (row_counts (tables_of joining.db.now)) order choice at.place whole at.within,
-        rows_are joining.db.now (get_or order at.place 0),
-      ))
-
   -- they are a choice in FROM order
-  pub is_choice : IsChoice joining.db.now rows
-  is_choice = record { one_each = omega (arith, placed.size, is.entries.all, is.database.entries); exists = exists }
+  pub is_choice : IsChoice db (put entries choice rows)
+  is_choice = record {
+    one_each = omega (arith, put_size, is.entries);
+    exists = λ entry low. omega (
+      arith,
+      row_at entry,
+      choice_in (row_counts (tables_of db)) entries choice entry whole (here entry (omega (arith, low, is.entries))),
+      rows_are db entry,
+    );
+  }
 
   -- the record of the outputs is that of the choice
-  pub text_is : choice_text joining.query.now.select (tables_of joining.db.now) rows ≡ choice_record joining choice
+  pub text_is : choice_text query.select (tables_of db) (put entries choice rows) ≡ choice_record query db entries choice
   text_is =
-      sym (ap record_text (map-map value_text (λ (out : Out). column_value (tables_of joining.db.now) (slice_index rows) out.column) joining.query.now.select))
-      ∙ ap (λ (row_of : ℕ → ℕ). row_text (selected joining.query.now (tables_of joining.db.now) row_of)) same_rows
+      sym (ap record_text (map-map value_text (λ (out : Out). column_value (tables_of db) (slice_index (put entries choice rows)) out.column) query.select))
+      ∙ ap (λ (row_of : ℕ → ℕ). row_text (selected query (tables_of db) row_of)) (fun_ext row_at)

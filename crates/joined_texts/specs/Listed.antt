@@ -1,33 +1,46 @@
--- The last level as it was listed, and its records.
-use Rattle.std.specs.Prelude.{◌≡◌, ℕ, ◌-◌, All, List, length}
+-- Rows that were listed for all entries of a query, and their records.
+use Rattle.std.specs.Prelude.{◌≡◌, ℕ, ◌*◌, ◌-◌, ◌<◌, ◌≤◌, All, List, length}
+use Rattle.limits.specs.Profile.{most_entries}
+use Rattle.csv_tables.specs.declared.types.Database.{Database}
 use Rattle.link_index.specs.Forest.{Level, rows_at}
+use Rattle.query_types.specs.declared.types.Query.{Query}
 use Rattle.sql_meaning.specs.Choices.{IsChoiceOf}
 use Rattle.sql_meaning.specs.Databases.{IsDatabaseOf}
 use Rattle.sql_meaning.specs.Tables.{row_counts, tables_of}
 use Rattle.join_steps.specs.Lists.{IsOrderOf}
-use Rattle.hash_join.specs.declared.joining.Joining.{Joining}
+use Rattle.tree_rows.specs.Nodes.{node_at, Node}
 use Rattle.printed_texts.specs.Texts.{row_text}
 use Rattle.joined_texts.specs.Printed.{selected_in}
+use Rattle.joined_texts.specs.declared.listed.Listed.{Listed}
+use Rattle.joined_texts.specs.declared.listed.Listed.TheVariants as listed
 
--- a query over its database, and an order of all its entries
-pub record IsOrdered (joining : Joining) : Type 0 where
-  pub database : IsDatabaseOf joining.query.now joining.db.now
-  pub entries : IsOrderOf joining.query.now joining.order.now
+-- the root of a join tree over the entries of a query
+abbrev pub root_of : Query → List Node → Node
+root_of query nodes = node_at nodes (2 * length query.from - 2)
 
--- the choice has a row of each entry of the order
-abbrev pub IsWhole : Joining → List ℕ → Type 0
-IsWhole joining choice = IsChoiceOf (row_counts (tables_of joining.db.now)) joining.order.now choice
+-- the entries in the order in which their rows stand in a choice, and the choices: those of the last level of an order, or of a node
+abbrev pub choices_listed : Listed → Node
+choices_listed (listed.Last executed order) = record { entries = order.now; rows = rows_at executed.now (length order.now - 1) }
+choices_listed (listed.Node done node) = node_at done.now node
 
--- the last level that was listed
-abbrev pub last_rows : Joining → List Level → List (List ℕ)
-last_rows joining executed = rows_at executed (length joining.order.now - 1)
+-- an order with a level for each of its entries
+pub record HasLevels (executed : List Level) (order : List ℕ) : Type 0 where
+  pub some : 1 ≤ length order
+  pub few : length order ≤ most_entries
+  pub count : length executed ≡ length order
 
--- a level was listed for each entry of the order, and the choices of the last one have a row of each entry
-pub record IsListed (joining : Joining) (executed : List Level) : Type 0 where
-  pub ordered : IsOrdered joining
-  pub count : length executed ≡ length joining.order.now
-  pub whole : All (IsWhole joining) (last_rows joining executed)
+-- the level or the node is there
+abbrev pub IsThere : Listed → Type 0
+IsThere (listed.Last executed order) = HasLevels executed.now order.now
+IsThere (listed.Node done node) = node < length done.now
 
--- the record of a choice
-abbrev pub choice_record : Joining → List ℕ → List ℕ
-choice_record joining choice = row_text (selected_in joining.query.now joining.db.now joining.order.now choice)
+-- the choices are of rows of each entry of a query over its database
+pub record IsListed (query : Query) (db : Database) (it : Listed) : Type 0 where
+  pub database : IsDatabaseOf query db
+  pub entries : IsOrderOf query (choices_listed it).entries
+  pub whole : All (IsChoiceOf (row_counts (tables_of db)) (choices_listed it).entries) (choices_listed it).rows
+  pub there : IsThere it
+
+-- the record of a choice for these entries
+abbrev pub choice_record : Query → Database → List ℕ → List ℕ → List ℕ
+choice_record query db entries choice = row_text (selected_in query db entries choice)

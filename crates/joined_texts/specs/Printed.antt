@@ -1,5 +1,5 @@
 -- What is printed of a query that was executed.
-use Rattle.std.specs.Prelude.{ℕ, List, length, map}
+use Rattle.std.specs.Prelude.{ℕ, List, drop, length, map}
 use Rattle.csv_tables.specs.Rows.{Row}
 use Rattle.csv_tables.specs.declared.types.Database.{Database}
 use Rattle.link_index.specs.Forest.{Level}
@@ -8,15 +8,24 @@ use Rattle.sql_meaning.specs.Answers.{selected}
 use Rattle.sql_meaning.specs.Levels.{row_in}
 use Rattle.sql_meaning.specs.Tables.{tables_of}
 use Rattle.hash_join.specs.Levels.{query_level}
+use Rattle.tree_rows.specs.Nodes.{Node}
 
 -- the values of the outputs where the entries of the order have the rows of a choice
 abbrev pub selected_in : Query → Database → List ℕ → List ℕ → Row
 selected_in query db order choice = selected query (tables_of db) (row_in order choice)
 
--- the rows that are printed: the outputs of each choice of the last level, in its order
+-- the outputs of each of these choices for the entries, in their order
+abbrev pub selected_rows : Query → Database → List ℕ → List (List ℕ) → List Row
+selected_rows query db entries choices = map (λ choice. selected_in query db entries choice) choices
+
+-- the rows that are printed along an order: those of its last level
 abbrev pub printed_rows : Query → Database → List ℕ → List Row
-printed_rows query db order = map (λ choice. selected_in query db order choice) (query_level query db order (length order))
+printed_rows query db order = selected_rows query db order (query_level query db order (length order))
 
 -- how many rows each level has
 abbrev pub level_counts : List Level → List ℕ
 level_counts executed = map (λ level. length level.rows) executed
+
+-- how many rows each inner node of a tree over n entries has
+abbrev pub node_counts : ℕ → List Node → List ℕ
+node_counts n nodes = map (λ node. length node.rows) (drop n nodes)

@@ -17,8 +17,12 @@ const SPACE: &[u8] = b" ";
 
 const LINE_END: &[u8] = b"\n";
 
-// What stands behind a level's bound: the number of its rows.
-fn put_row_count<N: Sink>(rows: u32, buffer: &mut Buffer, sink: &mut N) -> Result<(), Failed>
+/// Writes what stands behind the bound of a level or a node: the number of its rows.
+pub(crate) fn put_row_count<N: Sink>(
+    rows: u32,
+    buffer: &mut Buffer,
+    sink: &mut N,
+) -> Result<(), Failed>
     ensures { Put (growth N.taken N.faults sink.old sink.new) buffer.old buffer.new (row_count rows) result }
 {
     let mut digits = itoa::Buffer::new();

@@ -1,19 +1,23 @@
 //! The texts of a query of any number of FROM entries, after its execution: the rows text and the audit text.
 //! Nothing here takes memory, so nothing here can want it.
 //!
-//! The last stage of a run. In come the levels that `hash_join` listed, the plan or its order, the query and its
-//! database; out go bytes to a sink, through one buffer on the stack. `write_rows` puts the row numbers of each
-//! choice, which stand in the order of the plan, at the places of their entries, and prints the outputs.
+//! The last stage of a run. In come the levels that `hash_join` listed, or the nodes of a join tree that `bushy_join`
+//! listed, the plan or its order, the query and its database; out go bytes to a sink, through one buffer on the stack.
+//! The row numbers of each choice, which stand in the order of the plan or of the tree's leaves, are put at the places
+//! of their entries, and the outputs are printed.
 //!
-//! Callers cite `printed_rows` and `level_counts` (in `specs/Printed.antt`), beside `rows_lines` and `audit_lines`
-//! of printed_texts. What `execute(reserved, &order, &query, &db)` ensures is what
-//! `write_rows(&executed, &order, &query, &db, out)` requires.
+//! Callers cite `printed_rows` and `level_counts`, of trees `selected_rows` and `node_counts` (in `specs/Printed.antt`),
+//! beside `rows_lines`, `audit_lines` and `tree_audits` of printed_texts. What `execute(reserved, &order, &query, &db)`
+//! ensures is what `write_rows(&executed, &order, &query, &db, out)` requires.
 #![tactic(auto)]
 
 mod audit;
 mod laws;
+mod listed;
 mod rows;
+mod tree_audit;
 
 pub use audit::write_audit;
 pub use laws::counts_are_level_sizes;
-pub use rows::write_rows;
+pub use rows::{write_rows, write_tree_rows};
+pub use tree_audit::write_tree_audit;

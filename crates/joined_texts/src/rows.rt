@@ -1,88 +1,81 @@
 //! The rows text of a query of any number of FROM entries.
-ghost use Rattle.std.specs.Prelude.{◌≡◌, ℕ, ◌+◌, ◌-◌, ◌<◌, ◌==◌, All, length, slice_index};
-ghost use Rattle.std.specs.List.{flat_map, IsDistinct};
-ghost use Rattle.link_index.specs.Forest.{rows_at, way_to};
+ghost use Rattle.std.specs.Prelude.{◌≡◌, ℕ, ◌+◌, ◌*◌, ◌<◌, [], All, length, slice_index_or};
+ghost use Rattle.std.specs.List.{flat_map};
+ghost use Rattle.link_index.specs.Forest.{rows_at};
 ghost use Rattle.base_io.specs.Devices.{growth};
 ghost use Rattle.base_io.specs.Writes.{Put, Wrote};
+ghost use Rattle.sql_meaning.specs.Choices.{IsChoiceOf};
 ghost use Rattle.sql_meaning.specs.Databases.{IsDatabaseOf};
+ghost use Rattle.sql_meaning.specs.Tables.{row_counts, tables_of};
 ghost use Rattle.join_steps.specs.Lists.{IsOrderOf};
 ghost use Rattle.hash_join.specs.Levels.{query_level};
 ghost use Rattle.printed_texts.specs.Texts.{rows_lines};
-ghost use Rattle.joined_texts.specs.Listed.{choice_record, last_rows, IsListed, IsOrdered, IsWhole};
-ghost use Rattle.joined_texts.specs.Printed.{printed_rows};
+ghost use Rattle.joined_texts.specs.Listed.{choice_record, choices_listed, root_of, IsListed};
+ghost use Rattle.joined_texts.specs.Printed.{printed_rows, selected_rows};
 
+use crate::listed::{Listed, count, read};
 use base_io::{Buffer, Failed, Sink};
 use csv_tables::Database;
-use hash_join::{Executed, Joining};
+use hash_join::Executed;
 use limits::MOST_ENTRIES;
 use printed_texts::{Line, put_line};
 use query_types::Query;
+use tree_rows::BushyDone;
 
-// Writes the rows of a choice at the places of their entries.
-fn place(order: &[u8], choice: &[u32], rows: &mut [u32])
-    requires rows_of_choice { length choice.now ≡ length order.now }
-    requires places { length rows.old ≡ length order.now }
-    requires entries { All (λ entry. entry < length order.now) order.now }
-    requires once { IsDistinct ◌==◌ order.now }
-    ensures { (i : ℕ) → i < length order.now → slice_index rows.new (slice_index order.now i) ≡ slice_index choice.now i }
-{
-    'order: for (i, entry) in order.iter().enumerate() {
-        rows[*entry as usize] = choice[i];
-    }
-}
-
-// The record of a choice.
-fn put_choice<N: Sink>(
-    joining: &Joining,
-    choice: &[u32],
-    buffer: &mut Buffer,
-    sink: &mut N,
-) -> Result<(), Failed>
-    requires ordered { IsOrdered joining.now }
-    requires whole { IsWhole joining.now choice.now }
-    ensures { Put (growth N.taken N.faults sink.old sink.new) buffer.old buffer.new (choice_record joining.now choice.now) result }
-{
-    let size = joining.order.len();
-    let mut rows = [0; MOST_ENTRIES];
-    place(joining.order, choice, &mut rows[..size]);
-    let outs = joining.query.select.as_slice();
-    put_line(outs, Line::Rows(&rows[..size]), joining.db, buffer, sink)
-}
-
-// The record of a row of the last level.
+// The record of a listed row.
 fn put_row<N: Sink>(
-    joining: &Joining,
-    executed: &Executed,
+    query: &Query,
+    db: &Database,
+    listed: &Listed,
     i: u32,
     buffer: &mut Buffer,
     sink: &mut N,
 ) -> Result<(), Failed>
-    requires listed { IsListed joining.now executed.now }
-    requires row { i < length (last_rows joining.now executed.now) }
-    ensures { Put (growth N.taken N.faults sink.old sink.new) buffer.old buffer.new
-        (choice_record joining.now (way_to executed.now (length joining.now.order.now - 1) i)) result }
+    requires listed { IsListed query.now db.now listed.now }
+    requires row { i < length (choices_listed listed.now).rows }
+    ensures { let it = choices_listed listed.now in Put (growth N.taken N.faults sink.old sink.new) buffer.old buffer.new
+        (choice_record query.now db.now it.entries (slice_index_or it.rows i [])) result }
 {
-    let size = joining.order.len();
-    let mut choice = [0; MOST_ENTRIES];
-    executed.rows_of(size as u8 - 1, i, &mut choice[..size]);
-    put_choice(joining, &choice[..size], buffer, sink)
+    let size = query.from.len();
+    let mut rows = [0; MOST_ENTRIES];
+    read(listed, i, &mut rows[..size]);
+    let outs = query.select.as_slice();
+    put_line(outs, Line::Rows(&rows[..size]), db, buffer, sink)
 }
 
-// A record for each row of the last level.
+// A record for each listed row.
 fn put_rows<N: Sink>(
-    joining: &Joining,
-    executed: &Executed,
+    query: &Query,
+    db: &Database,
+    listed: &Listed,
     buffer: &mut Buffer,
     sink: &mut N,
 ) -> Result<(), Failed>
-    requires { IsListed joining.now executed.now }
-    ensures { Put (growth N.taken N.faults sink.old sink.new) buffer.old buffer.new
-        (flat_map (choice_record joining.now) (last_rows joining.now executed.now)) result }
+    requires { IsListed query.now db.now listed.now }
+    ensures { let it = choices_listed listed.now in Put (growth N.taken N.faults sink.old sink.new) buffer.old buffer.new
+        (flat_map (choice_record query.now db.now it.entries) it.rows) result }
 {
-    'rows: for i in 0..executed.len(joining.order.len() as u8 - 1) {
-        put_row(joining, executed, i, buffer, sink)?;
+    'rows: for i in 0..count(listed) {
+        put_row(query, db, listed, i, buffer, sink)?;
     }
     Ok(())
+}
+
+// The rows text: a header of the outputs' names, and a record of the outputs for each listed row, in its order.
+fn write_listed<N: Sink>(
+    query: &Query,
+    db: &Database,
+    listed: &Listed,
+    sink: &mut N,
+) -> Result<(), Failed>
+    requires { IsListed query.now db.now listed.now }
+    ensures { let it = choices_listed listed.now in Wrote (growth N.taken N.faults sink.old sink.new)
+        (rows_lines query.now.select (selected_rows query.now db.now it.entries it.rows)) result }
+{
+    let mut buffer = Buffer::new();
+    put_line(query.select.as_slice(), Line::Header, db, &mut buffer, sink)?;
+    put_rows(query, db, listed, &mut buffer, sink)?;
+    buffer.flush(sink)
 }
 
 /// Writes the rows text of a query that was executed in this order: a header of the outputs' names, and a record
@@ -103,9 +96,23 @@ pub fn write_rows<N: Sink>(
     ensures { Wrote (growth N.taken N.faults sink.old sink.new)
         (rows_lines query.now.select (printed_rows query.now db.now order.now)) result }
 {
-    let joining = Joining { query, db, order };
-    let mut buffer = Buffer::new();
-    put_line(query.select.as_slice(), Line::Header, db, &mut buffer, sink)?;
-    put_rows(&joining, executed, &mut buffer, sink)?;
-    buffer.flush(sink)
+    write_listed(query, db, &Listed::Last { executed, order }, sink)
+}
+
+/// Writes the rows text of a query whose entries were joined by a tree: the same of the rows of its root.
+pub fn write_tree_rows<N: Sink>(
+    done: &BushyDone,
+    query: &Query,
+    db: &Database,
+    sink: &mut N,
+) -> Result<(), Failed>
+    requires database { IsDatabaseOf query.now db.now }
+    requires nodes { length done.now + 1 ≡ 2 * length query.now.from }
+    requires entries { IsOrderOf query.now (root_of query.now done.now).entries }
+    requires choices { let root = root_of query.now done.now in All (IsChoiceOf (row_counts (tables_of db.now)) root.entries) root.rows }
+    ensures { let root = root_of query.now done.now in Wrote (growth N.taken N.faults sink.old sink.new)
+        (rows_lines query.now.select (selected_rows query.now db.now root.entries root.rows)) result }
+{
+    let node = 2 * query.from.len() as u8 - 2;
+    write_listed(query, db, &Listed::Node { done, node }, sink)
 }

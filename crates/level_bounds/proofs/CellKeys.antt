@@ -1,16 +1,14 @@
 -- The cells of a database as keys.
-use Rattle.std.proofs.Common.{◌≡◌, ℕ, ℤ, ◌<◌, ◌^◌, true, List, [], ◌∷◌, length, get_or, pos, refl, ap, sym, ◌∙◌, subst, arith, inl, inr, Some}
+use Rattle.std.proofs.Common.{◌≡◌, ℕ, ℤ, ◌<◌, true, List, [], ◌∷◌, length, get_or, pos, refl, ap, sym, ◌∙◌, subst, arith, inl, inr, Some}
 use Rattle.std.specs.Prelude.{All, encode_utf8_all, slice_index, slice_index_or}
 use Rattle.std.specs.List.{AllByRecursion, Contains}
 use Rattle.std.specs.Cmp.Lexicographic.{slice_cmp}
-use Rattle.std.specs.Int.{w64}
 use Rattle.std.specs.Ordering.{int_cmp, is_eq, nat_cmp, ordering_then}
 use Rattle.std.specs.Str.{IsUtf8, chars}
 use Rattle.std.specs.declared.cmp.Ordering.{Ordering}
 use Rattle.std.specs.declared.cmp.Ordering.TheVariants.{Less, Equal, Greater}
 use Rattle.std.proofs.lemmas.Bool.{cases_eq, cases_lt, false≢true}
 use Rattle.std.proofs.lemmas.Cmp.{int_ranked, ranked}
-use Rattle.std.proofs.lemmas.Int.{of_z-to_z}
 use Rattle.std.proofs.lemmas.List.Elements.{All-contains}
 use Rattle.std.proofs.lemmas.List.FromFn.{fill_by_all}
 use Rattle.std.proofs.lemmas.Str.{encodes-chars}
@@ -34,6 +32,7 @@ use Rattle.sql_meaning.specs.Databases.{AreCells, AreTables, CanAskLayer, CanCom
 use Rattle.sql_meaning.specs.Tables.{cells_of, no_cells, row_counts, tables_of}
 use Rattle.sql_meaning.proofs.ColumnFacts.{column_at, value_at as cell_value}
 use Rattle.sql_meaning.proofs.LoopFacts.{rows_are}
+use Rattle.csv_tables.proofs.KeyFacts.{bits_back}
 use Rattle.level_bounds.specs.Keys.{HaveDifferentCharacters, JoinsEqualKeys, cell_at, value_at}
 use Rattle.level_bounds.specs.Whole.{keys_of}
 use Rattle.level_bounds.proofs.EqualityFacts.{IsJoin, is_join}
@@ -68,9 +67,6 @@ one_place texts differ a b low high same = elim (cases_lt a b) [
     | inr apart ↦ (let less : b < a = omega arith in absurd (differ b a [] less low (sym same)))
   ]
 ]
-
-bits_back : (x : ℕ) → x < 2 ^ 64 → bits_of (number_in x) ≡ x
-bits_back x low = of_z-to_z w64 x low
 
 -- equal values have equal cells
 pub equal_cells : (texts : List (List ℕ)) → HaveDifferentCharacters texts → (k l : Kind) (x y : ℕ) → IsCell texts k x → IsCell texts l y

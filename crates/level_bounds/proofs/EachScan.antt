@@ -16,13 +16,14 @@ use Rattle.sql_meaning.specs.Answers.{conjuncts_of, entries_of}
 use Rattle.sql_meaning.specs.Databases.{IsDatabaseOf}
 use Rattle.sql_meaning.specs.Levels.{level}
 use Rattle.sql_meaning.specs.Tables.{Tables, row_counts, tables_of}
+use Rattle.degree_sequences.proofs.ProductDominates.{All-first}
 use Rattle.level_bounds.specs.Keys.{HaveDifferentCharacters, JoinsEqualKeys, Keys, cell_at}
 use Rattle.level_bounds.specs.Orders.{IsOrderOfSet}
 use Rattle.level_bounds.specs.Scans.{BoundsEachScan, BoundsScans, query_level, query_scan}
 use Rattle.level_bounds.proofs.CellKeys.{cells_join}
 use Rattle.level_bounds.proofs.Lists.{all_filtered, all_from, each_of, in_range, range_within}
 use Rattle.level_bounds.proofs.NeverUnder.{within}
-use Rattle.level_bounds.proofs.SetNumbers.{all_taken, prefix_of_order}
+use Rattle.level_bounds.proofs.SetNumbers.{prefix_of_order}
 
 -- what holds at every column that equalities name, holds at those that some of them name
 named_filtered : (Q : ℕ → ℕ → Type 0) (p : Edge → Bool) (es : List Edge) → EachNamedColumn Q es → EachNamedColumn Q (filter p es)
@@ -56,7 +57,7 @@ levels_within query db b order k of differ known o =
     database_within query db b (set_of (take k order)) (take k order) of differ
     (each_is_enough query (tables_of db) (cell_at db) b (set_of (take k order)) known
     (all_from (λ entry. entry < length query.from) (entries_of_set (set_of (take k order)))
-    (λ entry here. each_of (λ entry. entry < length query.from) (take k order) (all_taken (λ entry. entry < length query.from) k order low) entry
+    (λ entry here. each_of (λ entry. entry < length query.from) (take k order) (All-first (λ entry. entry < length query.from) k order low) entry
     (each_of (Contains (take k order)) (entries_of_set (set_of (take k order))) prefix.covers entry here))))
     prefix
   where

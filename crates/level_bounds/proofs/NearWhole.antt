@@ -1,5 +1,5 @@
 -- Bounds from compressed lists of whole tables: they are at least what unfiltered scans have, and near those from the degree lists.
-use Rattle.std.proofs.Common.{◌≡◌, ℕ, ◌+◌, ◌*◌, ◌^◌, ◌≤◌, true, List, [], ◌∷◌, length, map, refl, ap, sym, ◌∙◌, subst, arith, inl, inr}
+use Rattle.std.proofs.Common.{◌≡◌, ℕ, ◌+◌, ◌*◌, ◌^◌, ◌≤◌, true, List, [], ◌∷◌, length, map, refl, ap, sym, ◌∙◌, subst, arith}
 use Rattle.std.specs.List.{AllByRecursion, Contains, filter, list_all, range_with_len}
 use Rattle.std.proofs.lemmas.List.FromFn.{length-map-range_with_len, length-range_with_len}
 use Rattle.degree_sequences.specs.Compression.{compressed}
@@ -10,7 +10,7 @@ use Rattle.degree_sequences.proofs.CompressedLists.{IsFalling-compressed, compre
 use Rattle.degree_sequences.proofs.DegreeLists.{IsFalling-degree_list, sum-degree_list}
 use Rattle.berge_tree.specs.declared.edges.Edge.{Edge}
 use Rattle.berge_tree.specs.declared.edges.Place.{Place}
-use Rattle.berge_tree.specs.Equalities.{AreWithin, places_of}
+use Rattle.berge_tree.specs.Equalities.{places_of}
 use Rattle.entry_sets.specs.Sets.{entries_of_set}
 use Rattle.query_types.specs.declared.types.Cond.{Cond}
 use Rattle.query_types.specs.declared.types.Query.{Query}
@@ -24,16 +24,16 @@ use Rattle.tree_bounds.proofs.Premises.{within_by_elements}
 use Rattle.tree_bounds.proofs.Scanned.{equalities_inside}
 use Rattle.sql_meaning.specs.Conditions.{cond_holds}
 use Rattle.sql_meaning.specs.Tables.{Tables, row_counts}
+use Rattle.berge_tree.proofs.Forest.{within_place}
 use Rattle.level_bounds.specs.Keys.{Keys}
 use Rattle.level_bounds.specs.Scans.{BoundsScans, filters_of, query_scan}
 use Rattle.level_bounds.specs.Whole.{AreCompressed, keys_of, uncompressed}
 use Rattle.level_bounds.proofs.Lists.{all_from, each_of}
 use Rattle.level_bounds.proofs.OwnConjuncts.{scan_by_own}
-use Rattle.entry_sets.proofs.Listing.{one_in, in_none}
 
 -- ---- scans without conjuncts of their own
 
-all_kept : (rows : List ℕ) → filter (λ row. true) rows ≡ rows
+pub all_kept : (rows : List ℕ) → filter (λ row. true) rows ≡ rows
 all_kept [] = refl
 all_kept (row ∷ rows) = ap (λ (s : List ℕ). row ∷ s) (all_kept rows)
 
@@ -44,16 +44,6 @@ whole_scan query tables entry none =
     ∙ all_kept (range_with_len 0 (row_counts tables entry))
 
 -- ---- the columns that equalities of a set name are columns of its entries
-
-place_inside : (set : List ℕ) (es : List Edge) → AreWithin set es → (p : Place) → Contains (places_of es) p → Contains set p.entry
-place_inside set [] inside p k = absurd (in_none p k)
-place_inside set (e ∷ es) inside p k = elim (one_in e.left (e.right ∷ places_of es) p k) [
-  | inr is ↦ subst (λ (q : Place). Contains set q.entry) (sym is) inside.0.0
-  | inl later ↦ elim (one_in e.right (places_of es) p later) [
-    | inr is ↦ subst (λ (q : Place). Contains set q.entry) (sym is) inside.0.1
-    | inl rest ↦ place_inside set es inside.1 p rest
-  ]
-]
 
 module _ (tables : Tables) (key : Keys) where
   key_count : (entry column : ℕ) → length (keys_of tables key entry column) ≡ row_counts tables entry
@@ -83,7 +73,7 @@ module _ (tables : Tables) (key : Keys) where
     list_at p k = each_of (λ (p : Place). b.list p.entry p.column ≡ list_of p.entry p.column) named are.columns p k
 
     inside : (p : Place) → Contains named p → Contains (entries_of_set subset) p.entry
-    inside p k = place_inside (entries_of_set subset) (equalities_within subset es) (equalities_inside subset es) p k
+    inside p k = within_place (entries_of_set subset) (equalities_within subset es) (equalities_inside subset es) p k
 
     pub lists : SetHasLists b es subset
     lists = all_from (λ (p : Place). HasList b p.entry p.column) named (λ p k.

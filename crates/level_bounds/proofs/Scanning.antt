@@ -26,11 +26,11 @@ use Rattle.level_bounds.proofs.Reordering.{stands, level_differs, back}
 names_more : (entries few many : List ℕ) → ((x : ℕ) → Contains few x → Contains many x) → list_all (is_in few) entries ≡ true → list_all (is_in many) entries ≡ true
 names_more entries few many more h = true_for_all (is_in many) entries (λ x k. in_true many x (more x (true_in few x (all_true (is_in few) entries h x k))))
 
-implied : (a b : Bool) → (not a || b) ≡ true → a ≡ true → b ≡ true
+pub implied : (a b : Bool) → (not a || b) ≡ true → a ≡ true → b ≡ true
 implied true b h e = h
 implied false b h e = absurd (false≢true e)
 
-implies : (a b : Bool) → (a ≡ true → b ≡ true) → (not a || b) ≡ true
+pub implies : (a b : Bool) → (a ≡ true → b ≡ true) → (not a || b) ≡ true
 implies true b h = h refl
 implies false b h = refl
 

@@ -10,20 +10,18 @@ use Rattle.std.proofs.lemmas.Map.Keys.{IsDistinct-head, IsDistinct-tail, IsDisti
 use Rattle.std.proofs.lemmas.Map.Made.{length-le_from_is_member}
 use Rattle.std.proofs.lemmas.Nat.Bits.{bit_at_lowest, bit_at-suc, bit_at-zero, bit_at-lt}
 use Rattle.entry_sets.specs.Sets.{entries_of_set, set_of}
-use Rattle.entry_sets.proofs.Bits.{twice}
+use Rattle.entry_sets.proofs.Bits.{twice, bit_added}
 use Rattle.entry_sets.proofs.Listing.{set_bits, set_bits_only}
 use Rattle.entry_sets.proofs.Listing.{one_in, in_front, in_rest, in_none}
+use Rattle.tree_bounds.proofs.NearSets.{none_twice}
+use Rattle.degree_sequences.proofs.ProductDominates.{All-first}
 use Rattle.level_bounds.specs.Orders.{IsOrderOfSet}
 use Rattle.level_bounds.proofs.Lists.{each_of, all_from, is_in, in_true, true_in, in_range, range_within}
 
 -- ---- ranges
 
-none_distinct : IsDistinct nat_eq []
-unfolding IsDistinct
-none_distinct = tt
-
 pub range_distinct : (a n : ℕ) → IsDistinct nat_eq (range_with_len a n)
-range_distinct a zero = none_distinct
+range_distinct a zero = none_twice
 range_distinct a (suc n) =
     IsDistinct-cons nat_eq a (range_with_len (a + 1) n)
     (all_from (λ y. nat_eq a y ≡ false) (range_with_len (a + 1) n) (λ y k. ne_eqb a y (λ e. absurd (omega (arith, (range_within (a + 1) n y k).0, e)))))
@@ -63,16 +61,7 @@ order_of_all n order low once long = record {
 
 -- ---- the number of a set
 
--- where the bit is 0, the power sets it, and no other one
-pub bit_added : (entry set : ℕ) → bit_at set entry ≡ 0 → bit_at (2 ^ entry + set) entry ≡ 1
-bit_added zero set out =
-    let even : set % 2 ≡ 0 = sym (bit_at_lowest set) ∙ out in
-    let odd : (1 + set) % 2 ≡ 1 = omega arith in
-    bit_at_lowest (1 + set) ∙ odd
-bit_added (suc entry) set out =
-    let half : (2 ^ suc entry + set) / 2 ≡ 2 ^ entry + set / 2 = omega (arith, twice entry) in
-    bit_at-suc (2 ^ suc entry + set) entry ∙ ap (λ n. bit_at n entry) half ∙ bit_added entry (set / 2) (sym (bit_at-suc set entry) ∙ out)
-
+-- where the bit is 0, the power changes no other one
 pub bit_kept : (entry set other : ℕ) → bit_at set entry ≡ 0 → other ≢ entry → bit_at (2 ^ entry + set) other ≡ bit_at set other
 bit_kept zero set zero out apart = absurd (apart refl)
 bit_kept zero set (suc other) out apart =
@@ -125,16 +114,11 @@ order_of_set entries low once = record {
 
 -- ---- prefixes
 
-pub all_taken : (P : ℕ → Type 0) (k : ℕ) (xs : List ℕ) → AllByRecursion P xs → AllByRecursion P (take k xs)
-all_taken P zero xs h = tt
-all_taken P (suc k) [] h = tt
-all_taken P (suc k) (x ∷ xs) h = (h.0, all_taken P k xs h.1)
-
 distinct_taken : (k : ℕ) (xs : List ℕ) → IsDistinct nat_eq xs → IsDistinct nat_eq (take k xs)
-distinct_taken zero xs d = none_distinct
-distinct_taken (suc k) [] d = none_distinct
+distinct_taken zero xs d = none_twice
+distinct_taken (suc k) [] d = none_twice
 distinct_taken (suc k) (x ∷ xs) d =
-    IsDistinct-cons nat_eq x (take k xs) (all_taken (λ y. nat_eq x y ≡ false) k xs (IsDistinct-head nat_eq x xs d)) (distinct_taken k xs (IsDistinct-tail nat_eq x xs d))
+    IsDistinct-cons nat_eq x (take k xs) (All-first (λ y. nat_eq x y ≡ false) k xs (IsDistinct-head nat_eq x xs d)) (distinct_taken k xs (IsDistinct-tail nat_eq x xs d))
 
 pub prefix_of_order : (order : List ℕ) (k : ℕ) → AllByRecursion (λ entry. entry < 16) order → IsDistinct nat_eq order → IsOrderOfSet (entries_of_set (set_of (take k order))) (take k order)
-prefix_of_order order k low once = order_of_set (take k order) (all_taken (λ entry. entry < 16) k order low) (distinct_taken k order once)
+prefix_of_order order k low once = order_of_set (take k order) (All-first (λ entry. entry < 16) k order low) (distinct_taken k order once)

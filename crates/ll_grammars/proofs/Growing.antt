@@ -1,8 +1,8 @@
 -- A language put together grows with what it is put together of.
-use Rattle.std.proofs.Common.{Some, None, List, [], ◌∷◌, inl, inr}
+use Rattle.std.proofs.Common.{List, [], ◌∷◌, inl, inr}
 use Rattle.ll_grammars.specs.declared.lexeme.Lexeme.{Lexeme}
 use Rattle.ll_grammars.specs.declared.terminal.Terminal.{Terminal}
-use Rattle.ll_grammars.specs.Language.{Language, ◌▸◌, made, ◌∪◌, maybe, many}
+use Rattle.ll_grammars.specs.Language.{Language, ◌▸◌, made, ◌∪◌, many}
 use Rattle.ll_grammars.specs.Rules.{all, second, listed, in_parentheses}
 
 -- each text of L is one of M, of the same value
@@ -21,10 +21,6 @@ made_grows f L L' h text value l = (l.0, l.1, h text l.0 l.2)
 pub either_grows : {A : Type 0} (L L' M M' : Language A) → IsIn L L' → IsIn M M' → IsIn (L ∪ M) (L' ∪ M')
 either_grows L L' M M' f g text value (inl l) = inl (f text value l)
 either_grows L L' M M' f g text value (inr m) = inr (g text value m)
-
-pub maybe_grows : {A : Type 0} (L L' : Language A) → IsIn L L' → IsIn (maybe L) (maybe L')
-maybe_grows L L' h text None l = l
-maybe_grows L L' h text (Some value) l = h text value l
 
 pub many_grows : {A : Type 0} (L L' : Language A) → IsIn L L' → IsIn (many L) (many L')
 many_grows L L' h text [] l = l

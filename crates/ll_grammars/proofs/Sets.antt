@@ -1,7 +1,7 @@
 -- Sets of terminals, and what a text begins with.
 use Rattle.std.proofs.Common.{◌≡◌, Bool, true, false, cond, ◌||◌, eqb, List, [], ◌∷◌, ◌++◌, refl, sym, subst, ◌∙◌}
 use Rattle.std.proofs.lemmas.List.{append_cancel_right}
-use Rattle.std.proofs.lemmas.Bool.{eqb-true}
+use Rattle.std.proofs.lemmas.Bool.{eqb-true, or_parts, or_left, or_right}
 use Rattle.ll_grammars.specs.declared.lexeme.Lexeme.{Lexeme}
 use Rattle.ll_grammars.specs.declared.terminal.Terminal.{Terminal}
 use Rattle.ll_grammars.specs.Terminals.{code, among, apart}
@@ -19,18 +19,6 @@ among-append (x ∷ cs) ds c = let ih = among-append cs ds c in or_assoc (eqb (c
   or_assoc : (a b c d : Bool) → d ≡ (b || c) → (a || d) ≡ ((a || b) || c)
   or_assoc true b c d e = refl
   or_assoc false b c d e = e
-
-or_false : (a b : Bool) → (a || b) ≡ false → (a ≡ false) × (b ≡ false)
-or_false true b e = absurd cc
-or_false false b e = (refl, e)
-
-or_left : (a b : Bool) → a ≡ true → (a || b) ≡ true
-or_left true b e = refl
-or_left false b e = absurd cc
-
-or_right : (a b : Bool) → b ≡ true → (a || b) ≡ true
-or_right true b e = refl
-or_right false b e = e
 
 pub among_left : (cs ds : List Terminal) (c : Terminal) → among cs c ≡ true → among (cs ++ ds) c ≡ true
 among_left cs ds c h = among-append cs ds c ∙ or_left (among cs c) (among ds c) h
@@ -54,11 +42,11 @@ apart_false (x ∷ cs) ds c h e =
 
 pub Stops-left : (cs ds : List Terminal) (text : List Lexeme) → Stops (cs ++ ds) text → Stops cs text
 Stops-left cs ds [] h = tt
-Stops-left cs ds (t ∷ ts) h = (or_false (among cs t.terminal) (among ds t.terminal) (sym (among-append cs ds t.terminal) ∙ h)).0
+Stops-left cs ds (t ∷ ts) h = (or_parts (among cs t.terminal) (among ds t.terminal) (sym (among-append cs ds t.terminal) ∙ h)).0
 
 pub Stops-right : (cs ds : List Terminal) (text : List Lexeme) → Stops (cs ++ ds) text → Stops ds text
 Stops-right cs ds [] h = tt
-Stops-right cs ds (t ∷ ts) h = (or_false (among cs t.terminal) (among ds t.terminal) (sym (among-append cs ds t.terminal) ∙ h)).1
+Stops-right cs ds (t ∷ ts) h = (or_parts (among cs t.terminal) (among ds t.terminal) (sym (among-append cs ds t.terminal) ∙ h)).1
 
 pub Stops-starts : (cs : List Terminal) (text : List Lexeme) → Stops cs text → starts cs text ≡ false
 Stops-starts cs [] h = refl

@@ -39,9 +39,18 @@ const TWOS: Text<'static> = Text::Column {
 
 const HUNDREDS: &[u8] = b"scan R 100\nscan S 100\nlevel 1 R 100\nlevel 2 S 10000\n";
 
-/// A join of two tables, the same over reduced scans, a table of texts, the triangle, and two pairs of tables with the same bounds and
-/// other answers.
-pub const RUNS: [Run<'static>; 6] = [
+const THREE: Text<'static> = Text::Whole(b"CREATE TABLE K (X INTEGER NOT NULL)");
+
+const ONE_OF_THREE: Text<'static> = Text::Whole(b"SELECT X FROM K WHERE X = 2");
+
+// The statistics file of one column of 1, 2, 3, which is also its filter column: 32 leaves over three values.
+const FILE_OF_THREE: Text<'static> = Text::Whole(
+    b"safebound-stats 1 1\ntable x4b 3\npair x58 x58\nwhole 1*3\nfrequent 1 1*1\nfrequent 2 1*1\nfrequent 3 1*1\nrest -\ncut 1\ncut 1\ncut 1\ncut 1\ncut 1\ncut 1\ncut 1\ncut 1\ncut 1\ncut 1\ncut 1\ncut 2\ncut 2\ncut 2\ncut 2\ncut 2\ncut 2\ncut 2\ncut 2\ncut 2\ncut 2\ncut 2\ncut 3\ncut 3\ncut 3\ncut 3\ncut 3\ncut 3\ncut 3\ncut 3\ncut 3\ncut 3\nnode -\nnode -\nnode -\nnode -\nnode -\nnode -\nnode -\nnode -\nnode -\nnode -\nnode 1*1\nnode -\nnode -\nnode -\nnode -\nnode -\nnode -\nnode -\nnode -\nnode -\nnode -\nnode 1*1\nnode -\nnode -\nnode -\nnode -\nnode -\nnode -\nnode -\nnode -\nnode -\nnode 1*1\nnode -\nnode -\nnode -\nnode -\nnode -\nnode 1*1\nnode -\nnode -\nnode -\nnode -\nnode 1*1\nnode -\nnode -\nnode -\nnode -\nnode 1*1\nnode -\nnode -\nnode 1*1\nnode -\nnode -\nnode 1*1\nnode -\nnode 1*1\nnode -\nnode 1*1\nnode 1*1\nnode 1*1\nnode 1*1\nnode 1*2\nnode 1*3\nend\n",
+);
+
+/// A join of two tables, the same over reduced scans, a table of texts, the triangle, two pairs of tables with the same bounds and other
+/// answers, the statistics file of a table, and a plan from it.
+pub const RUNS: [Run<'static>; 8] = [
     Run {
         name: "join",
         words: PLAIN,
@@ -141,6 +150,28 @@ pub const RUNS: [Run<'static>; 6] = [
             record: b"1\r\n",
             count: 0,
         },
+    },
+    Run {
+        name: "stats",
+        words: &["stats", "schema.sql", "query.sql"],
+        files: &[
+            ("schema.sql", THREE),
+            ("query.sql", ONE_OF_THREE),
+            ("k.csv", Text::Whole(b"X\r\n1\r\n2\r\n3\r\n")),
+        ],
+        notes: b"",
+        out: FILE_OF_THREE,
+    },
+    Run {
+        name: "filed",
+        words: &["plan", "schema.sql", "query.sql", "--stats", "k.stats"],
+        files: &[
+            ("schema.sql", THREE),
+            ("query.sql", ONE_OF_THREE),
+            ("k.stats", FILE_OF_THREE),
+        ],
+        notes: b"scan K 1\nlevel 1 K 1\n",
+        out: Text::Whole(b""),
     },
 ];
 

@@ -3,7 +3,7 @@ use Rattle.std.proofs.Common.{◌≡◌, ℕ, zero, suc, ◌+◌, ◌-◌, ◌/�
 use Rattle.std.specs.Int.{bit_at}
 use Rattle.std.proofs.lemmas.Nat.{pow_pos}
 use Rattle.std.proofs.lemmas.Nat.Bits.{bit_at-suc, bit_at-zero, bit_at_lowest}
-use Rattle.std.proofs.lemmas.List.{append_assoc, append-nil, drop_more, drop_all}
+use Rattle.std.proofs.lemmas.List.{append_assoc, drop_more}
 use Rattle.order_search.specs.Orders.{cost, greatest, levels}
 use Rattle.plans.specs.LeftDeep.{IsOrder}
 use Rattle.order_search.specs.Ways.{IsWay}
@@ -75,7 +75,3 @@ told_more bounds n order i placed placed' told told' so_far more moved pushed =
       together = rw (pushed, moved) (append_assoc told (get_or bounds (placed + 2 ^ get_or order i 0) 0 ∷ []) (levels_after bounds (placed + 2 ^ get_or order i 0) (drop (i + 1) order))
           ∙ next_together bounds n order i placed told so_far more);
     }
-
-pub told_all : (bounds : List ℕ) (n : ℕ) (order : List ℕ) (i placed : ℕ) (told : List ℕ) → Told bounds n order i placed told → length order ≤ i → told ≡ levels bounds order
-told_all bounds n order i placed told so_far end =
-    sym (append-nil told) ∙ ap (λ (s : List ℕ). told ++ levels_after bounds placed s) (sym (drop_all i order end)) ∙ so_far.together

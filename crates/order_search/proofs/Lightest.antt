@@ -27,12 +27,6 @@ pub record Tried (w : Weight) (bounds table : List ℕ) (all left end least : �
   pub below : (entry : ℕ) → entry < end → bit_at left entry ≡ 1 → (least ≤ weight_through w bounds table all left entry) × (weight_through w bounds table all left entry < 2 ^ 128)
   pub found : (least ≡ 2 ^ 128 - 1) ⊎ ((entry : ℕ) × (bit_at left entry ≡ 1) × (weight_through w bounds table all left entry ≡ least))
 
-pub tried_none : (w : Weight) (bounds table : List ℕ) (all left : ℕ) → Tried w bounds table all left 0 (2 ^ 128 - 1)
-tried_none w bounds table all left = record {
-  below = λ entry h. absurd (omega arith);
-  found = inl refl;
-}
-
 pub tried_other : (w : Weight) (bounds table : List ℕ) (all left end least : ℕ) → Tried w bounds table all left end least → (bit_at left end ≡ 1 → ⊥) → Tried w bounds table all left (end + 1) least
 tried_other w bounds table all left end least tried out = record {
   below = λ entry h has. elim (cases_eq entry end) [
@@ -56,14 +50,6 @@ tried_more w bounds table all left end least through tried has is fits = record 
     | inr heavier ↦ (let is_min : min least through ≡ least = omega arith in
         subst (λ (v : ℕ). (v ≡ 2 ^ 128 - 1) ⊎ ((entry : ℕ) × (bit_at left entry ≡ 1) × (weight_through w bounds table all left entry ≡ v))) (sym is_min) tried.found)
   ];
-}
-
-pub least_of_none : (w : Weight) (bounds : List ℕ) (all left : ℕ) → left ≡ 0 → IsLeastWeight w bounds all left 0
-least_of_none w bounds all left none = record {
-  way = [];
-  is_way = none;
-  weighs = refl;
-  none_lighter = λ other way. omega arith;
 }
 
 -- the entry, and behind it a lightest way through the others

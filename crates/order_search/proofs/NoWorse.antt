@@ -33,7 +33,7 @@ first_both f Then a b c both p q = elim p [
   ]
 ]
 
-place_either : (a b : List ℕ) → IsNotAfter a b ⊎ IsNotAfter b a
+pub place_either : (a b : List ℕ) → IsNotAfter a b ⊎ IsNotAfter b a
 place_either [] b = inl tt
 place_either (x ∷ a) [] = inr tt
 place_either (x ∷ a) (y ∷ b) = elim (cases_order x y) [
@@ -47,7 +47,7 @@ place_either (x ∷ a) (y ∷ b) = elim (cases_order x y) [
   ]
 ]
 
-place_both : (a b c : List ℕ) → IsNotAfter a b → IsNotAfter b c → IsNotAfter a c
+pub place_both : (a b c : List ℕ) → IsNotAfter a b → IsNotAfter b c → IsNotAfter a c
 place_both [] b c p q = tt
 place_both (x ∷ a) [] c p q = absurd p
 place_both (x ∷ a) (y ∷ b) [] p q = absurd q

@@ -1,23 +1,14 @@
 -- The number of a set of different entries has exactly their bits.
-use Rattle.std.proofs.Common.{◌≡◌, ℕ, zero, suc, ◌+◌, ◌-◌, ◌/◌, ◌%◌, ◌^◌, ◌<◌, false, eqb, List, [], ◌∷◌, length, refl, ap, sym, ◌∙◌, subst, get_or, arith, inl, inr}
+use Rattle.std.proofs.Common.{◌≡◌, ℕ, zero, suc, ◌+◌, ◌-◌, ◌^◌, ◌<◌, false, eqb, List, [], ◌∷◌, length, refl, ap, sym, ◌∙◌, subst, get_or, arith, inl, inr}
 use Rattle.std.specs.Int.{bit_at}
 use Rattle.std.specs.List.{AllByRecursion, Contains, IsDistinct}
 use Rattle.std.proofs.lemmas.Bool.{cases_eq, eqb-false}
 use Rattle.std.proofs.lemmas.Map.Keys.{IsDistinct-head, IsDistinct-tail}
-use Rattle.std.proofs.lemmas.Nat.Bits.{bit_at_lowest, bit_at-suc, bit_at-zero}
+use Rattle.std.proofs.lemmas.Nat.Bits.{bit_at-zero}
 use Rattle.entry_sets.specs.Sets.{set_of}
 use Rattle.order_search.specs.Ways.{IsWay}
-use Rattle.entry_sets.proofs.Bits.{bit_without_other, twice}
+use Rattle.entry_sets.proofs.Bits.{bit_without_other, bit_added}
 use Rattle.order_search.proofs.WholeWays.{way_within}
-
-bit_with_same : (entry set : ℕ) → bit_at set entry ≡ 0 → bit_at (2 ^ entry + set) entry ≡ 1
-bit_with_same zero set out =
-    let even : set % 2 ≡ 0 = sym (bit_at_lowest set) ∙ out in
-    let odd : (1 + set) % 2 ≡ 1 = omega arith in
-    bit_at_lowest (1 + set) ∙ odd
-bit_with_same (suc entry) set out =
-    let half : (2 ^ suc entry + set) / 2 ≡ 2 ^ entry + set / 2 = omega (arith, twice entry) in
-    bit_at-suc (2 ^ suc entry + set) entry ∙ ap (λ n. bit_at n entry) half ∙ bit_with_same entry (set / 2) (sym (bit_at-suc set entry) ∙ out)
 
 no_bit_of_others : (set entry : ℕ) (xs : List ℕ) → IsWay set xs → AllByRecursion (λ x. eqb entry x ≡ false) xs → bit_at set entry ≡ 0
 no_bit_of_others set entry [] way apart = ap (λ n. bit_at n entry) way ∙ bit_at-zero entry
@@ -29,7 +20,7 @@ way_of_set [] apart = refl
 way_of_set (x ∷ xs) apart =
     let behind : IsWay (set_of xs) xs = way_of_set xs (IsDistinct-tail eqb x xs apart) in
     let rest : set_of xs ≡ 2 ^ x + set_of xs - 2 ^ x = omega arith in
-    (bit_with_same x (set_of xs) (no_bit_of_others (set_of xs) x xs behind (IsDistinct-head eqb x xs apart)), subst (λ k. IsWay k xs) rest behind)
+    (bit_added x (set_of xs) (no_bit_of_others (set_of xs) x xs behind (IsDistinct-head eqb x xs apart)), subst (λ k. IsWay k xs) rest behind)
 
 on_way : (set entry : ℕ) (xs : List ℕ) → IsWay set xs → bit_at set entry ≡ 1 → Contains xs entry
 on_way set entry [] way has = absurd (omega (arith, has, ap (λ n. bit_at n entry) way, bit_at-zero entry))

@@ -22,7 +22,7 @@ abbrev pub each_way : ℕ → ℕ → (List ℕ → Bool) → ℕ → List ℕ �
 each_way zero n test left front = test front
 each_way (suc size) n test left front = each_below n (λ entry. cond (eqb (bit_at left entry) 1) (each_way size n test (left - 2 ^ entry) (front ++ entry ∷ [])) true)
 
-both_true : (a b : Bool) → cond a b false ≡ true → (a ≡ true) × (b ≡ true)
+pub both_true : (a b : Bool) → cond a b false ≡ true → (a ≡ true) × (b ≡ true)
 both_true true b h = (refl, h)
 both_true false b h = absurd (false≢true h)
 
@@ -55,7 +55,7 @@ at_way (suc size) n test left front (entry ∷ entries) fits some h is_way =
 abbrev pub first_test : ℕ → ℕ → Bool → Bool
 first_test m n behind = cond (leb n m) (cond (leb m n) behind false) true
 
-first_told : (m n : ℕ) (behind : Bool) → first_test m n behind ≡ true → (m < n) ⊎ ((m ≡ n) × (behind ≡ true))
+pub first_told : (m n : ℕ) (behind : Bool) → first_test m n behind ≡ true → (m < n) ⊎ ((m ≡ n) × (behind ≡ true))
 first_told m n behind h = elim (cases_lt m n) [
   | inl below ↦ inl below
   | inr not_below ↦ (let inner : cond (leb m n) behind false ≡ true = rw (le-leb n m not_below) at h in

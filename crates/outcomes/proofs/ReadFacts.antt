@@ -1,5 +1,5 @@
 -- Steps that read, one after the other.
-use Rattle.std.proofs.Common.{◌≡◌, ℕ, ◌≤◌, inl, inr, Option, None, Some, Result, Ok, Err, refl, ap, sym, ◌∙◌, subst, arith}
+use Rattle.std.proofs.Common.{◌≡◌, ℕ, inl, inr, Option, None, Some, Result, Ok, Err, refl, ap, sym, ◌∙◌, subst, arith}
 use Rattle.base_io.specs.Causes.{Rose}
 use Rattle.base_io.specs.Files.{Files}
 use Rattle.base_io.specs.Devices.{Reading}
@@ -145,26 +145,3 @@ reads_as {A} store one two C D answer same more h = record {
     given : (answer : Result A Ending) → Gives store one C answer → Gives store two D answer
     given (Ok y) w = λ files told. same files ∙ w files told
     given (Err e) w = ends e w
-
--- a step that reads no file, and then one that reads
-module _ {A B : Type 0} (store : Reading) (one : Result A Refusal) (two : A → OfFiles B) where
-  abbrev pub before : OfFiles B
-  before files = one >>= (λ x. two x files)
-
-  pub tells_first : (D : Places) (e : Ending) → store.misses_after ≡ store.misses_before → store.faults_before ≤ store.faults_after → store.files_after ≡ store.files
-      → Tells one e → Reads store before D (Err e)
-  tells_first D e misses later same tells = record {
-    gives = ends e tells;
-    misses = λ files told missed. misses;
-    later = later;
-    same = same;
-  }
-    where
-      ends : (e : Ending) → Tells one e → Ends store before D e
-      ends (ending.Refused r) w = ((λ files told. at_err one (λ x. two x files) r w.0), (λ none. w.1), w.2)
-      ends (ending.Fault file) w = absurd w
-      ends ending.NoMemory w = tt
-
-  pub gives_first : (C D : Places) (x : A) (answer : Result B Ending) → one ≡ Ok x → ((files : Files) (file : FileId) → C files file → D files file)
-      → Reads store (two x) C answer → Reads store before D answer
-  gives_first C D x answer is more h = reads_as store (two x) before C D answer (λ files. at_ok one (λ y. two y files) x is) more h

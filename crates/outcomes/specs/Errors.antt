@@ -19,7 +19,10 @@ use Rattle.outcomes.specs.declared.refusal.QueryCause.TheVariants as query_cause
 use Rattle.outcomes.specs.declared.refusal.Refusal.{Refusal}
 use Rattle.outcomes.specs.declared.refusal.Refusal.TheVariants as refusal
 use Rattle.outcomes.specs.declared.refusal.SchemaCause.TheVariants as schema_cause
+use Rattle.outcomes.specs.declared.refusal.StatsCause.TheVariants as stats_cause
 use Rattle.outcomes.specs.declared.refusal.TableCause.TheVariants as table_cause
+use Rattle.stats_file.specs.declared.types.StatsError.{StatsError}
+use Rattle.stats_file.specs.declared.types.StatsError.TheVariants as stats
 
 abbrev pub schema_refusal : SchemaError → Refusal
 schema_refusal (schema.Syntax at) = refusal.Schema schema_cause.Syntax at
@@ -45,6 +48,12 @@ table_refusal number (table.Key row earlier) = refusal.Table number (table_cause
 table_refusal number (table.Limit found) = refusal.Limit limit.Rows (file.Table number) found
 table_refusal number table.NoMemory = refusal.Usage
 
+-- of a file of statistics, with the line
+abbrev pub stats_refusal : StatsError → Refusal
+stats_refusal (stats.Syntax line) = refusal.Stats stats_cause.Syntax line
+stats_refusal (stats.Rule line) = refusal.Stats stats_cause.Rule line
+stats_refusal stats.NoMemory = refusal.Usage
+
 -- of a plan
 abbrev pub plan_refusal : PlanError → Refusal
 plan_refusal (plan.Budget least) = refusal.Budget least
@@ -58,6 +67,10 @@ schema_ending e = ending.Refused (schema_refusal e)
 abbrev pub query_ending : QueryError → Ending
 query_ending query.NoMemory = ending.NoMemory
 query_ending e = ending.Refused (query_refusal e)
+
+abbrev pub stats_ending : StatsError → Ending
+stats_ending stats.NoMemory = ending.NoMemory
+stats_ending e = ending.Refused (stats_refusal e)
 
 abbrev pub plan_ending : PlanError → Ending
 plan_ending plan.NoMemory = ending.NoMemory

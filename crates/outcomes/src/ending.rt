@@ -1,14 +1,15 @@
 //! How a reading ends before its end.
 ghost use Rattle.std.specs.Prelude.{◌≡◌};
-ghost use Rattle.outcomes.specs.Errors.{plan_ending, query_ending, schema_ending, table_ending as ending_of};
+ghost use Rattle.outcomes.specs.Errors.{plan_ending, query_ending, schema_ending, stats_ending, table_ending as ending_of};
 ghost use Rattle.outcomes.specs.declared.ending.Ending.TheVariants as ending;
 
-use crate::{FileId, QueryCause, Refusal, SchemaCause, TableCause};
+use crate::{FileId, QueryCause, Refusal, SchemaCause, StatsCause, TableCause};
 use base_io::NoMemory;
 use csv_tables::TableError;
 use order_search::PlanError;
 use schema_types::{LimitKind, SchemaError};
 use sql_parse::QueryError;
+use stats_file::StatsError;
 use std::alloc::AllocFailed;
 
 /// Why a reading stopped.
@@ -110,6 +111,25 @@ impl From<PlanError> for Ending {
             PlanError::Budget { least } => Refusal::Budget { least },
             PlanError::PastBits => Refusal::PastBits,
             PlanError::NoMemory => return Ending::NoMemory,
+        };
+        Ending::Refused(refusal)
+    }
+}
+
+impl From<StatsError> for Ending {
+    ghost from_gives = { λ error e. e ≡ stats_ending error };
+
+    fn from(error: StatsError) -> Self {
+        let refusal = match error {
+            StatsError::Syntax { line } => Refusal::Stats {
+                cause: StatsCause::Syntax,
+                at: line,
+            },
+            StatsError::Rule { line } => Refusal::Stats {
+                cause: StatsCause::Rule,
+                at: line,
+            },
+            StatsError::NoMemory => return Ending::NoMemory,
         };
         Ending::Refused(refusal)
     }

@@ -16,5 +16,5 @@ mod status;
 
 pub use ending::{Ending, table_ending};
 pub use names::{FileId, SinkId};
-pub use refusal::{QueryCause, Refusal, SchemaCause, TableCause};
-pub use status::Status;
+pub use refusal::{QueryCause, Refusal, SchemaCause, StatsCause, TableCause};
+pub use status::{NO_MEMORY, NO_WORDS, Status};

@@ -6,6 +6,7 @@ pub enum FileId {
     Schema,
     Query,
     Table(u32),
+    Stats,
 }
 
 /// A stream that a run writes.

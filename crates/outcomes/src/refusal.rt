@@ -30,6 +30,14 @@ pub enum TableCause {
     Key { row: u32, earlier: u32 },
 }
 
+/// What is wrong with a file of statistics: at a line its text, or a rule on its values; or what a FROM entry needs isn't there.
+#[derive(Clone, Copy, Debug, PartialEq, Eq)]
+pub enum StatsCause {
+    Syntax,
+    Rule,
+    Missing,
+}
+
 /// What the words and the files alone refuse. Places are offsets in bytes from 0.
 #[derive(Clone, Copy, Debug, PartialEq, Eq)]
 pub enum Refusal {
@@ -53,6 +61,11 @@ pub enum Refusal {
     Table {
         table: u32,
         cause: TableCause,
+    },
+    /// The file of statistics is refused at this line, counted from 1, or for what this FROM entry needs.
+    Stats {
+        cause: StatsCause,
+        at: u32,
     },
     /// The file has this many of a thing, more than its limit.
     Limit {

@@ -3,8 +3,14 @@ ghost use Rattle.std.specs.Prelude.{◌≡◌};
 ghost use Rattle.outcomes.specs.Statuses.{code_of, ended, refused};
 ghost use Rattle.outcomes.specs.declared.status.Status.TheVariants as status;
 
-use crate::{Ending, FileId, QueryCause, Refusal, SchemaCause, SinkId, TableCause};
+use crate::{Ending, FileId, QueryCause, Refusal, SchemaCause, SinkId, StatsCause, TableCause};
 use schema_types::LimitKind;
+
+/// The exit status where memory was wanting before the first byte of the plan text, or for the words themselves.
+pub const NO_MEMORY: u8 = 11;
+
+/// The exit status where the words can't be had, so that there is no run and no `Status`.
+pub const NO_WORDS: u8 = 15;
 
 /// How a run ended. Places are offsets in bytes from 0.
 #[derive(Clone, Copy, Debug, PartialEq, Eq)]
@@ -31,6 +37,11 @@ pub enum Status {
     Table {
         table: u32,
         cause: TableCause,
+    },
+    /// The file of statistics is refused at this line, counted from 1, or for what this FROM entry needs.
+    Stats {
+        cause: StatsCause,
+        at: u32,
     },
     /// The file has this many of a thing, more than its limit.
     Limit {
@@ -68,7 +79,8 @@ impl Status {
             Status::Budget { .. } => 8,
             Status::PastBits => 9,
             Status::WriteFault { .. } => 10,
-            Status::NoMemory => 11,
+            Status::NoMemory => NO_MEMORY,
+            Status::Stats { .. } => 14,
         }
     }
 }
@@ -83,6 +95,7 @@ impl From<Refusal> for Status {
             Refusal::Schema { cause, at } => Status::Schema { cause, at },
             Refusal::Query { cause, at } => Status::Query { cause, at },
             Refusal::Table { table, cause } => Status::Table { table, cause },
+            Refusal::Stats { cause, at } => Status::Stats { cause, at },
             Refusal::Limit { which, file, found } => Status::Limit { which, file, found },
             Refusal::Budget { least } => Status::Budget { least },
             Refusal::PastBits => Status::PastBits,

@@ -1,12 +1,12 @@
 -- Lists that are combined rank by rank.
-use Rattle.std.proofs.Common.{◌≡◌, ℕ, zero, suc, ◌+◌, ◌^◌, ◌<◌, ◌≤◌, max, List, [], ◌∷◌, length, get_or, map, take, refl, ap, sym, ◌∙◌, arith}
+use Rattle.std.proofs.Common.{◌≡◌, ℕ, ◌+◌, ◌^◌, ◌<◌, ◌≤◌, max, List, [], ◌∷◌, length, get_or, map, take, refl, ap, sym, ◌∙◌, arith}
 use Rattle.std.specs.List.{AllByRecursion, All}
 use Rattle.std.proofs.Math.Nat.{mul-pos}
 use Rattle.std.proofs.lemmas.List.{length-map, take_all}
-use Rattle.degree_sequences.proofs.ByRank.{get_or-rank_product, get_or-rank_maximum, IsFalling-rank_product, IsFalling-rank_sum, IsFalling-rank_maximum}
+use Rattle.degree_sequences.proofs.ByRank.{get_or-rank_product, get_or-rank_maximum, IsFalling-rank_product, IsFalling-rank_sum, IsFalling-rank_maximum, get_or-rank_sum}
 use Rattle.degree_sequences.specs.Falling.{IsFalling}
 use Rattle.degree_sequences.specs.Saturation.{saturated}
-use Rattle.degree_sequences.specs.ByRank.{rank_product, rank_sum}
+use Rattle.degree_sequences.specs.ByRank.{rank_product}
 use Rattle.degree_sequences.specs.Runs.{runs}
 use Rattle.piece_math.specs.declared.pieces.Piece.{Piece}
 use Rattle.piece_math.specs.declared.walk.Places.{Places}
@@ -19,13 +19,6 @@ use Rattle.piece_math.specs.ByRank.{combined, combined_by_rank}
 use Rattle.piece_math.proofs.Expansion.{IsFalling-expanded, positive-expanded}
 use Rattle.piece_math.proofs.Building.{HasRun, run_falls, run_fits, run_built, get_or-saturated, IsFalling-saturated, positive-saturated}
 use Rattle.piece_math.proofs.Walking.{Walked, at_left, at_right, walk_on, walk_start, rest_none}
-
--- each element is the sum of the two
-get_or-rank_sum : (s t : List ℕ) (r : ℕ) → get_or (rank_sum s t) r 0 ≡ get_or s r 0 + get_or t r 0
-get_or-rank_sum [] t r = omega arith
-get_or-rank_sum (x ∷ s) [] r = omega arith
-get_or-rank_sum (x ∷ s) (y ∷ t) zero = refl
-get_or-rank_sum (x ∷ s) (y ∷ t) (suc r) = get_or-rank_sum s t r
 
 -- the combined list has the combined elements
 pub get_or-combined : (how : Combination) (s t : List ℕ) (r : ℕ) → get_or (combined_by_rank how s t) r 0 ≡ combined how (get_or s r 0) (get_or t r 0)

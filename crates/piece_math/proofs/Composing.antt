@@ -32,12 +32,12 @@ saturated-composed g u =
     ∙ ap (λ s. map saturated (trimmed s)) (block_sums-same g (trimmed u) u (λ r. running_sum-trimmed u r))
 
 -- the two forms of a fact on each element
-All-recursion : (s : List ℕ) → All (λ x. 0 < x) s → AllByRecursion (λ x. 0 < x) s
+pub All-recursion : (s : List ℕ) → All (λ x. 0 < x) s → AllByRecursion (λ x. 0 < x) s
 All-recursion [] all = tt
 All-recursion (x ∷ s) all = (all 0 0 (omega arith), All-recursion s (λ i d h. all (suc i) d (omega arith)))
 
 -- without children the composition is the parent list
-composed-none : (g : List ℕ) → IsFalling g → AllByRecursion (λ x. 0 < x) g → composed g [] ≡ g
+pub composed-none : (g : List ℕ) → IsFalling g → AllByRecursion (λ x. 0 < x) g → composed g [] ≡ g
 composed-none g fall pos =
     ap (λ u. trimmed (block_sums g u)) (row_weights-none (sum g))
     ∙ same_by_sums (trimmed (block_sums g (replicate (sum g) 1))) g

@@ -1,5 +1,5 @@
 -- A list cut at a number, piece by piece.
-use Rattle.std.proofs.Common.{◌≡◌, ℕ, zero, suc, ◌+◌, ◌-◌, ◌*◌, ◌/◌, ◌%◌, ◌^◌, ◌<◌, ◌≤◌, min, List, [], ◌∷◌, ◌++◌, length, get_or, take, drop, replicate, refl, ap, sym, ◌∙◌, arith}
+use Rattle.std.proofs.Common.{◌≡◌, ℕ, zero, suc, ◌+◌, ◌-◌, ◌*◌, ◌/◌, ◌%◌, ◌^◌, ◌<◌, ◌≤◌, min, List, [], ◌∷◌, ◌++◌, length, get_or, take, drop, replicate, ap, sym, ◌∙◌, arith}
 use Rattle.std.specs.List.{AllByRecursion}
 use Rattle.std.proofs.Math.Nat.{mul-le-mul_right, div-mul-le_self}
 use Rattle.std.proofs.lemmas.List.{get_or-drop, take_all, drop_more, drop_all, length-drop}
@@ -46,7 +46,7 @@ piece_passed ps i rank d h before = record {
 -- ---- the cut list
 
 -- a cut list is positive
-positive-cut_at : (s : List ℕ) (n : ℕ) → IsFalling s → AllByRecursion (λ y. 0 < y) (cut_at s n)
+pub positive-cut_at : (s : List ℕ) (n : ℕ) → IsFalling s → AllByRecursion (λ y. 0 < y) (cut_at s n)
 positive-cut_at s n fall = positive-falling_trimmed (with_running_sums (λ r. min (running_sum s r) n) (length s)) (IsFalling-cut_at s n fall)
 
 -- it is no longer than the list
@@ -63,10 +63,6 @@ pub record CutSoFar (ps : List Piece) (n i left : ℕ) (list : List ℕ) : Type 
   pub built : list ≡ take rank (cut_at (expanded ps) n)
   pub left_over : left + running_sum (expanded ps) rank ≡ n
   pub few : runs list ≤ i
-
--- before the first piece
-pub cut_start : (ps : List Piece) (n left : ℕ) → left ≡ n → CutSoFar ps n 0 left []
-cut_start ps n left h = record { rank = 0; before = record { rest = refl }; built = refl; left_over = omega arith; few = omega arith }
 
 module _ {ps : List Piece} (are : ArePieces ps) {n i left : ℕ} {list : List ℕ} (so_far : CutSoFar ps n i left list) where
   pub cut_falls : IsFalling (cut_at (expanded ps) n)

@@ -189,12 +189,6 @@ pub positive-expanded : (ps : List Piece) → AreRuns ps → AllByRecursion (λ 
 positive-expanded [] fall = tt
 positive-expanded (p ∷ ps) fall = positive-front p.count p.value (expanded ps) (omega (arith, fall.0)) (positive-expanded ps fall.2)
 
--- the two forms of a fact on each element
-pub All-from_recursion : (P : ℕ → Type 0) (s : List ℕ) → AllByRecursion P s → All P s
-All-from_recursion P [] all i d h = absurd (omega arith)
-All-from_recursion P (x ∷ s) all zero d h = all.0
-All-from_recursion P (x ∷ s) all (suc i) d h = All-from_recursion P s all.1 i d (omega arith)
-
 -- ---- totals
 
 -- the sum with one more piece

@@ -17,7 +17,7 @@ use Rattle.piece_math.specs.Expanded.{expanded, AreRuns, ArePieces, IsAppended}
 use Rattle.piece_math.specs.Places.{rest_from, first_left, ahead_of, IsPlace}
 use Rattle.piece_math.proofs.Building.{HasRun, run_built, ends_at_zero, get_or-saturated, IsFalling-saturated, positive-saturated}
 use Rattle.piece_math.proofs.Expansion.{IsFalling-expanded}
-use Rattle.piece_math.proofs.Places.{equal_ahead, IsPlace-start, first_left-end}
+use Rattle.piece_math.proofs.Places.{equal_ahead, IsPlace-start}
 use Rattle.piece_math.proofs.RunningMinima.{element_from_sums, running_sum-has_run}
 use Rattle.piece_math.proofs.Spreading.{IsFalling-trimmed, length-trimmed-le, get_or-trimmed}
 use Rattle.piece_math.proofs.Walking.{element_ahead, rest_after, rest_none}
@@ -74,13 +74,6 @@ rest_longer [] i used h = absurd (omega arith)
 rest_longer (p ∷ ps) zero used h =
     omega (arith, length-drop used (replicate p.count p.value ++ expanded ps), length-append (replicate p.count p.value) (expanded ps), length-replicate p.count p.value)
 rest_longer (p ∷ ps) (suc i) used h = rest_longer ps i used (omega arith)
-
--- there is no value past the end
-value_at_end : (ps : List Piece) (i used : ℕ) → 0 < (first_left (drop i ps) used).value → i < length ps
-value_at_end ps i used h = elim (cases_lt i (length ps)) [
-  | inl inside ↦ inside
-  | inr over ↦ absurd (omega (arith, ap (λ (p : Piece). p.value) (first_left-end ps i used over)))
-]
 
 -- ---- the walk
 
@@ -152,13 +145,6 @@ module _ {g u : List Piece} (are_g : ArePieces g) (are_u : ArePieces u) where
                 (omega (arith, past, running_sum-mono (expanded g) so_far.rank (so_far.rank + 1) (omega arith))),
           ))))
     ])
-
-    -- the runs at the end
-    pub grouped_few : at.at ≤ length g → row.at ≤ length u → runs list ≤ length g + 2 * length u
-    grouped_few in_g in_u = elim so_far.few [
-      | inl tight ↦ omega arith
-      | inr mixed ↦ omega (arith, mixed.0, value_at_end g at.at at.used (omega (arith, mixed.1)))
-    ]
 
     -- equal blocks at a place
     blocks_run : HasRun (expanded g) so_far.rank (ahead_of g at).count (ahead_of g at).value

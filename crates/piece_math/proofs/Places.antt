@@ -16,12 +16,6 @@ drop-drop zero n s = ap (λ k. drop k s) (sym (zero-add n))
 drop-drop (suc m) n [] = drop-nil n ∙ sym (drop-nil (suc m + n))
 drop-drop (suc m) n (x ∷ s) = drop-drop m n s ∙ ap (λ k. drop k (x ∷ s)) (sym (suc-add m n))
 
--- the piece at a place
-pub first_left-at : (ps : List Piece) (i used : ℕ) (d : Piece) → i < length ps → first_left (drop i ps) used ≡ record { value = (get_or ps i d).value; count = (get_or ps i d).count - used }
-first_left-at [] i used d h = absurd (omega arith)
-first_left-at (p ∷ ps) zero used d h = refl
-first_left-at (p ∷ ps) (suc i) used d h = first_left-at ps i used d (omega arith)
-
 -- past the end
 pub first_left-end : (ps : List Piece) (i used : ℕ) → length ps ≤ i → first_left (drop i ps) used ≡ record { value = 0; count = 2 ^ 64 - 1 }
 first_left-end ps i used h = rw (drop_all i ps h) refl

@@ -5,9 +5,9 @@ use Rattle.std.proofs.Math.Nat.{mul-one, suc-mul, zero-mul}
 use Rattle.std.proofs.Math.Seq.{drop-nil}
 use Rattle.std.proofs.lemmas.Bool.{cases_lt, cond_both, eq-eqb, eqb-true}
 use Rattle.std.proofs.lemmas.List.{take_all, length-map, get_or-drop}
+use Rattle.std.proofs.lemmas.List.FromFn.{length-range_with_len}
 use Rattle.degree_sequences.proofs.FallingLists.{trimmed_positive}
 use Rattle.degree_sequences.proofs.FewRuns.{runs-any}
-use Rattle.degree_sequences.proofs.Places.{length-range}
 use Rattle.degree_sequences.proofs.RowWeights.{get_or-row_weights}
 use Rattle.degree_sequences.proofs.RunningSums.{running_sum-suc, running_sum-trimmed, running_sum-le-sum, running_sum-past}
 use Rattle.degree_sequences.proofs.SaturationLaws.{onto-pos}
@@ -94,7 +94,7 @@ same_list (x ∷ s) (y ∷ t) len same = let e : x ≡ y = same 0 (omega arith) 
 
 -- there is a weight for each row
 pub length-row_weights : (cs : List ChildLists) (n : ℕ) → length (row_weights cs n) ≡ n
-length-row_weights cs n = length-map (range_with_len 1 n) (weight_by_rank cs) ∙ length-range 1 n
+length-row_weights cs n = length-map (range_with_len 1 n) (weight_by_rank cs) ∙ length-range_with_len 1 n
 
 -- they are the class spread over the column
 pub spread-row_weights : (c : ChildLists) → spread c.column c.class ≡ row_weights (c ∷ []) (sum c.column)

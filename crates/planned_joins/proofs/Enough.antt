@@ -1,5 +1,5 @@
 -- What a plan's bounds say of the rooms that its run needs.
-use Rattle.std.proofs.Common.{ℕ, ◌+◌, ◌<◌, ◌≤◌, List, length, get_or, sym, ◌∙◌, subst, arith}
+use Rattle.std.proofs.Common.{◌≡◌, ℕ, ◌+◌, ◌<◌, ◌≤◌, List, length, get_or, sym, ◌∙◌, subst, arith}
 use Rattle.std.specs.Prelude.{All}
 use Rattle.std.specs.List.{AllZip}
 use Rattle.std.proofs.lemmas.List.{get_or_default}
@@ -12,7 +12,7 @@ use Rattle.query_types.specs.declared.types.Query.{Query}
 use Rattle.row_buf.specs.Rows.{Rows}
 use Rattle.sql_meaning.specs.Databases.{IsDatabaseOf}
 use Rattle.sql_meaning.specs.Tables.{row_counts, tables_of}
-use Rattle.join_steps.specs.Lists.{list_sizes, IsOrderOf}
+use Rattle.join_steps.specs.Lists.{list_sizes, rows_listed, IsOrderOf}
 use Rattle.join_steps.specs.Plans.{IsPlanOf}
 use Rattle.join_steps.proofs.WholeScans.{size_at, size_count}
 use Rattle.reserve_plan.specs.declared.reserved.Reserved.{Reserved}
@@ -55,13 +55,19 @@ module _ (query : Query) (db : Database) (plan : Plan) (shape : IsPlan (length q
 
 -- ---- a plan of a query over lists
 
-module _ (query : Query) (db : Database) (lists : List (List ℕ)) (plan : Plan) (is : IsPlanOf query (tables_of db) lists plan) where
-  lists_fit : AllZip ◌≤◌ (list_sizes query lists) plan.scans
-  lists_fit = zip_each (list_sizes query lists) plan.scans (size_count query lists ∙ sym is.for_each_entry.scans)
+-- bounds of which none is below a list of its entry
+module _ (query : Query) (lists : List (List ℕ)) (bounds : List ℕ) (count : length bounds ≡ length query.from)
+    (fit : (entry : ℕ) → entry < length query.from → rows_listed lists entry ≤ get_or bounds entry 0) where
+  lists_fit : AllZip ◌≤◌ (list_sizes query lists) bounds
+  lists_fit = zip_each (list_sizes query lists) bounds (size_count query lists ∙ sym count)
       (λ entry low.
       let within : entry < length query.from = omega (arith, low, size_count query lists) in
-      omega (arith, size_at query lists entry within, is.scans entry within))
+      omega (arith, size_at query lists entry within, fit entry within))
 
+  pub rooms_for_lists : (buffers : List (Rows ℕ)) → AllZip IsRoomFor bounds buffers → AllZip IsRoomFor (list_sizes query lists) buffers
+  rooms_for_lists buffers has = less_buffers (list_sizes query lists) bounds buffers lists_fit has
+
+module _ (query : Query) (db : Database) (lists : List (List ℕ)) (plan : Plan) (is : IsPlanOf query (tables_of db) lists plan) where
   levels_fit : AllZip ◌≤◌ (list_level_sizes query (tables_of db) lists plan.order) plan.levels
   levels_fit = zip_each (list_level_sizes query (tables_of db) lists plan.order) plan.levels
       (level_count query db lists plan.order ∙ is.for_each_entry.order.all ∙ sym is.for_each_entry.levels)
@@ -75,10 +81,7 @@ module _ (query : Query) (db : Database) (lists : List (List ℕ)) (plan : Plan)
       → IsReadyFor query (tables_of db) lists plan.order reserved
   ready reserved has =
       less_room plan.order (list_sizes query lists) (list_level_sizes query (tables_of db) lists plan.order) plan.scans plan.levels reserved
-      lists_fit levels_fit has
-
-  pub rooms_for_lists : (buffers : List (Rows ℕ)) → AllZip IsRoomFor plan.scans buffers → AllZip IsRoomFor (list_sizes query lists) buffers
-  rooms_for_lists buffers has = less_buffers (list_sizes query lists) plan.scans buffers lists_fit has
+      (lists_fit query lists plan.scans is.for_each_entry.scans is.scans) levels_fit has
 
   -- the levels themselves are no larger
   pub few_in_levels : All (λ rows. rows ≤ most_budget) (list_level_sizes query (tables_of db) lists plan.order)

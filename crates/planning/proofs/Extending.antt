@@ -9,31 +9,27 @@ use Rattle.join_graph.specs.Kept.{AreConnected}
 use Rattle.join_steps.specs.Lists.{list_at}
 use Rattle.reduced_scans.specs.Families.{HasPartner, HavePartners}
 use Rattle.reduced_scans.proofs.Members.{behind, in_cases, in_front, not_in_none}
+use Rattle.set_bounds.proofs.Forests.{onto}
 use Rattle.planning.proofs.Components.{closed_at, component, merged_cases, same_connects}
 
 -- ---- equalities looked at in their order
 
--- those before, when these have come too
-abbrev pub come : List Edge → List Edge → List Edge
-come earlier [] = earlier
-come earlier (e ∷ es) = come (e ∷ earlier) es
-
-come_before : (earlier es : List Edge) (e : Edge) → Contains earlier e → Contains (come earlier es) e
+come_before : (earlier es : List Edge) (e : Edge) → Contains earlier e → Contains (onto earlier es) e
 come_before earlier [] e has = has
 come_before earlier (f ∷ es) e has = come_before (f ∷ earlier) es e (behind e f earlier has)
 
-pub come_too : (earlier es : List Edge) (e : Edge) → Contains es e → Contains (come earlier es) e
+pub come_too : (earlier es : List Edge) (e : Edge) → Contains es e → Contains (onto earlier es) e
 come_too earlier [] e has = absurd (not_in_none e has)
 come_too earlier (f ∷ es) e has = elim (in_cases e f es has) [
   | inl here ↦ come_before (f ∷ earlier) es e (in_front e f earlier here)
   | inr there ↦ come_too (f ∷ earlier) es e there
 ]
 
-all_come : (P : Edge → Type 0) (earlier es : List Edge) → AllByRecursion P (come earlier es) → AllByRecursion P earlier × AllByRecursion P es
+all_come : (P : Edge → Type 0) (earlier es : List Edge) → AllByRecursion P (onto earlier es) → AllByRecursion P earlier × AllByRecursion P es
 all_come P earlier [] all = (all, tt)
 all_come P earlier (e ∷ es) all = (let parts : AllByRecursion P (e ∷ earlier) × AllByRecursion P es = all_come P (e ∷ earlier) es all in (parts.0.1, (parts.0.0, parts.1)))
 
-pub still_connected : (es : List Edge) (a b : ℕ) → AreConnected es a b → AreConnected (come [] es) a b
+pub still_connected : (es : List Edge) (a b : ℕ) → AreConnected es a b → AreConnected (onto [] es) a b
 still_connected es a b connected side all = connected side (all_come (λ e. side e.left.entry ≡ side e.right.entry) [] es all).1
 
 module _ (equal : Edge → ℕ → ℕ → Bool) (family : List (List ℕ)) where
@@ -165,7 +161,7 @@ module _ (equal : Edge → ℕ → ℕ → Bool) (family : List (List ℕ)) wher
       ]
 
   extended_from : (earlier es : List Edge) → ClosesNoCycleAfter earlier es → HaveAll es → ((entry row : ℕ) → Contains (list_at family entry) row → Extends earlier entry row)
-      → (entry row : ℕ) → Contains (list_at family entry) row → Extends (come earlier es) entry row
+      → (entry row : ℕ) → Contains (list_at family entry) row → Extends (onto earlier es) entry row
   extended_from earlier [] none have rest = rest
   extended_from earlier (e ∷ es) none have rest =
       extended_from (e ∷ earlier) es none.1 (λ k has. have k (behind k e es has)) (one_more e earlier none.0 (have e (in_front e e es refl)) rest)
@@ -178,5 +174,5 @@ module _ (equal : Edge → ℕ → ℕ → Bool) (family : List (List ℕ)) wher
     holds = λ e has same. absurd (not_in_none e has);
   }
 
-  pub extended : (es : List Edge) → ClosesNoCycle es → HaveAll es → (entry row : ℕ) → Contains (list_at family entry) row → Extends (come [] es) entry row
+  pub extended : (es : List Edge) → ClosesNoCycle es → HaveAll es → (entry row : ℕ) → Contains (list_at family entry) row → Extends (onto [] es) entry row
   extended es none have = extended_from [] es none have alone

@@ -31,7 +31,7 @@ use Rattle.join_steps.specs.Lists.{list_at, list_levels, AreOfScans}
 use Rattle.join_steps.specs.Plans.{IsPlanOf}
 use Rattle.level_bounds.specs.Keys.{JoinsEqualKeys, Keys}
 use Rattle.query_bounds.proofs.Holding.{pair_at}
-use Rattle.query_bounds.proofs.Sets.{entry_below}
+use Rattle.entry_sets.proofs.Listing.{entry_below}
 use Rattle.planning.specs.Standing.{BoundLevels, BoundLists, ColumnStands, EntriesStand, StandForLists, StandInSet}
 use Rattle.planning.proofs.Levels.{level_at, level_within_cost, prefix_below, prefix_of}
 use Rattle.planning.proofs.ListedLevels.{level_within}

@@ -1,5 +1,5 @@
--- From row bounds and lists of a query's entries to the bounds of its scans and of all sets, and to the plan.
-use Rattle.std.proofs.Common.{◌≡◌, ◌⊎◌, inl, inr, ℕ, ◌^◌, ◌<◌, ◌≤◌, Bool, true, List, [], Err, Option, Result, Some, length, map, get_or, sum, ap, sym, ◌∙◌, subst, arith}
+-- From row bounds and lists of a query's entries to the bounds of its scans and of all sets.
+use Rattle.std.proofs.Common.{◌≡◌, ℕ, ◌^◌, ◌<◌, Bool, true, List, [], Option, Some, length, map, get_or, sum, ap, sym, ◌∙◌, subst, arith}
 use Rattle.std.specs.Prelude.{All, if◌then◌else◌, unwrap_or}
 use Rattle.std.specs.List.{range_with_len}
 use Rattle.std.proofs.Math.Path.{fun_ext}
@@ -9,10 +9,6 @@ use Rattle.std.proofs.lemmas.List.FromFn.{get_or-map-range_with_len, length-map-
 use Rattle.degree_sequences.specs.Falling.{IsFalling}
 use Rattle.berge_tree.specs.declared.edges.Edge.{Edge}
 use Rattle.berge_tree.specs.declared.edges.Place.{Place}
-use Rattle.plans.specs.declared.left_deep.Plan.{Plan}
-use Rattle.order_search.specs.declared.refusal.PlanError.{PlanError}
-use Rattle.order_search.specs.declared.refusal.PlanError.TheVariants as error
-use Rattle.plan_answers.specs.PlanAnswer.{plan_answer}
 use Rattle.csv_tables.specs.declared.types.Database.{Database}
 use Rattle.query_types.specs.declared.types.Query.{Query}
 use Rattle.join_graph.specs.Conjuncts.{equalities_of}
@@ -20,25 +16,20 @@ use Rattle.tree_bounds.specs.TreeBounds.{EntryBounds, HasList}
 use Rattle.bound_fold.specs.declared.lists.EntryLists.{EntryLists}
 use Rattle.bound_fold.specs.Lists.{bounds_of, list_of}
 use Rattle.bound_fold.specs.Sets.{HaveLists, SetIsListed}
-use Rattle.set_bounds.specs.AllSets.{bounds_of_sets, first_entries}
+use Rattle.set_bounds.specs.AllSets.{bound_told, bounds_in_sets, bounds_of_sets, first_entries}
 use Rattle.set_bounds.proofs.Listing.{first_listed}
-use Rattle.sql_meaning.specs.Tables.{Tables, tables_of}
+use Rattle.sql_meaning.specs.Tables.{tables_of}
 use Rattle.join_steps.specs.Lists.{list_sizes}
-use Rattle.join_steps.proofs.WholeScans.{size_count}
 use Rattle.predicate_bounds.specs.declared.columns.QueryStats.{QueryStats}
 use Rattle.query_bounds.specs.Bounds.{Holds, entry_bounds, is_among, joined_columns, scan_bounds, scan_list, scan_rows, set_bounds}
 use Rattle.query_bounds.specs.Statistics.{IsTold, Statistics, Tells}
 use Rattle.query_bounds.proofs.Sets as told
-use Rattle.gathered_stats.specs.Statistics.{statistics_of}
 use Rattle.planning.specs.declared.known.Known.{Known}
-use Rattle.planning.specs.Bounds.{scan_bounds_of, set_bounds_of}
 use Rattle.planning.specs.Gives.{Gives}
 use Rattle.planning.specs.Known.{IsKnown}
 use Rattle.planning.specs.ListedBounds.{entry_bounds_over, set_bounds_over}
-use Rattle.planning.specs.Plans.{planned, planned_over}
 use Rattle.planning.specs.Standing.{JoinedHaveLists}
 use Rattle.planning.proofs.Knowing as listed
-use Rattle.planning.proofs.NeverUnder.{one_scan_each}
 use Rattle.planning.proofs.ScanBounds.{named_all}
 
 pub is_told : {query : Query} {stats : QueryStats} {known : Statistics} → Tells query stats known → IsTold query stats
@@ -117,48 +108,16 @@ module _ (query : Query) (es : List Edge) (split : es ≡ equalities_of query) (
       (listed.sets_are db rows accuracy lists is (equalities_of query) joined (length query.from))
       (ap (λ (f : ℕ → ℕ). map f (range_with_len 0 (length query.from))) (fun_ext (listed.row_bound_is db rows accuracy lists is)))
 
--- ---- the plan
+-- ---- how many
 
-module _ {sets scans : List ℕ} {known : Known} (gives : Gives sets scans known) where
-  pub scans_long : (n : ℕ) → length scans ≡ n → length known.scans ≡ n
-  scans_long n long = ap (λ (s : List ℕ). length s) gives.scans ∙ long
+-- as many scans as entries, and as many bounds as sets of them
+module _ (query : Query) (bounds : ℕ → EntryBounds) (scans : List ℕ) (known : Known) (gives : Gives (bounds_in_sets bounds (equalities_of query) (length query.from)) scans known)
+    (one_scan : length scans ≡ length query.from) where
+  pub known_long : length known.scans ≡ length query.from
+  known_long = ap (λ (s : List ℕ). length s) gives.scans ∙ one_scan
 
-  pub sets_many : (n : ℕ) → length scans ≡ n → length sets ≡ 2 ^ n → length known.sets ≡ 2 ^ length known.scans
-  sets_many n long many = ap (λ (s : List ℕ). length s) gives.sets ∙ many ∙ ap (λ (k : ℕ). 2 ^ k) (sym (scans_long n long))
-
-  answer_given : (budget : ℕ) (answer : Result Plan PlanError) → (answer ≡ Err error.NoMemory) ⊎ (answer ≡ plan_answer known.sets known.scans budget)
-      → (answer ≡ Err error.NoMemory) ⊎ (answer ≡ plan_answer sets scans budget)
-  answer_given budget answer (inl none) = inl none
-  answer_given budget answer (inr is) =
-      inr (is ∙ ap (λ (s : List ℕ). plan_answer s known.scans budget) gives.sets ∙ ap (λ (s : List ℕ). plan_answer sets s budget) gives.scans)
-
-module _ (query : Query) (tables : Tables) (accuracy budget : ℕ) (known : Known) (answer : Result Plan PlanError)
-    (is : (answer ≡ Err error.NoMemory) ⊎ (answer ≡ plan_answer known.sets known.scans budget)) where
-  pub planned_told : Gives (set_bounds_of query tables accuracy) (scan_bounds_of query tables accuracy) known
-      → (answer ≡ Err error.NoMemory) ⊎ (answer ≡ planned query tables accuracy budget)
-  unfolding planned
-  planned_told gives = answer_given gives budget answer is
-
-  pub planned_listed : (lists : List (List ℕ)) → Gives (set_bounds_over query tables lists accuracy) (list_sizes query lists) known
-      → (answer ≡ Err error.NoMemory) ⊎ (answer ≡ planned_over query tables lists accuracy budget)
-  unfolding planned_over
-  planned_listed lists gives = answer_given gives budget answer is
-
--- as many bounds as sets, and as scans
-module _ (query : Query) (tables : Tables) (accuracy : ℕ) (known : Known) where
-  pub told_long : Gives (set_bounds_of query tables accuracy) (scan_bounds_of query tables accuracy) known → length known.scans ≡ length query.from
-  told_long gives = scans_long gives (length query.from) (one_scan_each query tables accuracy)
-
-  pub told_many : Gives (set_bounds_of query tables accuracy) (scan_bounds_of query tables accuracy) known → length known.sets ≡ 2 ^ length known.scans
-  told_many gives =
-      sets_many gives (length query.from) (one_scan_each query tables accuracy)
-      (told.set_count (entry_bounds query (statistics_of tables accuracy)) (equalities_of query) (length query.from))
-
-  pub listed_long : (lists : List (List ℕ)) → Gives (set_bounds_over query tables lists accuracy) (list_sizes query lists) known → length known.scans ≡ length query.from
-  listed_long lists gives = scans_long gives (length query.from) (size_count query lists)
-
-  pub listed_many : (lists : List (List ℕ)) → Gives (set_bounds_over query tables lists accuracy) (list_sizes query lists) known
-      → length known.sets ≡ 2 ^ length known.scans
-  listed_many lists gives =
-      sets_many gives (length query.from) (size_count query lists)
-      (told.set_count (entry_bounds_over tables lists accuracy) (equalities_of query) (length query.from))
+  pub known_many : length known.sets ≡ 2 ^ length known.scans
+  known_many =
+      ap (λ (s : List ℕ). length s) gives.sets
+      ∙ length-map-range_with_len (λ subset. bound_told (bounds subset) (equalities_of query) subset) 0 (2 ^ length query.from)
+      ∙ ap (λ (k : ℕ). 2 ^ k) (sym known_long)

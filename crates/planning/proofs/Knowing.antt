@@ -12,10 +12,10 @@ use Rattle.bound_fold.specs.Lists.{bounds_of, list_of, rows_of}
 use Rattle.bound_fold.specs.Sets.{HaveLists, SetIsListed}
 use Rattle.bound_fold.proofs.TestedSets.{each_in_set, each_named}
 use Rattle.set_bounds.specs.AllSets.{bounds_of_sets}
-use Rattle.query_bounds.proofs.Holding.{is_some_of}
-use Rattle.query_bounds.proofs.Sets.{entry_below}
+use Rattle.query_bounds.proofs.Holding.{is_some_of, no_more}
 use Rattle.sql_meaning.specs.Tables.{tables_of}
 use Rattle.join_steps.specs.Lists.{rows_listed}
+use Rattle.entry_sets.proofs.Listing.{entry_below}
 use Rattle.planning.specs.ListedBounds.{entry_bounds_over}
 use Rattle.planning.specs.Known.{HasRows, IsKnown}
 use Rattle.planning.proofs.SameBounds.{sets_same}
@@ -23,9 +23,6 @@ use Rattle.planning.proofs.SameBounds.{sets_same}
 some_there : {X : Type 0} (o : Option X) → IsSome o → (x : X) × (o ≡ Some x)
 some_there None h = absurd (false≢true h)
 some_there (Some x) h = (x, refl)
-
-no_list_there : {X : Type 0} (o : Option X) (x : X) → o ≡ None → o ≡ Some x → ⊥
-no_list_there o x e f = cc
 
 one_some : {X : Type 0} (o : Option X) (x y : X) → o ≡ Some x → o ≡ Some y → x ≡ y
 one_some o x y e f = cc
@@ -55,7 +52,7 @@ module _ (db : Database) (lists : List (List ℕ)) (accuracy : ℕ) where
       → IsKnown db lists accuracy known
   known_first count known all rows none = record {
     rows = subst (λ (n : ℕ). HasRows lists n known) all rows;
-    columns = λ entry column list is. absurd (no_list_there (list_of known entry column) list (none entry column) is);
+    columns = λ entry column list is. absurd (no_more (list_of known entry column) list (none entry column) is);
   }
 
   pub known_more : (at in_column : ℕ) (list : List ℕ) (old new : EntryLists) → IsKnown db lists accuracy old → list ≡ bounds.list at in_column

@@ -5,7 +5,7 @@ use Rattle.std.proofs.lemmas.List.{take_all}
 use Rattle.std.proofs.lemmas.List.FromFn.{length-map-range_with_len}
 use Rattle.limits.specs.Profile.{top_bound}
 use Rattle.entry_sets.specs.Sets.{entries_of_set}
-use Rattle.entry_sets.proofs.Listing.{set_entries}
+use Rattle.entry_sets.proofs.Listing.{set_entries, entry_below}
 use Rattle.query_types.specs.declared.types.Query.{Query}
 use Rattle.join_graph.specs.Conjuncts.{equalities_of}
 use Rattle.tree_bounds.specs.TreeBounds.{EntryBounds}
@@ -19,16 +19,17 @@ use Rattle.level_bounds.specs.Keys.{Keys}
 use Rattle.level_bounds.specs.Orders.{IsOrderOfSet}
 use Rattle.level_bounds.specs.Scans.{query_level, query_scan}
 use Rattle.level_bounds.proofs.Lists.{all_from, each_of}
+use Rattle.filtered_lists.specs.Standing.{ListsFall, SumTo}
 use Rattle.filtered_lists.proofs.Lists.{rows_within}
-use Rattle.query_bounds.specs.Bounds.{entry_bounds, scan_rows}
+use Rattle.query_bounds.specs.Bounds.{entry_bounds, scan_bounds, scan_rows}
+use Rattle.query_bounds.specs.Statistics.{StandFor, Statistics}
 use Rattle.query_bounds.proofs.Levels.{scan_within}
-use Rattle.query_bounds.proofs.Sets.{entry_below}
 use Rattle.query_bounds.proofs.Sets as sets
-use Rattle.table_stats.specs.Statistics.{entry_counts}
+use Rattle.table_stats.specs.Statistics.{column_lists, entry_counts}
 use Rattle.gathered_stats.specs.Statistics.{statistics_of}
 use Rattle.planning.specs.Bounds.{scan_bounds_of, set_bounds_of}
 use Rattle.planning.specs.Standing.{BoundLevels, BoundLists, EntriesStand}
-use Rattle.planning.proofs.Facts.{Facts, facts, stand_for}
+use Rattle.planning.proofs.Facts.{Facts, each_column, facts, stand_for}
 use Rattle.planning.proofs.FromLists.{levels_bound, stand_in_every_set}
 use Rattle.planning.proofs.ScanBounds.{have_lists, stand_for_scans}
 
@@ -36,40 +37,55 @@ use Rattle.planning.proofs.ScanBounds.{have_lists, stand_for_scans}
 pub one_scan_each : (query : Query) (tables : Tables) (accuracy : ℕ) → length (scan_bounds_of query tables accuracy) ≡ length query.from
 one_scan_each query tables accuracy = length-map-range_with_len (scan_rows query (statistics_of tables accuracy)) 0 (length query.from)
 
+-- bounds of scans, from statistics that stand for the tables and tell of no entry more rows than its table has
+module _ (query : Query) (known : Statistics) (tables : Tables) (key : Keys) (stands : StandFor query known tables key) where
+  scan_fits : (entry : ℕ) → entry < length query.from → length (query_scan query tables entry) ≤ get_or (scan_bounds query known) entry 0
+  scan_fits entry low = scan_within query known tables key entry (scan_bounds query known) refl stands low
+
+  pub scans_bound : ((entry : ℕ) → entry < length query.from → (known.counts entry).whole ≤ row_counts tables entry)
+      → BoundLists query tables (scans_of query tables) (scan_bounds query known)
+  scans_bound few = record {
+    one_each = length-map-range_with_len (scan_rows query known) 0 (length query.from);
+    fit = λ entry low.
+        subst (λ (s : List ℕ). length s ≤ get_or (scan_bounds query known) entry 0) (sym (scan_at query tables entry low)) (scan_fits entry low);
+    within = λ entry low.
+        omega (
+          arith,
+          sets.scan_at query known (length query.from) entry (scan_bounds query known) refl low,
+          rows_within (known.counts entry) entry query.conjuncts,
+          few entry low,
+        );
+  }
+
 module _ (query : Query) (tables : Tables) (accuracy : ℕ) where
   abbrev bounds : EntryBounds
   bounds = entry_bounds query (statistics_of tables accuracy)
 
-  entries_stand : EntriesStand query tables (scans_of query tables) (facts tables accuracy).key (entry_bounds query (statistics_of tables accuracy))
+  -- what the statistics tell of the entries stands for their scans
+  pub entries_stand : EntriesStand query tables (scans_of query tables) (facts tables accuracy).key (entry_bounds query (statistics_of tables accuracy))
   entries_stand =
       let f : Facts tables accuracy = facts tables accuracy in
-      stand_for_scans query (statistics_of tables accuracy) tables f.key (stand_for query tables accuracy f) (have_lists query (statistics_of tables accuracy) f.falls f.sums)
+      stand_for_scans query (statistics_of tables accuracy) tables f.key (stand_for query tables accuracy f)
+      (have_lists query (statistics_of tables accuracy)
+      (each_column (λ entry column. ListsFall (column_lists tables accuracy entry column) × SumTo (column_lists tables accuracy entry column) (entry_counts tables entry))
+      (equalities_of query) (λ entry column. (f.falls entry column, f.sums entry column))))
       (f.joins (equalities_of query))
 
   pub scan_never_under : (entry : ℕ) → entry < length query.from
       → length (query_scan query tables entry) ≤ get_or (scan_bounds_of query tables accuracy) entry 0
   scan_never_under entry low =
       let f : Facts tables accuracy = facts tables accuracy in
-      scan_within query (statistics_of tables accuracy) tables f.key entry (scan_bounds_of query tables accuracy)
-      refl (stand_for query tables accuracy f) low
+      scan_fits query (statistics_of tables accuracy) tables f.key (stand_for query tables accuracy f) entry low
+
+  pub told_bound : BoundLists query tables (scans_of query tables) (scan_bounds_of query tables accuracy)
+  told_bound =
+      let f : Facts tables accuracy = facts tables accuracy in
+      scans_bound query (statistics_of tables accuracy) tables f.key (stand_for query tables accuracy f) (λ entry low. omega arith)
 
   -- the bound of a scan is at most the number of rows of the table
   pub scan_small : (entry : ℕ) → entry < length query.from
       → get_or (scan_bounds_of query tables accuracy) entry 0 ≤ row_counts tables entry
-  scan_small entry low =
-      omega (
-        arith,
-        sets.scan_at query (statistics_of tables accuracy) (length query.from) entry (scan_bounds_of query tables accuracy) refl low,
-        rows_within (entry_counts tables entry) entry query.conjuncts,
-      )
-
-  pub told_bound : BoundLists query tables (scans_of query tables) (scan_bounds_of query tables accuracy)
-  told_bound = record {
-    one_each = one_scan_each query tables accuracy;
-    fit = λ entry low.
-        subst (λ (s : List ℕ). length s ≤ get_or (scan_bounds_of query tables accuracy) entry 0) (sym (scan_at query tables entry low)) (scan_never_under entry low);
-    within = scan_small;
-  }
+  scan_small = told_bound.within
 
   pub told_levels : BoundLevels query tables (scans_of query tables) (set_bounds_of query tables accuracy)
   told_levels =

@@ -1,14 +1,12 @@
 -- What holds of the plan of a query over its tables: it is one over the scans.
-use Rattle.std.proofs.Common.{◌≡◌, ◌⊎◌, ℕ, ◌+◌, ◌<◌, ◌≤◌, List, Ok, Err, Result, length, take, get_or, subst, arith}
+use Rattle.std.proofs.Common.{◌≡◌, ℕ, ◌+◌, ◌<◌, ◌≤◌, List, Ok, Err, length, take, get_or, subst, arith}
 use Rattle.std.specs.Prelude.{◌≢◌}
 use Rattle.limits.specs.Profile.{most_budget, most_entries}
 use Rattle.plans.specs.declared.left_deep.Plan.{Plan}
 use Rattle.plans.specs.LeftDeep.{IsPlan}
 use Rattle.order_search.specs.Orders.{IsBest}
-use Rattle.order_search.specs.declared.refusal.PlanError.{PlanError}
 use Rattle.order_search.specs.declared.refusal.PlanError.TheVariants as error
-use Rattle.plan_answers.specs.Promised.{IsPromised}
-use Rattle.plan_answers.proofs.OneChoice.{never_memory, only}
+use Rattle.plan_answers.proofs.OneChoice.{never_memory}
 use Rattle.query_types.specs.declared.types.Query.{Query}
 use Rattle.sql_meaning.specs.Tables.{Tables, row_counts}
 use Rattle.join_steps.specs.Lists.{scans_of}
@@ -26,12 +24,6 @@ module _ (query : Query) (tables : Tables) (accuracy budget : ℕ) where
 
   abbrev scans : List ℕ
   scans = scan_bounds_of query tables accuracy
-
-  -- a plan that is promised over these bounds is the planned one
-  pub is_planned : (answer : Result Plan PlanError) → budget ≤ most_budget → IsPromised (set_bounds_of query tables accuracy) (scan_bounds_of query tables accuracy) budget answer
-      → (answer ≡ Err error.NoMemory) ⊎ (answer ≡ planned query tables accuracy budget)
-  unfolding planned
-  is_planned answer few is = only sets scans budget answer few is
 
   pub never_memory_planned : planned query tables accuracy budget ≢ Err error.NoMemory
   unfolding planned

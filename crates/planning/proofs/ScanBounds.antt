@@ -84,14 +84,15 @@ module _ (query : Query) (known : Statistics) where
           ));
     }
 
-  -- lists that fall and sum to the numbers of rows give each joined column its list
-  pub have_lists : ((entry column : ℕ) → ListsFall (known.lists entry column)) → ((entry column : ℕ) → SumTo (known.lists entry column) (known.counts entry))
+  -- lists of joined columns that fall and sum to the numbers of rows are there
+  pub have_lists : EachNamedColumn (λ entry column. ListsFall (known.lists entry column) × SumTo (known.lists entry column) (known.counts entry)) (equalities_of query)
       → JoinedHaveLists query (entry_bounds query known)
-  have_lists falls sums =
+  have_lists named =
       named_all (λ entry column. entry < length query.from → HasList (entry_bounds query known) entry column) (equalities_of query) (λ k d low.
       let among = both_among (equalities_of query) k d low in
+      let both = pair_at (λ entry column. ListsFall (known.lists entry column) × SumTo (known.lists entry column) (known.counts entry)) (equalities_of query) named k d low in
       let l : Place = (get_or (equalities_of query) k d).left in
       let r : Place = (get_or (equalities_of query) k d).right in (
-        (λ below. has_list l.entry l.column (falls l.entry l.column) (sums l.entry l.column) below among.0),
-        (λ below. has_list r.entry r.column (falls r.entry r.column) (sums r.entry r.column) below among.1),
+        (λ below. has_list l.entry l.column both.0.0 both.0.1 below among.0),
+        (λ below. has_list r.entry r.column both.1.0 both.1.1 below among.1),
       ))

@@ -32,7 +32,7 @@ chosen : plan_answer (1 ∷ 6 ∷ 5 ∷ 12 ∷ []) (6 ∷ 5 ∷ []) 12 ≡ Ok (p
 unfolding plan_answer best_order
 chosen = refl
 
-refused : plan_answer (1 ∷ 6 ∷ 5 ∷ 12 ∷ []) (6 ∷ 5 ∷ []) 11 ≡ Err (error.Budget 12)
+pub refused : plan_answer (1 ∷ 6 ∷ 5 ∷ 12 ∷ []) (6 ∷ 5 ∷ []) 11 ≡ Err (error.Budget 12)
 unfolding plan_answer best_order
 refused = refl
 

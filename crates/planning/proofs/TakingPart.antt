@@ -1,5 +1,5 @@
 -- A row of a consistent family takes part in a choice for all entries connected with its own, where equalities close no cycle.
-use Rattle.std.proofs.Common.{◌≡◌, ℕ, Bool, true, false, not, ◌||◌, eqb, List, [], ◌∷◌, length, refl, ap, sym, ◌∙◌, subst, inl, inr, Some}
+use Rattle.std.proofs.Common.{◌≡◌, ℕ, true, false, not, ◌||◌, eqb, List, [], ◌∷◌, length, refl, ap, sym, ◌∙◌, subst, inl, inr, Some}
 use Rattle.std.specs.List.{Contains, list_all, range_with_len}
 use Rattle.std.proofs.lemmas.Bool.{and_from, cases_lt, eqb-true, false≢true, or_cases}
 use Rattle.berge_tree.specs.declared.edges.Edge.{Edge}
@@ -24,13 +24,11 @@ use Rattle.join_steps.specs.Lists.{list_at, scans_of}
 use Rattle.reduced_scans.specs.Scans.{AreConsistentScans}
 use Rattle.reduced_scans.proofs.Members.{in_cases, not_in_none}
 use Rattle.join_steps.proofs.WholeScans.{scan_at, scan_past}
+use Rattle.level_bounds.proofs.Scanning.{implied}
+use Rattle.set_bounds.proofs.Forests.{onto}
 use Rattle.planning.specs.TakingPart.{JoinsByEqualitiesAlone, TakesPart}
 use Rattle.planning.proofs.Components.{closed_at, component, connected_same}
-use Rattle.planning.proofs.Extending.{Extends, come, come_too, extended, still_connected}
-
-implied : (a b : Bool) → (not a || b) ≡ true → a ≡ true → b ≡ true
-implied true b h e = h
-implied false b h e = absurd (false≢true e)
+use Rattle.planning.proofs.Extending.{Extends, come_too, extended, still_connected}
 
 not_none : (named : List ℕ) (x : ℕ) → Contains named x → not (are_within named []) ≡ true
 not_none [] x has = absurd (not_in_none x has)
@@ -46,9 +44,9 @@ module _ (query : Query) (tables : Tables) (family : List (List ℕ)) (are : Are
         | inr past ↦ absurd (not_in_none row (subst (λ (l : List ℕ). Contains l row) (scan_past query tables entry past) there))
       ]
 
-  module _ (entry row : ℕ) (e : Extends (are_equal_at tables) family (come [] (equalities_of query)) entry row) where
+  module _ (entry row : ℕ) (e : Extends (are_equal_at tables) family (onto [] (equalities_of query)) entry row) where
     abbrev es : List Edge
-    es = come [] (equalities_of query)
+    es = onto [] (equalities_of query)
 
     connected_to : (other : ℕ) → AreConnected (equalities_of query) entry other → component es other ≡ component es entry
     connected_to other connected = connected_same es entry other (still_connected (equalities_of query) entry other connected)

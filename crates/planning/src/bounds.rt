@@ -4,7 +4,6 @@ ghost use Rattle.limits.specs.Profile.{top_bound};
 ghost use Rattle.entry_sets.specs.Sets.{entries_of_set};
 ghost use Rattle.sql_meaning.specs.Databases.{IsDatabaseOf};
 ghost use Rattle.sql_meaning.specs.Tables.{tables_of};
-ghost use Rattle.level_bounds.specs.Keys.{HaveDifferentCharacters};
 ghost use Rattle.level_bounds.specs.Orders.{IsOrderOfSet};
 ghost use Rattle.level_bounds.specs.Scans.{query_level, query_scan};
 ghost use Rattle.planning.specs.Bounds.{scan_bounds_of, set_bounds_of};
@@ -12,7 +11,7 @@ ghost use Rattle.planning.specs.Bounds.{scan_bounds_of, set_bounds_of};
 use crate::sources::from_statistics;
 use base_io::{NoMemory, Seq};
 use csv_tables::Database;
-use gathered_stats::gather_query;
+use gathered_stats::{characters_differ, gather_query};
 use join_graph::split;
 use query_bounds::{entry_lists, scans_of};
 use query_types::Query;
@@ -29,12 +28,12 @@ pub fn scan_bounds(
     accuracy: u8,
 ) -> Result<Seq<u64>, NoMemory>
     requires database { IsDatabaseOf query.now db.now }
-    requires texts { HaveDifferentCharacters db.now.pool }
     requires accuracy { (0 < accuracy) × (accuracy ≤ 64) }
     ensures exact { IfOk result (λ scans. scans ≡ scan_bounds_of query.now (tables_of db.now) accuracy) }
     ensures never_under { IfOk result (λ scans. (entry : ℕ) → entry < length query.now.from
         → length (query_scan query.now (tables_of db.now) entry) ≤ slice_index scans entry) }
 {
+    characters_differ(&db.pool);
     let parts = split(alloc, query)?;
     let stats = gather_query(alloc, query, &parts, db, accuracy)?;
     let lists = entry_lists(alloc, query, &parts, &stats)?;
@@ -53,7 +52,6 @@ pub fn subset_bounds(
     accuracy: u8,
 ) -> Result<Seq<u128>, NoMemory>
     requires database { IsDatabaseOf query.now db.now }
-    requires texts { HaveDifferentCharacters db.now.pool }
     requires accuracy { (0 < accuracy) × (accuracy ≤ 64) }
     ensures exact { IfOk result (λ bounds. bounds ≡ set_bounds_of query.now (tables_of db.now) accuracy) }
     ensures count { IfOk result (λ bounds. length bounds ≡ 2 ^ length query.now.from) }
@@ -63,6 +61,7 @@ pub fn subset_bounds(
         → (length (query_level query.now (tables_of db.now) order) ≤ slice_index bounds subset)
         ⊎ (slice_index bounds subset ≡ top_bound)) }
 {
+    characters_differ(&db.pool);
     let known = from_statistics(alloc, query, db, accuracy)?;
     Ok(known.sets)
 }

@@ -6,7 +6,6 @@ ghost use Rattle.cond_stats.specs.Lists.{compressed_degrees};
 ghost use Rattle.bound_fold.specs.Lists.{list_of as list_known};
 ghost use Rattle.bound_fold.specs.Sets.{HaveLists};
 ghost use Rattle.filtered_lists.specs.Standing.{value_in_row};
-ghost use Rattle.level_bounds.specs.Keys.{HaveDifferentCharacters};
 ghost use Rattle.sql_meaning.specs.Databases.{AreTables, IsColumnOf};
 ghost use Rattle.sql_meaning.specs.Tables.{cells_of, tables_of};
 ghost use Rattle.table_stats.specs.Columns.{numbered};
@@ -20,6 +19,7 @@ use berge_tree::{Edge, Place};
 use bound_fold::EntryLists;
 use csv_tables::Database;
 use degree_lists::falling;
+use gathered_stats::characters_differ;
 use join_steps::{cells_of_column, load_cells};
 use piece_compress::compress;
 use piece_math::Pieces;
@@ -36,7 +36,6 @@ fn column_list(
     accuracy: u8,
 ) -> Result<Pieces, NoMemory>
     requires tables { AreTables db.now }
-    requires texts { HaveDifferentCharacters db.now.pool }
     requires column { IsColumnOf db.now (column_of place) }
     requires rows { All (λ row. row < (cells_of db.now place.entry).rows) rows.now }
     requires few { length rows.now ≤ most_rows }
@@ -45,6 +44,7 @@ fn column_list(
         ≡ compressed_degrees accuracy (numbered (map (value_in_row (tables_of db.now) place.entry place.column) rows.now))) }
     ensures sum { IfOk result (λ list. sum list ≡ length rows.now) }
 {
+    characters_differ(&db.pool);
     let column = ColumnRef {
         from: place.entry,
         column: place.column,
@@ -66,7 +66,6 @@ fn add_new(
     known: &mut EntryLists,
 ) -> Result<(), NoMemory>
     requires lists { AreListsOf db.now lists.now }
-    requires texts { HaveDifferentCharacters db.now.pool }
     requires column { IsColumnOf db.now (column_of place) }
     requires accuracy { (0 < accuracy) × (accuracy ≤ most_accuracy) }
     requires known { IsKnown db.now (lists_of lists.now) accuracy known.old }
@@ -99,7 +98,6 @@ fn add_list(
     known: &mut EntryLists,
 ) -> Result<(), NoMemory>
     requires lists { AreListsOf db.now lists.now }
-    requires texts { HaveDifferentCharacters db.now.pool }
     requires column { IsColumnOf db.now (column_of place) }
     requires accuracy { (0 < accuracy) × (accuracy ≤ most_accuracy) }
     requires known { IsKnown db.now (lists_of lists.now) accuracy known.old }
@@ -123,7 +121,6 @@ pub(crate) fn lists_over_rows(
     accuracy: u8,
 ) -> Result<EntryLists, NoMemory>
     requires lists { AreListsOf db.now lists.now }
-    requires texts { HaveDifferentCharacters db.now.pool }
     requires columns { All (JoinsColumns db.now) equalities.now }
     requires accuracy { (0 < accuracy) × (accuracy ≤ most_accuracy) }
     ensures known { IfOk result (IsKnown db.now (lists_of lists.now) accuracy) }

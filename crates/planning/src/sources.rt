@@ -5,7 +5,6 @@ ghost use Rattle.join_graph.specs.Conjuncts.{equalities_of};
 ghost use Rattle.sql_meaning.specs.Databases.{IsDatabaseOf};
 ghost use Rattle.sql_meaning.specs.Tables.{tables_of};
 ghost use Rattle.join_steps.specs.Lists.{list_sizes, lists_of};
-ghost use Rattle.level_bounds.specs.Keys.{HaveDifferentCharacters};
 ghost use Rattle.reduced_scans.specs.Lists.{AreListsOf};
 ghost use Rattle.query_bounds.specs.Bounds.{entry_bounds, scan_bounds, set_bounds};
 ghost use Rattle.query_bounds.specs.Statistics.{IsTold, Statistics, Tells};
@@ -59,7 +58,6 @@ pub fn from_statistics(
     accuracy: u8,
 ) -> Result<Known, NoMemory>
     requires database { IsDatabaseOf query.now db.now }
-    requires texts { HaveDifferentCharacters db.now.pool }
     requires accuracy { (0 < accuracy) × (accuracy ≤ most_accuracy) }
     ensures { IfOk result (Gives (set_bounds_of query.now (tables_of db.now) accuracy) (scan_bounds_of query.now (tables_of db.now) accuracy)) }
 {
@@ -82,7 +80,6 @@ pub fn from_rows(
 ) -> Result<Known, NoMemory>
     requires equalities { parts.now.equalities ≡ equalities_of query.now }
     requires database { IsDatabaseOf query.now db.now }
-    requires texts { HaveDifferentCharacters db.now.pool }
     requires rows { AreListsOf db.now rows.now }
     requires accuracy { (0 < accuracy) × (accuracy ≤ most_accuracy) }
     ensures { IfOk result (Gives (set_bounds_over query.now (tables_of db.now) (lists_of rows.now) accuracy)

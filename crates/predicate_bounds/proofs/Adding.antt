@@ -1,8 +1,9 @@
 -- Steps that are added member by member.
 use Rattle.std.proofs.Common.{◌≡◌, ℕ, ◌+◌, ◌<◌, Bool, true, false, ◌||◌, List, [], ◌∷◌, ◌++◌, map, length, take, get_or, refl, ap, sym, ◌∙◌, subst, append_assoc}
 use Rattle.std.proofs.lemmas.List.{take_more, map-append}
+use Rattle.std.proofs.Math.Bool.{or-true, or-false}
 use Rattle.query_types.specs.declared.types.Cond.{Cond}
-use Rattle.filtered_lists.specs.Filters.{Conjunction, and_answer, and_more, all_of, or_more, or_answer, joined, of_answer, of_range}
+use Rattle.filtered_lists.specs.Filters.{Conjunction, and_answer, and_more, all_of, or_more, or_answer, joined, of_answer}
 use Rattle.filtered_lists.specs.Ranges as ranges
 use Rattle.filtered_lists.specs.Ranges.{range_for_each_column}
 use Rattle.predicate_bounds.specs.declared.steps.Range.{Range}
@@ -13,14 +14,6 @@ use Rattle.predicate_bounds.specs.Added.{AreAdded, closing, ending, is_some_of, 
 use Rattle.predicate_bounds.specs.Steps.{range_in, range_of, step_answers}
 use Rattle.predicate_bounds.proofs.Literals.{ranges_again}
 
-pub or_true : (b : Bool) → (b || true) ≡ true
-or_true true = refl
-or_true false = refl
-
-pub or_false : (b : Bool) → (b || false) ≡ b
-or_false true = refl
-or_false false = refl
-
 append_nil : (s : List Step) → s ++ [] ≡ s
 append_nil [] = refl
 append_nil (x ∷ s) = ap (λ (t : List Step). x ∷ t) (append_nil s)
@@ -28,9 +21,9 @@ append_nil (x ∷ s) = ap (λ (t : List Step). x ∷ t) (append_nil s)
 -- ---- the steps of members
 
 pub more_steps-append : (some : Bool) (xs ys : List (List Step)) → more_steps some (xs ++ ys) ≡ more_steps some xs ++ more_steps (some || is_some_of xs) ys
-more_steps-append some [] ys = ap (λ (b : Bool). more_steps b ys) (sym (or_false some))
+more_steps-append some [] ys = ap (λ (b : Bool). more_steps b ys) (sym (or-false some))
 more_steps-append some (x ∷ xs) ys =
-    rw (more_steps-append true xs ys, or_true some)
+    rw (more_steps-append true xs ys, or-true some)
     (ap (λ (t : List Step). x ++ t) (sym (append_assoc (closing some) (more_steps true xs) (more_steps true ys)))
     ∙ sym (append_assoc x (closing some ++ more_steps true xs) (more_steps true ys)))
 
@@ -57,13 +50,6 @@ all_steps (x ∷ xs) ys =
     ∙ sym (append_assoc x (more_steps true xs) (more_steps true ys)) ∙ ap (λ (t : List Step). (x ++ more_steps true xs) ++ t) (sym (last_true ys))
 
 -- ---- a member more
-
-pub nothing_added : (members : Members) (steps : List Step) → AreAdded members steps members steps (record { ranges = []; others = [] })
-nothing_added members steps = record { steps = sym (append_nil steps); ranges = sym (nil members.ranges); some = sym (or_false members.some) }
-  where
-    nil : (s : List Range) → s ++ [] ≡ s
-    nil [] = refl
-    nil (x ∷ s) = ap (λ (t : List Range). x ∷ t) (nil s)
 
 pub or_assoc : (a b c : Bool) → ((a || b) || c) ≡ (a || (b || c))
 or_assoc true b c = refl
@@ -114,17 +100,12 @@ pub answer_added : (before after : Members) (old mid new x : List Step) → mid 
 answer_added before after old mid new x is closed some same = record {
   steps = closed ∙ ap (λ (s : List Step). s ++ closing before.some) is ∙ append_assoc old x (closing before.some) ∙ ap (λ (s : List Step). old ++ (x ++ s)) (sym (append_nil (closing before.some)));
   ranges = same ∙ sym (nil before.ranges);
-  some = some ∙ sym (or_true before.some);
+  some = some ∙ sym (or-true before.some);
 }
   where
     nil : (s : List Range) → s ++ [] ≡ s
     nil [] = refl
     nil (y ∷ s) = ap (λ (t : List Range). y ∷ t) (nil s)
-
--- one range more
-pub range_added : (before after : Members) (steps : List Step) (range : ranges.Range) → after.some ≡ before.some → after.ranges ≡ before.ranges ++ range_in range ∷ []
-    → AreAdded before steps after steps (of_range range)
-range_added before after steps range some more = record { steps = sym (append_nil steps); ranges = more; some = some ∙ sym (or_false before.some) }
 
 -- ---- the end of an AND
 

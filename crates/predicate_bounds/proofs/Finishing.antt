@@ -1,18 +1,17 @@
 -- The end of an AND: the steps of its ranges.
-use Rattle.std.proofs.Common.{◌≡◌, ℕ, ◌+◌, ◌<◌, Bool, true, false, ◌||◌, eqb, List, [], ◌∷◌, ◌++◌, map, length, take, get_or, refl, ap, sym, ◌∙◌, append_assoc, arith}
+use Rattle.std.proofs.Common.{◌≡◌, ℕ, ◌+◌, ◌<◌, Bool, true, false, ◌||◌, eqb, List, [], ◌∷◌, ◌++◌, map, length, take, get_or, ap, sym, ◌∙◌, append_assoc, arith}
 use Rattle.std.specs.List.{list_any}
-use Rattle.std.proofs.lemmas.List.{append-nil, length-map, take_all}
-use Rattle.degree_sequences.specs.Degrees.{different}
-use Rattle.filtered_lists.specs.Ranges as ranges
-use Rattle.filtered_lists.specs.Ranges.{one_range, range_for_each_column}
+use Rattle.std.proofs.lemmas.List.{append-nil}
+use Rattle.std.proofs.Math.Bool.{or-true}
+use Rattle.filtered_lists.specs.Ranges.{one_range}
 use Rattle.predicate_bounds.specs.declared.steps.Range.{Range}
 use Rattle.predicate_bounds.specs.declared.steps.Step.{Step}
 use Rattle.predicate_bounds.specs.declared.steps.Step.TheVariants as step
 use Rattle.predicate_bounds.specs.declared.reading.Members.{Members}
-use Rattle.predicate_bounds.specs.Added.{closing, is_some_of, last_steps, more_steps, ending}
+use Rattle.predicate_bounds.specs.Added.{closing, is_some_of, more_steps}
 use Rattle.predicate_bounds.specs.Steps.{range_in, range_of, step_answers}
-use Rattle.predicate_bounds.proofs.Adding.{more_steps-append, is_some_of-append, or_true, or_false, last_true}
-use Rattle.predicate_bounds.proofs.Narrow.{columns, first_steps, old_column, new_column}
+use Rattle.predicate_bounds.proofs.Adding.{more_steps-append, is_some_of-append}
+use Rattle.predicate_bounds.proofs.Narrow.{first_steps, old_column, new_column}
 
 -- the first i ranges are done
 pub record AreFinished (before : Members) (old : List Step) (now : Members) (new : List Step) (count i : ℕ) : Type 0 where
@@ -20,9 +19,6 @@ pub record AreFinished (before : Members) (old : List Step) (now : Members) (new
   pub len : count ≡ length before.ranges
   pub steps : new ≡ old ++ more_steps before.some (first_steps before.ranges i)
   pub some : now.some ≡ (before.some || is_some_of (first_steps before.ranges i))
-
-pub none_finished : (before : Members) (old : List Step) (len : ℕ) → len ≡ length before.ranges → AreFinished before old before old len 0
-none_finished before old len h = record { ranges = refl; len = h; steps = sym (append-nil old); some = sym (or_false before.some) }
 
 pub finished_old : (before now : Members) (old new : List Step) (len i : ℕ) (r : Range) → AreFinished before old now new len i → i < len → r ≡ get_or now.ranges i r
     → list_any (λ range. eqb range.column r.column) (take i now.ranges) ≡ true → AreFinished before old now new len (i + 1)
@@ -56,37 +52,8 @@ finished_new before now after old new mid last len i r range h low is there one 
           ∙ ap (λ (s : List Step). old ++ s) (sym (more_steps-append before.some xs (x ∷ [])))
           ∙ ap (λ (s : List (List Step)). old ++ more_steps before.some s) (sym added);
       some = some ∙ sym (ap (λ (s : List (List Step)). before.some || is_some_of s) added ∙ ap (λ (b : Bool). before.some || b) (is_some_of-append xs (x ∷ []))
-          ∙ ap (λ (b : Bool). before.some || b) (or_true (is_some_of xs)) ∙ or_true before.some);
+          ∙ ap (λ (b : Bool). before.some || b) (or-true (is_some_of xs)) ∙ or-true before.some);
     }
-
-all_columns : (rs : List Range) → first_steps rs (length rs) ≡ map step_answers.range (range_for_each_column (map range_of rs))
-all_columns rs = ap (λ (cs : List ℕ). map step_answers.range (map (one_range (map range_of rs)) (different cs)))
-    (take_all (length rs) (columns rs) (omega (arith, length-map (map range_of rs) (λ (range : ranges.Range). range.column), length-map rs range_of)))
-
--- an AND that has members ends with its ranges, and one that has none is whole
-ending_some : (some : Bool) (xs : List (List Step)) → (some || is_some_of xs) ≡ true → last_steps some xs ≡ more_steps some xs
-ending_some true xs h = last_true xs
-ending_some false [] h = cc
-ending_some false (x ∷ xs) h = refl
-
-ending_none : (some : Bool) (xs : List (List Step)) → (some || is_some_of xs) ≡ false → last_steps some xs ≡ more_steps some xs ++ step.Whole ∷ []
-ending_none true xs h = cc
-ending_none false [] h = refl
-ending_none false (x ∷ xs) h = cc
-
-pub finished_some : (before now : Members) (old new : List Step) (len i : ℕ) → AreFinished before old now new len i → i ≡ len → now.some ≡ true → new ≡ old ++ ending before.some before.ranges
-finished_some before now old new len i h last some =
-    let all : first_steps before.ranges i ≡ map step_answers.range (range_for_each_column (map range_of before.ranges)) = ap (first_steps before.ranges) (last ∙ h.len) ∙ all_columns before.ranges in
-    h.steps ∙ ap (λ (s : List Step). old ++ s) (sym (ending_some before.some (first_steps before.ranges i) (sym h.some ∙ some)))
-    ∙ ap (λ (s : List (List Step)). old ++ last_steps before.some s) all
-
-pub finished_none : (before now : Members) (old new last : List Step) (len i : ℕ) → AreFinished before old now new len i → i ≡ len → now.some ≡ false → last ≡ new ++ step.Whole ∷ []
-    → last ≡ old ++ ending before.some before.ranges
-finished_none before now old new last len i h end none whole =
-    let all : first_steps before.ranges i ≡ map step_answers.range (range_for_each_column (map range_of before.ranges)) = ap (first_steps before.ranges) (end ∙ h.len) ∙ all_columns before.ranges in
-    whole ∙ ap (λ (s : List Step). s ++ step.Whole ∷ []) h.steps ∙ append_assoc old (more_steps before.some (first_steps before.ranges i)) (step.Whole ∷ [])
-    ∙ ap (λ (s : List Step). old ++ s) (sym (ending_none before.some (first_steps before.ranges i) (sym h.some ∙ none)))
-    ∙ ap (λ (s : List (List Step)). old ++ last_steps before.some s) all
 
 -- ---- as the loop has it
 

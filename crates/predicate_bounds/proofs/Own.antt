@@ -3,8 +3,8 @@ use Rattle.std.proofs.Common.{◌≡◌, ℕ, zero, suc, ◌+◌, ◌<◌, ◌�
 use Rattle.std.specs.List.{AllByRecursion, All, filter, filter_map, range_with_len}
 use Rattle.std.proofs.lemmas.Bool.{cases_Bool}
 use Rattle.std.proofs.lemmas.List.{take_more, take_all, length-map}
-use Rattle.degree_sequences.proofs.Minima.{length-range_with_len}
 use Rattle.std.proofs.lemmas.List.Elements.{filter_map-append, All-from_recursion}
+use Rattle.std.proofs.lemmas.List.FromFn.{length-range_with_len}
 use Rattle.query_types.specs.declared.types.Cond.{Cond}
 use Rattle.filtered_lists.specs.Filters.{Conjunction, and_answer, joined, own_conjuncts}
 use Rattle.query_types.specs.declared.types.Query.{Query}
@@ -14,7 +14,7 @@ use Rattle.predicate_bounds.specs.declared.steps.Step.TheVariants as step
 use Rattle.predicate_bounds.specs.declared.reading.Members.{Members}
 use Rattle.predicate_bounds.specs.Added.{AreAdded, ending}
 use Rattle.predicate_bounds.specs.Steps.{step_answers, steps_of}
-use Rattle.predicate_bounds.proofs.Adding.{both_added, joined_more, answer_steps, nothing_added}
+use Rattle.predicate_bounds.proofs.Adding.{both_added, joined_more, answer_steps}
 use Rattle.predicate_bounds.proofs.Conditions.{read}
 
 -- ---- numbers of conjuncts that pass a test
@@ -65,9 +65,6 @@ conds_at conds numbers = filter_map (slice_get conds) numbers
 
 abbrev pub AreRead : List Cond → List ℕ → Members → List Step → Members → List Step → Type 0
 AreRead conds numbers before old now new = AreAdded before old now new (joined (map (λ cond. read cond true) (conds_at conds numbers)))
-
-pub none_read : (conds : List Cond) (numbers : List ℕ) (members : Members) (steps : List Step) → AreRead conds (take 0 numbers) members steps members steps
-none_read conds numbers members steps = nothing_added members steps
 
 pub one_read : (conds : List Cond) (numbers : List ℕ) (i n : ℕ) (c : Cond) (before now after : Members) (old mid new : List Step) → i < length numbers → n ≡ get_or numbers i 0 → slice_get conds n ≡ Some c
     → AreRead conds (take i numbers) before old now mid → AreAdded now mid after new (read c true) → AreRead conds (take (i + 1) numbers) before old after new

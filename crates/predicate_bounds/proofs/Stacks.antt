@@ -1,15 +1,16 @@
 -- A stack of lists, kept with its top at the end.
 use Rattle.std.proofs.Common.{◌≡◌, ℕ, suc, ◌+◌, ◌*◌, ◌^◌, ◌<◌, ◌≤◌, true, List, [], ◌∷◌, ◌++◌, map, reverse, length, drop, get_or, sum, refl, ap, sym, ◌∙◌, arith}
 use Rattle.std.specs.List.{list_all}
-use Rattle.std.proofs.lemmas.List.{reverse-append, drop_all}
+use Rattle.std.proofs.lemmas.List.{reverse-append}
 use Rattle.std.proofs.lemmas.List.Sums.{sum_by-append, sum_by-cons, AllPass-from_list_all}
 use Rattle.std.proofs.Math.Numerals.{add-one}
 use Rattle.std.proofs.Math.Seq.{drop-cons}
 use Rattle.degree_sequences.specs.ByRank.{rank_sum}
 use Rattle.degree_sequences.specs.RunningSums.{lesser}
 use Rattle.degree_sequences.specs.Saturation.{saturated}
-use Rattle.filtered_lists.proofs.Lists.{sum-lesser, sum-rank_sum}
-use Rattle.predicate_bounds.specs.ListRuns.{total_of, top_of, is_small, after_list_step, after_list_steps}
+use Rattle.filtered_lists.proofs.Lists.{sum-lesser}
+use Rattle.degree_sequences.proofs.ByRank.{sum-rank_sum}
+use Rattle.predicate_bounds.specs.ListRuns.{total_of, is_small, after_list_step, after_list_steps}
 use Rattle.predicate_bounds.specs.Runs.{put_together}
 use Rattle.predicate_bounds.specs.declared.running.ListStep.{ListStep}
 
@@ -22,14 +23,6 @@ pub two_put_together : (f : List ℕ → List ℕ → List ℕ) (old mid rest ne
     → reverse new ≡ put_together f (reverse old)
 two_put_together f old mid rest new x y h k l =
     pushed rest new (f x y) l ∙ sym (ap (put_together f) (pushed mid old y h ∙ ap (λ (s : List (List ℕ)). y ∷ s) (pushed rest mid x k)))
-
-pub one_stays : (f : List ℕ → List ℕ → List ℕ) (old mid rest new : List (List ℕ)) (y : List ℕ) → old ≡ mid ++ y ∷ [] → mid ≡ [] → rest ≡ [] → new ≡ rest ++ y ∷ []
-    → reverse new ≡ put_together f (reverse old)
-one_stays f old mid rest new y h none empty l =
-    ap reverse (l ∙ ap (λ (s : List (List ℕ)). s ++ y ∷ []) empty) ∙ sym (ap (λ (s : List (List ℕ)). put_together f (reverse s)) (h ∙ ap (λ (s : List (List ℕ)). s ++ y ∷ []) none))
-
-pub none_stays : (f : List ℕ → List ℕ → List ℕ) (old new : List (List ℕ)) → old ≡ [] → new ≡ [] → reverse new ≡ put_together f (reverse old)
-none_stays f old new h k = ap reverse k ∙ sym (ap (λ (s : List (List ℕ)). put_together f (reverse s)) h)
 
 -- ---- the rows of all lists
 
@@ -78,16 +71,6 @@ one_run steps i step old new h low is lists total = record {
       ∙ sym (ap (λ (s : List ListStep). after_list_steps s (reverse old)) (drop-cons steps i step low ∙ ap (λ (s : ListStep). s ∷ drop (suc i) steps) (sym is))) ∙ h.lists;
   total = omega (arith, h.total);
 }
-
--- what is left on the stack when all steps are taken
-pub all_run : (steps : List ListStep) (i : ℕ) (stack : List (List ℕ)) → AreRun steps i stack → length steps ≤ i → reverse stack ≡ after_list_steps steps []
-all_run steps i stack h end = ap (λ (s : List ListStep). after_list_steps s (reverse stack)) (sym (drop_all i steps end)) ∙ h.lists
-
-pub top_left : (steps : List ListStep) (stack rest : List (List ℕ)) (list : List ℕ) → reverse stack ≡ after_list_steps steps [] → stack ≡ rest ++ list ∷ [] → list ≡ top_of (after_list_steps steps [])
-top_left steps stack rest list h k = ap top_of (sym (pushed rest stack list k) ∙ h)
-
-pub none_left : (steps : List ListStep) (stack : List (List ℕ)) (list : List ℕ) → reverse stack ≡ after_list_steps steps [] → stack ≡ [] → list ≡ [] → list ≡ top_of (after_list_steps steps [])
-none_left steps stack list h k empty = empty ∙ ap top_of (sym (ap reverse k) ∙ h)
 
 pub small_at : (steps : List ListStep) (i : ℕ) (step : ListStep) → list_all is_small steps ≡ true → i < length steps → step ≡ get_or steps i step → is_small step ≡ true
 small_at steps i step h low is = ap is_small is ∙ AllPass-from_list_all is_small steps h i step low

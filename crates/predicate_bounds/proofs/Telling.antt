@@ -1,9 +1,8 @@
 -- What statistics tell, and what their steps leave.
-use Rattle.std.proofs.Common.{◌≡◌, ℕ, suc, ◌+◌, ◌-◌, ◌^◌, ◌<◌, ◌≤◌, min, true, eqb, leb, leb-true, IsSome, List, [], ◌∷◌, ◌++◌, map, length, drop, get_or, Option, Some, option_map, slice_get, find, sum, refl, ap, sym, ◌∙◌, subst, Result, IfOk, arith}
+use Rattle.std.proofs.Common.{◌≡◌, ℕ, suc, ◌-◌, ◌^◌, ◌<◌, ◌≤◌, min, true, eqb, leb, leb-true, IsSome, List, [], ◌∷◌, ◌++◌, map, length, drop, get_or, Option, Some, option_map, slice_get, find, sum, refl, ap, sym, ◌∙◌, subst, Result, IfOk, arith}
 use Rattle.std.specs.List.{list_all}
-use Rattle.std.proofs.Math.Numerals.{add-one}
 use Rattle.std.proofs.Math.Seq.{drop-cons}
-use Rattle.std.proofs.lemmas.Bool.{and_parts, eq-eqb, ne_eqb}
+use Rattle.std.proofs.lemmas.Bool.{and_parts, eq-eqb}
 use Rattle.std.proofs.lemmas.Result.{IfOk-weaker}
 use Rattle.degree_sequences.specs.Domination.{DominatesKeys}
 use Rattle.query_types.specs.declared.types.Query.{Query}
@@ -20,7 +19,7 @@ use Rattle.predicate_bounds.specs.declared.steps.Step.{Step}
 use Rattle.predicate_bounds.specs.declared.steps.Step.TheVariants as step
 use Rattle.predicate_bounds.specs.ListRuns.{after_list_steps, is_small, listed, top_of}
 use Rattle.predicate_bounds.specs.Steps.{step_answers}
-use Rattle.predicate_bounds.specs.Told.{TellsList, TellsRows, asked_lists, column_steps, columns_of, first_steps}
+use Rattle.predicate_bounds.specs.Told.{TellsList, TellsRows, asked_lists, column_steps, columns_of, first_steps, list_left, list_told}
 use Rattle.predicate_bounds.proofs.Answering.{lists_answer}
 
 -- ---- a column among columns
@@ -31,11 +30,6 @@ found column items = option_map (λ one. one.steps) (find (λ one. eqb one.colum
 pub found_here : (items : List ColumnSteps) (i column : ℕ) (one : ColumnSteps) → i < length items → one ≡ get_or items i one → one.column ≡ column → found column (drop i items) ≡ Some one.steps
 found_here items i column one low is same =
     ap (found column) (drop-cons items i one low ∙ ap (λ (x : ColumnSteps). x ∷ drop (suc i) items) (sym is)) ∙ rw (eq-eqb one.column column same) refl
-
-pub found_later : (items : List ColumnSteps) (i column : ℕ) (one : ColumnSteps) → i < length items → one ≡ get_or items i one → ¬ (one.column ≡ column) → found column (drop (i + 1) items) ≡ found column (drop i items)
-found_later items i column one low is apart =
-    ap (λ (n : ℕ). found column (drop n items)) (add-one i)
-    ∙ sym (ap (found column) (drop-cons items i one low ∙ ap (λ (x : ColumnSteps). x ∷ drop (suc i) items) (sym is)) ∙ rw (ne_eqb one.column column apart) refl)
 
 -- ---- the answer
 
@@ -59,6 +53,13 @@ pub list_answer : {E : Type 0} (query : Query) (stats : QueryStats) (from column
     → IfOk r (λ list. list ≡ top_of (after_list_steps steps [])) → IfOk r (λ list. list ≡ filtered_list lists from query.conjuncts)
 list_answer query stats from column lists steps r here tells h =
     told_list query from lists steps r (some_one steps (asked_lists query from lists) (column_steps stats from column) here tells) h
+
+-- the list of a column is what its steps leave
+pub list_here : {E : Type 0} (stats : QueryStats) (from column : ℕ) (steps : List ListStep) (r : Result (List ℕ) E) → column_steps stats from column ≡ Some steps
+    → IfOk r (λ list. list ≡ top_of (after_list_steps steps [])) → IfOk r (λ list. list ≡ list_told stats from column)
+list_here stats from column steps r here h =
+    IfOk-weaker r (λ list. list ≡ top_of (after_list_steps steps [])) (λ list. list ≡ list_told stats from column)
+    (λ list e. e ∙ sym (ap list_left here)) h
 
 -- ---- the row bound
 

@@ -1,12 +1,13 @@
 -- What statistics tell of a query's entries.
-use Rattle.std.specs.Prelude.{◌≡◌, ℕ, ◌==◌, List, [], map, Option, Some, option_map, slice_get, slice_index_or, find}
+use Rattle.std.specs.Prelude.{◌≡◌, ℕ, ◌-◌, ◌^◌, ◌==◌, min, List, [], map, Option, None, Some, option_map, slice_get, slice_index_or, find}
+use Rattle.std.specs.List.{sum}
 use Rattle.query_types.specs.declared.types.Query.{Query}
 use Rattle.filtered_lists.specs.Lists.{ColumnLists}
 use Rattle.predicate_bounds.specs.declared.columns.ColumnSteps.{ColumnSteps}
 use Rattle.predicate_bounds.specs.declared.columns.EntryStats.{EntryStats}
 use Rattle.predicate_bounds.specs.declared.columns.QueryStats.{QueryStats}
 use Rattle.predicate_bounds.specs.declared.running.ListStep.{ListStep}
-use Rattle.predicate_bounds.specs.ListRuns.{listed}
+use Rattle.predicate_bounds.specs.ListRuns.{after_list_steps, listed, top_of}
 use Rattle.predicate_bounds.specs.Steps.{steps_of}
 
 abbrev pub no_columns : EntryStats
@@ -23,6 +24,19 @@ column_steps stats from column = option_map (λ joined. joined.steps) (find (λ 
 -- those of its first column
 abbrev pub first_steps : QueryStats → ℕ → Option (List ListStep)
 first_steps stats from = option_map (λ joined. joined.steps) (slice_get (columns_of stats from) 0)
+
+-- what steps leave on top of their stack, and nothing where there are none
+abbrev pub list_left : Option (List ListStep) → List ℕ
+list_left None = []
+list_left (Some steps) = top_of (after_list_steps steps [])
+
+-- the list that the steps of a joined column leave
+abbrev pub list_told : QueryStats → ℕ → ℕ → List ℕ
+list_told stats from column = list_left (column_steps stats from column)
+
+-- the rows of the list that the steps of the first column leave, or the most that 64 bits hold
+abbrev pub rows_told : QueryStats → ℕ → ℕ
+rows_told stats from = min (sum (list_left (first_steps stats from))) (2 ^ 64 - 1)
 
 -- what the entry's own conjuncts ask for, each with its list
 abbrev pub asked_lists : Query → ℕ → ColumnLists → List ListStep

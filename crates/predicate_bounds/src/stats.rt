@@ -5,7 +5,7 @@ ghost use Rattle.query_types.specs.declared.types.Query.{Query};
 ghost use Rattle.sql_meaning.specs.Tables.{Tables};
 ghost use Rattle.filtered_lists.specs.Lists.{ColumnLists, RowCounts, filtered_list, row_bound};
 ghost use Rattle.filtered_lists.specs.Standing.{ListsStandFor, SumTo, scan_of};
-ghost use Rattle.predicate_bounds.specs.Told.{TellsList, TellsRows, column_steps, columns_of, first_steps};
+ghost use Rattle.predicate_bounds.specs.Told.{TellsList, TellsRows, column_steps, columns_of, first_steps, list_told, rows_told};
 
 use crate::columns::{ColumnSteps, QueryStats};
 use crate::running::run;
@@ -22,11 +22,12 @@ impl QueryStats {
         self.entries.get(usize::from(from)).columns.as_slice()
     }
 
-    /// The list of a joined column of an entry, filtered by the entry's own conjuncts. Where the statistics stand for a
-    /// database, it dominates the column over the rows of the entry's scan.
+    /// The list of a joined column of an entry: what its steps leave. Where these are those of the entry's own conjuncts, it is the
+    /// list filtered by them; where the statistics stand for a database, it dominates the column over the rows of the entry's scan.
     pub fn bound_list(&self, alloc: Global, from: u8, column: u32) -> Result<Pieces, NoMemory>
         requires entry { from < length self.now.entries }
         requires known { IsSome (column_steps self.now from column) }
+        ensures exact { IfOk result (λ list. list ≡ list_told self.now from column) }
         ensures list { (query : Query) (lists : ColumnLists) → TellsList query self.now from column lists
             → IfOk result (λ list. list ≡ filtered_list lists from query.conjuncts) }
         ensures never_under { (query : Query) (lists : ColumnLists) (tables : Tables) (key : ℕ → ℕ)
@@ -46,6 +47,7 @@ impl QueryStats {
     pub fn row_bound(&self, alloc: Global, from: u8) -> Result<u64, NoMemory>
         requires entry { from < length self.now.entries }
         requires known { IsSome (first_steps self.now from) }
+        ensures exact { IfOk result (λ rows. rows ≡ rows_told self.now from) }
         ensures rows { (query : Query) (lists : ColumnLists) (counts : RowCounts) → TellsRows query self.now from lists → SumTo lists counts
             → IfOk result (λ rows. rows ≡ row_bound counts from query.conjuncts) }
         ensures never_under { (query : Query) (lists : ColumnLists) (tables : Tables) (key : ℕ → ℕ)

@@ -1,12 +1,14 @@
 -- The lines of the plan text, one after the other.
-use Rattle.std.proofs.Common.{◌≡◌, ℕ, ◌+◌, ◌<◌, suc, List, ◌∷◌, ◌++◌, drop, length, get_or, ap, sym, ◌∙◌, append_assoc, add-one}
+use Rattle.std.proofs.Common.{◌≡◌, ℕ, ◌+◌, ◌<◌, suc, List, ◌∷◌, ◌++◌, drop, length, get_or, ap, sym, refl, ◌∙◌, append_assoc, add-one}
 use Rattle.std.specs.Prelude.{slice_get}
 use Rattle.std.proofs.Math.Seq.{drop-cons}
 use Rattle.query_types.specs.declared.types.Source.{Source}
+use Rattle.tree_plans.specs.declared.bushy.Join.{Join}
 use Rattle.printed_texts.specs.Plans.{alias_of, level_line, level_lines, scan_line, scan_lines}
+use Rattle.printed_texts.specs.TreePlans.{node_line, node_lines}
 
 -- what is left from place i on begins with the item there
-left_at : {X : Type 0} (xs : List X) (i : ℕ) (x d : X) → i < length xs → x ≡ get_or xs i d → drop i xs ≡ x ∷ drop (i + 1) xs
+pub left_at : {X : Type 0} (xs : List X) (i : ℕ) (x d : X) → i < length xs → x ≡ get_or xs i d → drop i xs ≡ x ∷ drop (i + 1) xs
 left_at xs i x d lt at' = drop-cons xs i d lt ∙ ap (λ y. y ∷ drop (suc i) xs) (sym at') ∙ ap (λ j. x ∷ drop j xs) (sym (add-one i))
 
 -- the next scan's line comes first
@@ -23,6 +25,11 @@ pub next_level : (k : ℕ) (sources : List Source) (order bounds : List ℕ) (i 
 next_level k sources order bounds i entry bound some more is at' =
     ap (λ (left : List ℕ). level_lines k sources left (drop i bounds)) (left_at order i entry 0 some is)
     ∙ ap (λ (left : List ℕ). level_lines k sources (entry ∷ drop (i + 1) order) left) (left_at bounds i bound 0 more at')
+
+-- the next inner node's line comes first
+pub next_node : (k : ℕ) (joins : List Join) (i : ℕ) (otherwise : Join) → i < length joins
+    → node_lines k (drop i joins) ≡ node_line k (get_or joins i otherwise) ++ node_lines (k + 1) (drop (i + 1) joins)
+next_node k joins i otherwise some = ap (node_lines k) (left_at joins i (get_or joins i otherwise) otherwise some refl)
 
 -- one line more is done
 pub one_more_done : (done left line rest all : List ℕ) → done ++ left ≡ all → left ≡ line ++ rest → (done ++ line) ++ rest ≡ all

@@ -1,9 +1,9 @@
 -- The fields of a record, one after the other.
-use Rattle.std.proofs.Common.{◌≡◌, ℕ, ◌≤◌, ◌-◌, List, [], ◌∷◌, ◌++◌, take, drop, length, map, get_or, refl, ap, sym, ◌∙◌, append-nil, arith}
+use Rattle.std.proofs.Common.{◌≡◌, ℕ, ◌≤◌, ◌-◌, List, [], ◌∷◌, ◌++◌, take, drop, length, map, get_or, ap, sym, ◌∙◌, append-nil, arith}
 use Rattle.std.specs.List.{flat_map, join_with_byte}
 use Rattle.std.proofs.lemmas.Grind.{common_steps}
 use Rattle.std.proofs.lemmas.List.Concat.{flat_map-cons}
-use Rattle.row_printer.specs.Fields.{field_text, lone_field_text}
+use Rattle.row_printer.specs.Fields.{field_text}
 use Rattle.sql_meaning.specs.Tables.{Tables}
 use Rattle.query_types.specs.declared.types.Out.{Out}
 use Rattle.printed_texts.specs.Lines.{field_at, fields_at, next_field}
@@ -30,13 +30,3 @@ several (a ∷ (b ∷ rest)) x tables l many first =
     ap (λ y. field_text (field_at tables l y) ++ flat_map (next_field tables l) (take (length (a ∷ b ∷ rest) - 1) (drop 1 (a ∷ b ∷ rest)))) first
     ∙ ap (λ ys. field_text (field_at tables l a) ++ flat_map (next_field tables l) ys) (to_the_end 1 (a ∷ b ∷ rest))
     ∙ ap (λ x. field_text (field_at tables l a) ++ x) (sym (tails (field_at tables l) b rest))
-
-pub none : (outs : List Out) (tables : Tables) (l : Line) → length outs ≡ 0 → fields_at outs tables l ≡ []
-none [] tables l h = refl
-none (x ∷ outs) tables l h = absurd (omega arith)
-
-pub lone : (outs : List Out) (x : Out) (tables : Tables) (l : Line) → length outs ≡ 1 → x ≡ get_or outs 0 x
-    → fields_at outs tables l ≡ lone_field_text (field_at tables l x)
-lone [] x tables l h first = absurd (omega arith)
-lone (a ∷ []) x tables l h first = ap (λ y. lone_field_text (field_at tables l y)) (sym first)
-lone (a ∷ (b ∷ rest)) x tables l h first = absurd (omega arith)

@@ -15,15 +15,18 @@ use Rattle.outcomes.specs.declared.refusal.QueryCause.{QueryCause}
 use Rattle.outcomes.specs.declared.refusal.QueryCause.TheVariants as query
 use Rattle.outcomes.specs.declared.refusal.SchemaCause.{SchemaCause}
 use Rattle.outcomes.specs.declared.refusal.SchemaCause.TheVariants as schema
+use Rattle.outcomes.specs.declared.refusal.StatsCause.{StatsCause}
+use Rattle.outcomes.specs.declared.refusal.StatsCause.TheVariants as stats
 use Rattle.outcomes.specs.declared.refusal.TableCause.{TableCause}
 use Rattle.outcomes.specs.declared.refusal.TableCause.TheVariants as table
 use Rattle.outcomes.specs.declared.status.Status.{Status}
 use Rattle.outcomes.specs.declared.status.Status.TheVariants as status
 
--- what a line may name: the files of the two texts, as the command names them, and the tables of the schema
+-- what a line may name: the files of the two texts and the one of statistics, as the command names them, and the tables of the schema
 pub record Names : Type 0 where
   pub schema_file : List ℕ
   pub query_file : List ℕ
+  pub stats_file : List ℕ
   pub schema : Option Schema
 
 -- the name of a table's file: the table's in lower case, and `.csv`
@@ -52,6 +55,7 @@ abbrev pub file_name : FileId → Names → List ℕ
 file_name file.Schema names = names.schema_file
 file_name file.Query names = names.query_file
 file_name (file.Table number) names = file_of_table (table_in names.schema number)
+file_name file.Stats names = names.stats_file
 
 abbrev pub schema_cause : SchemaCause → List ℕ
 schema_cause schema.Syntax = codes "syntax"
@@ -62,6 +66,11 @@ abbrev pub query_cause : QueryCause → List ℕ
 query_cause query.Syntax = codes "syntax"
 query_cause query.Name = codes "name"
 query_cause query.Kind = codes "kind"
+
+abbrev pub stats_cause : StatsCause → List ℕ
+stats_cause stats.Syntax = codes "syntax"
+stats_cause stats.Rule = codes "rule"
+stats_cause stats.Missing = codes "missing"
 
 -- what is wrong with this table's file; a column by its name
 abbrev pub table_cause : TableCause → Option Table → List (List ℕ)
@@ -115,6 +124,7 @@ fault (status.ReadFault id) names = codes "read" ∷ (file_name id names ∷ [])
 fault (status.Schema cause at) names = codes "schema" ∷ (schema_cause cause ∷ (decimal at ∷ []))
 fault (status.Query cause at) names = codes "query" ∷ (query_cause cause ∷ (decimal at ∷ []))
 fault (status.Table number cause) names = table_words (table_in names.schema number) cause
+fault (status.Stats cause at) names = codes "stats" ∷ (stats_cause cause ∷ (decimal at ∷ []))
 fault (status.Limit which id found) names = limit_words which (file_name id names) found
 fault (status.Budget least) names = codes "budget" ∷ (decimal least ∷ [])
 fault status.PastBits names = codes "past-bits" ∷ []

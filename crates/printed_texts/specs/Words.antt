@@ -10,4 +10,9 @@ file_text (word.Given name) = name.now
 file_text (word.OfTable table) = table_file table.now
 
 abbrev pub named : Named → Names
-named names = record { schema_file = names.schema_file.now; query_file = names.query_file.now; schema = option_copied names.schema }
+named names = record {
+  schema_file = names.schema_file.now;
+  query_file = names.query_file.now;
+  stats_file = names.stats_file.now;
+  schema = option_copied names.schema;
+}

@@ -2,20 +2,21 @@
 ghost use Rattle.std.specs.Prelude.{◌≡◌, ◌≢◌, ◌∷◌, [], codes, decimal, option_copied};
 ghost use Rattle.base_io.specs.Devices.{growth};
 ghost use Rattle.base_io.specs.Writes.{Wrote};
-ghost use Rattle.printed_texts.specs.Faults.{column_in, error_line, fault_line, file_name, file_of_table, is_of_file as of_file, limit_word as word_of_limit, limit_words, query_cause, schema_cause, sink_name, table_cause, table_in, table_words};
+ghost use Rattle.printed_texts.specs.Faults.{column_in, error_line, fault_line, file_name, file_of_table, is_of_file as of_file, limit_word as word_of_limit, limit_words, query_cause, schema_cause, sink_name, stats_cause, table_cause, table_in, table_words};
 ghost use Rattle.printed_texts.specs.Words.{file_text, named};
 
 use crate::lines::{FileWord, write_words, write_words_about};
 use base_io::{Failed, Sink};
-use outcomes::{FileId, QueryCause, SchemaCause, SinkId, Status, TableCause};
+use outcomes::{FileId, QueryCause, SchemaCause, SinkId, StatsCause, Status, TableCause};
 use schema_types::{LimitKind, Schema, Table};
 
-/// What a line may name: the files of the two texts, as the command names them, and the tables of the schema,
-/// where it was read.
+/// What a line may name: the files of the two texts and the one of statistics, as the command names them, and the tables
+/// of the schema, where it was read.
 #[derive(Clone, Copy)]
 pub struct Named<'a> {
     pub schema_file: &'a str,
     pub query_file: &'a str,
+    pub stats_file: &'a str,
     pub schema: Option<&'a Schema>,
 }
 
@@ -63,6 +64,7 @@ fn file_word<'a>(file: FileId, names: Named<'a>) -> FileWord<'a>
         FileId::Schema => FileWord::Given(names.schema_file.as_bytes()),
         FileId::Query => FileWord::Given(names.query_file.as_bytes()),
         FileId::Table(number) => table_word(table_at(names.schema, number)),
+        FileId::Stats => FileWord::Given(names.stats_file.as_bytes()),
     }
 }
 
@@ -83,6 +85,16 @@ fn query_word(cause: QueryCause) -> &'static [u8]
         QueryCause::Syntax => b"syntax",
         QueryCause::Name => b"name",
         QueryCause::Kind => b"kind",
+    }
+}
+
+fn stats_word(cause: StatsCause) -> &'static [u8]
+    ensures { result.now ≡ stats_cause cause }
+{
+    match cause {
+        StatsCause::Syntax => b"syntax",
+        StatsCause::Rule => b"rule",
+        StatsCause::Missing => b"missing",
     }
 }
 
@@ -127,6 +139,8 @@ const SCHEMA: &[u8] = b"schema";
 const QUERY: &[u8] = b"query";
 
 const TABLE: &[u8] = b"table";
+
+const STATS: &[u8] = b"stats";
 
 const LIMIT: &[u8] = b"limit";
 
@@ -238,6 +252,7 @@ pub fn write_line<N: Sink>(status: Status, names: Named, sink: &mut N) -> Result
         }
         Status::Schema { cause, at } => write_place(SCHEMA, schema_word(cause), at, sink),
         Status::Query { cause, at } => write_place(QUERY, query_word(cause), at, sink),
+        Status::Stats { cause, at } => write_place(STATS, stats_word(cause), at, sink),
         Status::Table { table, cause } => {
             write_table_fault(table_at(names.schema, table), cause, sink)
         }

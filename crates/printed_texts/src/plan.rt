@@ -31,8 +31,8 @@ fn write_scan<N: Sink>(
     buffer.put_parts(sink, &[SCAN, alias.as_bytes(), SPACE, bound, LINE_END])
 }
 
-// A line for each entry's scan.
-fn write_scans<N: Sink>(
+/// Writes a line for each entry's scan.
+pub(crate) fn write_scans<N: Sink>(
     sources: &[Source],
     bounds: &[u64],
     buffer: &mut Buffer,

@@ -5,6 +5,7 @@ use Rattle.std.proofs.Math.Path.{fun_ext}
 use Rattle.std.proofs.lemmas.Bool.{cases_lt, eq-eqb, eqb-true, le-ltb, lt-ltb}
 use Rattle.std.proofs.lemmas.List.{get_or_past, take_more}
 use Rattle.std.proofs.lemmas.List.Folds.{list_any-append}
+use Rattle.std.proofs.Math.Bool.{or-true, or-false}
 use Rattle.berge_tree.specs.declared.edges.Edge.{Edge}
 use Rattle.berge_tree.specs.declared.edges.Place.{Place}
 use Rattle.berge_tree.specs.Equalities.{places_of}
@@ -30,7 +31,7 @@ is_some_of o x e = rw e refl
 
 -- ---- an entry that is told
 
-no_more : {X : Type 0} (o : Option X) (x : X) → o ≡ None → o ≡ Some x → ⊥
+pub no_more : {X : Type 0} (o : Option X) (x : X) → o ≡ None → o ≡ Some x → ⊥
 no_more o x e f = cc
 
 pub known_entry : (query : Query) (stats : QueryStats) (entry column : ℕ) (lists : ColumnLists) → TellsList query stats entry column lists → entry < length stats.entries
@@ -93,14 +94,6 @@ has_first query stats known entry tells low =
 
 -- ---- lists
 
-or_true : (b : Bool) → (b || true) ≡ true
-or_true true = refl
-or_true false = refl
-
-or_false : (b : Bool) → (b || false) ≡ b
-or_false true = refl
-or_false false = refl
-
 -- one more column
 among_more : (places : List Place) (place : Place) (entry column : ℕ) → is_among (places ++ place ∷ []) entry column ≡ (is_among places entry column || (is_at entry column place || false))
 among_more places place entry column = list_any-append (is_at entry column) places (place ∷ [])
@@ -119,10 +112,10 @@ list_more query known n places place old new held set others rows = record {
 }
   where
     there : (entry column : ℕ) → (is_at entry column place ≡ true) → is_among (places ++ place ∷ []) entry column ≡ true
-    there entry column e = among_more places place entry column ∙ rw e (or_true (is_among places entry column))
+    there entry column e = among_more places place entry column ∙ rw e (or-true (is_among places entry column))
 
     apart : (entry column : ℕ) → (is_at entry column place ≡ false) → is_among places entry column ≡ is_among (places ++ place ∷ []) entry column
-    apart entry column e = sym (among_more places place entry column ∙ rw e (or_false (is_among places entry column)))
+    apart entry column e = sym (among_more places place entry column ∙ rw e (or-false (is_among places entry column)))
 
     old_list : (entry column : ℕ) → is_at entry column place ≡ false → ((entry ≢ place.entry) ⊎ (column ≢ place.column))
         → list_of new entry column ≡ (if is_among (places ++ place ∷ []) entry column then Some (scan_list query known entry column) else None)

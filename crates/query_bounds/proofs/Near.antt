@@ -24,10 +24,11 @@ use Rattle.level_bounds.specs.Whole.{AreCompressed, keys_of, uncompressed}
 use Rattle.level_bounds.proofs.NearWhole.{near}
 use Rattle.set_bounds.proofs.Telling.{told_at}
 use Rattle.filtered_lists.proofs.Lists.{unfiltered, unfiltered_rows}
+use Rattle.entry_sets.proofs.Listing.{entry_below}
 use Rattle.query_bounds.specs.Bounds.{entry_bounds, is_among, scan_list, scan_rows, set_bounds}
 use Rattle.query_bounds.specs.Statistics.{AreWhole, Statistics}
 use Rattle.query_bounds.proofs.Holding.{pair_at}
-use Rattle.query_bounds.proofs.Sets.{both_among, entry_below}
+use Rattle.query_bounds.proofs.Sets.{both_among}
 
 -- elements of a compressed list are above 0
 from_positive : (k : ℕ) (f : List ℕ) → IsFalling f → All (λ x. 0 < x) f → (n m : ℕ) → AllByRecursion (λ x. 0 < x) (compressed_from k f n m)

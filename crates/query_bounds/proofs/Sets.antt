@@ -1,17 +1,12 @@
 -- The bounds of scans and of sets, as what statistics tell.
-use Rattle.std.proofs.Common.{◌≡◌, inl, inr, ℕ, zero, suc, ◌-◌, ◌<◌, ◌^◌, Bool, true, false, ◌||◌, eqb, List, [], ◌∷◌, map, length, get_or, Some, None, refl, ap, ◌∙◌, arith}
+use Rattle.std.proofs.Common.{◌≡◌, ℕ, zero, suc, ◌-◌, ◌<◌, ◌^◌, Bool, true, false, ◌||◌, eqb, List, [], ◌∷◌, map, length, get_or, Some, None, refl, ap, ◌∙◌, arith}
 use Rattle.std.specs.Prelude.{IsSome, if◌then◌else◌}
-use Rattle.std.specs.Int.{bit_at}
 use Rattle.std.specs.List.{range_with_len}
-use Rattle.std.proofs.lemmas.Bool.{and_from, cases_lt, eq-eqb, lt-ltb}
+use Rattle.std.proofs.lemmas.Bool.{and_from, eq-eqb, lt-ltb, or_left}
 use Rattle.std.proofs.lemmas.List.{length-map}
-use Rattle.std.proofs.lemmas.List.FromFn.{get_or-map-range_with_len}
+use Rattle.std.proofs.lemmas.List.FromFn.{get_or-map-range_with_len, length-range_with_len}
 use Rattle.std.proofs.lemmas.Nat.{pow_pos}
-use Rattle.std.proofs.lemmas.Nat.Bits.{bit_at_above}
-use Rattle.degree_sequences.proofs.Minima.{length-range_with_len}
 use Rattle.degree_sequences.specs.Saturation.{saturated}
-use Rattle.entry_sets.specs.Sets.{has_entry}
-use Rattle.entry_sets.proofs.Listing.{has_bit}
 use Rattle.berge_tree.specs.declared.edges.Edge.{Edge}
 use Rattle.berge_tree.specs.declared.edges.Place.{Place}
 use Rattle.berge_tree.specs.Equalities.{places_of}
@@ -24,20 +19,12 @@ use Rattle.bound_fold.specs.Sets.{SetIsListed}
 use Rattle.bound_fold.proofs.TestedSets.{each_in_set, each_named}
 use Rattle.set_bounds.specs.AllSets.{bound_told, bounds_of_sets}
 use Rattle.set_bounds.proofs.Telling.{told_at}
+use Rattle.entry_sets.proofs.Listing.{entry_below}
 use Rattle.query_bounds.specs.Bounds.{Holds, is_among, is_at, scan_list, scan_rows}
 use Rattle.query_bounds.specs.Statistics.{Statistics}
 use Rattle.query_bounds.proofs.Holding.{is_some_of}
 
 -- ---- which entries and columns are there
-
--- the entries of a set below 2^n are below n
-pub entry_below : (n subset entry : ℕ) → subset < 2 ^ n → has_entry subset entry ≡ true → entry < n
-entry_below n subset entry fits has =
-    let bit : (entry < 16) × (bit_at subset entry ≡ 1) = has_bit subset entry has in
-    elim (cases_lt entry n) [
-      | inl below ↦ below
-      | inr above ↦ absurd (omega (arith, bit.1, bit_at_above subset n entry fits above))
-    ]
 
 pub row_there : (query : Query) (known : Statistics) (n : ℕ) (places : List Place) (lists : EntryLists) → Holds query known n places lists → (entry : ℕ) → entry < n → rows_of lists entry ≡ Some (scan_rows query known entry)
 row_there query known n places lists held entry low = held.rows entry ∙ ap (λ (t : Bool). if t then Some (scan_rows query known entry) else None) (lt-ltb entry n low)
@@ -54,9 +41,6 @@ or_more true b c h = refl
 or_more false true c h = refl
 or_more false false c h = h
 
-first_or : (a b : Bool) → a ≡ true → (a || b) ≡ true
-first_or a b h = rw h refl
-
 next_or : (a b c : Bool) → b ≡ true → (a || (b || c)) ≡ true
 next_or true b c h = refl
 next_or false b c h = rw h refl
@@ -66,7 +50,7 @@ pub both_among : (es : List Edge) (k : ℕ) (d : Edge) → k < length es
     → (is_among (places_of es) (get_or es k d).left.entry (get_or es k d).left.column ≡ true) × (is_among (places_of es) (get_or es k d).right.entry (get_or es k d).right.column ≡ true)
 both_among [] k d low = absurd (omega arith)
 both_among (e ∷ es) zero d low = (
-  first_or (is_at e.left.entry e.left.column e.left) (is_at e.left.entry e.left.column e.right || is_among (places_of es) e.left.entry e.left.column) (at_itself e.left),
+  or_left (is_at e.left.entry e.left.column e.left) (is_at e.left.entry e.left.column e.right || is_among (places_of es) e.left.entry e.left.column) (at_itself e.left),
   next_or (is_at e.right.entry e.right.column e.left) (is_at e.right.entry e.right.column e.right) (is_among (places_of es) e.right.entry e.right.column) (at_itself e.right),
 )
 both_among (e ∷ es) (suc k) d low =

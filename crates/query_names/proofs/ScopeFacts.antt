@@ -17,15 +17,10 @@ use Rattle.query_names.specs.declared.scope.EntryColumn.{EntryColumn}
 use Rattle.query_types.specs.declared.types.Source.{Source}
 use Rattle.schema_types.specs.Names.{place_of}
 use Rattle.query_names.specs.Names.{column_in, column_named, column_at, column_names}
-use Rattle.query_names.specs.Scopes.{only, in_scope, numbered}
+use Rattle.query_names.specs.Scopes.{in_scope, numbered}
 use Rattle.query_names.specs.Binding.{columns_in, schema_of, from_of, Shows}
 
 -- ---- the first two of a list
-
-pub only_of_two : {A : Type 0} (xs : List A) → only xs ≡ only (take 2 xs)
-only_of_two [] = refl
-only_of_two (x ∷ []) = refl
-only_of_two (x ∷ y ∷ rest) = refl
 
 first_two_of : {A : Type 0} (xs zs : List A) → take 2 (xs ++ zs) ≡ take 2 (take 2 xs ++ zs)
 first_two_of [] zs = refl

@@ -42,7 +42,7 @@ no_offence_here schema text sources whole earlier earlier' i d one below left is
 
 -- ---- offences item by item
 
-first-append : (xs ys : List ℕ) (n : ℕ) → first xs ≡ Some n → first (xs ++ ys) ≡ Some n
+pub first-append : (xs ys : List ℕ) (n : ℕ) → first xs ≡ Some n → first (xs ++ ys) ≡ Some n
 first-append [] ys n is = cc
 first-append (x ∷ xs) ys n is = is
 

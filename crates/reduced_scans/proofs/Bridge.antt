@@ -83,10 +83,6 @@ one_slot a b true false e = absurd (omega arith)
 one_slot a b false true e = absurd (omega arith)
 one_slot a b false false e = (omega arith, refl)
 
-opposite_twice : (on : Bool) → opposite (opposite on) ≡ on
-opposite_twice true = refl
-opposite_twice false = refl
-
 some_one : (a b : ℕ × ℕ) → Some a ≡ Some b → a ≡ b
 some_one a b e = cc
 

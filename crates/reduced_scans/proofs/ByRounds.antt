@@ -1,8 +1,9 @@
 -- Rounds end in the reduced scans: every round keeps what a consistent family has, and the rows run out.
-use Rattle.std.proofs.Common.{◌≡◌, ℕ, zero, suc, ◌+◌, ◌<◌, ◌≤◌, Bool, true, false, not, ◌||◌, List, [], ◌∷◌, length, refl, ap, sym, ◌∙◌, subst, arith, inl, inr}
+use Rattle.std.proofs.Common.{◌≡◌, ℕ, zero, suc, ◌+◌, ◌<◌, ◌≤◌, Bool, true, not, ◌||◌, List, [], ◌∷◌, length, refl, ap, sym, ◌∙◌, subst, arith, inl, inr}
 use Rattle.std.specs.Prelude.{◌==◌}
 use Rattle.std.specs.List.{Contains, filter, list_any}
 use Rattle.std.proofs.lemmas.Bool.{and_from, and_parts, cases_Bool, cases_eq, eq-eqb, eqb-true, false≢true}
+use Rattle.std.proofs.Math.Bool.{or-true}
 use Rattle.berge_tree.specs.declared.edges.Edge.{Edge}
 use Rattle.query_types.specs.declared.types.Query.{Query}
 use Rattle.join_graph.specs.Conjuncts.{equalities_of}
@@ -15,6 +16,7 @@ use Rattle.reduced_scans.specs.Rounds.{after_rounds, finds_all, finds_partners, 
 use Rattle.reduced_scans.specs.Scans.{AreReducedScans}
 use Rattle.reduced_scans.proofs.Members.{behind, in_cases, in_front, not_in_none}
 use Rattle.join_steps.proofs.WholeScans.{ascending, filter_ascends}
+use Rattle.level_bounds.proofs.Scanning.{implied, implies}
 
 -- ---- tests of any, read and made
 
@@ -26,24 +28,12 @@ some_of p (x ∷ xs) h = elim (cases_Bool (p x)) [
       let found : (y : ℕ) × Contains xs y × (p y ≡ true) = some_of p xs rest in (found.0, behind found.0 x xs found.1, found.2))
 ]
 
-or_true : (b : Bool) → (b || true) ≡ true
-or_true true = refl
-or_true false = refl
-
 any_of : (p : ℕ → Bool) (xs : List ℕ) (x : ℕ) → Contains xs x → p x ≡ true → list_any p xs ≡ true
 any_of p [] x has is = absurd (not_in_none x has)
 any_of p (y ∷ xs) x has is = elim (in_cases x y xs has) [
   | inl here ↦ (let first : p y ≡ true = ap p here ∙ is in rw first refl)
-  | inr there ↦ rw (any_of p xs x there is) (or_true (p y))
+  | inr there ↦ rw (any_of p xs x there is) (or-true (p y))
 ]
-
-implied : (a b : Bool) → (not a || b) ≡ true → a ≡ true → b ≡ true
-implied true b h e = h
-implied false b h e = absurd (false≢true e)
-
-implies : (a b : Bool) → (a ≡ true → b ≡ true) → (not a || b) ≡ true
-implies true b h = h refl
-implies false b h = refl
 
 -- ---- the partners that a row finds
 

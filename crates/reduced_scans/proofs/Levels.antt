@@ -1,5 +1,5 @@
 -- The choices of a level over all entries are matches of scanned rows, so their rows are reduced ones.
-use Rattle.std.proofs.Common.{◌≡◌, ℕ, ◌<◌, Bool, true, false, not, ◌||◌, eqb, List, [], ◌∷◌, length, get_or, map, refl, ap, sym, ◌∙◌, subst, arith, inl, inr}
+use Rattle.std.proofs.Common.{◌≡◌, ℕ, ◌<◌, true, false, not, ◌||◌, eqb, List, [], ◌∷◌, length, get_or, map, ap, sym, ◌∙◌, subst, arith, inl, inr}
 use Rattle.std.specs.Prelude.{All, Some}
 use Rattle.std.specs.List.{AllByRecursion, Contains, list_all, range_with_len}
 use Rattle.std.proofs.lemmas.Bool.{and_parts, eqb-true, false≢true, or_cases}
@@ -25,15 +25,8 @@ use Rattle.join_steps.specs.Lists.{list_at, scans_of}
 use Rattle.reduced_scans.specs.Scans.{AreReducedScans, SatisfiesEqualities}
 use Rattle.reduced_scans.proofs.Matches.{match_stays}
 use Rattle.join_steps.proofs.WholeScans.{count_of, scan_at}
+use Rattle.level_bounds.proofs.Scanning.{implied, implies}
 use Rattle.reduced_scans.proofs.QueryScans.{name_entries}
-
-implied : (a b : Bool) → (not a || b) ≡ true → a ≡ true → b ≡ true
-implied true b h e = h
-implied false b h e = absurd (false≢true e)
-
-implies : (a b : Bool) → (a ≡ true → b ≡ true) → (not a || b) ≡ true
-implies true b h = h refl
-implies false b h = refl
 
 module _ (query : Query) (tables : Tables) (asks : AllByRecursion AsksOnly (conjuncts_of query tables)) (named : NamesItsEntries query) (order : List ℕ) (o : IsOrderOfSet (entries_of query) order)
     (choice : List ℕ) (k : Contains (query_level query tables order) choice) where

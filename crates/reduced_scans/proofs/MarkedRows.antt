@@ -4,9 +4,10 @@ use Rattle.std.specs.Prelude.{if◌then◌else◌}
 use Rattle.std.specs.List.{Contains}
 use Rattle.std.proofs.lemmas.Bool.{cases_Bool}
 use Rattle.join_steps.specs.Lists.{IsAscending, IsFamily, list_at}
+use Rattle.berge_tree.proofs.Forest.{all_in}
 use Rattle.reduced_scans.specs.Families.{AreAscending}
 use Rattle.reduced_scans.specs.Wiring.{first_item, marked_family, marked_rows, row_at}
-use Rattle.reduced_scans.proofs.Members.{all_has, behind, has_all, in_cases, in_front, not_in_none}
+use Rattle.reduced_scans.proofs.Members.{all_has, behind, in_cases, in_front, not_in_none}
 
 rows_yes : (kept : ℕ → Bool) (first row : ℕ) (rows : List ℕ) → kept first ≡ true → marked_rows kept first (row ∷ rows) ≡ row ∷ marked_rows kept (first + 1) rows
 rows_yes kept first row rows is = rw is refl
@@ -65,7 +66,7 @@ marked_ascends : (kept : ℕ → Bool) (first : ℕ) (rows : List ℕ) → IsAsc
 marked_ascends kept first [] p = tt
 marked_ascends kept first (row ∷ rows) p = elim (cases_Bool (kept first)) [
   | inl yes_here ↦ subst IsAscending (sym (rows_yes kept first row rows yes_here))
-      (has_all (λ z. row < z) (marked_rows kept (first + 1) rows) (λ z has. all_has (λ z. row < z) rows z p.0 (marked_of kept (first + 1) rows z has)), marked_ascends kept (first + 1) rows p.1)
+      (all_in (λ z. row < z) (marked_rows kept (first + 1) rows) (λ z has. all_has (λ z. row < z) rows z p.0 (marked_of kept (first + 1) rows z has)), marked_ascends kept (first + 1) rows p.1)
   | inr no_here ↦ subst IsAscending (sym (rows_no kept first row rows no_here)) (marked_ascends kept (first + 1) rows p.1)
 ]
 

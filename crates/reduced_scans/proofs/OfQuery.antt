@@ -1,9 +1,9 @@
 -- The lists of a query's scans, and why its equalities hold just where cells are equal.
-use Rattle.std.proofs.Common.{◌≡◌, ℕ, zero, suc, ◌+◌, ◌<◌, ◌≤◌, Bool, not, ◌||◌, List, [], ◌∷◌, ◌++◌, Option, None, Some, option_map, length, get_or, take, ap, sym, ◌∙◌, subst, arith, inl, inr}
-use Rattle.std.specs.Prelude.{◌==◌, All, IsUtf8, slice_get}
-use Rattle.std.specs.List.{Contains, cons_option, filter, filter_map, list_all, range_with_len}
+use Rattle.std.proofs.Common.{◌≡◌, ℕ, zero, suc, ◌+◌, ◌<◌, ◌≤◌, Bool, not, ◌||◌, List, [], ◌∷◌, ◌++◌, Option, None, Some, length, get_or, take, ap, sym, ◌∙◌, subst, arith, inl, inr}
+use Rattle.std.specs.Prelude.{◌==◌, All, IsUtf8}
+use Rattle.std.specs.List.{Contains, cons_option, filter_map, list_all, range_with_len}
 use Rattle.std.specs.Ordering.{is_eq}
-use Rattle.std.proofs.lemmas.Bool.{cases_Bool, cases_lt}
+use Rattle.std.proofs.lemmas.Bool.{cases_lt}
 use Rattle.std.proofs.lemmas.List.{get_or_past, map-append}
 use Rattle.std.proofs.lemmas.List.Elements.{All-contains, Contains-get_or}
 use Rattle.std.proofs.lemmas.List.FromFn.{length-range_with_len}
@@ -11,9 +11,7 @@ use Rattle.berge_tree.specs.declared.edges.Edge.{Edge}
 use Rattle.csv_tables.specs.declared.types.Database.{Database}
 use Rattle.csv_tables.specs.Pools.{AreDifferent}
 use Rattle.csv_tables.specs.Values.{value_cmp}
-use Rattle.schema_types.specs.declared.types.Kind.{Kind}
 use Rattle.schema_types.specs.declared.types.Kind.TheVariants as kind
-use Rattle.query_types.specs.Validity.{is_text}
 use Rattle.query_types.specs.declared.types.ColumnRef.{ColumnRef}
 use Rattle.query_types.specs.declared.types.Operand.TheVariants as operand
 use Rattle.query_types.specs.declared.types.Cond.{Cond, every_here-Cond}
@@ -28,7 +26,7 @@ use Rattle.sql_meaning.specs.Tables.{cells_of, row_counts, tables_of}
 use Rattle.sql_meaning.proofs.LoopFacts.{rows_are}
 use Rattle.join_steps.specs.Columns.{column_cells}
 use Rattle.join_steps.specs.Lists.{scan_of, list_at, lists_of, scans_of}
-use Rattle.join_steps.proofs.Cells.{cell_of_row, same_cells, value_by_cell}
+use Rattle.join_steps.proofs.Cells.{cell_of_row, same_cells, value_by_cell, kind_at}
 use Rattle.level_bounds.specs.Keys.{are_equal_at, cell_at, value_at}
 use Rattle.level_bounds.proofs.EqualityFacts.{IsJoin, is_join}
 use Rattle.level_bounds.proofs.Lists.{from_filter_map}
@@ -38,6 +36,7 @@ use Rattle.reduced_scans.specs.Wiring.{TellsByKey, first_item, marked_family, ma
 use Rattle.reduced_scans.proofs.MarkedRows.{family-take}
 use Rattle.reduced_scans.proofs.OneReduced.{same_lists}
 use Rattle.join_steps.proofs.WholeScans.{count_of, length-lists_of, scan_at, scan_past}
+use Rattle.reduced_scans.proofs.ByRounds.{filter_shrinks}
 use Rattle.reduced_scans.proofs.QueryScans.{scanned_low}
 
 -- ---- lists in buffers
@@ -52,15 +51,6 @@ pub read_short : (lists : List (Rows ℕ)) → ((entry : ℕ) → length (list_a
     → list ≡ get_or lists entry list → length list.items ≤ most_rows
 read_short lists short entry list low is = omega (arith, ap (λ (l : List ℕ). length l) (read_list lists entry list low is), short entry)
 
--- where each list is the one of its entry, so it is with one list more
-pub lists_more : (lists : List (Rows ℕ)) (list : Rows ℕ) (wanted : ℕ → List ℕ) (entry : ℕ) → ((k : ℕ) → k < length lists → list_at (lists_of lists) k ≡ wanted k)
-    → list.items ≡ wanted (length lists) → entry < length lists + 1 → list_at (lists_of (lists ++ list ∷ [])) entry ≡ wanted entry
-lists_more [] list wanted zero are is low = is
-lists_more [] list wanted (suc entry) are is low = absurd (omega (arith, low))
-lists_more (first ∷ lists) list wanted zero are is low = are 0 (omega arith)
-lists_more (first ∷ lists) list wanted (suc entry) are is low =
-    lists_more lists list (λ k. wanted (suc k)) entry (λ k within. are (suc k) (omega (arith, within))) is (omega (arith, low))
-
 -- the marked rows of one more list
 pub marked_more : (kept : ℕ → Bool) (scans lists new : List (Rows ℕ)) (entry first : ℕ) (rows : Rows ℕ) (list : List ℕ) → entry < length scans → new ≡ lists ++ rows ∷ []
     → first ≡ first_item (lists_of scans) entry → list ≡ list_at (lists_of scans) entry → rows.items ≡ marked_rows kept first list
@@ -73,18 +63,11 @@ marked_more kept scans lists new entry first rows list low more is_first is_list
 
 -- ---- lengths
 
-length-filtered : (p : ℕ → Bool) (xs : List ℕ) → length (filter p xs) ≤ length xs
-length-filtered p [] = omega arith
-length-filtered p (x ∷ xs) = elim (cases_Bool (p x)) [
-  | inl passes ↦ rw passes (omega (arith, length-filtered p xs))
-  | inr fails ↦ rw fails (omega (arith, length-filtered p xs))
-]
-
 pub length-scan : (query : Query) (db : Database) (entry : ℕ) → length (scan_of query db entry) ≤ row_counts (tables_of db) entry
 length-scan query db entry =
     omega (
       arith,
-      length-filtered (λ row. list_all (λ c. not (names_just c entry) || c.holds (λ e. row)) (conjuncts_of query (tables_of db))) (range_with_len 0 (row_counts (tables_of db) entry)),
+      filter_shrinks (λ row. list_all (λ c. not (names_just c entry) || c.holds (λ e. row)) (conjuncts_of query (tables_of db))) (range_with_len 0 (row_counts (tables_of db) entry)),
       length-range_with_len 0 (row_counts (tables_of db) entry),
     )
 
@@ -143,14 +126,6 @@ pub joins_columns : (query : Query) (db : Database) → IsDatabaseOf query db �
 joins_columns query db of i d low =
     let kinds : JoinsKinds db (get_or (equalities_of query) i d) = joins_kinds query db (get_or (equalities_of query) i d) of (Contains-get_or (equalities_of query) i d low) in
     record { left = kinds.left.exists; right = kinds.right.exists }
-
-kind_at : (db : Database) (column : ColumnRef) (text : Bool) → IsColumnOfKind db column text → is_text (get_or (cells_of db column.from).kinds column.column kind.Int) ≡ text
-kind_at db column text h = read (cells_of db column.from).kinds column.column h.exists.exists h.kind
-  where
-    read : (kinds : List Kind) (i : ℕ) → i < length kinds → option_map is_text (slice_get kinds i) ≡ Some text → is_text (get_or kinds i kind.Int) ≡ text
-    read [] i low h = absurd (omega arith)
-    read (k ∷ kinds) zero low h = cc
-    read (k ∷ kinds) (suc i) low h = read kinds i (omega arith) h
 
 -- two columns of one kind have equal values just where they have equal cells
 columns_tell : (db : Database) (a b : ColumnRef) (text : Bool) (left right : ℕ) → AreTables db → AreDifferent db.pool → All IsUtf8 db.pool → IsColumnOfKind db a text → IsColumnOfKind db b text

@@ -1,7 +1,6 @@
 -- Semi-joins of lists in buffers.
 use Rattle.std.proofs.Common.{◌≡◌, ℕ, ◌<◌, ◌≤◌, true, List, [], ◌∷◌, Some, length, set, refl, ap, sym, ◌∙◌, subst, arith, inl, inr}
 use Rattle.std.specs.Prelude.{All, slice_get}
-use Rattle.std.specs.List.{filter}
 use Rattle.std.proofs.lemmas.Bool.{cases_eq}
 use Rattle.std.proofs.lemmas.List.{get_or-set_other, get_or-set_same, length-set, map-set}
 use Rattle.std.proofs.lemmas.List.Elements.{All-filter}
@@ -18,15 +17,12 @@ use Rattle.reduced_scans.specs.SemiJoins.{IsJoinedAt, IsSemiJoin}
 use Rattle.reduced_scans.specs.Wiring.{key_on}
 use Rattle.reduced_scans.proofs.ByRounds.{filter_shrinks}
 use Rattle.join_steps.proofs.WholeScans.{length-lists_of}
+use Rattle.level_bounds.proofs.NearWhole.{all_kept}
 use Rattle.reduced_scans.proofs.OfQuery.{read_list}
 
 -- a list as the code gets it
 pub got_list : (lists : List (Rows ℕ)) (entry : ℕ) (list : Rows ℕ) → slice_get lists entry ≡ Some list → list.items ≡ list_at (lists_of lists) entry
 got_list lists entry list got = read_list lists entry list (slice_get_within lists entry list got) (sym (get_or_from_slice_get lists entry list list got))
-
-all_pass : (xs : List ℕ) → filter (λ x. true) xs ≡ xs
-all_pass [] = refl
-all_pass (x ∷ xs) = ap (λ (l : List ℕ). x ∷ l) (all_pass xs)
 
 module _ (key : Keys) (side other : Place) where
   -- where nothing is put aside every row passes
@@ -35,7 +31,7 @@ module _ (key : Keys) (side other : Place) where
     count = refl;
     joined = record {
       test = λ row. true;
-      filtered = sym (all_pass (list_at lists side.entry));
+      filtered = sym (all_kept (list_at lists side.entry));
       passes = λ row partner in_list in_partners same. refl;
     };
     elsewhere = λ entry apart. refl;

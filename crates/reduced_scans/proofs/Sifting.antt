@@ -98,9 +98,6 @@ module _ (scans : List (List ℕ)) (equalities : List Edge) (key : Keys) (equal 
 
 -- ---- steps one after the other
 
-pub stay_none : (key : Keys) (equalities : List Edge) (lists : List (List ℕ)) → StaySifted key equalities lists lists
-stay_none key equalities lists = record { stay = λ scans equal tells sifted. sifted }
-
 pub stay_both : (key : Keys) (equalities : List Edge) (a b c : List (List ℕ)) → StaySifted key equalities a b → StaySifted key equalities b c → StaySifted key equalities a c
 stay_both key equalities a b c first second = record { stay = λ scans equal tells sifted. second.stay scans equal tells (first.stay scans equal tells sifted) }
 

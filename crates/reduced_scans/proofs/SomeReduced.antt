@@ -6,8 +6,9 @@ use Rattle.std.proofs.lemmas.Bool.{cases_eq, cases_lt, cases_Bool, eq-eqb, ne_eq
 use Rattle.std.proofs.lemmas.List.{get_or_past, get_or-set_same, get_or-set_other, length-set}
 use Rattle.berge_tree.specs.declared.edges.Edge.{Edge}
 use Rattle.join_steps.specs.Lists.{IsAscending, IsFamily, list_at}
+use Rattle.berge_tree.proofs.Forest.{all_in}
 use Rattle.reduced_scans.specs.Families.{AreAscending, HasPartner, HavePartners, IsConsistent, IsReduced}
-use Rattle.reduced_scans.proofs.Members.{not_in_none, in_front, behind, in_cases, each_or_some, all_has, has_all}
+use Rattle.reduced_scans.proofs.Members.{not_in_none, in_front, behind, in_cases, each_or_some, all_has}
 
 abbrev pub without : ℕ → List ℕ → List ℕ
 without x [] = []
@@ -64,7 +65,7 @@ still_ascends x [] p = p
 still_ascends x (y ∷ ys) p = elim (cases_eq y x) [
   | inl same ↦ subst IsAscending (sym (without_here x y ys same)) (still_ascends x ys p.1)
   | inr other ↦ subst IsAscending (sym (without_other x y ys other))
-      (has_all (λ z. y < z) (without x ys) (λ z has. all_has (λ z. y < z) ys z p.0 (before x ys z has)), still_ascends x ys p.1)
+      (all_in (λ z. y < z) (without x ys) (λ z has. all_has (λ z. y < z) ys z p.0 (before x ys z has)), still_ascends x ys p.1)
 ]
 
 -- how many rows stand in the lists together

@@ -16,7 +16,7 @@ use Rattle.join_steps.specs.Lists.{list_at, lists_of}
 use Rattle.limits.specs.Profile.{most_rows}
 use Rattle.reduced_scans.specs.Wiring.{AddsUses, AreWired, BeginsWith, Classes, IsNumbered, IsUseFor, StandsFor, first_item, key_on, near, opposite, row_at, slot_of}
 use Rattle.reduced_scans.proofs.MarkedRows.{items_within}
-use Rattle.reduced_scans.proofs.Members.{in_front, not_in_none}
+use Rattle.reduced_scans.proofs.Members.{in_front}
 
 -- ---- classes that go on
 
@@ -90,12 +90,6 @@ adds_one equality on first cells list count old mid new old_uses mid_uses new_us
     }
 
 -- ---- equality by equality
-
-pub wired_none : (scans : List (List ℕ)) (equalities : List Edge) (key : Keys) (classes : Classes) → AreWired scans equalities key classes 0 []
-wired_none scans equalities key classes = record {
-  sound = λ u has. absurd (not_in_none u has);
-  complete = λ number edge on place below. absurd (omega arith);
-}
 
 module _ (scans : List (List ℕ)) (equalities : List Edge) (key : Keys) (number : ℕ) (e : Edge) (numbered : IsNumbered equalities number e) where
   -- the uses of a side, where the cells are the keys of its column

@@ -19,8 +19,8 @@ pub fn one_reduction()
         → AreReducedScans query tables a → AreReducedScans query tables b → a ≡ b }
 {}
 
-/// Rounds end in the reduced scans: after a round for each scanned row and one more no row lacks a partner, and none went that
-/// stands in a family of which each row has its partners. So all reduced scans are this one family.
+/// Repeated rounds reach the reduced scans: after a round for each scanned row and one more, no row lacks a partner, and no row was removed
+/// that is in a family in which each row has its partners. So all reduced scans are this one family.
 pub fn reduced_scans_are_by_rounds()
     ensures are { (query : Query) (tables : Tables) → AreReducedScans query tables (reduced_of query tables) }
     ensures no_others { (query : Query) (tables : Tables) (reduced : List (List ℕ)) → AreReducedScans query tables reduced

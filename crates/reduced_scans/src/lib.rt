@@ -1,13 +1,13 @@
-//! Scans that are reduced by semi-joins: of the rows of each scan those that find partners, until nothing changes.
+//! Scans that are reduced by semi-joins: rows without a match across some equality are removed, until nothing changes.
 //!
 //! In: a query, its database, and the list of each entry's scan. Out: for each entry the list of its reduced rows, in file order, by
 //! `reduce_scans`.
 //!
-//! Semi-joins first put aside what has no partner at all, where values lie in a short range; of what is left each row is wired to the
-//! values that it gives and needs, and a worklist takes out the rows that lack a partner.
+//! First semi-joins remove rows without any match, where values lie in a short range. Then each row that is left is linked to the values
+//! that it gives and needs, and a worklist removes the rows whose match is gone.
 //!
-//! Callers cite `AreReducedScans`, and `reduced_of` for the same lists as a function. That there is exactly one such family, that
-//! rounds end in it, and that no row of the answer is lost by it, are laws.
+//! Callers cite `AreReducedScans`, and `reduced_of` for the same lists as a function. That there is exactly one such family, that repeated
+//! rounds reach it, and that no row of the answer is lost by it, are laws.
 #![tactic(auto)]
 
 mod classes;

@@ -115,11 +115,11 @@ fn marked_lists(
 /// The reduced scans of a query: of each entry's scan the most rows such that each finds, for each equality of one of the entry's
 /// columns with a column of another entry, a row with the same value among those of that entry; in file order.
 ///
-/// `scans` has the scan of each FROM entry, and the equalities are those of `split`. Semi-joins along the equalities, from the first to
-/// the last and back, first put rows aside whose value the other side doesn't have: where values lie in a short range each is looked up by
-/// its place. Of the rows that are left values are numbered by one hash of each cell, and a worklist takes out what lacks a partner. So the
-/// time is on average linear in the rows times their equalities, and so is the memory; all of it but the answer is let go before the call
-/// returns, and each list of the answer has room for its own rows alone.
+/// `scans` has the scan of each FROM entry, and the equalities are those of `split`. First semi-joins along the equalities, from the first
+/// to the last and back, remove rows whose value the other side doesn't have: where values lie in a short range, each is looked up by its
+/// place. Then the values of the rows that are left are numbered by one hash of each cell, and a worklist removes rows without a match. So
+/// the time is on average linear in the rows times their equalities, and so is the memory. All of it but the answer is let go before the
+/// call returns, and each list of the answer has room for its own rows alone.
 pub fn reduce_scans(
     alloc: Global,
     query: &Query,

@@ -1,7 +1,7 @@
 -- What dominates keys dominates other keys that are equal alike.
-use Rattle.std.proofs.Common.{◌≡◌, ◌↔◌, ℕ, ◌≤◌, Bool, true, false, cond, eqb, List, [], ◌∷◌, map, length, refl, ap, sym, ◌∙◌, subst, arith, inl, inr}
+use Rattle.std.proofs.Common.{◌≡◌, ◌↔◌, ℕ, ◌≤◌, Bool, true, cond, eqb, List, [], ◌∷◌, map, length, refl, ap, sym, ◌∙◌, subst, arith, inl, inr}
 use Rattle.std.specs.List.{AllByRecursion, Contains, IsDistinct, count_by, filter}
-use Rattle.std.proofs.lemmas.Bool.{cases_Bool, eqb-true, eqb-false, false≢true}
+use Rattle.std.proofs.lemmas.Bool.{cases_Bool, eqb-true, eqb-false}
 use Rattle.std.proofs.lemmas.List.{map-id}
 use Rattle.std.proofs.lemmas.List.Sums.{length-filter}
 use Rattle.std.proofs.lemmas.Map.Made.{Contains-tail}
@@ -10,20 +10,10 @@ use Rattle.degree_sequences.specs.Degrees.{degree_list, different}
 use Rattle.degree_sequences.specs.Domination.{DominatesKeys}
 use Rattle.degree_sequences.proofs.Counting.{is_in, IsDistinct-different, IsDistinct-filter, count_by-is_in, is_in-different}
 use Rattle.degree_sequences.proofs.RunningSums.{running_sum-mono}
+use Rattle.degree_lists.proofs.TallyFacts.{not_passed}
 use Rattle.renamed_lists.specs.Renaming.{AreEqualAlike, IsOneToOne}
 use Rattle.renamed_lists.proofs.Columns.{degrees_are, from_filter, from_map, its_own, keeps}
 use Rattle.renamed_lists.proofs.Mapped.{All-different, count-mapped, different-mapped, map-mapped}
-
--- what doesn't pass isn't kept
-kept_out : (p : ℕ → Bool) (D : List ℕ) (x : ℕ) → p x ≡ false → is_in (filter p D) x ≡ false
-kept_out p [] x fails = refl
-kept_out p (d ∷ D) x fails = elim (cases_Bool (p d)) [
-  | inl e ↦ (elim (cases_Bool (eqb x d)) [
-    | inl same ↦ absurd (false≢true (sym fails ∙ ap p (eqb-true x d same) ∙ e))
-    | inr differs ↦ rw (e, differs) (kept_out p D x fails)
-  ])
-  | inr e ↦ rw e (kept_out p D x fails)
-]
 
 -- of the different keys, those that get one of these numbers
 sources : (ℕ → ℕ) → List ℕ → List ℕ → List ℕ
@@ -34,7 +24,7 @@ source_found : (f : ℕ → ℕ) (keys picked : List ℕ) (key : ℕ) → is_in 
 unfolding sources
 source_found f keys picked key stands = elim (cases_Bool (is_in picked (f key))) [
   | inl e ↦ e ∙ sym (is_in-filtered (λ key. is_in picked (f key)) (different keys) key e ∙ stands)
-  | inr e ↦ e ∙ sym (kept_out (λ key. is_in picked (f key)) (different keys) key e)
+  | inr e ↦ e ∙ sym (not_passed (λ key. is_in picked (f key)) (different keys) key e)
 ]
 
 sources_distinct : (f : ℕ → ℕ) (keys picked : List ℕ) → IsDistinct eqb (sources f keys picked)

@@ -9,17 +9,8 @@ use Rattle.degree_sequences.proofs.Places.{All-range}
 use Rattle.cond_stats.specs.Frequency.{comes_before, by_frequency, frequent, remaining}
 use Rattle.cond_stats.specs.Leaves.{put_in_order, in_order, cuts, last_place, leaf_above, leaf_of}
 use Rattle.cond_stats.proofs.LeavesFound.{cut_place, cut_place-within, cuts-from, no_cuts}
+use Rattle.cond_stats.proofs.Sorting.{all-in_order}
 use Rattle.renamed_lists.proofs.Mapped.{KeepsEqual, All-different, any-mapped, degree-mapped, different-mapped, map-mapped, place-mapped}
-
-pub All-put_in_order : (P : ℕ → Type 0) (le : ℕ → ℕ → Bool) (v : ℕ) (s : List ℕ) → P v → AllByRecursion P s
-    → AllByRecursion P (put_in_order le v s)
-All-put_in_order P le v [] hv all = (hv, tt)
-All-put_in_order P le v (w ∷ s) hv all = cond_both (le v w) (v ∷ (w ∷ s)) (w ∷ put_in_order le v s) (AllByRecursion P)
-    (λ e. (hv, all)) (λ e. (all.0, All-put_in_order P le v s hv all.1))
-
-pub All-in_order : (P : ℕ → Type 0) (le : ℕ → ℕ → Bool) (s : List ℕ) → AllByRecursion P s → AllByRecursion P (in_order le s)
-All-in_order P le [] all = tt
-All-in_order P le (v ∷ s) all = All-put_in_order P le v (in_order le s) all.0 (All-in_order P le s all.1)
 
 length-put_in_order : (le : ℕ → ℕ → Bool) (v : ℕ) (s : List ℕ) → length (put_in_order le v s) ≡ suc (length s)
 length-put_in_order le v [] = refl
@@ -46,7 +37,7 @@ module _ (P : ℕ → Type 0) (le other : ℕ → ℕ → Bool) (f : ℕ → ℕ
   pub in_order-mapped : (s : List ℕ) → AllByRecursion P s → in_order other (map f s) ≡ map f (in_order le s)
   in_order-mapped [] all = refl
   in_order-mapped (v ∷ s) all = ap (put_in_order other (f v)) (in_order-mapped s all.1)
-      ∙ put_in_order-mapped v (in_order le s) all.0 (All-in_order P le s all.1)
+      ∙ put_in_order-mapped v (in_order le s) all.0 (all-in_order P le s all.1)
 
   pub cuts-mapped : (s : List ℕ) → AllByRecursion P s → cuts other (map f s) ≡ map f (cuts le s)
   cuts-mapped [] all = no_cuts other [] (omega arith) ∙ ap (map f) (sym (no_cuts le [] (omega arith)))
@@ -77,7 +68,7 @@ module _ (P : ℕ → Type 0) (le other : ℕ → ℕ → Bool) (f : ℕ → ℕ
       (All-mapped (λ i. get_or values (cut_place (length column) i) 0) (range_with_len 0 32) (All-range 0 32 32 (omega arith))
       (λ i low. All-get_or P values (cut_place (length column) i) 0
       (omega (arith, length-in_order le column, cut_place-within (length column) i (omega arith) low))
-      (All-from_recursion P values (All-in_order P le column all))))
+      (All-from_recursion P values (all-in_order P le column all))))
     where
       All-mapped : (h : ℕ → ℕ) (is : List ℕ) → AllByRecursion (λ i. i < 32) is → ((i : ℕ) → i < 32 → P (h i)) → AllByRecursion P (map h is)
       All-mapped h [] low each = tt
@@ -106,7 +97,7 @@ module _ (P : ℕ → Type 0) (f : ℕ → ℕ) (keeps : KeepsEqual P f) where
   remaining-mapped s all = ap (drop 32) (by_frequency-mapped s all) ∙ drop-map f 32 (by_frequency s)
 
 pub All-by_frequency : (P : ℕ → Type 0) (s : List ℕ) → AllByRecursion P s → AllByRecursion P (by_frequency s)
-All-by_frequency P s all = All-in_order P (comes_before s) (different s) (All-different P s all)
+All-by_frequency P s all = all-in_order P (comes_before s) (different s) (All-different P s all)
 
 pub All-frequent : (P : ℕ → Type 0) (s : List ℕ) → AllByRecursion P s → AllByRecursion P (frequent s)
 All-frequent P s all = recursion_from_All P (frequent s) (All-take P 32 (by_frequency s) (All-from_recursion P (by_frequency s) (All-by_frequency P s all)))

@@ -48,7 +48,7 @@ absent_is accuracy f g column joined other value one one_key missing missing_val
     ∙ sym (missing_is accuracy column joined value missing_value)
 
 -- a value stands in a column, or it is missing
-stands_or_misses : (column : List ℕ) (value : ℕ) → Contains column value ⊎ (Contains column value → ⊥)
+pub stands_or_misses : (column : List ℕ) (value : ℕ) → Contains column value ⊎ (Contains column value → ⊥)
 stands_or_misses [] value = inr (λ has. omega (arith, has.1))
 stands_or_misses (first ∷ column) value = elim (cases_Bool (eqb first value)) [
   | inl e ↦ inl (0, omega arith, eqb-true first value e)

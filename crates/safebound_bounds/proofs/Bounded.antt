@@ -4,13 +4,9 @@ use Rattle.std.specs.Prelude.{IsSome, IfOk, Result, Ok, Err, unwrap_or}
 use Rattle.std.specs.List.{AllByRecursion, list_any, range_with_len}
 use Rattle.std.proofs.lemmas.Bool.{and_parts, cases_lt}
 use Rattle.std.proofs.lemmas.List.{length-map}
-use Rattle.std.proofs.lemmas.List.FromFn.{get_or-map-range_with_len}
+use Rattle.std.proofs.lemmas.List.FromFn.{get_or-map-range_with_len, length-range_with_len}
 use Rattle.std.proofs.lemmas.Nat.{pow_pos}
-use Rattle.std.proofs.lemmas.Nat.Bits.{bit_at_above}
-use Rattle.std.specs.Int.{bit_at}
 use Rattle.entry_sets.specs.Sets.{entries_of_set, has_entry}
-use Rattle.entry_sets.proofs.Listing.{has_bit}
-use Rattle.degree_sequences.proofs.Minima.{length-range_with_len}
 use Rattle.degree_sequences.specs.Domination.{DominatesKeys}
 use Rattle.degree_sequences.specs.Saturation.{saturated}
 use Rattle.berge_tree.specs.declared.edges.Edge.{Edge}
@@ -27,6 +23,7 @@ use Rattle.set_bounds.specs.AllSets.{bounds_of_sets}
 use Rattle.safebound_lists.specs.declared.runs.Run.{Run}
 use Rattle.safebound_lists.specs.Runs.{AreRight, list_of}
 use Rattle.safebound_lists.specs.Written.{IsFilled}
+use Rattle.entry_sets.proofs.Listing.{entry_below}
 use Rattle.safebound_bounds.specs.declared.arguments.ColumnList.{ColumnList}
 use Rattle.safebound_bounds.specs.declared.arguments.Equality.{Equality}
 use Rattle.safebound_bounds.specs.Arguments.{equality_at, is_of, list_at, runs_of}
@@ -40,14 +37,6 @@ use Rattle.safebound_bounds.proofs.WithoutValues.{dominates_all, one_key_each}
 
 some_of : {X : Type 0} (o : Option X) (x : X) → o ≡ Some x → IsSome o
 some_of o x e = rw e refl
-
-entry_below : (n subset entry : ℕ) → subset < 2 ^ n → has_entry subset entry ≡ true → entry < n
-entry_below n subset entry fits has =
-    let bit : (entry < 16) × (bit_at subset entry ≡ 1) = has_bit subset entry has in
-    elim (cases_lt entry n) [
-      | inl below ↦ below
-      | inr above ↦ absurd (omega (arith, bit.1, bit_at_above subset n entry fits above))
-    ]
 
 -- ---- a list that is found
 

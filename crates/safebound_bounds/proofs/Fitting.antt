@@ -5,13 +5,13 @@ use Rattle.std.proofs.lemmas.List.{append-nil, take_all, take_more}
 use Rattle.std.proofs.lemmas.List.Folds.{sum_by-replicate}
 use Rattle.std.proofs.lemmas.List.Sums.{sum_by-append}
 use Rattle.degree_sequences.specs.Falling.{IsFalling}
-use Rattle.degree_sequences.specs.RunningSums.{cut_at, running_sum, with_running_sums}
+use Rattle.degree_sequences.specs.RunningSums.{cut_at}
 use Rattle.degree_sequences.proofs.Minima.{IsFalling-cut_at, running_sum-cut_at}
 use Rattle.degree_sequences.proofs.RunningSums.{running_sum-past}
-use Rattle.piece_math.proofs.RunningMinima.{positive-falling_trimmed}
 use Rattle.safebound_lists.specs.declared.runs.Run.{Run}
 use Rattle.safebound_lists.specs.Runs.{AreRight, list_of, no_run, run_at}
 use Rattle.safebound_lists.proofs.Following.{elements_at_least, list_of_more, no_more_than_sum}
+use Rattle.piece_math.proofs.Cutting.{positive-cut_at}
 use Rattle.safebound_bounds.specs.Meaning.{fitted}
 
 -- ---- a falling list and then a run of no larger elements
@@ -50,9 +50,6 @@ right_falls runs right = subst (λ (s : List Run). IsFalling (list_of s)) (take_
 
 -- ---- a fitted list
 
-pub positive_cut : (s : List ℕ) (n : ℕ) → IsFalling s → AllByRecursion (λ x. 0 < x) (cut_at s n)
-positive_cut s n fall = positive-falling_trimmed (with_running_sums (λ r. min (running_sum s r) n) (length s)) (IsFalling-cut_at s n fall)
-
 pub cut_sum : (s : List ℕ) (n : ℕ) → sum (cut_at s n) ≡ min (sum s) n
 cut_sum s n =
     sym (running_sum-past (cut_at s n) (length s + length (cut_at s n)) (omega arith))
@@ -73,7 +70,7 @@ one_or_more [] all = tt
 one_or_more (x ∷ s) all = (omega (arith, all.0), one_or_more s all.1)
 
 pub fitted_falls : (rows : ℕ) (s : List ℕ) → IsFalling s → IsFalling (fitted rows s)
-fitted_falls rows s fall = falls_on (cut_at s rows) 1 (rows - sum (cut_at s rows)) (IsFalling-cut_at s rows fall) (one_or_more (cut_at s rows) (positive_cut s rows fall))
+fitted_falls rows s fall = falls_on (cut_at s rows) 1 (rows - sum (cut_at s rows)) (IsFalling-cut_at s rows fall) (one_or_more (cut_at s rows) (positive-cut_at s rows fall))
 
 ones_positive : (n : ℕ) → AllByRecursion (λ x. 0 < x) (replicate n 1)
 ones_positive zero = tt
@@ -85,7 +82,7 @@ both_positive (x ∷ s) t all others = (all.0, both_positive s t all.1 others)
 
 pub fitted_positive : (rows : ℕ) (s : List ℕ) → IsFalling s → AllByRecursion (λ x. 0 < x) (fitted rows s)
 fitted_positive rows s fall =
-    both_positive (cut_at s rows) (replicate (rows - sum (cut_at s rows)) 1) (positive_cut s rows fall) (ones_positive (rows - sum (cut_at s rows)))
+    both_positive (cut_at s rows) (replicate (rows - sum (cut_at s rows)) 1) (positive-cut_at s rows fall) (ones_positive (rows - sum (cut_at s rows)))
 
 -- ---- as it is made
 

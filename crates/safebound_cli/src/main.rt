@@ -5,17 +5,11 @@ mod folder_store;
 mod stream_sink;
 
 use folder_store::FolderStore;
-use safebound_top::safebound;
+use safebound_top::{NO_MEMORY, NO_WORDS, safebound};
 use std::alloc::{AllocError, Global};
 use std::process::ExitCode;
 use std::{env, io};
 use stream_sink::StreamSink;
-
-// The status where memory was wanting, as the top call's own.
-const NO_MEMORY: u8 = 11;
-
-// No status of the top call: the words can't be had from the system.
-const NO_WORDS: u8 = 15;
 
 // The words after the program's name.
 fn words(rt: &HostRuntime) -> io::Result<Vec<String>> {

@@ -4,11 +4,11 @@ use Rattle.std.specs.Prelude.{IsOkAnd, codes}
 use Rattle.base_io.specs.Devices.{Growth, Reading}
 use Rattle.base_io.specs.Sinks.{GrewByPrefix, appended}
 use Rattle.outcomes.specs.declared.status.Status.{Status}
-use Rattle.safebound_top.specs.Accepted.{Accepted}
 use Rattle.safebound_top.specs.Call.{Call, CutThenTold, Tells}
 use Rattle.safebound_top.specs.Faults.{fault_text}
-use Rattle.safebound_top.specs.Headline.{DidNotGrow, DoneIsExact, Grew, GrewByLine, GrewWhole, Headline, ReadFaultsHaveTheirCause, RefusalsAreTheVerdict, WantOfMemoryLeavesItsLine, WasCut, WriteFaultsHaveTheirCause}
-use Rattle.safebound_top.specs.Texts.{out_text_of, plan_text}
+use Rattle.safebound_top.specs.Headline.{DidNotGrow, DoneIsExact, GrewByLine, GrewWhole, Headline, ReadFaultsHaveTheirCause, RefusalsAreTheVerdict, WantOfMemoryLeavesItsLine, WasCut, WasCutAndTold, WriteFaultsHaveTheirCause, grown}
+use Rattle.safebound_top.specs.Outcome.{Outcome}
+use Rattle.safebound_top.specs.OutcomeTexts.{notes_text, out_text}
 use Rattle.safebound_top.specs.Verdict.{verdict}
 
 -- what stands behind the name
@@ -79,22 +79,33 @@ was_cut_behind : (name : ℕ) (before : List ℕ) (after : Option (List ℕ)) (f
 was_cut_behind name before after f f' None h = h
 was_cut_behind name before after f f' (Some text) h = prefix_behind name before after text h
 
+was_cut_and_told_behind : (name : ℕ) (before : List ℕ) (after : Option (List ℕ)) (f f' : ℕ) (text : Option (List ℕ)) (line : List ℕ)
+    → WasCutAndTold (with_name name before after f f') text line → WasCutAndTold (without_name before after f f') text line
+was_cut_and_told_behind name before after f f' None line h = h
+was_cut_and_told_behind name before after f f' (Some text) line h = cut_behind name before after text line h
+
+-- what is told after a text, where there is one
+told_after_behind : (name : ℕ) (before : List ℕ) (after : Option (List ℕ)) (f f' : ℕ) (text : Option (List ℕ)) (line : List ℕ)
+    → Tells (grown (Some (name ∷ before)) text) after f f' line → Tells (grown (Some before) text) (behind after) f f' line
+told_after_behind name before after f f' None line h = tells_behind name before after f f' line h
+told_after_behind name before after f f' (Some text) line h = tells_behind name (before ++ text) after f f' line h
+
 -- a value of which more holds
 and_more : {A E : Type 0} (P Q : A → Type 0) (r : Result A E) → ((x : A) → P x → Q x) → IsOkAnd r P → IsOkAnd r Q
 and_more P Q (Ok x) more h = more x h
 and_more P Q (Err e) more h = h
 
--- ---- what an accepted run leaves, by how the call ended
+-- ---- what an accepted call leaves, by how the call ended
 
-abbrev pub LeftByDone : Growth → Growth → Accepted → Type 0
-LeftByDone out notes run = Grew notes (plan_text run) × GrewWhole out (out_text_of run)
+abbrev pub LeftByDone : Growth → Growth → Outcome → Type 0
+LeftByDone out notes outcome = GrewWhole notes (notes_text outcome) × GrewWhole out (out_text outcome)
 
-abbrev pub LeftByCutNotes : Growth → List ℕ → Accepted → Type 0
-LeftByCutNotes notes line run = CutThenTold notes.taken_before notes.taken_after (plan_text run) line
+abbrev pub LeftByCutNotes : Growth → List ℕ → Outcome → Type 0
+LeftByCutNotes notes line outcome = WasCutAndTold notes (notes_text outcome) line
 
-abbrev pub LeftByCutOut : Growth → Growth → List ℕ → Accepted → Type 0
-LeftByCutOut out notes line run = WasCut out (out_text_of run)
-    × Tells (appended notes.taken_before (plan_text run)) notes.taken_after notes.faults_before notes.faults_after line
+abbrev pub LeftByCutOut : Growth → Growth → List ℕ → Outcome → Type 0
+LeftByCutOut out notes line outcome = WasCut out (out_text outcome)
+    × Tells (grown notes.taken_before (notes_text outcome)) notes.taken_after notes.faults_before notes.faults_after line
 
 -- ---- the headline
 
@@ -126,17 +137,20 @@ module _ (words : List (List ℕ)) (status : Status) (store : Reading)
   line_told : (line : List ℕ) → GrewByLine named_call.notes line → GrewByLine bare_call.notes line
   line_told line h = tells_behind notes_name notes_before notes_after n n' line h
 
-  done_behind : (run : Accepted) → LeftByDone named_call.out named_call.notes run → LeftByDone bare_call.out bare_call.notes run
-  done_behind run h = (ap behind h.0, whole_behind out_name out_before out_after o o' (out_text_of run) h.1)
+  done_behind : (outcome : Outcome) → LeftByDone named_call.out named_call.notes outcome → LeftByDone bare_call.out bare_call.notes outcome
+  done_behind outcome h = (
+    whole_behind notes_name notes_before notes_after n n' (notes_text outcome) h.0,
+    whole_behind out_name out_before out_after o o' (out_text outcome) h.1,
+  )
 
-  cut_notes_behind : (line : List ℕ) (run : Accepted) → LeftByCutNotes named_call.notes line run → LeftByCutNotes bare_call.notes line run
-  cut_notes_behind line run h = cut_behind notes_name notes_before notes_after (plan_text run) line h
+  cut_notes_behind : (line : List ℕ) (outcome : Outcome) → LeftByCutNotes named_call.notes line outcome → LeftByCutNotes bare_call.notes line outcome
+  cut_notes_behind line outcome h = was_cut_and_told_behind notes_name notes_before notes_after n n' (notes_text outcome) line h
 
-  cut_out_behind : (line : List ℕ) (run : Accepted) → LeftByCutOut named_call.out named_call.notes line run
-      → LeftByCutOut bare_call.out bare_call.notes line run
-  cut_out_behind line run h = (
-    was_cut_behind out_name out_before out_after o o' (out_text_of run) h.0,
-    tells_behind notes_name (notes_before ++ plan_text run) notes_after n n' line h.1,
+  cut_out_behind : (line : List ℕ) (outcome : Outcome) → LeftByCutOut named_call.out named_call.notes line outcome
+      → LeftByCutOut bare_call.out bare_call.notes line outcome
+  cut_out_behind line outcome h = (
+    was_cut_behind out_name out_before out_after o o' (out_text outcome) h.0,
+    told_after_behind notes_name notes_before notes_after n n' (notes_text outcome) line h.1,
   )
 
   module _ (h : Headline named_call) where

@@ -11,12 +11,12 @@ use Rattle.outcomes.specs.declared.refusal.Refusal.{Refusal}
 use Rattle.outcomes.specs.declared.refusal.Refusal.TheVariants as refusal
 use Rattle.outcomes.specs.declared.status.Status.{Status}
 use Rattle.outcomes.specs.declared.status.Status.TheVariants as status
-use Rattle.safebound_top.specs.Accepted.{Accepted}
 use Rattle.safebound_top.specs.Call.{Call, CutThenTold, Tells}
 use Rattle.safebound_top.specs.Faults.{fault_text}
-use Rattle.safebound_top.specs.Headline.{DidNotGrow, GrewWhole, Headline, WasCut}
+use Rattle.safebound_top.specs.Headline.{DidNotGrow, GrewWhole, Headline, WasCut, WasCutAndTold, grown}
+use Rattle.safebound_top.specs.Outcome.{Outcome}
+use Rattle.safebound_top.specs.OutcomeTexts.{notes_text as notes_of, out_text as out_of}
 use Rattle.safebound_top.specs.Shops.{store_read}
-use Rattle.safebound_top.specs.Texts.{out_text_of, plan_text}
 use Rattle.safebound_top.specs.Verdict.{verdict}
 use Rattle.demo_files.specs.Files.{demo_files}
 use Rattle.safebound_command.proofs.Behind.{LeftByCutNotes, LeftByCutOut, LeftByDone, headline_behind, named_call, with_name, without_name}
@@ -43,6 +43,16 @@ was_cut_name : (name : ℕ) (before : List ℕ) (after : Option (List ℕ)) (f f
     → WasCut (with_name name before after f f') text → name_in after ≡ name
 was_cut_name name before after f f' None h = absurd h
 was_cut_name name before after f f' (Some text) h = prefix_name name before after text h
+
+was_cut_and_told_name : (name : ℕ) (before : List ℕ) (after : Option (List ℕ)) (f f' : ℕ) (text : Option (List ℕ)) (line : List ℕ)
+    → WasCutAndTold (with_name name before after f f') text line → name_in after ≡ name
+was_cut_and_told_name name before after f f' None line h = absurd h
+was_cut_and_told_name name before after f f' (Some text) line h = cut_name name before after text line h
+
+told_after_name : (name : ℕ) (before : List ℕ) (after : Option (List ℕ)) (f f' : ℕ) (text : Option (List ℕ)) (line : List ℕ)
+    → Tells (grown (Some (name ∷ before)) text) after f f' line → name_in after ≡ name
+told_after_name name before after f f' None line h = prefix_name name before after line h.prefix
+told_after_name name before after f f' (Some text) line h = prefix_name name (before ++ text) after line h.prefix
 
 -- what follows from a fact on the value
 from_ok : {A E : Type 0} (P : A → Type 0) (Q : Type 0) (r : Result A E) → ((x : A) → P x → Q) → IsOkAnd r P → Q
@@ -71,16 +81,19 @@ module _ (words : List (List ℕ)) (store : Reading) (files : Files) (tells : st
     told_name (fault_text s words files) ((h.refusals_are_the_verdict.told r there is).1 files tells).1,
   )
 
-  done_names : (s : Status) (run : Accepted) → LeftByDone (call_with s).out (call_with s).notes run → Same
-  done_names s run h = (whole_name out_name out_before out_after o o' (out_text_of run) h.1, ap name_in h.0)
+  done_names : (s : Status) (outcome : Outcome) → LeftByDone (call_with s).out (call_with s).notes outcome → Same
+  done_names s outcome h = (
+    whole_name out_name out_before out_after o o' (out_of outcome) h.1,
+    whole_name notes_name notes_before notes_after n n' (notes_of outcome) h.0,
+  )
 
-  cut_notes_names : (s : Status) (line : List ℕ) (run : Accepted) → LeftByCutNotes (call_with s).notes line run → name_in notes_after ≡ notes_name
-  cut_notes_names s line run h = cut_name notes_name notes_before notes_after (plan_text run) line h
+  cut_notes_names : (s : Status) (line : List ℕ) (outcome : Outcome) → LeftByCutNotes (call_with s).notes line outcome → name_in notes_after ≡ notes_name
+  cut_notes_names s line outcome h = was_cut_and_told_name notes_name notes_before notes_after n n' (notes_of outcome) line h
 
-  cut_out_names : (s : Status) (line : List ℕ) (run : Accepted) → LeftByCutOut (call_with s).out (call_with s).notes line run → Same
-  cut_out_names s line run h = (
-    was_cut_name out_name out_before out_after o o' (out_text_of run) h.0,
-    prefix_name notes_name (notes_before ++ plan_text run) notes_after line h.1.prefix,
+  cut_out_names : (s : Status) (line : List ℕ) (outcome : Outcome) → LeftByCutOut (call_with s).out (call_with s).notes line outcome → Same
+  cut_out_names s line outcome h = (
+    was_cut_name out_name out_before out_after o o' (out_of outcome) h.0,
+    told_after_name notes_name notes_before notes_after n n' (notes_of outcome) line h.1,
   )
 
   pub same_names : (s : Status) → Headline (call_with s) → Same
@@ -95,6 +108,7 @@ module _ (words : List (List ℕ)) (store : Reading) (files : Files) (tells : st
   same_names (status.Schema cause at) h = refused_names (refusal.Schema cause at) (status.Schema cause at) (λ file e. cc) refl h
   same_names (status.Query cause at) h = refused_names (refusal.Query cause at) (status.Query cause at) (λ file e. cc) refl h
   same_names (status.Table table cause) h = refused_names (refusal.Table table cause) (status.Table table cause) (λ file e. cc) refl h
+  same_names (status.Stats cause at) h = refused_names (refusal.Stats cause at) (status.Stats cause at) (λ file e. cc) refl h
   same_names (status.Limit which file found) h = refused_names (refusal.Limit which file found) (status.Limit which file found) (λ other e. cc) refl h
   same_names (status.Budget least) h = refused_names (refusal.Budget least) (status.Budget least) (λ file e. cc) refl h
   same_names status.PastBits h = refused_names refusal.PastBits status.PastBits (λ file e. cc) refl h

@@ -5,13 +5,9 @@ ghost use Rattle.safebound_command.specs.Command.{Answers, written};
 
 use crate::rooms::run_over;
 use crate::words::{NoWords, texts};
+use outcomes::{NO_MEMORY, NO_WORDS};
 use slice_devices::SliceFile;
 use std::alloc::Global;
-
-// As the program's own: `NO_MEMORY` is a status of the top call, too, `NO_WORDS` is none.
-const NO_MEMORY: u32 = 11;
-
-const NO_WORDS: u32 = 15;
 
 /// Runs the program over these files, and writes what it writes to its two streams into two rooms. Answers its exit status.
 #[unsafe(no_mangle)]
@@ -31,8 +27,8 @@ pub extern "C" fn safebound_command(
     *notes_length = 0;
     let texts = match texts(alloc, words) {
         Ok(texts) => texts,
-        Err(NoWords::NotUtf8) => return NO_WORDS,
-        Err(NoWords::NoMemory) => return NO_MEMORY,
+        Err(NoWords::NotUtf8) => return NO_WORDS as u32,
+        Err(NoWords::NoMemory) => return NO_MEMORY as u32,
     };
     let ended = run_over(alloc, texts.as_slice(), files, out, notes);
     *out_length = ended.out;

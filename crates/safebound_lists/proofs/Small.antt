@@ -4,6 +4,7 @@ use Rattle.std.specs.List.{AllByRecursion}
 use Rattle.std.proofs.lemmas.List.Sums.{sum_by-cons}
 use Rattle.degree_sequences.specs.ByRank.{rank_sum}
 use Rattle.degree_sequences.specs.Saturation.{saturated}
+use Rattle.degree_sequences.proofs.ByRank.{sum-rank_sum}
 
 pub elements_within : (s : List ℕ) (n : ℕ) → sum s ≤ n → AllByRecursion (λ x. x ≤ n) s
 elements_within [] n h = tt
@@ -24,18 +25,6 @@ unsaturated (x ∷ s) all =
     ap (λ y. y ∷ map saturated s) same ∙ ap (λ (t : List ℕ). x ∷ t) (unsaturated s all.1)
 
 -- ---- the sum of two lists
-
-sum-rank_sum : (s t : List ℕ) → sum (rank_sum s t) ≡ sum s + sum t
-sum-rank_sum [] t = omega arith
-sum-rank_sum (x ∷ s) [] = omega arith
-sum-rank_sum (x ∷ s) (y ∷ t) =
-    omega (
-      arith,
-      sum-rank_sum s t,
-      sum_by-cons (λ (z : ℕ). z) x s,
-      sum_by-cons (λ (z : ℕ). z) y t,
-      sum_by-cons (λ (z : ℕ). z) (x + y) (rank_sum s t),
-    )
 
 -- what is answered for it
 pub sum_told : (s t both : List ℕ) → sum s + sum t ≤ 2 ^ 48 → both ≡ map saturated (rank_sum s t) → both ≡ rank_sum s t

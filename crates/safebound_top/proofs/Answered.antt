@@ -15,18 +15,18 @@ use Rattle.text_answers.proofs.SchemaAnswers as schemas
 use Rattle.csv_tables.specs.Rows.{Row}
 use Rattle.order_search.specs.declared.refusal.PlanError.{PlanError}
 use Rattle.order_search.specs.declared.refusal.PlanError.TheVariants as plan
-use Rattle.plans.specs.declared.left_deep.Plan.{Plan}
 use Rattle.outcomes.specs.Errors.{plan_ending, plan_refusal, query_ending, query_refusal, schema_ending, schema_refusal}
 use Rattle.outcomes.specs.Reads.{◌>>=◌, Tells, told}
 use Rattle.outcomes.specs.declared.refusal.Refusal.{Refusal}
 use Rattle.sql_meaning.specs.Tables.{Tables}
 use Rattle.table_files.specs.EntryTables.{tables_in}
-use Rattle.safebound_top.specs.Accepted.{Accepted}
-use Rattle.safebound_top.specs.Asks.{Ask}
+use Rattle.safebound_top.specs.Outcome.{Outcome, Planned}
 use Rattle.safebound_top.specs.Verdict.{plan_asked, plan_stage, run_asked}
+use Rattle.safebound_top.specs.declared.shapes.Shaped.{Shaped}
+use Rattle.safebound_top.specs.declared.task.PlanTask.{PlanTask}
 
 -- a value that is read is the answer's
-same_value : {A E : Type 0} (memory : E) (answer : Result A E) (x : A) → (Ok x ≡ Err memory) ⊎ (Ok x ≡ answer) → answer ≡ Ok x
+pub same_value : {A E : Type 0} (memory : E) (answer : Result A E) (x : A) → (Ok x ≡ Err memory) ⊎ (Ok x ≡ answer) → answer ≡ Ok x
 same_value memory answer x (inl e) = cc
 same_value memory answer x (inr e) = sym e
 
@@ -67,29 +67,34 @@ query_told s text e is = query_tells (query_answer s text) e (queries.only s tex
 -- ---- plans
 
 -- a plan that was made is the planned one
-pub was_made : (answer : Result Plan PlanError) (p : Plan) → (Ok p ≡ Err plan.NoMemory) ⊎ (Ok p ≡ answer) → answer ≡ Ok p
+pub was_made : (answer : Result Shaped PlanError) (p : Shaped) → (Ok p ≡ Err plan.NoMemory) ⊎ (Ok p ≡ answer) → answer ≡ Ok p
 was_made answer p h = same_value plan.NoMemory answer p h
 
-module _ (next : Plan → Result Accepted Refusal) where
-  plan_tells : (answer : Result Plan PlanError) (e : PlanError) → (e ≡ plan.NoMemory) ⊎ (answer ≡ Err e)
+pub was_refused : (answer : Result Shaped PlanError) (e : PlanError) → (◌≡◌ {A = Result Shaped PlanError} (Err e) (Err plan.NoMemory)) ⊎ (Err e ≡ answer)
+    → (e ≡ plan.NoMemory) ⊎ (answer ≡ Err e)
+was_refused answer e (inl none) = inl cc
+was_refused answer e (inr is) = inr (sym is)
+
+module _ (next : Shaped → Result Outcome Refusal) where
+  plan_tells : (answer : Result Shaped PlanError) (e : PlanError) → (e ≡ plan.NoMemory) ⊎ (answer ≡ Err e)
       → Tells (told plan_refusal answer >>= next) (plan_ending e)
   plan_tells answer plan.NoMemory h = tt
   plan_tells answer (plan.Budget least) (inl e) = cc
-  plan_tells answer (plan.Budget least) (inr e) = (ap (λ (r : Result Plan PlanError). told plan_refusal r >>= next) e, (λ file h. cc), (λ h. cc))
+  plan_tells answer (plan.Budget least) (inr e) = (ap (λ (r : Result Shaped PlanError). told plan_refusal r >>= next) e, (λ file h. cc), (λ h. cc))
   plan_tells answer plan.PastBits (inl e) = cc
-  plan_tells answer plan.PastBits (inr e) = (ap (λ (r : Result Plan PlanError). told plan_refusal r >>= next) e, (λ file h. cc), (λ h. cc))
+  plan_tells answer plan.PastBits (inr e) = (ap (λ (r : Result Shaped PlanError). told plan_refusal r >>= next) e, (λ file h. cc), (λ h. cc))
 
-module _ (ask : Ask) (query : Query) (rows : List (List Row)) (t : Tables) (same : tables_in rows ≡ t) where
+module _ (task : PlanTask) (query : Query) (rows : List (List Row)) (t : Tables) (same : tables_in rows ≡ t) where
   -- over the tables that a database has
-  over_rows : plan_asked ask query (tables_in rows) ≡ plan_asked ask query t
-  over_rows = ap (plan_asked ask query) same
+  over_rows : plan_asked task query (tables_in rows) ≡ plan_asked task query t
+  over_rows = ap (plan_asked task query) same
 
-  pub plan_stage_ok : (p : Plan) → plan_asked ask query t ≡ Ok p → plan_stage ask query rows ≡ Ok (run_asked ask query rows p)
+  pub plan_stage_ok : (p : Shaped) → plan_asked task query t ≡ Ok p → plan_stage task query rows ≡ Ok (Planned (run_asked task query rows p))
   unfolding plan_stage
-  plan_stage_ok p is = ap (λ (r : Result Plan PlanError). told plan_refusal r >>= λ p. Ok (run_asked ask query rows p)) (over_rows ∙ is)
+  plan_stage_ok p is = ap (λ (r : Result Shaped PlanError). told plan_refusal r >>= λ p. Ok (Planned (run_asked task query rows p))) (over_rows ∙ is)
 
-  pub plan_told : (e : PlanError) → (e ≡ plan.NoMemory) ⊎ (plan_asked ask query t ≡ Err e) → Tells (plan_stage ask query rows) (plan_ending e)
+  pub plan_told : (e : PlanError) → (e ≡ plan.NoMemory) ⊎ (plan_asked task query t ≡ Err e) → Tells (plan_stage task query rows) (plan_ending e)
   unfolding plan_stage
   plan_told e h =
-      plan_tells (λ p. Ok (run_asked ask query rows p)) (plan_asked ask query (tables_in rows)) e
-      (subst (λ (r : Result Plan PlanError). (e ≡ plan.NoMemory) ⊎ (r ≡ Err e)) (sym over_rows) h)
+      plan_tells (λ p. Ok (Planned (run_asked task query rows p))) (plan_asked task query (tables_in rows)) e
+      (subst (λ (r : Result Shaped PlanError). (e ≡ plan.NoMemory) ⊎ (r ≡ Err e)) (sym over_rows) h)

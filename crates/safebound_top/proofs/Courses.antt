@@ -3,7 +3,6 @@ use Rattle.std.proofs.Common.{◌≡◌, ◌⊎◌, ℕ, inl, inr, List, None, S
 use Rattle.std.specs.Prelude.{IsOkAnd, codes}
 use Rattle.base_io.specs.Causes.{Rose}
 use Rattle.base_io.specs.Files.{Files}
-use Rattle.base_io.specs.Sinks.{appended}
 use Rattle.outcomes.specs.Reads.{Ends, IsOfWhatIsThere, Reads}
 use Rattle.outcomes.specs.Statuses.{ended, refused}
 use Rattle.outcomes.specs.declared.ending.Ending.{Ending}
@@ -15,13 +14,13 @@ use Rattle.outcomes.specs.declared.refusal.Refusal.{Refusal}
 use Rattle.outcomes.specs.declared.refusal.Refusal.TheVariants as refusal
 use Rattle.outcomes.specs.declared.status.Status.TheVariants as status
 use Rattle.outcomes.proofs.StatusFacts.{ended_fault, ended_not_cut, ended_not_done, ended_refused, refused_not_cut, refused_not_done}
-use Rattle.safebound_top.specs.Accepted.{Accepted}
 use Rattle.safebound_top.specs.Asks.{command_stage}
-use Rattle.safebound_top.specs.Call.{Call, CutThenTold, Tells}
+use Rattle.safebound_top.specs.Call.{Call, Tells}
 use Rattle.safebound_top.specs.Course.{Course, Ended, Done, CutInNotes, CutInOut, How, Unasked, Asked, Ran, Stopped, Went, Told}
 use Rattle.safebound_top.specs.Faults.{fault_text}
 use Rattle.safebound_top.specs.Headline as say
-use Rattle.safebound_top.specs.Texts.{out_text_of, plan_text}
+use Rattle.safebound_top.specs.Outcome.{Outcome}
+use Rattle.safebound_top.specs.OutcomeTexts.{notes_text, out_text}
 use Rattle.safebound_top.specs.Verdict.{IsReached, verdict}
 use Rattle.safebound_top.proofs.Runs.{bounds_hold, rows_are_the_answer}
 
@@ -82,7 +81,7 @@ module _ (call : Call) (course : Course call) where
         by ending.NoMemory is = inr (status_is ∙ ap ended is)
 
   -- a run that was read to its end
-  module _ (run : Accepted) (reads : Reads call.store (verdict call.words) (IsReached call.words) (Ok run))
+  module _ (run : Outcome) (reads : Reads call.store (verdict call.words) (IsReached call.words) (Ok run))
       (written : Ended call.status call.out call.notes run course.line) where
     went_verdict : (files : Files) → call.store.files ≡ Some files → verdict call.words files ≡ Ok run
     went_verdict = reads.gives
@@ -107,48 +106,48 @@ module _ (call : Call) (course : Course call) where
         by (CutInOut e rose out line) = ended_not_cut ending.NoMemory sink.Out (sym is ∙ e)
 
     went_done : call.status ≡ status.Done → (files : Files) → call.store.files ≡ Some files
-        → IsOkAnd (verdict call.words files) (λ run. say.Grew call.notes (plan_text run) × say.GrewWhole call.out (out_text_of run))
+        → IsOkAnd (verdict call.words files) (λ run. say.GrewWhole call.notes (notes_text run) × say.GrewWhole call.out (out_text run))
     went_done is files told =
-        subst (λ (v : Result Accepted Refusal). IsOkAnd v (λ run. say.Grew call.notes (plan_text run) × say.GrewWhole call.out (out_text_of run))) (sym (went_verdict files told)) (by written)
+        subst (λ (v : Result Outcome Refusal). IsOkAnd v (λ run. say.GrewWhole call.notes (notes_text run) × say.GrewWhole call.out (out_text run))) (sym (went_verdict files told)) (by written)
       where
-        by : Ended call.status call.out call.notes run course.line → say.Grew call.notes (plan_text run) × say.GrewWhole call.out (out_text_of run)
+        by : Ended call.status call.out call.notes run course.line → say.GrewWhole call.notes (notes_text run) × say.GrewWhole call.out (out_text run)
         by (Done e notes out) = (notes, out)
         by (CutInNotes e rose out line) = absurd (let no : status.Done ≡ status.WriteFault sink.Notes = sym is ∙ e in cc)
         by (CutInOut e rose out line) = absurd (let no : status.Done ≡ status.WriteFault sink.Out = sym is ∙ e in cc)
 
     went_cut_notes : call.status ≡ status.WriteFault sink.Notes → say.FaultsRose call.notes × say.DidNotGrow call.out
-        × say.OverFiles call (λ files v. IsOkAnd v (λ run. CutThenTold call.notes.taken_before call.notes.taken_after (plan_text run) (fault_text call.status call.words files)))
+        × say.OverFiles call (λ files v. IsOkAnd v (λ run. say.WasCutAndTold call.notes (notes_text run) (fault_text call.status call.words files)))
     went_cut_notes is = by written
       where
         by : Ended call.status call.out call.notes run course.line → say.FaultsRose call.notes × say.DidNotGrow call.out
-            × say.OverFiles call (λ files v. IsOkAnd v (λ run. CutThenTold call.notes.taken_before call.notes.taken_after (plan_text run) (fault_text call.status call.words files)))
+            × say.OverFiles call (λ files v. IsOkAnd v (λ run. say.WasCutAndTold call.notes (notes_text run) (fault_text call.status call.words files)))
         by (Done e notes out) = absurd (let no : status.Done ≡ status.WriteFault sink.Notes = sym e ∙ is in cc)
         by (CutInNotes e rose out line) = (
           rose,
           out,
           (λ files told.
-              subst (λ (v : Result Accepted Refusal). IsOkAnd v (λ run. CutThenTold call.notes.taken_before call.notes.taken_after (plan_text run) (fault_text call.status call.words files)))
-              (sym (went_verdict files told)) (subst (CutThenTold call.notes.taken_before call.notes.taken_after (plan_text run)) (course.is_line files told) line)),
+              subst (λ (v : Result Outcome Refusal). IsOkAnd v (λ run. say.WasCutAndTold call.notes (notes_text run) (fault_text call.status call.words files)))
+              (sym (went_verdict files told)) (subst (say.WasCutAndTold call.notes (notes_text run)) (course.is_line files told) line)),
         )
         by (CutInOut e rose out line) = absurd (let no : status.WriteFault sink.Out ≡ status.WriteFault sink.Notes = sym e ∙ is in cc)
 
     went_cut_out : call.status ≡ status.WriteFault sink.Out → say.FaultsRose call.out
-        × say.OverFiles call (λ files v. IsOkAnd v (λ run. say.WasCut call.out (out_text_of run)
-        × Tells (appended call.notes.taken_before (plan_text run)) call.notes.taken_after call.notes.faults_before call.notes.faults_after (fault_text call.status call.words files)))
+        × say.OverFiles call (λ files v. IsOkAnd v (λ run. say.WasCut call.out (out_text run)
+        × Tells (say.grown call.notes.taken_before (notes_text run)) call.notes.taken_after call.notes.faults_before call.notes.faults_after (fault_text call.status call.words files)))
     went_cut_out is = by written
       where
         by : Ended call.status call.out call.notes run course.line → say.FaultsRose call.out
-            × say.OverFiles call (λ files v. IsOkAnd v (λ run. say.WasCut call.out (out_text_of run)
-            × Tells (appended call.notes.taken_before (plan_text run)) call.notes.taken_after call.notes.faults_before call.notes.faults_after (fault_text call.status call.words files)))
+            × say.OverFiles call (λ files v. IsOkAnd v (λ run. say.WasCut call.out (out_text run)
+            × Tells (say.grown call.notes.taken_before (notes_text run)) call.notes.taken_after call.notes.faults_before call.notes.faults_after (fault_text call.status call.words files)))
         by (Done e notes out) = absurd (let no : status.Done ≡ status.WriteFault sink.Out = sym e ∙ is in cc)
         by (CutInNotes e rose out line) = absurd (let no : status.WriteFault sink.Notes ≡ status.WriteFault sink.Out = sym e ∙ is in cc)
         by (CutInOut e rose out line) = (
           rose,
           (λ files told.
-              subst (λ (v : Result Accepted Refusal). IsOkAnd v (λ run. say.WasCut call.out (out_text_of run)
-              × Tells (appended call.notes.taken_before (plan_text run)) call.notes.taken_after call.notes.faults_before call.notes.faults_after (fault_text call.status call.words files)))
+              subst (λ (v : Result Outcome Refusal). IsOkAnd v (λ run. say.WasCut call.out (out_text run)
+              × Tells (say.grown call.notes.taken_before (notes_text run)) call.notes.taken_after call.notes.faults_before call.notes.faults_after (fault_text call.status call.words files)))
               (sym (went_verdict files told))
-              (out, subst (Tells (appended call.notes.taken_before (plan_text run)) call.notes.taken_after call.notes.faults_before call.notes.faults_after) (course.is_line files told) line)),
+              (out, subst (Tells (say.grown call.notes.taken_before (notes_text run)) call.notes.taken_after call.notes.faults_before call.notes.faults_after) (course.is_line files told) line)),
         )
 
     went_by_the_store : (files : Files) → call.store.files ≡ Some files
@@ -172,16 +171,13 @@ module _ (call : Call) (course : Course call) where
 
   -- ---- the eight sentences
 
-  abbrev Line : Type 0
-  Line = (files : Files) → call.store.files ≡ Some files → say.GrewByLine call.notes (fault_text call.status call.words files)
-
   -- 1
   done : How call course.line → say.DoneIsExact call
   done (Unasked h) is = absurd (let no : status.Usage ≡ status.Done = sym h.status ∙ is in cc)
   done (Asked h) is = by h.ran
     where
       by : Ran call.status call.store call.out call.notes (verdict call.words) (IsReached call.words) course.line
-          → say.OverFiles call (λ files v. IsOkAnd v (λ run. say.Grew call.notes (plan_text run) × say.GrewWhole call.out (out_text_of run)))
+          → say.OverFiles call (λ files v. IsOkAnd v (λ run. say.GrewWhole call.notes (notes_text run) × say.GrewWhole call.out (out_text run)))
       by (Stopped e s reads out told) = absurd (ended_not_done e (sym s ∙ is))
       by (Went run reads written) = went_done run reads written is
 

@@ -10,7 +10,7 @@ use Rattle.safebound_top.specs.Verdict.{verdict}
 abbrev audit_words : List (List ℕ)
 audit_words = codes "audit" ∷ codes "schema.sql" ∷ codes "query.sql" ∷ []
 
-audit_is : command_of audit_words ≡ Some (Audit (codes "schema.sql") (codes "query.sql") 1000000 1 false)
+audit_is : command_of audit_words ≡ Some (Audit (codes "schema.sql") (codes "query.sql") 1000000 1 false false)
 unfolding command_of kind_of parts_from reading_of
 audit_is = refl
 

@@ -6,26 +6,31 @@ use Rattle.std.proofs.lemmas.Bool.Decides.{nat_tests}
 use Rattle.safebound_words.specs.Answer.{command_of, reading_of}
 use Rattle.safebound_words.specs.CommandLines.{Reading, requested}
 use Rattle.safebound_words.specs.Numbers.{is_number, number_of, number_within}
-use Rattle.safebound_words.specs.Requests.{Request, Run, Plan, Audit, Demo}
-use Rattle.safebound_words.specs.Table.{Given, command_row, is_set, of_number, over_files, value_of, ◌>>=◌}
+use Rattle.safebound_words.specs.Requests.{Request, Run, Plan, Audit, Stats, PlanStats, Demo}
+use Rattle.safebound_words.specs.Table.{Given, command_row, file_of, is_set, most_budget_of, of_number, of_stats, over_files, planned_from, stands_alone, value_of, within, ◌>>=◌}
 use Rattle.safebound_words.specs.Words.{Word}
 use Rattle.safebound_words.specs.declared.table.CommandName.{CommandName}
 use Rattle.safebound_words.specs.declared.table.CommandName.TheVariants as command
 use Rattle.safebound_words.specs.declared.table.FlagName.TheVariants as flag
 use Rattle.safebound_words.specs.declared.table.OptionName.TheVariants as option
-use Rattle.safebound_top.specs.Asks.{Ask, asks, command_stage, request_stage}
+use Rattle.safebound_top.specs.Asks.{Ask, HasRanges, asks, command_stage, plan_for, request_stage, shape_asked}
+use Rattle.safebound_top.specs.Shapes as shapes
+use Rattle.safebound_top.specs.declared.task.OutText.{OutText}
+use Rattle.safebound_top.specs.declared.task.OutText.TheVariants as out_text
 
--- a budget and an accuracy
-pub record InRange (budget accuracy : ℕ) : Type 0 where
-  pub budget_most : budget ≤ 20000000
+-- a budget of at most so much, and an accuracy
+pub record InRange (most budget accuracy : ℕ) : Type 0 where
+  pub budget_most : budget ≤ most
   pub accuracy_least : 0 < accuracy
   pub accuracy_most : accuracy ≤ 64
 
-abbrev HasRanges : Request → Type 0
-HasRanges (Run schema query budget accuracy reduce) = InRange budget accuracy
-HasRanges (Plan schema query budget accuracy reduce) = InRange budget accuracy
-HasRanges (Audit schema query budget accuracy reduce) = InRange budget accuracy
-HasRanges (Demo number) = ⊤
+abbrev AreInRange : Request → Type 0
+AreInRange (Run schema query budget accuracy reduce bushy) = InRange (most_budget_of bushy) budget accuracy
+AreInRange (Plan schema query budget accuracy reduce bushy) = InRange (most_budget_of bushy) budget accuracy
+AreInRange (Audit schema query budget accuracy reduce bushy) = InRange (most_budget_of bushy) budget accuracy
+AreInRange (Stats schema query accuracy) = (1 ≤ accuracy) × (accuracy ≤ 64)
+AreInRange (PlanStats schema query file budget) = budget ≤ 20000000
+AreInRange (Demo number) = ⊤
 
 -- ---- one value
 
@@ -59,58 +64,117 @@ accuracy_in (word ∷ another ∷ words) n is = absurd (cc)
 
 -- ---- one command
 
-module _ (request : Word → Word → ℕ → ℕ → Bool → Request) (ranges : (schema query : Word) (budget accuracy : ℕ) (reduce : Bool) → InRange budget accuracy → HasRanges (request schema query budget accuracy reduce)) where
-  values_in : (budget accuracy : Option ℕ) (reduce : Option Bool) (schema query : Word) (r : Request) → ((n : ℕ) → budget ≡ Some n → n ≤ 20000000) → ((n : ℕ) → accuracy ≡ Some n → (1 ≤ n) × (n ≤ 64))
-      → (budget >>= λ b. accuracy >>= λ a. reduce >>= λ s. Some (request schema query b a s)) ≡ Some r → HasRanges r
-  values_in None accuracy reduce schema query r few close is = absurd (cc)
-  values_in (Some b) None reduce schema query r few close is = absurd (cc)
-  values_in (Some b) (Some a) None schema query r few close is = absurd (cc)
-  values_in (Some b) (Some a) (Some s) schema query r few close is =
-      let same : request schema query b a s ≡ r = cc in
-      subst HasRanges same (ranges schema query b a s (record { budget_most = few b refl; accuracy_least = omega (arith, (close a refl).0); accuracy_most = (close a refl).1 }))
+request_if : (test : Bool) (made r : Request) → (if test then Some made else None) ≡ Some r → (test ≡ true) × (made ≡ r)
+request_if true made r is = (refl, cc)
+request_if false made r is = absurd (cc)
 
-  files_in : (places : List Word) (given : Given) (r : Request) → over_files request places given ≡ Some r → HasRanges r
+most_if : (most n : ℕ) → nat_le n most ≡ true → n ≤ most
+most_if most n is = grind (arith, nat_tests)
+
+module _ (request : Word → Word → ℕ → ℕ → Bool → Bool → Request)
+    (ranges : (schema query : Word) (budget accuracy : ℕ) (reduce bushy : Bool) → InRange (most_budget_of bushy) budget accuracy → AreInRange (request schema query budget accuracy reduce bushy)) where
+  values_in : (budget accuracy : Option ℕ) (reduce bushy : Option Bool) (schema query : Word) (r : Request) → ((n : ℕ) → accuracy ≡ Some n → (1 ≤ n) × (n ≤ 64))
+      → (budget >>= λ b. accuracy >>= λ a. reduce >>= λ s. bushy >>= λ t. within (most_budget_of t) b (request schema query b a s t)) ≡ Some r → AreInRange r
+  values_in None accuracy reduce bushy schema query r close is = absurd (cc)
+  values_in (Some b) None reduce bushy schema query r close is = absurd (cc)
+  values_in (Some b) (Some a) None bushy schema query r close is = absurd (cc)
+  values_in (Some b) (Some a) (Some s) None schema query r close is = absurd (cc)
+  values_in (Some b) (Some a) (Some s) (Some t) schema query r close is =
+      let made = request_if (nat_le b (most_budget_of t)) (request schema query b a s t) r is in
+      subst AreInRange made.1 (ranges schema query b a s t (record {
+        budget_most = most_if (most_budget_of t) b made.0;
+        accuracy_least = omega (arith, (close a refl).0);
+        accuracy_most = (close a refl).1;
+      }))
+
+  files_in : (places : List Word) (given : Given) (r : Request) → over_files request places given ≡ Some r → AreInRange r
   files_in [] given r is = absurd (cc)
   files_in (schema ∷ []) given r is = absurd (cc)
   files_in (schema ∷ query ∷ []) given r is =
       values_in (value_of option.Budget (given.values option.Budget)) (value_of option.Accuracy (given.values option.Accuracy))
-      (is_set (given.times flag.Reduce)) schema query r (budget_in (given.values option.Budget)) (accuracy_in (given.values option.Accuracy)) is
+      (is_set (given.times flag.Reduce)) (is_set (given.times flag.Bushy)) schema query r (accuracy_in (given.values option.Accuracy)) is
   files_in (schema ∷ query ∷ more ∷ places) given r is = absurd (cc)
 
-number_has : (number : Option ℕ) (r : Request) → option_map Demo number ≡ Some r → HasRanges r
-number_has None r is = absurd (cc)
-number_has (Some n) r is = let same : Demo n ≡ r = cc in subst HasRanges same tt
+-- from a statistics file
+filed_in : (budget : Option ℕ) (alone : Bool) (schema query file : Word) (r : Request) → ((n : ℕ) → budget ≡ Some n → n ≤ 20000000)
+    → (budget >>= λ b. if alone then Some (PlanStats schema query file b) else None) ≡ Some r → AreInRange r
+filed_in None alone schema query file r few is = absurd (cc)
+filed_in (Some b) alone schema query file r few is =
+    let made = request_if alone (PlanStats schema query file b) r is in subst AreInRange made.1 (few b refl)
 
-demo_in : (places : List Word) (given : Given) (r : Request) → of_number Demo places given ≡ Some r → HasRanges r
+planned_in : (file : Option Word) (places : List Word) (given : Given) (r : Request) → planned_from file places given ≡ Some r → AreInRange r
+planned_in None places given r is = files_in Plan (λ schema query budget accuracy reduce bushy h. h) places given r is
+planned_in (Some file) [] given r is = absurd (cc)
+planned_in (Some file) (schema ∷ []) given r is = absurd (cc)
+planned_in (Some file) (schema ∷ query ∷ []) given r is =
+    filed_in (value_of option.Budget (given.values option.Budget)) (stands_alone given) schema query file r (budget_in (given.values option.Budget)) is
+planned_in (Some file) (schema ∷ query ∷ more ∷ places) given r is = absurd (cc)
+
+plan_in : (file : Option (Option Word)) (places : List Word) (given : Given) (r : Request) → (file >>= λ f. planned_from f places given) ≡ Some r → AreInRange r
+plan_in None places given r is = absurd (cc)
+plan_in (Some file) places given r is = planned_in file places given r is
+
+-- the statistics of a query
+accuracy_has : (accuracy : Option ℕ) (schema query : Word) (r : Request) → ((n : ℕ) → accuracy ≡ Some n → (1 ≤ n) × (n ≤ 64))
+    → option_map (Stats schema query) accuracy ≡ Some r → AreInRange r
+accuracy_has None schema query r close is = absurd (cc)
+accuracy_has (Some a) schema query r close is = let same : Stats schema query a ≡ r = cc in subst AreInRange same (close a refl)
+
+stats_in : (places : List Word) (given : Given) (r : Request) → of_stats places given ≡ Some r → AreInRange r
+stats_in [] given r is = absurd (cc)
+stats_in (schema ∷ []) given r is = absurd (cc)
+stats_in (schema ∷ query ∷ []) given r is =
+    accuracy_has (value_of option.Accuracy (given.values option.Accuracy)) schema query r (accuracy_in (given.values option.Accuracy)) is
+stats_in (schema ∷ query ∷ more ∷ places) given r is = absurd (cc)
+
+number_has : (number : Option ℕ) (r : Request) → option_map Demo number ≡ Some r → AreInRange r
+number_has None r is = absurd (cc)
+number_has (Some n) r is = let same : Demo n ≡ r = cc in subst AreInRange same tt
+
+demo_in : (places : List Word) (given : Given) (r : Request) → of_number Demo places given ≡ Some r → AreInRange r
 demo_in [] given r is = absurd (cc)
 demo_in (number ∷ []) given r is = number_has (number_within 0 4294967295 number) r is
 demo_in (number ∷ more ∷ places) given r is = absurd (cc)
 
-asks_in : (name : CommandName) (places : List Word) (given : Given) (r : Request) → (command_row name).asks places given ≡ Some r → HasRanges r
-asks_in command.Run places given r is = files_in Run (λ schema query budget accuracy reduce h. h) places given r is
-asks_in command.Plan places given r is = files_in Plan (λ schema query budget accuracy reduce h. h) places given r is
-asks_in command.Audit places given r is = files_in Audit (λ schema query budget accuracy reduce h. h) places given r is
+asks_in : (name : CommandName) (places : List Word) (given : Given) (r : Request) → (command_row name).asks places given ≡ Some r → AreInRange r
+asks_in command.Run places given r is = files_in Run (λ schema query budget accuracy reduce bushy h. h) places given r is
+asks_in command.Plan places given r is = plan_in (file_of (given.values option.Stats)) places given r is
+asks_in command.Audit places given r is = files_in Audit (λ schema query budget accuracy reduce bushy h. h) places given r is
+asks_in command.Stats places given r is = stats_in places given r is
 asks_in command.Demo places given r is = demo_in places given r is
 
 -- ---- the words
 
-read_in : (reading : Option Reading) (r : Request) → (reading >>= requested) ≡ Some r → HasRanges r
+read_in : (reading : Option Reading) (r : Request) → (reading >>= requested) ≡ Some r → AreInRange r
 read_in None r is = absurd (cc)
 read_in (Some reading) r is = asks_in reading.command _ _ r is
 
-command_in : (words : List Word) (r : Request) → command_of words ≡ Some r → HasRanges r
+command_in : (words : List Word) (r : Request) → command_of words ≡ Some r → AreInRange r
 unfolding command_of
 command_in words r is = read_in (reading_of words) r is
 
-asks_within : (r : Request) → HasRanges r → InRange (asks r).budget (asks r).accuracy
-asks_within (Run schema query budget accuracy reduce) h = h
-asks_within (Plan schema query budget accuracy reduce) h = h
-asks_within (Audit schema query budget accuracy reduce) h = h
-asks_within (Demo number) h = record { budget_most = omega arith; accuracy_least = omega arith; accuracy_most = omega arith }
+shape_in : (bushy : Bool) (budget : ℕ) → budget ≤ most_budget_of bushy → budget ≤ shapes.most_budget_of (shape_asked bushy)
+shape_in false budget h = h
+shape_in true budget h = h
 
-stage_in : (request : Option Request) (ask : Ask) → ((r : Request) → request ≡ Some r → HasRanges r) → request_stage request ≡ Ok ask → InRange ask.budget ask.accuracy
+plan_within : (out : OutText) (budget accuracy : ℕ) (reduce bushy : Bool) → InRange (most_budget_of bushy) budget accuracy → HasRanges (plan_for out budget accuracy reduce bushy)
+plan_within out budget accuracy reduce bushy h = record {
+  accuracy_least = h.accuracy_least;
+  accuracy_most = h.accuracy_most;
+  budget = shape_in bushy budget h.budget_most;
+}
+
+asks_within : (r : Request) → AreInRange r → HasRanges (asks r).work
+asks_within (Run schema query budget accuracy reduce bushy) h = plan_within out_text.Rows budget accuracy reduce bushy h
+asks_within (Plan schema query budget accuracy reduce bushy) h = plan_within out_text.Nothing budget accuracy reduce bushy h
+asks_within (Audit schema query budget accuracy reduce bushy) h = plan_within out_text.Audit budget accuracy reduce bushy h
+asks_within (Stats schema query accuracy) h = (omega (arith, h.0), h.1)
+asks_within (PlanStats schema query file budget) h = h
+asks_within (Demo number) h = record { accuracy_least = omega arith; accuracy_most = omega arith; budget = omega arith }
+
+stage_in : (request : Option Request) (ask : Ask) → ((r : Request) → request ≡ Some r → AreInRange r) → request_stage request ≡ Ok ask → HasRanges ask.work
 stage_in None ask h is = absurd (cc)
-stage_in (Some r) ask h is = let same : asks r ≡ ask = cc in subst (λ (a : Ask). InRange a.budget a.accuracy) same (asks_within r (h r refl))
+stage_in (Some r) ask h is = let same : asks r ≡ ask = cc in subst (λ (a : Ask). HasRanges a.work) same (asks_within r (h r refl))
 
-pub in_range : (words : List Word) (ask : Ask) → command_stage words ≡ Ok ask → InRange ask.budget ask.accuracy
+pub in_range : (words : List Word) (ask : Ask) → command_stage words ≡ Ok ask → HasRanges ask.work
 in_range words ask is = stage_in (command_of words) ask (command_in words) is

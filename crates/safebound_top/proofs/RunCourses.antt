@@ -16,14 +16,15 @@ use Rattle.outcomes.specs.declared.status.Status.{Status}
 use Rattle.outcomes.specs.declared.status.Status.TheVariants as status
 use Rattle.outcomes.proofs.ReadFacts.{Meets, joined, reads_as, then_reads, then_stops}
 use Rattle.printed_texts.specs.Faults.{error_line}
-use Rattle.safebound_top.specs.Accepted.{Accepted}
+use Rattle.safebound_top.specs.Outcome.{Outcome}
+use Rattle.query_types.specs.declared.types.Query.{Query}
 use Rattle.safebound_top.specs.Call.{Call}
 use Rattle.safebound_top.specs.Course.{Asked, Course, Ran, Stopped, Told, Unasked, Went}
 use Rattle.safebound_top.specs.Faults.{fault_text, status_line, where_ok}
 use Rattle.safebound_top.specs.Headline.{DidNotGrow}
-use Rattle.safebound_top.specs.Asks.{Ask, command_stage}
-use Rattle.safebound_top.specs.Verdict.{Asked as AskedFor, IsReached, IsTableOf, ask_run, query_from, query_read, schema_read, schema_run, schema_stage, verdict}
-use Rattle.safebound_top.proofs.Stages.{AtQueryOrTable}
+use Rattle.safebound_top.specs.Asks.{Ask, FileOf, PlanFrom, PlanOf, WorkAsk, command_stage}
+use Rattle.safebound_top.specs.Verdict.{Asked as AskedFor, IsReached, IsFileOf, IsWorkFile, ask_run, query_from, query_read, schema_read, schema_run, schema_stage, verdict}
+use Rattle.safebound_top.proofs.Stages.{AtQueryOrFile}
 
 -- the line of want of memory names nothing
 memory_line : (ask : Option Ask) (schema : Option Schema) → status_line status.NoMemory ask schema ≡ codes "error memory\n"
@@ -72,15 +73,27 @@ module _ (ask : Ask) (words : List (List ℕ)) (command : command_stage words �
   reached_schema : (files : Files) (id : FileId) → id ≡ file.Schema → IsReached words files id
   reached_schema files id at' = subst (IsReached words files) (sym at') (subst IsOk (sym command) refl)
 
-  reached_table : (files : Files) (r : Result AskedFor Refusal) (id : FileId) → query_read words files ≡ r → IsTableOf r files id → IsReached words files id
-  reached_table files (Ok asked) (file.Table number) is h = subst (λ (v : Result AskedFor Refusal). IsTableOf v files (file.Table number)) (sym is) h
-  reached_table files (Ok asked) file.Schema is h = absurd (let no : file.Schema ≡ file.Table h.number = h.file in cc)
-  reached_table files (Ok asked) file.Query is h = absurd (let no : file.Query ≡ file.Table h.number = h.file in cc)
-  reached_table files (Err r) id is h = absurd h
+  -- no work reads the schema or the query again
+  no_schema : (work : WorkAsk) (schema : Schema) (query : Query) (files : Files) → IsWorkFile work schema query files file.Schema → ⊥
+  no_schema (PlanOf task) schema query files h = let no : file.Schema ≡ file.Table h.number = h.file in cc
+  no_schema (FileOf accuracy) schema query files h = let no : file.Schema ≡ file.Table h.number = h.file in cc
+  no_schema (PlanFrom name budget) schema query files h = cc
 
-  reached_later : (schema : Schema) (files : Files) (id : FileId) → schema_stage ask.schema_file files ≡ Ok schema → AtQueryOrTable ask schema files id → IsReached words files id
+  no_query : (work : WorkAsk) (schema : Schema) (query : Query) (files : Files) → IsWorkFile work schema query files file.Query → ⊥
+  no_query (PlanOf task) schema query files h = let no : file.Query ≡ file.Table h.number = h.file in cc
+  no_query (FileOf accuracy) schema query files h = let no : file.Query ≡ file.Table h.number = h.file in cc
+  no_query (PlanFrom name budget) schema query files h = cc
+
+  reached_file : (files : Files) (r : Result AskedFor Refusal) (id : FileId) → query_read words files ≡ r → IsFileOf r files id → IsReached words files id
+  reached_file files (Ok asked) (file.Table number) is h = subst (λ (v : Result AskedFor Refusal). IsFileOf v files (file.Table number)) (sym is) h
+  reached_file files (Ok asked) file.Stats is h = subst (λ (v : Result AskedFor Refusal). IsFileOf v files file.Stats) (sym is) h
+  reached_file files (Ok asked) file.Schema is h = absurd (no_schema asked.work asked.schema asked.query files h)
+  reached_file files (Ok asked) file.Query is h = absurd (no_query asked.work asked.schema asked.query files h)
+  reached_file files (Err r) id is h = absurd h
+
+  reached_later : (schema : Schema) (files : Files) (id : FileId) → schema_stage ask.schema_file files ≡ Ok schema → AtQueryOrFile ask schema files id → IsReached words files id
   reached_later schema files id is (inl at') = subst (IsReached words files) (sym at') (subst IsOk (sym (schema_of files ∙ is)) refl)
-  reached_later schema files id is (inr at') = reached_table files (query_from ask schema files) id (query_of files schema is) at'
+  reached_later schema files id is (inr at') = reached_file files (query_from ask schema files) id (query_of files schema is) at'
 
   -- ---- the fault text
 
@@ -128,19 +141,19 @@ module _ (ask : Ask) (words : List (List ℕ)) (command : command_stage words �
 
   module _ (s : Status) (first second : Reading) (out notes : Growth) (schema : Schema) (meets : Meets first second)
       (reads : Reads first (schema_stage ask.schema_file) (AtFile file.Schema) (Ok schema)) where
-    ran_reads : (answer : Result Accepted Ending) → Reads second (schema_run ask schema) (AtQueryOrTable ask schema) answer → Reads (joined first second) (verdict words) (IsReached words) answer
+    ran_reads : (answer : Result Outcome Ending) → Reads second (schema_run ask schema) (AtQueryOrFile ask schema) answer → Reads (joined first second) (verdict words) (IsReached words) answer
     unfolding ask_run
     ran_reads answer h =
         reads_as (joined first second) (ask_run ask) (verdict words) (IsReached words) (IsReached words) answer verdict_of (λ files id at'. at')
-        (then_reads (schema_stage ask.schema_file) (schema_run ask) first second (AtFile file.Schema) (AtQueryOrTable ask schema) (IsReached words) schema answer meets
+        (then_reads (schema_stage ask.schema_file) (schema_run ask) first second (AtFile file.Schema) (AtQueryOrFile ask schema) (IsReached words) schema answer meets
         (reached_later schema) reads h)
 
-    ran_so : Ran s second out notes (schema_run ask schema) (AtQueryOrTable ask schema) (status_line s (Some ask) (Some schema))
+    ran_so : Ran s second out notes (schema_run ask schema) (AtQueryOrFile ask schema) (status_line s (Some ask) (Some schema))
         → Ran s (joined first second) out notes (verdict words) (IsReached words) (status_line s (Some ask) (Some schema))
     ran_so (Stopped e is h still told) = Stopped e is (ran_reads (Err e) h) still told
-    ran_so (Went run h written) = Went run (ran_reads (Ok run) h) written
+    ran_so (Went outcome h written) = Went outcome (ran_reads (Ok outcome) h) written
 
-    pub course_ran : Ran s second out notes (schema_run ask schema) (AtQueryOrTable ask schema) (status_line s (Some ask) (Some schema))
+    pub course_ran : Ran s second out notes (schema_run ask schema) (AtQueryOrFile ask schema) (status_line s (Some ask) (Some schema))
         → Course (record { words = words; status = s; store = joined first second; out = out; notes = notes })
     course_ran ran = record {
       line = status_line s (Some ask) (Some schema);

@@ -1,43 +1,51 @@
 -- What holds of every run that the verdict gives.
-use Rattle.std.proofs.Common.{◌≡◌, ℕ, ◌≤◌, List, Result, Ok, Err, length, map, get_or, refl, ap, sym, ◌∙◌, subst}
+use Rattle.std.proofs.Common.{◌≡◌, ℕ, ◌≤◌, List, Result, Ok, Err, length, map, get_or, refl, ap, sym, ◌∙◌, subst, arith}
 use Rattle.std.specs.Prelude.{IfOk, IsPermutation}
 use Rattle.std.proofs.Math.Seq.{take-length}
 use Rattle.base_io.specs.Files.{Files}
 use Rattle.csv_tables.specs.Rows.{Row}
+use Rattle.schema_types.specs.Validity.{IsValid}
 use Rattle.schema_types.specs.declared.types.Schema.{Schema}
+use Rattle.stats_file.specs.Rules.{KeepsRules}
 use Rattle.query_types.specs.Named.{NamesItsEntries}
 use Rattle.query_types.specs.Validity.{IsOf}
 use Rattle.query_types.specs.declared.types.Query.{Query}
-use Rattle.plans.specs.declared.left_deep.Plan.{Plan}
 use Rattle.sql_meaning.specs.Answers.{answer, conjuncts_of, entries_of, selected}
 use Rattle.sql_meaning.specs.Levels.{level_of, row_in}
 use Rattle.sql_meaning.specs.Tables.{row_counts}
 use Rattle.level_bounds.specs.Orders.{IsOrderOfSet}
 use Rattle.level_bounds.proofs.LastLevel.{last_level_is_answer}
 use Rattle.text_answers.specs.QueryTexts.{query_answer}
+use Rattle.text_answers.specs.SchemaTexts.{schema_answer}
 use Rattle.text_answers.proofs.QueryAnswers as queries
-use Rattle.outcomes.specs.Errors.{plan_refusal, query_refusal}
+use Rattle.text_answers.proofs.SchemaAnswers as schemas
+use Rattle.outcomes.specs.Errors.{plan_refusal, query_refusal, schema_refusal}
 use Rattle.outcomes.specs.Reads.{◌>>=◌, told}
 use Rattle.outcomes.specs.declared.names.FileId.TheVariants as file
 use Rattle.outcomes.specs.declared.refusal.Refusal.{Refusal}
 use Rattle.table_files.specs.EntryTables.{tables_in}
 use Rattle.table_files.specs.Stage.{tables_stage}
 use Rattle.table_files.specs.TableFile.{read}
-use Rattle.join_steps.specs.Lists.{list_at, list_levels, scans_of}
-use Rattle.join_steps.specs.Plans.{IsPlanOf}
+use Rattle.join_steps.specs.Lists.{list_at, scans_of}
 use Rattle.join_steps.proofs.WholeScans.{scan_at, size_at}
 use Rattle.reduced_scans.specs.Rounds.{reduced_of}
-use Rattle.planning.proofs.ReducedPlans.{levels_of_scans}
 use Rattle.safebound_top.specs.Accepted.{Accepted, BoundsHold, IsOverReducedScans, IsOverWholeScans, RowsAreTheAnswer, tables}
-use Rattle.safebound_top.specs.Asks.{Ask, command_stage}
-use Rattle.safebound_top.specs.Sources.{sourced}
+use Rattle.safebound_top.specs.Asks.{Ask, FileOf, HasRanges, IsInRange, PlanFrom, PlanOf, WorkAsk, command_stage}
+use Rattle.safebound_top.specs.Filed.{stats_stage}
+use Rattle.safebound_top.specs.Outcome.{Filed, NoBoundIsTooLow, Outcome, Planned, PlannedByFile, PrintsTheAnswer}
+use Rattle.safebound_top.specs.Shapes.{joined_entries, part_rows, scan_bounds}
+use Rattle.safebound_top.specs.Sources.{Sourced, sourced}
 use Rattle.safebound_top.specs.Standing.{IsSource, LoseNoRow}
 use Rattle.safebound_top.specs.declared.task.ListSource.{ListSource}
 use Rattle.safebound_top.specs.declared.task.ListSource.TheVariants as sources
-use Rattle.safebound_top.specs.Verdict.{ask_run, plan_asked, plan_stage, query_of_text, query_run, query_stage, run_asked, schema_run, schema_stage, verdict}
-use Rattle.safebound_top.proofs.NamedEntries.{names_own}
-use Rattle.safebound_top.proofs.Ranges.{InRange, in_range}
-use Rattle.safebound_top.proofs.SourceFacts.{order_is, plan_holds, scan_is_given, stand}
+use Rattle.safebound_top.specs.Verdict.{ask_run, plan_asked, plan_stage, query_of_text, query_run, query_stage, run_asked, schema_of_text, schema_run, schema_stage, verdict, work_run}
+use Rattle.filed_bounds.proofs.Named.{names_own}
+use Rattle.safebound_top.proofs.FiledRuns.{filed_plan_holds, filed_stands, stats_keep}
+use Rattle.safebound_top.specs.declared.shapes.Shaped.{Shaped}
+use Rattle.safebound_top.specs.declared.task.PlanTask.{PlanTask}
+use Rattle.safebound_top.proofs.Ranges.{in_range}
+use Rattle.safebound_top.proofs.ShapeFacts.{Fits, order_is, plan_fits, scan_is_given, whole_part}
+use Rattle.safebound_top.proofs.SourceFacts.{stand}
 
 -- what holds of the first step's value, and then of the second's
 then_ok : {A B : Type 0} (P : A → Type 0) (Q : B → Type 0) (r : Result A Refusal) (f : A → Result B Refusal) → IfOk r P → ((x : A) → P x → IfOk (f x) Q) → IfOk (r >>= f) Q
@@ -63,50 +71,74 @@ query_ok name schema files =
     any_ok (IsOf schema) (read file.Query 1048576 name files) (query_of_text schema)
     (λ text. ok_so (IsOf schema) query_refusal (query_answer schema text) (λ query e. queries.of_schema schema text query e))
 
+schema_ok : (name : List ℕ) (files : Files) → IfOk (schema_stage name files) IsValid
+unfolding schema_stage
+schema_ok name files =
+    any_ok IsValid (read file.Schema 1048576 name files) schema_of_text
+    (λ text. ok_so IsValid schema_refusal (schema_answer text) (λ schema e. schemas.valid text schema e))
+
 -- a query that names its own entries, over the rows that its source gives and by its plan
 pub record IsRun (run : Accepted) : Type 0 where
   pub own : NamesItsEntries run.query
   pub lists : run.lists ≡ (sourced run.source run.query (tables run)).lists
   pub rows : LoseNoRow run.query (tables run) run.lists
-  pub bounds : IsPlanOf run.query (tables run) run.lists run.plan
-  pub scans : (accuracy : ℕ) × ((entry : ℕ) → get_or run.plan.scans entry 0 ≡ get_or ((sourced run.source run.query (tables run)).scans accuracy) entry 0)
+  pub bounds : Fits run.query (tables run) run.lists run.plan
+  pub scans : (accuracy : ℕ) × ((entry : ℕ) → get_or (scan_bounds run.plan) entry 0 ≡ get_or ((sourced run.source run.query (tables run)).scans accuracy) entry 0)
 
-plan_ok : (ask : Ask) (query : Query) (rows : List (List Row)) → InRange ask.budget ask.accuracy → length query.from ≤ 12 → NamesItsEntries query → IfOk (plan_stage ask query rows) IsRun
+-- a plan over tables is such a run, and else what is promised of it holds
+abbrev IsSound : Outcome → Type 0
+IsSound (Planned run) = IsRun run
+IsSound (Filed filed) = NoBoundIsTooLow (Filed filed)
+IsSound (PlannedByFile made) = NoBoundIsTooLow (PlannedByFile made)
+
+plan_ok : (task : PlanTask) (query : Query) (rows : List (List Row)) → IsInRange task → 1 ≤ length query.from → length query.from ≤ 12 → NamesItsEntries query → IfOk (plan_stage task query rows) IsSound
 unfolding plan_stage
-plan_ok ask query rows range few own =
-    then_ok (λ plan. IsRun (run_asked ask query rows plan)) IsRun (told plan_refusal (plan_asked ask query (tables_in rows))) _
-    (ok_so (λ plan. IsRun (run_asked ask query rows plan)) plan_refusal (plan_asked ask query (tables_in rows)) made_ok) (λ plan is. is)
+plan_ok task query rows range some few own =
+    then_ok (λ plan. IsRun (run_asked task query rows plan)) IsSound (told plan_refusal (plan_asked task query (tables_in rows))) _
+    (ok_so (λ plan. IsRun (run_asked task query rows plan)) plan_refusal (plan_asked task query (tables_in rows)) made_ok) (λ plan is. is)
   where
-    made_ok : (plan : Plan) → plan_asked ask query (tables_in rows) ≡ Ok plan → IsRun (run_asked ask query rows plan)
+    made_ok : (plan : Shaped) → plan_asked task query (tables_in rows) ≡ Ok plan → IsRun (run_asked task query rows plan)
     made_ok plan made =
-        let is : IsSource query (tables_in rows) (sourced ask.source query (tables_in rows)) = stand ask.source query (tables_in rows) in
+        let given : Sourced = sourced task.source query (tables_in rows) in
+        let is : IsSource query (tables_in rows) given = stand task.source query (tables_in rows) in
         record {
           own = own;
           lists = refl;
           rows = is.rows;
-          bounds = plan_holds query (tables_in rows) (sourced ask.source query (tables_in rows)) is ask.accuracy ask.budget plan made few range.budget_most;
-          scans = (ask.accuracy, scan_is_given query (tables_in rows) (sourced ask.source query (tables_in rows)) is ask.accuracy ask.budget plan made);
+          bounds = plan_fits query (tables_in rows) given is task.accuracy task.budget some few task.shape plan made range.budget;
+          scans = (task.accuracy, scan_is_given query (tables_in rows) given is task.accuracy task.budget some few task.shape plan made);
         }
 
-query_run_ok : (ask : Ask) (schema : Schema) (query : Query) (files : Files) → InRange ask.budget ask.accuracy → IsOf schema query → IfOk (query_run ask schema query files) IsRun
+work_ok : (work : WorkAsk) (schema : Schema) (query : Query) (files : Files) → HasRanges work → IsValid schema → IsOf schema query → IfOk (work_run work schema query files) IsSound
+work_ok (PlanOf task) schema query files range valid of =
+    any_ok IsSound (tables_stage schema query.from files) (plan_stage task query)
+    (λ rows. plan_ok task query rows range (omega (arith, of.some)) of.few (names_own schema query of))
+work_ok (FileOf accuracy) schema query files range valid of =
+    then_ok (λ rows. tables_stage schema query.from files ≡ Ok rows) IsSound (tables_stage schema query.from files) _ (is_ok (tables_stage schema query.from files))
+    (λ rows is. filed_stands schema query files accuracy rows is)
+work_ok (PlanFrom name budget) schema query files range valid of =
+    then_ok (KeepsRules schema) IsSound (stats_stage name schema files) _ (stats_keep name schema files valid)
+    (λ stats keeps. filed_plan_holds schema query of stats keeps budget range IsSound (λ plan holds. holds))
+
+query_run_ok : (ask : Ask) (schema : Schema) (query : Query) (files : Files) → HasRanges ask.work → IsValid schema → IsOf schema query → IfOk (query_run ask schema query files) IsSound
 unfolding query_run
-query_run_ok ask schema query files range of =
-    any_ok IsRun (tables_stage schema query.from files) (plan_stage ask query) (λ rows. plan_ok ask query rows range of.few (names_own schema query of))
+query_run_ok ask schema query files range valid of = work_ok ask.work schema query files range valid of
 
-schema_run_ok : (ask : Ask) (schema : Schema) (files : Files) → InRange ask.budget ask.accuracy → IfOk (schema_run ask schema files) IsRun
+schema_run_ok : (ask : Ask) (schema : Schema) (files : Files) → HasRanges ask.work → IsValid schema → IfOk (schema_run ask schema files) IsSound
 unfolding schema_run
-schema_run_ok ask schema files range =
-    then_ok (IsOf schema) IsRun (query_stage ask.query_file schema files) _ (query_ok ask.query_file schema files)
-    (λ query of. query_run_ok ask schema query files range of)
+schema_run_ok ask schema files range valid =
+    then_ok (IsOf schema) IsSound (query_stage ask.query_file schema files) _ (query_ok ask.query_file schema files)
+    (λ query of. query_run_ok ask schema query files range valid of)
 
-ask_run_ok : (ask : Ask) (files : Files) → InRange ask.budget ask.accuracy → IfOk (ask_run ask files) IsRun
+ask_run_ok : (ask : Ask) (files : Files) → HasRanges ask.work → IfOk (ask_run ask files) IsSound
 unfolding ask_run
-ask_run_ok ask files range = any_ok IsRun (schema_stage ask.schema_file files) _ (λ schema. schema_run_ok ask schema files range)
+ask_run_ok ask files range =
+    then_ok IsValid IsSound (schema_stage ask.schema_file files) _ (schema_ok ask.schema_file files) (λ schema valid. schema_run_ok ask schema files range valid)
 
-verdict_ok : (words : List (List ℕ)) (files : Files) → IfOk (verdict words files) IsRun
+verdict_ok : (words : List (List ℕ)) (files : Files) → IfOk (verdict words files) IsSound
 unfolding verdict
 verdict_ok words files =
-    then_ok (λ ask. command_stage words ≡ Ok ask) IsRun (command_stage words) _ (is_ok (command_stage words)) (λ ask is. ask_run_ok ask files (in_range words ask is))
+    then_ok (λ ask. command_stage words ≡ Ok ask) IsSound (command_stage words) _ (is_ok (command_stage words)) (λ ask is. ask_run_ok ask files (in_range words ask is))
 
 -- ---- two sentences
 
@@ -120,9 +152,9 @@ module _ (run : Accepted) (is : IsRun run) where
       let whole : run.lists ≡ scans_of run.query (tables run) = is.lists ∙ ap lists_from from' in
       record {
         scans = λ entry low. ap (λ (l : List (List ℕ)). list_at l entry) whole ∙ scan_at run.query (tables run) entry low;
-        levels = λ k.
-            ap (λ (l : List (List ℕ)). list_levels run.query (tables run) l run.plan.order k) whole
-            ∙ levels_of_scans run.query (tables run) run.plan.order k (order_is run.query run.plan is.bounds.for_each_entry);
+        parts = λ k low.
+            ap (λ (l : List (List ℕ)). part_rows run.query (tables run) l run.plan k) whole
+            ∙ whole_part run.query (tables run) run.plan is.bounds.plan k low;
       }
 
   of_reduced : run.source ≡ sources.Reduced → IsOverReducedScans run
@@ -138,27 +170,38 @@ module _ (run : Accepted) (is : IsRun run) where
 
   run_bounds : BoundsHold run
   run_bounds = record {
-    plan = is.bounds.for_each_entry;
+    plan = is.bounds.plan;
     scans = is.bounds.scans;
-    levels = is.bounds.levels;
+    parts = is.bounds.parts;
     of_columns = of_columns;
     of_reduced = of_reduced;
   }
 
   run_rows : RowsAreTheAnswer run
   run_rows =
-      let order : IsOrderOfSet (entries_of run.query) run.plan.order = order_is run.query run.plan is.bounds.for_each_entry in
-      subst (λ (level : List (List ℕ)). IsPermutation (map (λ choice. selected run.query (tables run) (row_in run.plan.order choice)) level) (answer run.query (tables run)))
-      (sym (is.rows.last is.own run.plan.order order
-      ∙ ap (λ (placed : List ℕ). level_of (conjuncts_of run.query (tables run)) (row_counts (tables run)) placed) (take-length run.plan.order)))
-      (last_level_is_answer run.query (tables run) run.plan.order is.own order)
+      let its : List ℕ = joined_entries run.plan in
+      let order : IsOrderOfSet (entries_of run.query) its = order_is run.query run.plan is.bounds.plan in
+      subst (λ (level : List (List ℕ)). IsPermutation (map (λ choice. selected run.query (tables run) (row_in its choice)) level) (answer run.query (tables run)))
+      (sym (is.rows.last is.own its order
+      ∙ ap (λ (placed : List ℕ). level_of (conjuncts_of run.query (tables run)) (row_counts (tables run)) placed) (take-length its)))
+      (last_level_is_answer run.query (tables run) its is.own order)
 
-so : (P : Accepted → Type 0) → ((run : Accepted) → IsRun run → P run) → (r : Result Accepted Refusal) → IfOk r IsRun → IfOk r P
-so P holds (Ok run) is = holds run is
+no_bound : (outcome : Outcome) → IsSound outcome → NoBoundIsTooLow outcome
+no_bound (Planned run) is = run_bounds run is
+no_bound (Filed filed) is = is
+no_bound (PlannedByFile made) is = is
+
+prints : (outcome : Outcome) → IsSound outcome → PrintsTheAnswer outcome
+prints (Planned run) is = run_rows run is
+prints (Filed filed) is = tt
+prints (PlannedByFile made) is = tt
+
+so : (P : Outcome → Type 0) → ((outcome : Outcome) → IsSound outcome → P outcome) → (r : Result Outcome Refusal) → IfOk r IsSound → IfOk r P
+so P holds (Ok outcome) is = holds outcome is
 so P holds (Err s) is = tt
 
-pub bounds_hold : (words : List (List ℕ)) (files : Files) → IfOk (verdict words files) BoundsHold
-bounds_hold words files = so BoundsHold run_bounds (verdict words files) (verdict_ok words files)
+pub bounds_hold : (words : List (List ℕ)) (files : Files) → IfOk (verdict words files) NoBoundIsTooLow
+bounds_hold words files = so NoBoundIsTooLow no_bound (verdict words files) (verdict_ok words files)
 
-pub rows_are_the_answer : (words : List (List ℕ)) (files : Files) → IfOk (verdict words files) RowsAreTheAnswer
-rows_are_the_answer words files = so RowsAreTheAnswer run_rows (verdict words files) (verdict_ok words files)
+pub rows_are_the_answer : (words : List (List ℕ)) (files : Files) → IfOk (verdict words files) PrintsTheAnswer
+rows_are_the_answer words files = so PrintsTheAnswer prints (verdict words files) (verdict_ok words files)

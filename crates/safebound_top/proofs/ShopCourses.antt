@@ -11,7 +11,7 @@ use Rattle.outcomes.specs.declared.names.FileId.{FileId}
 use Rattle.outcomes.specs.declared.refusal.Refusal.{Refusal}
 use Rattle.outcomes.specs.declared.status.Status.{Status}
 use Rattle.outcomes.specs.declared.status.Status.TheVariants as status
-use Rattle.safebound_top.specs.Accepted.{Accepted}
+use Rattle.safebound_top.specs.Outcome.{Outcome}
 use Rattle.safebound_top.specs.Asks.{Ask, command_stage}
 use Rattle.safebound_top.specs.Call.{Call}
 use Rattle.safebound_top.specs.Course.{Asked, Course, How, Ran, Stopped, Told, Unasked, Went}
@@ -47,10 +47,10 @@ module _ (number : ℕ) (store : Reading) (is : store.files ≡ Some (demo_files
       given (Ok x) w = λ files told. w files (is ∙ told)
       given (Err e) w = ends e w
 
-  ran_shop : (s : Status) (out notes : Growth) (stage : Files → Result Accepted Refusal) (C : Files → FileId → Type 0) (line : List ℕ)
+  ran_shop : (s : Status) (out notes : Growth) (stage : Files → Result Outcome Refusal) (C : Files → FileId → Type 0) (line : List ℕ)
       → Ran s store out notes stage C line → Ran s (shop_store number) out notes stage C line
   ran_shop s out notes stage C line (Stopped e ended reads still told) = Stopped e ended (reads_shop stage C (Err e) reads) still told
-  ran_shop s out notes stage C line (Went run reads written) = Went run (reads_shop stage C (Ok run) reads) written
+  ran_shop s out notes stage C line (Went outcome reads written) = Went outcome (reads_shop stage C (Ok outcome) reads) written
 
   pub course_shop : (words : List (List ℕ)) (s : Status) (out notes : Growth)
       → Course (record { words = words; status = s; store = store; out = out; notes = notes })

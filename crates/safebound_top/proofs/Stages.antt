@@ -15,14 +15,14 @@ use Rattle.outcomes.specs.declared.names.FileId.{FileId}
 use Rattle.outcomes.specs.declared.names.FileId.TheVariants as file
 use Rattle.outcomes.specs.declared.refusal.Refusal.{Refusal}
 use Rattle.outcomes.proofs.ReadFacts.{Meets, joined, then_gives, then_reads, then_stops, then_tells}
-use Rattle.table_files.specs.Stage.{tables_of_query, tables_stage}
-use Rattle.table_files.specs.Stage.{IsReached as IsTableReached}
+use Rattle.table_files.specs.Stage.{tables_stage}
 use Rattle.table_files.specs.TableFile.{read}
-use Rattle.safebound_top.specs.Accepted.{Accepted}
-use Rattle.safebound_top.specs.Asks.{Ask}
-use Rattle.safebound_top.specs.Prepared.{accepted_of}
-use Rattle.safebound_top.specs.Verdict.{IsTableOf, plan_stage, query_from, query_of_text, query_run, query_stage, schema_of_text, schema_run, schema_stage}
+use Rattle.safebound_top.specs.Asks.{Ask, PlanOf, WorkAsk}
+use Rattle.safebound_top.specs.Outcome.{Outcome}
+use Rattle.safebound_top.specs.Ready.{planned_from}
+use Rattle.safebound_top.specs.Verdict.{IsFileOf, IsWorkFile, plan_stage, query_from, query_of_text, query_run, query_stage, schema_of_text, schema_run, schema_stage, work_run}
 use Rattle.safebound_top.specs.declared.prepare.Prepared.{Prepared}
+use Rattle.safebound_top.specs.declared.task.PlanTask.{PlanTask}
 
 -- ---- the schema, from its file's bytes
 
@@ -68,40 +68,47 @@ module _ {store : Reading} (name : List ℕ) (schema : Schema) where
 
 -- ---- what a run is over, from its tables on
 
-module _ {store : Reading} (ask : Ask) (schema : Schema) (query : Query) (C : Files → FileId → Type 0) where
-  pub tables_stop : (e : Ending) → Reads store (tables_stage schema query.from) C (Err e) → Reads store (query_run ask schema query) C (Err e)
-  unfolding query_run
-  tables_stop e h = then_stops (tables_stage schema query.from) (λ rows files. plan_stage ask query rows) store C C e (λ files id at. at) h
+module _ {store : Reading} (task : PlanTask) (schema : Schema) (query : Query) (C : Files → FileId → Type 0) where
+  pub tables_stop : (e : Ending) → Reads store (tables_stage schema query.from) C (Err e) → Reads store (work_run (PlanOf task) schema query) C (Err e)
+  tables_stop e h = then_stops (tables_stage schema query.from) (λ rows files. plan_stage task query rows) store C C e (λ files id at. at) h
 
-  pub tables_ran : (rows : List (List Row)) (result : Result Prepared Ending) → IfOk result (λ p. plan_stage ask query rows ≡ Ok (accepted_of p))
-      → IfErr result (Tells (plan_stage ask query rows)) → Reads store (tables_stage schema query.from) C (Ok rows) → Reads store (query_run ask schema query) C (seen accepted_of result)
-  unfolding query_run
-  tables_ran rows (Ok p) is tells h = then_gives store (tables_stage schema query.from) (plan_stage ask query) C C rows (accepted_of p) is h
-  tables_ran rows (Err e) is tells h = then_tells store (tables_stage schema query.from) (plan_stage ask query) C C rows e tells h
+  pub tables_ran : (rows : List (List Row)) (result : Result Prepared Ending) → IfOk result (λ p. plan_stage task query rows ≡ Ok (planned_from p))
+      → IfErr result (Tells (plan_stage task query rows)) → Reads store (tables_stage schema query.from) C (Ok rows)
+      → Reads store (work_run (PlanOf task) schema query) C (seen planned_from result)
+  tables_ran rows (Ok p) is tells h = then_gives store (tables_stage schema query.from) (plan_stage task query) C C rows (planned_from p) is h
+  tables_ran rows (Err e) is tells h = then_tells store (tables_stage schema query.from) (plan_stage task query) C C rows e tells h
+
+-- the work that is asked is done
+pub work_done : {store : Reading} (ask : Ask) (work : WorkAsk) (schema : Schema) (query : Query) (answer : Result Outcome Ending) → ask.work ≡ work
+    → Reads store (work_run work schema query) (IsWorkFile work schema query) answer
+    → Reads store (query_run ask schema query) (IsWorkFile ask.work schema query) answer
+unfolding query_run
+work_done {store} ask work schema query answer is h =
+    subst (λ (w : WorkAsk). Reads store (work_run w schema query) (IsWorkFile w schema query) answer) (sym is) h
 
 -- ---- from the schema on
 
 module _ (ask : Ask) (schema : Schema) where
-  abbrev pub AtQueryOrTable : Files → FileId → Type 0
-  AtQueryOrTable files id = (id ≡ file.Query) ⊎ IsTableOf (query_from ask schema files) files id
+  abbrev pub AtQueryOrFile : Files → FileId → Type 0
+  AtQueryOrFile files id = (id ≡ file.Query) ⊎ IsFileOf (query_from ask schema files) files id
 
   pub schema_not_run : {store : Reading} (e : Ending) → Reads store (query_stage ask.query_file schema) (AtFile file.Query) (Err e)
-      → Reads store (schema_run ask schema) AtQueryOrTable (Err e)
+      → Reads store (schema_run ask schema) AtQueryOrFile (Err e)
   unfolding schema_run
   schema_not_run {store} e h =
-      then_stops (query_stage ask.query_file schema) (query_run ask schema) store (AtFile file.Query) AtQueryOrTable e (λ files id at'. inl at') h
+      then_stops (query_stage ask.query_file schema) (query_run ask schema) store (AtFile file.Query) AtQueryOrFile e (λ files id at'. inl at') h
 
-  found_table : (query : Query) (files : Files) (id : FileId) → query_stage ask.query_file schema files ≡ Ok query → IsTableReached schema (tables_of_query query.from) files id
-      → AtQueryOrTable files id
+  found_file : (query : Query) (files : Files) (id : FileId) → query_stage ask.query_file schema files ≡ Ok query → IsWorkFile ask.work schema query files id
+      → AtQueryOrFile files id
   unfolding query_from
-  found_table query files id is at' =
-      inr (subst (λ (r : Result Query Refusal). IsTableOf (r >>= (λ q. Ok (record { schema = schema; query = q }))) files id) (sym is) at')
+  found_file query files id is at' =
+      inr (subst (λ (r : Result Query Refusal). IsFileOf (r >>= (λ q. Ok (record { work = ask.work; schema = schema; query = q }))) files id) (sym is) at')
 
-  pub schema_ran : (first second : Reading) (query : Query) (answer : Result Accepted Ending) → Meets first second
+  pub schema_ran : (first second : Reading) (query : Query) (answer : Result Outcome Ending) → Meets first second
       → Reads first (query_stage ask.query_file schema) (AtFile file.Query) (Ok query)
-      → Reads second (query_run ask schema query) (IsTableReached schema (tables_of_query query.from)) answer
-      → Reads (joined first second) (schema_run ask schema) AtQueryOrTable answer
+      → Reads second (query_run ask schema query) (IsWorkFile ask.work schema query) answer
+      → Reads (joined first second) (schema_run ask schema) AtQueryOrFile answer
   unfolding schema_run
   schema_ran first second query answer meets h k =
-      then_reads (query_stage ask.query_file schema) (query_run ask schema) first second (AtFile file.Query) (IsTableReached schema (tables_of_query query.from))
-      AtQueryOrTable query answer meets (λ files id is at'. found_table query files id is at') h k
+      then_reads (query_stage ask.query_file schema) (query_run ask schema) first second (AtFile file.Query) (IsWorkFile ask.work schema query)
+      AtQueryOrFile query answer meets (λ files id is at'. found_file query files id is at') h k

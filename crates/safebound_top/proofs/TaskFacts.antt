@@ -1,9 +1,9 @@
 -- What the words ask for, and that its values are in their ranges.
-use Rattle.std.proofs.Common.{◌≡◌, ◌<◌, ◌≤◌, List, ℕ, Option, None, Some, Ok, Err, ap, sym, ◌∙◌}
+use Rattle.std.proofs.Common.{◌≡◌, List, ℕ, Option, None, Some, Ok, Err, ap, sym, ◌∙◌}
 use Rattle.outcomes.specs.declared.refusal.Refusal.TheVariants as refusal
 use Rattle.safebound_words.specs.Answer.{command_of}
 use Rattle.safebound_words.specs.Requests.{Request}
-use Rattle.safebound_top.specs.Asks.{Ask, asked, asks, command_stage, request_stage}
+use Rattle.safebound_top.specs.Asks.{Ask, HasRanges, asked, asks, command_stage, request_stage}
 use Rattle.safebound_top.specs.Shops.{request_shop, shop_asked, shop_of}
 use Rattle.safebound_top.specs.declared.task.Task.{Task}
 use Rattle.safebound_top.proofs.Ranges.{in_range}
@@ -23,8 +23,5 @@ module _ (words : List (List ℕ)) where
   pub no_shop : None ≡ command_of words → shop_of words ≡ None
   no_shop is = ap request_shop (sym is)
 
-  pub accuracy_within : (task : Task) → command_stage words ≡ Ok (asked task) → (0 < task.accuracy) × (task.accuracy ≤ 64)
-  accuracy_within task h = let ranges = in_range words (asked task) h in (ranges.accuracy_least, ranges.accuracy_most)
-
-  pub budget_within : (task : Task) → command_stage words ≡ Ok (asked task) → task.budget ≤ 20000000
-  budget_within task h = (in_range words (asked task) h).budget_most
+  pub ranges_within : (task : Task) → command_stage words ≡ Ok (asked task) → HasRanges (asked task).work
+  ranges_within task h = in_range words (asked task) h

@@ -6,13 +6,17 @@ use Rattle.base_io.specs.Writes.{Wrote}
 use Rattle.base_io.specs.declared.errors.Failed.{Failed}
 use Rattle.base_io.proofs.CountFacts.{later_then_rose, rose_then_later}
 use Rattle.base_io.proofs.WriteFacts.{between}
+use Rattle.stats_file.specs.FileText.{file_text}
+use Rattle.printed_texts.specs.Plans.{plan_lines}
 use Rattle.outcomes.specs.declared.names.SinkId.{SinkId}
 use Rattle.outcomes.specs.declared.names.SinkId.TheVariants as sink
 use Rattle.outcomes.specs.declared.status.Status.{Status}
 use Rattle.outcomes.specs.declared.status.Status.TheVariants as status
 use Rattle.safebound_top.specs.Accepted.{Accepted}
 use Rattle.safebound_top.specs.Course.{CutInNotes, CutInOut, Ended, Told, Written, WroteIfAny}
-use Rattle.safebound_top.specs.Headline.{GrewWhole, WasCut}
+use Rattle.safebound_top.specs.Headline.{DidNotGrow, GrewWhole, WasCut, WasCutAndTold, grown}
+use Rattle.safebound_top.specs.Outcome.{Filed, FiledPlan, FiledTables, Outcome, Planned, PlannedByFile}
+use Rattle.safebound_top.specs.OutcomeTexts.{notes_text}
 use Rattle.safebound_top.specs.Texts.{out_text_of, plan_text}
 
 -- a line that was written, whole or cut, was told
@@ -23,7 +27,7 @@ told_of g line (Err e) h = record { tells = record { prefix = h.prefix; whole = 
 -- ---- the plan text, and then the other text, if any
 
 pub notes_cut : (t0 t1 o : Option (List ℕ)) (f0 f1 g : ℕ) (run : Accepted) (text : List ℕ) (e : Failed) → text ≡ plan_text run → Wrote (between t0 t1 f0 f1) text (Err e)
-    → Written (between o o g g) (between t0 t1 f0 f1) run (Err sink.Notes)
+    → Written (between o o g g) (between t0 t1 f0 f1) (Planned run) (Err sink.Notes)
 notes_cut t0 t1 o f0 f1 g run text e is h = record {
   texts = (h.failed, (refl, refl), subst (GrewByPrefix t0 t1) is h.prefix);
   later_out = omega arith;
@@ -31,7 +35,7 @@ notes_cut t0 t1 o f0 f1 g run text e is h = record {
 }
 
 pub both_wrote : (t0 t1 o0 o1 : Option (List ℕ)) (f0 f1 g0 g1 : ℕ) (run : Accepted) (text : List ℕ) (other : Option (List ℕ)) (u v : Unit {0}) → text ≡ plan_text run → out_text_of run ≡ other
-    → Wrote (between t0 t1 f0 f1) text (Ok u) → WroteIfAny (between o0 o1 g0 g1) other (Ok v) → Written (between o0 o1 g0 g1) (between t0 t1 f0 f1) run (Ok tt)
+    → Wrote (between t0 t1 f0 f1) text (Ok u) → WroteIfAny (between o0 o1 g0 g1) other (Ok v) → Written (between o0 o1 g0 g1) (between t0 t1 f0 f1) (Planned run) (Ok tt)
 both_wrote t0 t1 o0 o1 f0 f1 g0 g1 run text None u v is out h k = record {
   texts = (h.ok ∙ ap (appended t0) is, subst (GrewWhole (between o0 o1 g0 g1)) (sym out) k.0);
   later_out = omega (arith, k.0.1);
@@ -44,7 +48,7 @@ both_wrote t0 t1 o0 o1 f0 f1 g0 g1 run text (Some other) u v is out h k = record
 }
 
 pub out_cut : (t0 t1 o0 o1 : Option (List ℕ)) (f0 f1 g0 g1 : ℕ) (run : Accepted) (text : List ℕ) (other : Option (List ℕ)) (u : Unit {0}) (e : Failed) → text ≡ plan_text run → out_text_of run ≡ other
-    → Wrote (between t0 t1 f0 f1) text (Ok u) → WroteIfAny (between o0 o1 g0 g1) other (Err e) → Written (between o0 o1 g0 g1) (between t0 t1 f0 f1) run (Err sink.Out)
+    → Wrote (between t0 t1 f0 f1) text (Ok u) → WroteIfAny (between o0 o1 g0 g1) other (Err e) → Written (between o0 o1 g0 g1) (between t0 t1 f0 f1) (Planned run) (Err sink.Out)
 out_cut t0 t1 o0 o1 f0 f1 g0 g1 run text None u e is out h k = absurd (let no : ◌≡◌ {A = Result (Unit {0}) Failed} (Err e) (Ok tt) = k.1 in cc)
 out_cut t0 t1 o0 o1 f0 f1 g0 g1 run text (Some other) u e is out h k = record {
   texts = (k.failed, h.ok ∙ ap (appended t0) is, subst (WasCut (between o0 o1 g0 g1)) (sym out) k.prefix);
@@ -52,14 +56,41 @@ out_cut t0 t1 o0 o1 f0 f1 g0 g1 run text (Some other) u e is out h k = record {
   later_notes = h.later;
 }
 
+-- ---- a statistics file, and a plan from one
+
+module _ (out notes : Growth) (filed : FiledTables) (still : DidNotGrow notes) where
+  pub file_wrote : (u : Unit {0}) → Wrote out (file_text filed.schema filed.file) (Ok u) → Written out notes (Filed filed) (Ok tt)
+  file_wrote u h = record { texts = (still, h.ok); later_out = h.later; later_notes = omega (arith, still.1) }
+
+  pub file_cut : (e : Failed) → Wrote out (file_text filed.schema filed.file) (Err e) → Written out notes (Filed filed) (Err sink.Out)
+  file_cut e h = record { texts = (h.failed, still, h.prefix); later_out = h.later; later_notes = omega (arith, still.1) }
+
+module _ (out notes : Growth) (made : FiledPlan) (still : DidNotGrow out) where
+  pub plan_wrote : (u : Unit {0}) → Wrote notes (plan_lines made.query.from made.plan) (Ok u) → Written out notes (PlannedByFile made) (Ok tt)
+  plan_wrote u h = record { texts = (h.ok, still); later_out = omega (arith, still.1); later_notes = h.later }
+
+  pub plan_cut : (e : Failed) → Wrote notes (plan_lines made.query.from made.plan) (Err e) → Written out notes (PlannedByFile made) (Err sink.Notes)
+  plan_cut e h = record { texts = (h.failed, still, h.prefix); later_out = omega (arith, still.1); later_notes = h.later }
+
 -- ---- a failed write, and its line
 
-pub ended_cut : (which : SinkId) (s : Status) (t0 t1 t2 o0 o1 : Option (List ℕ)) (f0 f1 f2 g0 g1 : ℕ) (run : Accepted) (line : List ℕ) → s ≡ status.WriteFault which
-    → Written (between o0 o1 g0 g1) (between t0 t1 f0 f1) run (Err which) → Told (between t1 t2 f1 f2) line → Ended s (between o0 o1 g0 g1) (between t0 t2 f0 f2) run line
-ended_cut sink.Notes s t0 t1 t2 o0 o1 f0 f1 f2 g0 g1 run line is h told =
-    CutInNotes is (rose_then_later f0 f1 f2 h.later_notes h.texts.0 told.later) h.texts.1 (record { mid = t1; cut = h.texts.2; told = told.tells.prefix })
-ended_cut sink.Out s t0 t1 t2 o0 o1 f0 f1 f2 g0 g1 run line is h told =
+module _ (t0 t1 t2 : Option (List ℕ)) (f0 f1 f2 : ℕ) (line : List ℕ) (told : Told (between t1 t2 f1 f2) line) where
+  cut_then_told : (text : Option (List ℕ)) → WasCut (between t0 t1 f0 f1) text → WasCutAndTold (between t0 t2 f0 f2) text line
+  cut_then_told None cut = cut
+  cut_then_told (Some text) cut = record { mid = t1; cut = cut; told = told.tells.prefix }
+
+  -- after what stands in the notes
+  told_after : (text : Option (List ℕ)) → GrewWhole (between t0 t1 f0 f1) text → t1 ≡ grown t0 text
+  told_after None still = still.0
+  told_after (Some text) whole = whole
+
+pub ended_cut : (which : SinkId) (s : Status) (t0 t1 t2 o0 o1 : Option (List ℕ)) (f0 f1 f2 g0 g1 : ℕ) (outcome : Outcome) (line : List ℕ) → s ≡ status.WriteFault which
+    → Written (between o0 o1 g0 g1) (between t0 t1 f0 f1) outcome (Err which) → Told (between t1 t2 f1 f2) line → Ended s (between o0 o1 g0 g1) (between t0 t2 f0 f2) outcome line
+ended_cut sink.Notes s t0 t1 t2 o0 o1 f0 f1 f2 g0 g1 outcome line is h told =
+    CutInNotes is (rose_then_later f0 f1 f2 h.later_notes h.texts.0 told.later) h.texts.1 (cut_then_told t0 t1 t2 f0 f1 f2 line told (notes_text outcome) h.texts.2)
+ended_cut sink.Out s t0 t1 t2 o0 o1 f0 f1 f2 g0 g1 outcome line is h told =
+    let before : t1 ≡ grown t0 (notes_text outcome) = told_after t0 t1 t2 f0 f1 f2 line told (notes_text outcome) h.texts.1 in
     CutInOut is h.texts.0 h.texts.2 (record {
-      prefix = subst (λ (t : Option (List ℕ)). GrewByPrefix t t2 line) h.texts.1 told.tells.prefix;
-      whole = λ calm. told.tells.whole (λ rose. calm (later_then_rose f0 f1 f2 h.later_notes rose)) ∙ ap (λ (t : Option (List ℕ)). appended t line) h.texts.1;
+      prefix = subst (λ (t : Option (List ℕ)). GrewByPrefix t t2 line) before told.tells.prefix;
+      whole = λ calm. told.tells.whole (λ rose. calm (later_then_rose f0 f1 f2 h.later_notes rose)) ∙ ap (λ (t : Option (List ℕ)). appended t line) before;
     })

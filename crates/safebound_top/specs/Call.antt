@@ -23,3 +23,7 @@ pub record Call : Type 0 where
   pub store : Reading
   pub out : Growth
   pub notes : Growth
+
+-- a sink took exactly the text
+abbrev pub Grew : Growth → List ℕ → Type 0
+Grew sink text = sink.taken_after ≡ appended sink.taken_before text

@@ -1,7 +1,6 @@
 -- The course of a call, from its words to its answer.
 use Rattle.std.specs.Prelude.{ℕ, ◌≡◌, ◌≤◌, List, codes, Option, None, Some, Result, Ok, Err}
 use Rattle.base_io.specs.Files.{Files}
-use Rattle.base_io.specs.Sinks.{appended, GrewByPrefix}
 use Rattle.base_io.specs.declared.errors.Failed.{Failed}
 use Rattle.base_io.specs.Devices.{Growth, Reading}
 use Rattle.outcomes.specs.Reads.{Reads}
@@ -15,12 +14,12 @@ use Rattle.outcomes.specs.declared.refusal.Refusal.{Refusal}
 use Rattle.outcomes.specs.declared.refusal.Refusal.TheVariants as refusal
 use Rattle.outcomes.specs.declared.status.Status.{Status}
 use Rattle.outcomes.specs.declared.status.Status.TheVariants as status
-use Rattle.safebound_top.specs.Accepted.{Accepted}
 use Rattle.safebound_top.specs.Asks.{command_stage}
-use Rattle.safebound_top.specs.Call.{Call, CutThenTold, Tells}
+use Rattle.safebound_top.specs.Call.{Call, Tells}
 use Rattle.safebound_top.specs.Faults.{fault_text}
-use Rattle.safebound_top.specs.Headline.{DidNotGrow, FaultsRose, Grew, GrewByLine, GrewWhole, WasCut}
-use Rattle.safebound_top.specs.Texts.{out_text_of, plan_text}
+use Rattle.safebound_top.specs.Headline.{DidNotGrow, FaultsRose, GrewByLine, GrewWhole, WasCut, WasCutAndTold, grown}
+use Rattle.safebound_top.specs.Outcome.{Outcome}
+use Rattle.safebound_top.specs.OutcomeTexts.{notes_text, out_text}
 use Rattle.safebound_top.specs.Verdict.{IsReached, verdict}
 
 -- a status was told in the notes
@@ -28,15 +27,14 @@ pub record Told (notes : Growth) (line : List ℕ) : Type 0 where
   pub tells : GrewByLine notes line
   pub later : notes.faults_before ≤ notes.faults_after
 
--- both texts were handed to the sinks, the plan text to the notes and then the other one, if any, to out; the first failure ends it
-abbrev pub AreWritten : Growth → Growth → Accepted → Result (Unit {0}) SinkId → Type 0
-AreWritten out notes run (Ok u) = Grew notes (plan_text run) × GrewWhole out (out_text_of run)
-AreWritten out notes run (Err sink.Notes) = FaultsRose notes × DidNotGrow out
-    × GrewByPrefix notes.taken_before notes.taken_after (plan_text run)
-AreWritten out notes run (Err sink.Out) = FaultsRose out × Grew notes (plan_text run) × WasCut out (out_text_of run)
+-- its texts were handed to the sinks, the one for notes and then the one for out, where there are such; the first failure ends it
+abbrev pub AreWritten : Growth → Growth → Outcome → Result (Unit {0}) SinkId → Type 0
+AreWritten out notes outcome (Ok u) = GrewWhole notes (notes_text outcome) × GrewWhole out (out_text outcome)
+AreWritten out notes outcome (Err sink.Notes) = FaultsRose notes × DidNotGrow out × WasCut notes (notes_text outcome)
+AreWritten out notes outcome (Err sink.Out) = FaultsRose out × GrewWhole notes (notes_text outcome) × WasCut out (out_text outcome)
 
-pub record Written (out notes : Growth) (run : Accepted) (result : Result (Unit {0}) SinkId) : Type 0 where
-  pub texts : AreWritten out notes run result
+pub record Written (out notes : Growth) (outcome : Outcome) (result : Result (Unit {0}) SinkId) : Type 0 where
+  pub texts : AreWritten out notes outcome result
   pub later_out : out.faults_before ≤ out.faults_after
   pub later_notes : notes.faults_before ≤ notes.faults_after
 
@@ -46,21 +44,22 @@ WroteIfAny out None result = DidNotGrow out × (result ≡ Ok tt)
 WroteIfAny out (Some text) result = Wrote out text result
 
 -- the same, and a failed write told in the notes
-pub data Ended (s : Status) (out notes : Growth) (run : Accepted) (line : List ℕ) : Type 0 where
-  Done : s ≡ status.Done → Grew notes (plan_text run) → GrewWhole out (out_text_of run) → Ended s out notes run line
+pub data Ended (s : Status) (out notes : Growth) (outcome : Outcome) (line : List ℕ) : Type 0 where
+  Done : s ≡ status.Done → GrewWhole notes (notes_text outcome) → GrewWhole out (out_text outcome) → Ended s out notes outcome line
   CutInNotes : s ≡ status.WriteFault sink.Notes → FaultsRose notes → DidNotGrow out
-      → CutThenTold notes.taken_before notes.taken_after (plan_text run) line → Ended s out notes run line
-  CutInOut : s ≡ status.WriteFault sink.Out → FaultsRose out → WasCut out (out_text_of run)
-      → Tells (appended notes.taken_before (plan_text run)) notes.taken_after notes.faults_before notes.faults_after line
-      → Ended s out notes run line
+      → WasCutAndTold notes (notes_text outcome) line → Ended s out notes outcome line
+  CutInOut : s ≡ status.WriteFault sink.Out → FaultsRose out → WasCut out (out_text outcome)
+      → Tells (grown notes.taken_before (notes_text outcome)) notes.taken_after notes.faults_before notes.faults_after line
+      → Ended s out notes outcome line
 
 -- a stage was read to its end and its texts were handed to the sinks, or its reading ended and that was told
-pub data Ran (s : Status) (store : Reading) (out notes : Growth) (stage : Files → Result Accepted Refusal) (ComesTo : Files → FileId
+pub data Ran (s : Status) (store : Reading) (out notes : Growth) (stage : Files → Result Outcome Refusal) (ComesTo : Files → FileId
     → Type 0)
     (line : List ℕ) : Type 0 where
   Stopped : (e : Ending) → s ≡ ended e → Reads store stage ComesTo (Err e) → DidNotGrow out → Told notes line
       → Ran s store out notes stage ComesTo line
-  Went : (run : Accepted) → Reads store stage ComesTo (Ok run) → Ended s out notes run line → Ran s store out notes stage ComesTo line
+  Went : (outcome : Outcome) → Reads store stage ComesTo (Ok outcome) → Ended s out notes outcome line
+      → Ran s store out notes stage ComesTo line
 
 -- the words are refused: no name was missed, and that was told
 pub record IsUnasked (call : Call) (line : List ℕ) : Type 0 where

@@ -4,13 +4,19 @@ use Rattle.base_io.specs.Files.{Files}
 use Rattle.schema_types.specs.declared.types.Schema.{Schema}
 use Rattle.outcomes.specs.declared.status.Status.{Status}
 use Rattle.printed_texts.specs.Faults.{Names, fault_line}
-use Rattle.safebound_top.specs.Asks.{Ask, command_stage}
+use Rattle.safebound_top.specs.Asks.{Ask, FileOf, PlanFrom, PlanOf, WorkAsk, command_stage}
 use Rattle.safebound_top.specs.Verdict.{schema_read}
 
--- what a line names, where there is a command and a schema: the two files of the command, and the schema's tables
+-- the name of the statistics file that is read, where one is
+abbrev pub stats_file_of : WorkAsk → List ℕ
+stats_file_of (PlanOf task) = []
+stats_file_of (FileOf accuracy) = []
+stats_file_of (PlanFrom file budget) = file
+
+-- what a line names, where there is a command and a schema: the files of the command, and the schema's tables
 abbrev pub names_of : Option Ask → Option Schema → Names
-names_of None schema = record { schema_file = []; query_file = []; schema = schema }
-names_of (Some ask) schema = record { schema_file = ask.schema_file; query_file = ask.query_file; schema = schema }
+names_of None schema = record { schema_file = []; query_file = []; stats_file = []; schema = schema }
+names_of (Some ask) schema = record { schema_file = ask.schema_file; query_file = ask.query_file; stats_file = stats_file_of ask.work; schema = schema }
 
 abbrev pub where_ok : {A E : Type 0} → Result A E → Option A
 where_ok (Ok x) = Some x

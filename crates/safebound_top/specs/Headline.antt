@@ -16,19 +16,16 @@ use Rattle.outcomes.specs.declared.refusal.Refusal.{Refusal}
 use Rattle.outcomes.specs.declared.refusal.Refusal.TheVariants as refusal
 use Rattle.outcomes.specs.declared.status.Status.{Status}
 use Rattle.outcomes.specs.declared.status.Status.TheVariants as status
-use Rattle.safebound_top.specs.Accepted.{Accepted, BoundsHold, RowsAreTheAnswer}
 use Rattle.safebound_top.specs.Asks.{command_stage}
-use Rattle.safebound_top.specs.Call.{Call, CutThenTold, Tells}
+use Rattle.safebound_top.specs.Call.{Call, CutThenTold, Grew, Tells}
 use Rattle.safebound_top.specs.Faults.{fault_text}
-use Rattle.safebound_top.specs.Texts.{out_text_of, plan_text}
+use Rattle.safebound_top.specs.Outcome.{NoBoundIsTooLow, Outcome, PrintsTheAnswer}
+use Rattle.safebound_top.specs.OutcomeTexts.{notes_text, out_text}
 use Rattle.safebound_top.specs.Verdict.{IsReached, verdict}
 
 -- for the files that the store tells, and the verdict of the words over them
-abbrev pub OverFiles : Call → (Files → Result Accepted Refusal → Type 0) → Type 0
+abbrev pub OverFiles : Call → (Files → Result Outcome Refusal → Type 0) → Type 0
 OverFiles call P = (files : Files) → call.store.files ≡ Some files → P files (verdict call.words files)
-
-abbrev pub Grew : Growth → List ℕ → Type 0
-Grew sink text = sink.taken_after ≡ appended sink.taken_before text
 
 -- it has the bytes that it had, where it tells them, and its count of faults is as before
 abbrev pub DidNotGrow : Growth → Type 0
@@ -39,10 +36,20 @@ abbrev pub GrewWhole : Growth → Option (List ℕ) → Type 0
 GrewWhole sink None = DidNotGrow sink
 GrewWhole sink (Some text) = Grew sink text
 
+-- what it took, and then the text, where there is one
+abbrev pub grown : Option (List ℕ) → Option (List ℕ) → Option (List ℕ)
+grown taken None = taken
+grown taken (Some text) = appended taken text
+
 -- there is a text, and the sink grew by a prefix of it
 abbrev pub WasCut : Growth → Option (List ℕ) → Type 0
 WasCut sink None = ⊥
 WasCut sink (Some text) = GrewByPrefix sink.taken_before sink.taken_after text
+
+-- there is a text, and the sink grew by a prefix of it, and then by a prefix of a line
+abbrev pub WasCutAndTold : Growth → Option (List ℕ) → List ℕ → Type 0
+WasCutAndTold sink None line = ⊥
+WasCutAndTold sink (Some text) line = CutThenTold sink.taken_before sink.taken_after text line
 
 abbrev pub FaultsRose : Growth → Type 0
 FaultsRose sink = Rose sink.faults_before sink.faults_after
@@ -51,22 +58,25 @@ FaultsRose sink = Rose sink.faults_before sink.faults_after
 abbrev pub GrewByLine : Growth → List ℕ → Type 0
 GrewByLine sink line = Tells sink.taken_before sink.taken_after sink.faults_before sink.faults_after line
 
--- 1. Done comes only where the verdict is accepted. The notes grew by exactly its plan text. For `run`, out grew by exactly its rows
---    text; for `audit` and `demo`, by exactly its audit text; for `plan`, out took nothing.
+-- 1. Done comes only where the verdict is accepted. The notes grew by exactly its plan text; for `stats` they took nothing. For `run`, out
+--    grew by exactly its rows text; for `audit` and `demo`, by exactly its audit text; for `stats`, by exactly the text of its statistics
+--    file; for `plan`, out took nothing.
 abbrev pub DoneIsExact : Call → Type 0
 DoneIsExact call = call.status ≡ status.Done
-    → OverFiles call (λ files v. IsOkAnd v (λ run. Grew call.notes (plan_text run) × GrewWhole call.out (out_text_of run)))
+    → OverFiles call (λ files v. IsOkAnd v (λ outcome. GrewWhole call.notes (notes_text outcome) × GrewWhole call.out (out_text outcome)))
 
 -- 2. Where the verdict is accepted, the scan of each FROM entry and each level of the plan's order have at most as many rows as the plan
---    text of 1 prints for it; for `plan` too, though they are never listed. Scans and levels are those of the query over whole tables. With
---    `--reduce` a scan is the reduced one, which has exactly as many rows, and the rows of levels are from these. The audit text of 1 prints
---    each level's number of rows beside its bound.
+--    text of 1 prints for it; for `plan` too, though they are never listed. With `--bushy` the plan is a join tree, and each of its inner
+--    nodes stands for a level. Scans, levels and nodes are those of the query over whole tables. With `--reduce` a scan is the reduced one,
+--    which has exactly as many rows, and the rows of levels and nodes are from these. The audit text of 1 prints the number of rows of each
+--    level or inner node beside its bound. With `--stats` scans and levels are those over all tables for which the statistics file stands,
+--    whatever wrote it; and the file that `stats` writes stands for the tables that were read.
 abbrev pub EveryBoundHolds : Call → Type 0
-EveryBoundHolds call = OverFiles call (λ files v. IfOk v BoundsHold)
+EveryBoundHolds call = OverFiles call (λ files v. IfOk v NoBoundIsTooLow)
 
 -- 3. Where the verdict is accepted, the rows that `run` prints are, as a multiset, the answer of the query.
 abbrev pub TheRowsAreTheAnswer : Call → Type 0
-TheRowsAreTheAnswer call = OverFiles call (λ files v. IfOk v RowsAreTheAnswer)
+TheRowsAreTheAnswer call = OverFiles call (λ files v. IfOk v PrintsTheAnswer)
 
 -- 4. Want of memory: the notes grew by its line, and out didn't grow.
 abbrev pub WantOfMemoryLeavesItsLine : Call → Type 0
@@ -76,16 +86,16 @@ WantOfMemoryLeavesItsLine call = call.status ≡ status.NoMemory → GrewByLine 
 pub record WriteFaultsHaveTheirCause (call : Call) : Type 0 where
   -- of notes: a prefix of the plan text stands in them, and then a prefix of the line; out didn't grow
   pub of_notes : call.status ≡ status.WriteFault sink.Notes → FaultsRose call.notes × DidNotGrow call.out
-      × OverFiles call (λ files v. IsOkAnd v (λ run. CutThenTold call.notes.taken_before call.notes.taken_after
-      (plan_text run) (fault_text call.status call.words files)))
-  -- of out: the plan text stands in the notes, and then the line; in out a prefix of its text
+      × OverFiles call (λ files v. IsOkAnd v (λ outcome. WasCutAndTold call.notes (notes_text outcome)
+      (fault_text call.status call.words files)))
+  -- of out: the plan text stands in the notes, where there is one, and then the line; in out a prefix of its text
   pub of_out : call.status ≡ status.WriteFault sink.Out → FaultsRose call.out
-      × OverFiles call (λ files v. IsOkAnd v (λ run. WasCut call.out (out_text_of run)
-      × Tells (appended call.notes.taken_before (plan_text run)) call.notes.taken_after call.notes.faults_before call.notes.faults_after
+      × OverFiles call (λ files v. IsOkAnd v (λ outcome. WasCut call.out (out_text outcome)
+      × Tells (grown call.notes.taken_before (notes_text outcome)) call.notes.taken_after call.notes.faults_before call.notes.faults_after
       (fault_text call.status call.words files)))
 
--- 6. Usage, Schema, Query, Table, Limit, Budget and PastBits come only where the verdict is that status with these fields. The notes grew
---    by its line, and out didn't grow. Usage is a matter of the words alone.
+-- 6. Usage, Schema, Query, Table, Stats, Limit, Budget and PastBits come only where the verdict is that status with these fields. The notes
+--    grew by its line, and out didn't grow. Usage is a matter of the words alone.
 pub record RefusalsAreTheVerdict (call : Call) : Type 0 where
   pub usage : (call.status ≡ status.Usage) ↔ (command_stage call.words ≡ Err refusal.Usage)
   pub told : (r : Refusal) → IsOfWhatIsThere r → call.status ≡ refused r → DidNotGrow call.out
@@ -104,8 +114,8 @@ pub record ReadFaultsHaveTheirCause (call : Call) : Type 0 where
   -- no name is invented: where the verdict is no read fault, the store's count of misses is as before
   pub misses : OverFiles call (λ files v. MissesNothing v → call.store.misses_after ≡ call.store.misses_before)
 
-abbrev pub status_of : Result Accepted Refusal → Status
-status_of (Ok run) = status.Done
+abbrev pub status_of : Result Outcome Refusal → Status
+status_of (Ok outcome) = status.Done
 status_of (Err r) = refused r
 
 -- 8. Nothing is refused without a cause: where the store's count didn't rise, the status is the verdict's, or a write fault, or want of

@@ -3,8 +3,14 @@ pub mod Asks
 pub mod Call
 pub mod Course
 pub mod Faults
+pub mod Filed
 pub mod Headline
+pub mod Outcome
+pub mod OutcomeTexts
 pub mod Prepared
+pub mod Promise
+pub mod Ready
+pub mod Shapes
 pub mod Shops
 pub mod Sources
 pub mod Standing

@@ -1,7 +1,5 @@
--- What the bounds of a run are made from, and the rows from which its levels are chosen. Here alone one source is told from another.
-use Rattle.std.specs.Prelude.{ℕ, List, length, Result}
-use Rattle.plans.specs.declared.left_deep.Plan.{Plan}
-use Rattle.order_search.specs.declared.refusal.PlanError.{PlanError}
+-- What the bounds of a run are made from, and the rows that are joined. Here alone one source is told from another.
+use Rattle.std.specs.Prelude.{ℕ, List, length}
 use Rattle.query_types.specs.declared.types.Query.{Query}
 use Rattle.join_graph.specs.Conjuncts.{equalities_of}
 use Rattle.tree_bounds.specs.TreeBounds.{EntryBounds}
@@ -12,13 +10,12 @@ use Rattle.gathered_stats.specs.Statistics.{statistics_of}
 use Rattle.reduced_scans.specs.Rounds.{reduced_of}
 use Rattle.planning.specs.Bounds.{scan_bounds_of}
 use Rattle.planning.specs.ListedBounds.{entry_bounds_over}
-use Rattle.set_bounds.specs.AllSets.{in_every_set}
-use Rattle.planning.specs.Plans.{planned_from}
+use Rattle.set_bounds.specs.AllSets.{bounds_in_sets, in_every_set}
 use Rattle.safebound_top.specs.declared.task.ListSource.{ListSource}
 use Rattle.safebound_top.specs.declared.task.ListSource.TheVariants as sources
 
 -- what a source gives for a query over its tables: at an accuracy, what is known of the entries in each set and a bound of each scan; and
--- for each entry the rows of its scan, from which levels are chosen
+-- for each entry the rows of its scan, which are joined
 pub record Sourced : Type 0 where
   pub bounds : ℕ → ℕ → EntryBounds
   pub scans : ℕ → List ℕ
@@ -37,8 +34,6 @@ sourced sources.Reduced query tables = record {
   lists = reduced_of query tables;
 }
 
--- the plan by what a source gives, at an accuracy and within a budget: the best order with its bounds, or PastBits, or Budget with the least
--- cost
-unfoldable pub planned_by : Sourced → Query → ℕ → ℕ → Result Plan PlanError
-planned_by given query accuracy budget =
-    planned_from (given.bounds accuracy) (given.scans accuracy) (equalities_of query) (length query.from) budget
+-- the bound of each set of entries by what a source gives, at an accuracy
+abbrev pub set_bounds_by : Sourced → Query → ℕ → List ℕ
+set_bounds_by given query accuracy = bounds_in_sets (given.bounds accuracy) (equalities_of query) (length query.from)

@@ -1,22 +1,22 @@
 -- The texts of an accepted run.
 use Rattle.std.specs.Prelude.{ℕ, List, Option, None, Some}
-use Rattle.printed_texts.specs.Plans.{audit_lines, plan_lines}
 use Rattle.printed_texts.specs.Texts.{rows_lines}
-use Rattle.safebound_top.specs.Accepted.{Accepted, level_counts, printed}
+use Rattle.safebound_top.specs.Accepted.{Accepted, part_counts, printed}
+use Rattle.safebound_top.specs.Shapes.{shape_audits, shape_lines}
 use Rattle.safebound_top.specs.declared.task.OutText.{OutText}
 use Rattle.safebound_top.specs.declared.task.OutText.TheVariants as out_text
 
--- for notes: a line for each scan, and then one for each level of the plan's order, with their bounds
+-- for notes: a line for each scan, and then one for each level of the plan's order, or inner node of its tree, with their bounds
 abbrev pub plan_text : Accepted → List ℕ
-plan_text run = plan_lines run.query.from run.plan
+plan_text run = shape_lines run.query.from run.plan
 
 -- the header, and then a record for each row that is printed
 abbrev pub rows_text : Accepted → List ℕ
 rows_text run = rows_lines run.query.select (printed run)
 
--- a line for each level of the plan's order: its bound, and how many rows it has
+-- a line for each level of the plan's order, or inner node of its tree: its bound, and how many rows it has
 abbrev pub audit_text : Accepted → List ℕ
-audit_text run = audit_lines run.query.from run.plan (level_counts run)
+audit_text run = shape_audits run.query.from run.plan (part_counts run)
 
 -- the text for out, where there is one
 abbrev pub text_for : OutText → Accepted → Option (List ℕ)

@@ -1,5 +1,5 @@
--- What the words and the files determine, in stages: the words, the schema, the query, the tables, the plan.
-use Rattle.std.specs.Prelude.{ℕ, List, Result, Ok, Err, IsOk}
+-- What the words and the files determine, in stages: the words, the schema, the query, the tables or the statistics file, the plan.
+use Rattle.std.specs.Prelude.{ℕ, ◌≡◌, List, Result, Ok, Err, IsOk}
 use Rattle.limits.specs.Profile.{most_text}
 use Rattle.base_io.specs.Files.{Files}
 use Rattle.text_answers.specs.SchemaTexts.{schema_answer}
@@ -8,7 +8,6 @@ use Rattle.csv_tables.specs.Rows.{Row}
 use Rattle.text_answers.specs.QueryTexts.{query_answer}
 use Rattle.query_types.specs.declared.types.Query.{Query}
 use Rattle.sql_meaning.specs.Tables.{Tables}
-use Rattle.plans.specs.declared.left_deep.Plan.{Plan}
 use Rattle.order_search.specs.declared.refusal.PlanError.{PlanError}
 use Rattle.outcomes.specs.Errors.{plan_refusal, query_refusal, schema_refusal}
 use Rattle.outcomes.specs.Reads.{◌>>=◌, told}
@@ -20,8 +19,13 @@ use Rattle.table_files.specs.Stage.{tables_of_query, tables_stage}
 use Rattle.table_files.specs.Stage.{IsReached as IsTableReached}
 use Rattle.table_files.specs.TableFile.{read}
 use Rattle.safebound_top.specs.Accepted.{Accepted}
-use Rattle.safebound_top.specs.Asks.{Ask, command_stage}
-use Rattle.safebound_top.specs.Sources.{planned_by, sourced}
+use Rattle.safebound_top.specs.Asks.{Ask, FileOf, PlanFrom, PlanOf, WorkAsk, command_stage}
+use Rattle.safebound_top.specs.Filed.{filed_plan_stage, stats_stage, tables_filed}
+use Rattle.safebound_top.specs.Outcome.{Outcome, Planned}
+use Rattle.safebound_top.specs.Shapes.{planned_by}
+use Rattle.safebound_top.specs.Sources.{sourced}
+use Rattle.safebound_top.specs.declared.shapes.Shaped.{Shaped}
+use Rattle.safebound_top.specs.declared.task.PlanTask.{PlanTask}
 
 -- the schema, in the file of this name
 abbrev pub schema_of_text : List ℕ → Result Schema Refusal
@@ -41,44 +45,54 @@ query_stage name schema files = do
   text ← read file.Query most_text name files
   query_of_text schema text
 
--- the plan of a query over its tables, by what the source gives that is asked for
-abbrev pub plan_asked : Ask → Query → Tables → Result Plan PlanError
-plan_asked ask query ts = planned_by (sourced ask.source query ts) query ask.accuracy ask.budget
+-- the plan of a query over its tables, of the shape that is asked for, by what the source gives
+abbrev pub plan_asked : PlanTask → Query → Tables → Result Shaped PlanError
+plan_asked task query ts = planned_by task.shape (sourced task.source query ts) query task.accuracy task.budget
 
 -- the run of a plan, over the rows that the source gives
-abbrev pub run_asked : Ask → Query → List (List Row) → Plan → Accepted
-run_asked ask query rows plan = record {
+abbrev pub run_asked : PlanTask → Query → List (List Row) → Shaped → Accepted
+run_asked task query rows plan = record {
   query = query;
   rows = rows;
   plan = plan;
-  source = ask.source;
-  lists = (sourced ask.source query (tables_in rows)).lists;
-  out = ask.out;
+  source = task.source;
+  lists = (sourced task.source query (tables_in rows)).lists;
+  out = task.out;
 }
 
--- the plan of a query over its entries' rows: the best order with its bounds, or PastBits, or Budget with the least cost
-unfoldable pub plan_stage : Ask → Query → List (List Row) → Result Accepted Refusal
-plan_stage ask query rows = do
-  plan ← told plan_refusal (plan_asked ask query (tables_in rows))
-  Ok (run_asked ask query rows plan)
+-- the plan of a query over its entries' rows: the best order or tree with its bounds, or PastBits, or Budget with the least cost
+unfoldable pub plan_stage : PlanTask → Query → List (List Row) → Result Outcome Refusal
+plan_stage task query rows = do
+  plan ← told plan_refusal (plan_asked task query (tables_in rows))
+  Ok (Planned (run_asked task query rows plan))
+
+-- what is done with a query: here alone one work is told from another
+abbrev pub work_run : WorkAsk → Schema → Query → Files → Result Outcome Refusal
+work_run (PlanOf task) schema query files = do
+  rows ← tables_stage schema query.from files
+  plan_stage task query rows
+work_run (FileOf accuracy) schema query files = do
+  rows ← tables_stage schema query.from files
+  Ok (tables_filed schema query rows accuracy)
+work_run (PlanFrom name budget) schema query files = do
+  stats ← stats_stage name schema files
+  filed_plan_stage query stats budget
 
 -- what a run is over, or the first refusal that applies: from the tables on, from the query on, from the schema on, and from the words on
-unfoldable pub query_run : Ask → Schema → Query → Files → Result Accepted Refusal
-query_run ask schema query files = do
-  rows ← tables_stage schema query.from files
-  plan_stage ask query rows
+unfoldable pub query_run : Ask → Schema → Query → Files → Result Outcome Refusal
+query_run ask schema query files = work_run ask.work schema query files
 
-unfoldable pub schema_run : Ask → Schema → Files → Result Accepted Refusal
+unfoldable pub schema_run : Ask → Schema → Files → Result Outcome Refusal
 schema_run ask schema files = do
   query ← query_stage ask.query_file schema files
   query_run ask schema query files
 
-unfoldable pub ask_run : Ask → Files → Result Accepted Refusal
+unfoldable pub ask_run : Ask → Files → Result Outcome Refusal
 ask_run ask files = do
   schema ← schema_stage ask.schema_file files
   schema_run ask schema files
 
-unfoldable pub verdict : List (List ℕ) → Files → Result Accepted Refusal
+unfoldable pub verdict : List (List ℕ) → Files → Result Outcome Refusal
 verdict words files = do
   ask ← command_stage words
   ask_run ask files
@@ -91,15 +105,16 @@ schema_read words files = do
   ask ← command_stage words
   schema_stage ask.schema_file files
 
--- the query that it reads, with its schema
+-- the query that it reads, with its schema, and what is done with it
 pub record Asked : Type 0 where
+  pub work : WorkAsk
   pub schema : Schema
   pub query : Query
 
 unfoldable pub query_from : Ask → Schema → Files → Result Asked Refusal
 query_from ask schema files = do
   query ← query_stage ask.query_file schema files
-  Ok (record { schema = schema; query = query })
+  Ok (record { work = ask.work; schema = schema; query = query })
 
 unfoldable pub query_read : List (List ℕ) → Files → Result Asked Refusal
 query_read words files = do
@@ -107,13 +122,19 @@ query_read words files = do
   schema ← schema_stage ask.schema_file files
   query_from ask schema files
 
--- the file is one of the query's tables, and no table before it is refused
-abbrev pub IsTableOf : Result Asked Refusal → Files → FileId → Type 0
-IsTableOf (Ok asked) files id = IsTableReached asked.schema (tables_of_query asked.query.from) files id
-IsTableOf (Err r) files id = ⊥
+-- the file is one that is read for the query: one of its tables, and no table before it is refused; or the statistics file
+abbrev pub IsWorkFile : WorkAsk → Schema → Query → Files → FileId → Type 0
+IsWorkFile (PlanOf task) schema query files id = IsTableReached schema (tables_of_query query.from) files id
+IsWorkFile (FileOf accuracy) schema query files id = IsTableReached schema (tables_of_query query.from) files id
+IsWorkFile (PlanFrom name budget) schema query files id = id ≡ file.Stats
+
+abbrev pub IsFileOf : Result Asked Refusal → Files → FileId → Type 0
+IsFileOf (Ok asked) files id = IsWorkFile asked.work asked.schema asked.query files id
+IsFileOf (Err r) files id = ⊥
 
 -- the verdict comes to this file: nothing before it is refused
 abbrev pub IsReached : List (List ℕ) → Files → FileId → Type 0
 IsReached words files file.Schema = IsOk (command_stage words)
 IsReached words files file.Query = IsOk (schema_read words files)
-IsReached words files (file.Table number) = IsTableOf (query_read words files) files (file.Table number)
+IsReached words files (file.Table number) = IsFileOf (query_read words files) files (file.Table number)
+IsReached words files file.Stats = IsFileOf (query_read words files) files file.Stats

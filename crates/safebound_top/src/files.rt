@@ -4,6 +4,7 @@ ghost use Rattle.limits.specs.Profile.{most_conjuncts};
 ghost use Rattle.base_io.specs.Devices.{reading};
 ghost use Rattle.outcomes.specs.Reads.{AtFile, Reads};
 ghost use Rattle.schema_types.specs.Validity.{IsValid};
+ghost use Rattle.stats_reading.specs.Names.{HasByteColumns};
 ghost use Rattle.query_types.specs.Validity.{IsOf};
 ghost use Rattle.safebound_top.specs.Verdict.{query_stage, schema_stage};
 
@@ -19,6 +20,7 @@ use table_files::load_file;
 /// Reads the schema in the file of this name.
 pub fn load_schema<S: Store>(alloc: Global, store: &mut S, name: &str) -> Result<Schema, Ending>
     ensures valid { IfOk result IsValid }
+    ensures bytes { IfOk result HasByteColumns }
     ensures reads { Reads (reading S.files S.faults S.misses store.old store.new) (schema_stage name.now) (AtFile FileId.Schema) result }
 {
     let text = load_file(alloc, store, FileId::Schema, name, MOST_TEXT)?;

@@ -1,29 +1,38 @@
 //! The top call: from the words of a command line to the bytes of two streams.
 //!
-//! It only sequences. `read_task` finds what is asked for; `load_schema` and `prepare` read every file, plan, take all
-//! memory of the run and write nothing; `write_texts` writes the plan text and then the rows text or the audit text, and
-//! takes no memory.
+//! It only calls the stages in order. `read_task` finds what is asked for; `load_schema` and `prepare` read every file, plan, take all
+//! memory of the run and write nothing; `write_outcome` writes the plan text and then the rows text or the audit text, or the text of a
+//! statistics file, and takes no memory.
 //! On every status but `Done`, `write_fault` tells the status in one line.
 //!
-//! `safebound` has two clauses. `headline` says what comes out, and why (`Headline` in `specs/Headline.antt`), and
+//! `safebound` has three clauses. `promise` says what a `run` that is done has printed, from its words, its files and SQL alone
+//! (`Promise` in `specs/Promise.antt`). `headline` says what comes out of any call, and why (`Headline` in `specs/Headline.antt`), and
 //! `untouched` that `demo` leaves the store that was handed in as it was. The headline stands on `verdict` (in
 //! `specs/Verdict.antt`): what the words and the files determine. A step that reads has the clause `Reads` over its
 //! stage of the verdict, and `Ran` and `Course` (in `specs/Course.antt`) compose them.
 #![tactic(auto)]
 
+mod corollaries;
+mod filed;
 mod files;
 mod laws;
 mod prepare;
 mod report;
 mod scans;
+mod shapes;
 mod shop;
 mod task;
 mod texts;
 mod top_call;
 
+pub use corollaries::{
+    demo_meets_no_read_fault, printed_bounds_are_near, the_headline_keeps_the_promise,
+};
 pub use laws::{demo_is_an_audit, no_reader_wants_memory, run_law, sources_stand};
-pub use outcomes::{FileId, QueryCause, SchemaCause, SinkId, Status, TableCause};
+pub use outcomes::{
+    FileId, NO_MEMORY, NO_WORDS, QueryCause, SchemaCause, SinkId, StatsCause, Status, TableCause,
+};
 pub use report::write_fault;
 pub use safebound_words::{Command, WordsError, read_words};
-pub use task::{ListSource, OutText, Task, read_task};
+pub use task::{ListSource, OutText, PlanTask, Shape, Task, Work, read_task};
 pub use top_call::safebound;

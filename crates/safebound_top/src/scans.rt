@@ -1,33 +1,32 @@
-//! The lists of rows from which the levels of a run are chosen, and the memory of the levels.
-ghost use Rattle.std.specs.Prelude.{◌≡◌, ◌⊎◌, ◌<◌, ◌≤◌, Err, IfErr, IfOk, Ok, length};
-ghost use Rattle.limits.specs.Profile.{most_accuracy, most_budget, most_conjuncts};
+//! The lists of rows that a run joins, and the memory of the joins.
+ghost use Rattle.std.specs.Prelude.{◌≡◌, ◌⊎◌, ◌<◌, ◌≤◌, ℕ, Err, IfErr, IfOk, Ok, length, slice_index};
+ghost use Rattle.limits.specs.Profile.{most_accuracy, most_conjuncts};
 ghost use Rattle.order_search.specs.declared.refusal.PlanError.TheVariants as error;
-ghost use Rattle.level_bounds.specs.Keys.{HaveDifferentCharacters};
 ghost use Rattle.planned_joins.specs.PlansOf.{HaveFewRows};
 ghost use Rattle.sql_meaning.specs.Databases.{IsDatabaseOf};
 ghost use Rattle.sql_meaning.specs.Tables.{tables_of};
-ghost use Rattle.join_steps.specs.Lists.{lists_of, scans_of};
-ghost use Rattle.join_steps.specs.Plans.{IsPlanOf};
-ghost use Rattle.safebound_top.specs.Asks.{asked};
-ghost use Rattle.safebound_top.specs.Prepared.{CanJoin, lists_in};
-ghost use Rattle.safebound_top.specs.Sources.{sourced};
+ghost use Rattle.join_steps.specs.Lists.{lists_of, rows_listed, scans_of};
+ghost use Rattle.planning.specs.Gives.{Gives};
+ghost use Rattle.safebound_top.specs.Asks.{IsInRange};
+ghost use Rattle.safebound_top.specs.Prepared.{CanJoin, lists_in, plan_in};
+ghost use Rattle.safebound_top.specs.Shapes.{IsPlanOver};
+ghost use Rattle.safebound_top.specs.Sources.{set_bounds_by, sourced};
 ghost use Rattle.safebound_top.specs.Standing.{LoseNoRow};
 ghost use Rattle.safebound_top.specs.Verdict.{plan_asked};
 
-use crate::task::{ListSource, Task};
+use crate::shapes::{Room, Shaped, bounds_of_scans, plan_by, reserve_room};
+use crate::task::{ListSource, PlanTask};
 use base_io::NoMemory;
 use csv_tables::Database;
 use join_steps::scan_all;
 use order_search::PlanError;
-use planned_joins::{reserve_plan, reserve_scans};
-use planning::{plan_query, plan_reduced};
-use plans::Plan;
+use planned_joins::reserve_scans;
+use planning::{Known, from_reduced, from_statistics};
 use query_types::Query;
-use reserve_plan::Reserved;
 use row_buf::RowBuf;
 use std::alloc::Global;
 
-/// The rows from which levels are chosen.
+/// The rows that are joined.
 #[derive(Drop)]
 pub enum Scans {
     /// Those of each entry's whole scan, which aren't listed yet.
@@ -36,69 +35,98 @@ pub enum Scans {
     Listed(Vec<RowBuf<u32>>),
 }
 
-/// A plan, and the rows from which its levels are chosen.
+// What a source gives: what is known of the entries, and the rows that are joined.
+#[derive(Drop)]
+struct Given {
+    known: Known,
+    scans: Scans,
+}
+
+/// A plan, and the rows that are joined by it.
 #[derive(Drop)]
 pub struct Planned {
-    pub plan: Plan,
+    pub plan: Shaped,
     pub scans: Scans,
 }
 
-/// All that the joins of a plan need: a list of rows for each entry, and the buffers for the levels over them.
+/// All that the joins of a plan need: a list of rows for each entry, and the plan with the buffers for its joins.
 #[derive(Drop)]
 pub struct Joins {
     pub lists: Vec<RowBuf<u32>>,
-    pub reserved: Reserved,
+    pub room: Room,
 }
 
-/// Plans a query over its database from what the task asks for. Here alone the code tells one source from another.
-pub fn plan_task(
+// What a source gives of a query over its database. Here alone the code tells one source from another.
+fn given_by(
     alloc: Global,
-    task: &Task,
+    source: ListSource,
+    accuracy: u8,
     query: &Query,
     db: &Database,
-) -> Result<Planned, PlanError>
+) -> Result<Given, NoMemory>
     requires database { IsDatabaseOf query.now db.now }
     requires few { length query.now.conjuncts ≤ most_conjuncts }
     requires few_rows { HaveFewRows (tables_of db.now) (length query.now.from) }
-    requires texts { HaveDifferentCharacters db.now.pool }
-    requires accuracy { (0 < task.now.accuracy) × (task.now.accuracy ≤ most_accuracy) }
-    requires budget { task.now.budget ≤ most_budget }
-    ensures planned { IfOk result (λ p. plan_asked (asked task.now) query.now (tables_of db.now) ≡ Ok p.plan) }
-    ensures lists { IfOk result (λ p. lists_in p.scans query.now (tables_of db.now)
-        ≡ (sourced task.now.source query.now (tables_of db.now)).lists) }
-    ensures refused { IfErr result (λ e. (e ≡ error.NoMemory) ⊎ (plan_asked (asked task.now) query.now (tables_of db.now) ≡ Err e)) }
+    requires accuracy { (0 < accuracy) × (accuracy ≤ most_accuracy) }
+    ensures known { let given = sourced source query.now (tables_of db.now) in
+        IfOk result (λ made. Gives (set_bounds_by given query.now accuracy) (given.scans accuracy) made.known) }
+    ensures lists { IfOk result (λ made. lists_in made.scans query.now (tables_of db.now)
+        ≡ (sourced source query.now (tables_of db.now)).lists) }
 {
-    match task.source {
+    match source {
         ListSource::Columns => {
-            let plan = plan_query(alloc, query, db, task.accuracy, task.budget)?;
-            Ok(Planned {
-                plan,
+            let known = from_statistics(alloc, query, db, accuracy)?;
+            Ok(Given {
+                known,
                 scans: Scans::Whole,
             })
         }
         ListSource::Reduced => {
-            let reduced = plan_reduced(alloc, query, db, task.accuracy, task.budget)?;
-            Ok(Planned {
-                plan: reduced.plan,
+            let reduced = from_reduced(alloc, query, db, accuracy)?;
+            Ok(Given {
+                known: reduced.known,
                 scans: Scans::Listed(reduced.lists),
             })
         }
     }
 }
 
-// Lists the rows of each entry's scan, in memory that is taken by the plan's bounds.
+/// Plans a query over its database as the task asks.
+pub fn plan_task(
+    alloc: Global,
+    task: &PlanTask,
+    query: &Query,
+    db: &Database,
+) -> Result<Planned, PlanError>
+    requires database { IsDatabaseOf query.now db.now }
+    requires few { length query.now.conjuncts ≤ most_conjuncts }
+    requires few_rows { HaveFewRows (tables_of db.now) (length query.now.from) }
+    requires ranges { IsInRange task.now }
+    ensures planned { IfOk result (λ p. plan_asked task.now query.now (tables_of db.now) ≡ Ok p.plan) }
+    ensures lists { IfOk result (λ p. lists_in p.scans query.now (tables_of db.now)
+        ≡ (sourced task.now.source query.now (tables_of db.now)).lists) }
+    ensures refused { IfErr result (λ e. (e ≡ error.NoMemory) ⊎ (plan_asked task.now query.now (tables_of db.now) ≡ Err e)) }
+{
+    let Given { known, scans } = given_by(alloc, task.source, task.accuracy, query, db)?;
+    let plan = plan_by(alloc, task.shape, &known, task.budget)?;
+    Ok(Planned { plan, scans })
+}
+
+// Lists the rows of each entry's scan, in memory that is taken by these bounds.
 fn list_scans(
     alloc: Global,
     query: &Query,
     db: &Database,
-    plan: &Plan,
+    bounds: &[u64],
 ) -> Result<Vec<RowBuf<u32>>, NoMemory>
     requires database { IsDatabaseOf query.now db.now }
     requires few { length query.now.conjuncts ≤ most_conjuncts }
-    requires plan { IsPlanOf query.now (tables_of db.now) (scans_of query.now (tables_of db.now)) plan.now }
+    requires count { length bounds.now ≡ length query.now.from }
+    requires fit { (entry : ℕ) → entry < length query.now.from
+        → rows_listed (scans_of query.now (tables_of db.now)) entry ≤ slice_index bounds.now entry }
     ensures { IfOk result (λ lists. lists_of lists.items ≡ scans_of query.now (tables_of db.now)) }
 {
-    let mut lists = reserve_scans(alloc, query, db, plan)?;
+    let mut lists = reserve_scans(alloc, query, db, bounds)?;
     scan_all(query, db, lists.as_mut_slice());
     Ok(lists)
 }
@@ -109,36 +137,39 @@ fn list_rows(
     scans: Scans,
     query: &Query,
     db: &Database,
-    plan: &Plan,
+    bounds: &[u64],
 ) -> Result<Vec<RowBuf<u32>>, NoMemory>
     requires database { IsDatabaseOf query.now db.now }
     requires few { length query.now.conjuncts ≤ most_conjuncts }
-    requires plan { IsPlanOf query.now (tables_of db.now) (lists_in scans query.now (tables_of db.now)) plan.now }
+    requires count { length bounds.now ≡ length query.now.from }
+    requires fit { (entry : ℕ) → entry < length query.now.from
+        → rows_listed (lists_in scans query.now (tables_of db.now)) entry ≤ slice_index bounds.now entry }
     ensures { IfOk result (λ lists. lists_of lists.items ≡ lists_in scans query.now (tables_of db.now)) }
 {
     match scans {
-        Scans::Whole => list_scans(alloc, query, db, plan),
+        Scans::Whole => list_scans(alloc, query, db, bounds),
         Scans::Listed(lists) => Ok(lists),
     }
 }
 
-/// Takes all memory that the joins of a plan need, and lists the rows from which levels are chosen.
+/// Takes all memory that the joins of a plan need, and lists the rows that are joined.
 pub fn prepare_joins(
     alloc: Global,
-    scans: Scans,
+    planned: Planned,
     query: &Query,
     db: &Database,
-    plan: &Plan,
 ) -> Result<Joins, NoMemory>
     requires database { IsDatabaseOf query.now db.now }
     requires few { length query.now.conjuncts ≤ most_conjuncts }
     requires few_rows { HaveFewRows (tables_of db.now) (length query.now.from) }
-    requires plan { IsPlanOf query.now (tables_of db.now) (lists_in scans query.now (tables_of db.now)) plan.now }
-    requires rows { LoseNoRow query.now (tables_of db.now) (lists_in scans query.now (tables_of db.now)) }
-    ensures room { IfOk result (CanJoin query.now db.now plan.now) }
-    ensures lists { IfOk result (λ joins. lists_of joins.lists.items ≡ lists_in scans query.now (tables_of db.now)) }
+    requires plan { IsPlanOver query.now (tables_of db.now) (lists_in planned.scans query.now (tables_of db.now)) planned.plan }
+    requires rows { LoseNoRow query.now (tables_of db.now) (lists_in planned.scans query.now (tables_of db.now)) }
+    ensures plan { IfOk result (λ joins. plan_in joins.room ≡ planned.plan) }
+    ensures room { IfOk result (CanJoin query.now db.now) }
+    ensures lists { IfOk result (λ joins. lists_of joins.lists.items ≡ lists_in planned.scans query.now (tables_of db.now)) }
 {
-    let reserved = reserve_plan(alloc, query, db, plan)?;
-    let lists = list_rows(alloc, scans, query, db, plan)?;
-    Ok(Joins { lists, reserved })
+    let Planned { plan, scans } = planned;
+    let lists = list_rows(alloc, scans, query, db, bounds_of_scans(&plan))?;
+    let room = reserve_room(alloc, plan, query, db)?;
+    Ok(Joins { lists, room })
 }

@@ -1,26 +1,25 @@
 //! What the words of a command line ask of a run.
-ghost use Rattle.std.specs.Prelude.{◌≡◌, ◌<◌, ◌≤◌, Err, IfSome, MatchOption, None, Ok, map};
-ghost use Rattle.limits.specs.Profile.{most_accuracy, most_budget};
+ghost use Rattle.std.specs.Prelude.{◌≡◌, Err, IfSome, MatchOption, None, Ok, map};
 ghost use Rattle.outcomes.specs.declared.refusal.Refusal.TheVariants as refusal;
 ghost use Rattle.safebound_words.specs.Requests.{request_of};
-ghost use Rattle.safebound_top.specs.Asks.{ask_for, asked, asks, command_stage, source_asked};
+ghost use Rattle.safebound_top.specs.Asks.{HasRanges, ask_for, asked, asks, command_stage, plan_for, shape_asked, source_asked, work_asked};
 ghost use Rattle.safebound_top.specs.Shops.{shop_asked, shop_of};
 
 use limits::{USUAL_ACCURACY, USUAL_BUDGET};
 use safebound_words::{Command, read_words};
 
-/// Which text a run writes to `out`.
+/// Which text a run over tables writes to `out`.
 #[derive(Clone, Copy, Debug, PartialEq, Eq)]
 pub enum OutText {
     /// The rows of the query.
     Rows,
-    /// For each level of the plan's order its bound and its number of rows.
+    /// For each level of the plan's order, or each inner node of its tree, its bound and its number of rows.
     Audit,
     /// None: `out` isn't written.
     Nothing,
 }
 
-/// What the bounds of a plan are made from, and the rows from which its levels are chosen.
+/// What the bounds of a plan are made from, and the rows that are joined.
 #[derive(Clone, Copy, Debug)]
 pub enum ListSource {
     /// Statistics of whole columns, and whole scans.
@@ -29,16 +28,43 @@ pub enum ListSource {
     Reduced,
 }
 
-/// The names of two files, the most rows that a plan may cost, how closely lists of degrees are compressed, what
-/// bounds are made from, which text goes to `out`, and the number of the shop whose files are made and read, if one is.
+/// How a plan joins its entries.
+#[derive(Clone, Copy, Debug)]
+pub enum Shape {
+    /// Along a left-deep order: each level joins one more entry.
+    Order,
+    /// Over a join tree: each inner node joins two nodes.
+    Tree,
+}
+
+/// How a query is planned over its tables: the most rows that a plan may cost, how closely lists of degrees are compressed,
+/// what bounds are made from, the shape of the plan, and which text goes to `out`.
+#[derive(Clone, Copy, Debug)]
+pub struct PlanTask {
+    pub budget: u64,
+    pub accuracy: u8,
+    pub source: ListSource,
+    pub shape: Shape,
+    pub out: OutText,
+}
+
+/// What is done with a query.
+#[derive(Clone, Copy, Debug)]
+pub enum Work<'a> {
+    /// It is planned over its tables, and joined where `out` takes a text.
+    Plan(PlanTask),
+    /// The statistics file of its tables is written, at an accuracy of compression from 1 to 64.
+    File { accuracy: u8 },
+    /// It is planned from the statistics file of this name. The most rows that a plan may cost are the budget.
+    PlanFrom { file: &'a str, budget: u64 },
+}
+
+/// The names of two files, what is done with the query, and the number of the shop whose files are made and read, if one is.
 #[derive(Clone, Copy, Debug)]
 pub struct Task<'a> {
     pub schema_file: &'a str,
     pub query_file: &'a str,
-    pub budget: u64,
-    pub accuracy: u8,
-    pub source: ListSource,
-    pub out: OutText,
+    pub work: Work<'a>,
     pub shop: Option<u32>,
 }
 
@@ -53,25 +79,35 @@ fn source_of(reduce: bool) -> ListSource
     }
 }
 
-// The task of two files of the store, and the text that it writes to `out`.
-fn over<'a>(
-    schema: &'a str,
-    query: &'a str,
-    budget: u64,
-    accuracy: u8,
-    reduce: bool,
-    out: OutText,
-) -> Task<'a>
-    ensures asked { asked result ≡ ask_for out schema.now query.now budget accuracy (source_asked reduce) }
+// What the flag asks for.
+fn shape_of(bushy: bool) -> Shape
+    ensures { result ≡ shape_asked bushy }
+{
+    if bushy { Shape::Tree } else { Shape::Order }
+}
+
+// The work of planning by these values.
+fn plan_of<'a>(out: OutText, budget: u64, accuracy: u8, reduce: bool, bushy: bool) -> Work<'a>
+    ensures { work_asked result ≡ plan_for out budget accuracy reduce bushy }
+{
+    Work::Plan(PlanTask {
+        budget,
+        accuracy,
+        source: source_of(reduce),
+        shape: shape_of(bushy),
+        out,
+    })
+}
+
+// The task of two files of the store.
+fn over<'a>(schema: &'a str, query: &'a str, work: Work<'a>) -> Task<'a>
+    ensures asked { asked result ≡ ask_for schema.now query.now (work_asked work.entry) }
     ensures shop { result.shop ≡ None }
 {
     Task {
         schema_file: schema,
         query_file: query,
-        budget,
-        accuracy,
-        source: source_of(reduce),
-        out,
+        work,
         shop: None,
     }
 }
@@ -88,30 +124,60 @@ fn task_of<'a>(command: Command<'a>) -> Task<'a>
             budget,
             accuracy,
             reduce,
-        } => over(schema, query, budget, accuracy, reduce, OutText::Rows),
+            bushy,
+        } => over(
+            schema,
+            query,
+            plan_of(OutText::Rows, budget, accuracy, reduce, bushy),
+        ),
         Command::Plan {
             schema,
             query,
             budget,
             accuracy,
             reduce,
-        } => over(schema, query, budget, accuracy, reduce, OutText::Nothing),
+            bushy,
+        } => over(
+            schema,
+            query,
+            plan_of(OutText::Nothing, budget, accuracy, reduce, bushy),
+        ),
         Command::Audit {
             schema,
             query,
             budget,
             accuracy,
             reduce,
-        } => over(schema, query, budget, accuracy, reduce, OutText::Audit),
+            bushy,
+        } => over(
+            schema,
+            query,
+            plan_of(OutText::Audit, budget, accuracy, reduce, bushy),
+        ),
+        Command::Stats {
+            schema,
+            query,
+            accuracy,
+        } => over(schema, query, Work::File { accuracy }),
+        Command::PlanStats {
+            schema,
+            query,
+            stats,
+            budget,
+        } => over(
+            schema,
+            query,
+            Work::PlanFrom {
+                file: stats,
+                budget,
+            },
+        ),
         Command::Demo { number } => Task {
             shop: Some(number),
             ..over(
                 "schema.sql",
                 "query.sql",
-                USUAL_BUDGET,
-                USUAL_ACCURACY,
-                false,
-                OutText::Audit,
+                plan_of(OutText::Audit, USUAL_BUDGET, USUAL_ACCURACY, false, false),
             )
         },
     }
@@ -123,8 +189,7 @@ pub fn read_task<'a>(words: &[&'a str]) -> Option<Task<'a>>
         (λ task. command_stage (map (λ w. w.now) words.now) ≡ Ok (asked task)) }
     ensures shop { MatchOption result (shop_of (map (λ w. w.now) words.now) ≡ None)
         (λ task. shop_of (map (λ w. w.now) words.now) ≡ task.shop) }
-    ensures accuracy { IfSome result (λ task. (0 < task.accuracy) × (task.accuracy ≤ most_accuracy)) }
-    ensures budget { IfSome result (λ task. task.budget ≤ most_budget) }
+    ensures ranges { IfSome result (λ task. HasRanges (asked task).work) }
 {
     match read_words(words) {
         Ok(command) => Some(task_of(command)),

@@ -1,23 +1,24 @@
 //! The top call, stage by stage.
-ghost use Rattle.std.specs.Prelude.{◌≡◌, ◌⊎◌, ◌<◌, ◌≤◌, IfSome, List, ℕ, Ok, Some, map, option_copied};
-ghost use Rattle.limits.specs.Profile.{most_accuracy, most_budget};
+ghost use Rattle.std.specs.Prelude.{◌≡◌, ◌⊎◌, IfSome, List, ℕ, Ok, Some, map, option_copied};
 ghost use Rattle.base_io.specs.Devices.{growth, reading};
 ghost use Rattle.outcomes.specs.Statuses.{ended};
 ghost use Rattle.schema_types.specs.Validity.{IsValid};
-ghost use Rattle.safebound_top.specs.Asks.{ask_of, asked, command_stage};
+ghost use Rattle.stats_reading.specs.Names.{HasByteColumns};
+ghost use Rattle.safebound_top.specs.Asks.{HasRanges, ask_of, asked, command_stage};
 ghost use Rattle.safebound_top.specs.Course.{Course, Ended, Ran, Told};
 ghost use Rattle.safebound_top.specs.Faults.{status_line};
 ghost use Rattle.safebound_top.specs.Headline.{Headline};
-ghost use Rattle.safebound_top.specs.Prepared.{IsReady, accepted_of};
+ghost use Rattle.safebound_top.specs.Promise.{Promise};
+ghost use Rattle.safebound_top.specs.Ready.{CanBeWritten, outcome_of};
 ghost use Rattle.safebound_top.specs.Shops.{shop_of, shop_store, store_read};
-ghost use Rattle.safebound_top.specs.Verdict.{IsTableOf, query_from, schema_run};
+ghost use Rattle.safebound_top.specs.Verdict.{IsFileOf, query_from, schema_run};
 
 use crate::files::load_schema;
-use crate::prepare::{Prepared, prepare};
+use crate::prepare::{Ready, prepare};
 use crate::report::report;
 use crate::shop::open_shop;
 use crate::task::{Task, read_task};
-use crate::texts::write_texts;
+use crate::texts::write_outcome;
 use base_io::{NoMemory, Sink, Store};
 use outcomes::{Ending, FileId, Status};
 use schema_types::Schema;
@@ -34,19 +35,19 @@ fn stopped<N: Sink>(ending: Ending, task: &Task, schema: Option<&Schema>, notes:
     status
 }
 
-// Writes the texts of what was read, or tells the stream that couldn't be written.
+// Writes the texts of what the run comes to, or tells the stream that couldn't be written.
 fn written<O: Sink, N: Sink>(
-    prepared: Prepared,
+    ready: Ready,
     task: &Task,
     schema: &Schema,
     out: &mut O,
     notes: &mut N,
 ) -> Status
-    requires { IsReady prepared }
-    ensures { Ended result (growth O.taken O.faults out.old out.new) (growth N.taken N.faults notes.old notes.new) (accepted_of prepared)
+    requires { CanBeWritten schema.now ready }
+    ensures { Ended result (growth O.taken O.faults out.old out.new) (growth N.taken N.faults notes.old notes.new) (outcome_of schema.now ready)
         (status_line result (Some (asked task.now)) (Some schema.now)) }
 {
-    match write_texts(prepared, out, notes) {
+    match write_outcome(ready, schema, out, notes) {
         Ok(()) => Status::Done,
         Err(sink) => {
             let status = Status::from(sink);
@@ -66,15 +67,15 @@ fn run_over<S: Store, O: Sink, N: Sink>(
     notes: &mut N,
 ) -> Status
     requires schema { IsValid schema.now }
-    requires accuracy { (0 < task.now.accuracy) × (task.now.accuracy ≤ most_accuracy) }
-    requires budget { task.now.budget ≤ most_budget }
+    requires bytes { HasByteColumns schema.now }
+    requires ranges { HasRanges (asked task.now).work }
     ensures { Ran result (reading S.files S.faults S.misses store.old store.new) (growth O.taken O.faults out.old out.new)
         (growth N.taken N.faults notes.old notes.new) (schema_run (asked task.now) schema.now)
-        (λ files file. (file ≡ FileId.Query) ⊎ IsTableOf (query_from (asked task.now) schema.now files) files file)
+        (λ files file. (file ≡ FileId.Query) ⊎ IsFileOf (query_from (asked task.now) schema.now files) files file)
         (status_line result (Some (asked task.now)) (Some schema.now)) }
 {
     match prepare(alloc, store, task, schema) {
-        Ok(prepared) => written(prepared, task, schema, out, notes),
+        Ok(ready) => written(ready, task, schema, out, notes),
         Err(ending) => stopped(ending, task, Some(schema), notes),
     }
 }
@@ -87,8 +88,7 @@ fn run<S: Store, O: Sink, N: Sink>(
     out: &mut O,
     notes: &mut N,
 ) -> Status
-    requires accuracy { (0 < task.now.accuracy) × (task.now.accuracy ≤ most_accuracy) }
-    requires budget { task.now.budget ≤ most_budget }
+    requires ranges { HasRanges (asked task.now).work }
     ensures { (words : List (List ℕ)) → command_stage words ≡ Ok (asked task.now) → Course (record {
       words = words;
       status = result;
@@ -111,8 +111,7 @@ fn run_shop<O: Sink, N: Sink>(
     out: &mut O,
     notes: &mut N,
 ) -> Status
-    requires accuracy { (0 < task.now.accuracy) × (task.now.accuracy ≤ most_accuracy) }
-    requires budget { task.now.budget ≤ most_budget }
+    requires ranges { HasRanges (asked task.now).work }
     ensures { (words : List (List ℕ)) → command_stage words ≡ Ok (asked task.now) → Course (record {
       words = words;
       status = result;
@@ -135,8 +134,7 @@ fn run_task<S: Store, O: Sink, N: Sink>(
     out: &mut O,
     notes: &mut N,
 ) -> Status
-    requires accuracy { (0 < task.now.accuracy) × (task.now.accuracy ≤ most_accuracy) }
-    requires budget { task.now.budget ≤ most_budget }
+    requires ranges { HasRanges (asked task.now).work }
     ensures course { (words : List (List ℕ)) → command_stage words ≡ Ok (asked task.now) → Course (record {
       words = words;
       status = result;
@@ -153,10 +151,11 @@ fn run_task<S: Store, O: Sink, N: Sink>(
 }
 
 /// Runs a command: reads the words' files, plans, takes all memory, writes the plan text to `notes` and the rows text or
-/// the audit text, where one is asked for, to `out`; or tells in one line of `notes` why not. `demo` reads files that it
-/// makes in memory, and leaves `store` as it is.
+/// the audit text, where one is asked for, to `out`; or tells in one line of `notes` why not. `stats` writes a statistics
+/// file to `out` and no plan, and `plan --stats` reads one and no table. `demo` reads files that it makes in memory, and
+/// leaves `store` as it is.
 ///
-/// The contract is the project's headline, sentence by sentence in `specs/Headline.antt`.
+/// The contract is what `run` promises (`specs/Promise.antt`), and the project's headline, sentence by sentence in `specs/Headline.antt`.
 pub fn safebound<S: Store, O: Sink, N: Sink>(
     alloc: Global,
     words: &[&str],
@@ -164,6 +163,13 @@ pub fn safebound<S: Store, O: Sink, N: Sink>(
     out: &mut O,
     notes: &mut N,
 ) -> Status
+    ensures promise { Promise (record {
+      words = map (λ w. w.now) words.now;
+      status = result;
+      store = store_read (shop_of (map (λ w. w.now) words.now)) (reading S.files S.faults S.misses store.old store.new);
+      out = growth O.taken O.faults out.old out.new;
+      notes = growth N.taken N.faults notes.old notes.new;
+    }) }
     ensures headline { Headline (record {
       words = map (λ w. w.now) words.now;
       status = result;

@@ -1,6 +1,6 @@
 mod NumberFacts
 mod PartFacts
-mod Readings
+pub mod Readings
 mod Steps
 mod WholeLines
 mod WordKinds

@@ -1,8 +1,7 @@
 -- One word more: what is asked for by what was collected and what is left stays the same, or nothing can be.
-use Rattle.std.proofs.Common.{◌≡◌, ℕ, ◌+◌, ◌<◌, ◌≤◌, Bool, true, false, if◌then◌else◌, List, [], ◌∷◌, ◌++◌, length, map, drop, get_or, Option, Some, None, Result, Ok, Err, Bor, sym, refl, ap, ◌∙◌, add-one, append_assoc, append-nil, length-append, suc, zero, arith}
+use Rattle.std.proofs.Common.{◌≡◌, ℕ, ◌+◌, ◌<◌, ◌≤◌, ◌==◌, ◌&&◌, Bool, true, false, if◌then◌else◌, option_map, List, [], ◌∷◌, ◌++◌, length, map, drop, Option, Some, None, Result, Ok, Err, Bor, sym, refl, ap, ◌∙◌, append_assoc, append-nil, length-append, suc, zero, arith}
 use Rattle.std.proofs.Math.Path.{fun_ext}
-use Rattle.std.proofs.Math.Seq.{drop-cons}
-use Rattle.std.proofs.lemmas.Bool.{false≢true}
+use Rattle.std.proofs.lemmas.Bool.{false≢true, ne_eqb}
 use Rattle.std.proofs.lemmas.List.{drop_all}
 use Rattle.std.proofs.lemmas.List.Sums.{sum_by-cons}
 use Rattle.std.proofs.lemmas.Slice.Eq.{bytes_eq-Decides}
@@ -12,8 +11,8 @@ use Rattle.std.specs.Result.{OnErr}
 use Rattle.safebound_words.specs.Answer.{Kind, Ends, IsPlace, Sets, Wants, Gives, Unknown, Parts, in_front, kind_of, parts_from, read_by}
 use Rattle.safebound_words.specs.Collected.{asked_by, asked_from, asked_with, collected, given_of, given_to, given_with, times_of, words_of}
 use Rattle.safebound_words.specs.CommandLines.{Alone, Beside, Item, Joined, Place, given_by, given_in, has_flag, has_option, place_words, same_flag, same_option, set_by}
-use Rattle.safebound_words.specs.Requests.{Request}
-use Rattle.safebound_words.specs.Table.{Given, command_row, flag_word, is_set, option_row, over_files, of_number, value_of, ◌>>=◌}
+use Rattle.safebound_words.specs.Requests.{Request, Plan, PlanStats, Stats}
+use Rattle.safebound_words.specs.Table.{Given, command_row, file_of, flag_word, is_set, most_budget_of, of_number, of_stats, option_row, over_files, planned_from, stands_alone, value_of, within, ◌>>=◌}
 use Rattle.safebound_words.specs.Words.{Word}
 use Rattle.safebound_words.specs.declared.table.CommandName.{CommandName}
 use Rattle.safebound_words.specs.declared.table.CommandName.TheVariants as command
@@ -113,9 +112,17 @@ one_more_value name new old item o value parts none unset by places times given 
     ∙ append_assoc (given_to old other) (given_by other item) (flat_map (given_by other) parts.0))
     (no_more_times new old item parts.0 times unset)
 
+-- nothing comes of a value that isn't there
+none_first : {A B : Type 0} (first : Option A) (rest : A → Option B) → first ≡ None → first >>= rest ≡ None
+none_first first rest is = rw is refl
+
+none_behind : {A B : Type 0} (first : Option A) (rest : A → Option B) → ((a : A) → rest a ≡ None) → first >>= rest ≡ None
+none_behind None rest all = refl
+none_behind (Some a) rest all = all a
+
 -- Where too much is collected, nothing is asked for.
 
-two_at_most : (request : Word → Word → ℕ → ℕ → Bool → Request) (places : List Word) (given : Given) → 2 < length places → over_files request places given ≡ None
+two_at_most : (request : Word → Word → ℕ → ℕ → Bool → Bool → Request) (places : List Word) (given : Given) → 2 < length places → over_files request places given ≡ None
 two_at_most request [] given many = absurd (omega arith)
 two_at_most request (a ∷ []) given many = absurd (omega arith)
 two_at_most request (a ∷ b ∷ []) given many = absurd (omega arith)
@@ -126,19 +133,25 @@ one_at_most request [] given many = absurd (omega arith)
 one_at_most request (a ∷ []) given many = absurd (omega arith)
 one_at_most request (a ∷ b ∷ rest) given many = refl
 
+plan_of_two : (file : Option Word) (places : List Word) (given : Given) → 2 < length places → planned_from file places given ≡ None
+plan_of_two None places given many = two_at_most Plan places given many
+plan_of_two (Some file) [] given many = absurd (omega arith)
+plan_of_two (Some file) (a ∷ []) given many = absurd (omega arith)
+plan_of_two (Some file) (a ∷ b ∷ []) given many = absurd (omega arith)
+plan_of_two (Some file) (a ∷ b ∷ d ∷ rest) given many = refl
+
+stats_of_two : (places : List Word) (given : Given) → 2 < length places → of_stats places given ≡ None
+stats_of_two [] given many = absurd (omega arith)
+stats_of_two (a ∷ []) given many = absurd (omega arith)
+stats_of_two (a ∷ b ∷ []) given many = absurd (omega arith)
+stats_of_two (a ∷ b ∷ d ∷ rest) given many = refl
+
 too_many : (name : CommandName) (places : List Word) (given : Given) → 2 < length places → (command_row name).asks places given ≡ None
 too_many command.Run = two_at_most _
-too_many command.Plan = two_at_most _
+too_many command.Plan = λ places given many. none_behind (file_of (given.values option.Stats)) (λ file. planned_from file places given) (λ file. plan_of_two file places given many)
 too_many command.Audit = two_at_most _
+too_many command.Stats = stats_of_two
 too_many command.Demo = one_at_most _
-
--- nothing comes of a value that isn't there
-none_first : {A B : Type 0} (first : Option A) (rest : A → Option B) → first ≡ None → first >>= rest ≡ None
-none_first first rest is = rw is refl
-
-none_behind : {A B : Type 0} (first : Option A) (rest : A → Option B) → ((a : A) → rest a ≡ None) → first >>= rest ≡ None
-none_behind None rest all = refl
-none_behind (Some a) rest all = all a
 
 -- an option to which two words are given has no value
 too_often : (o : OptionName) (words : List Word) → 1 < length words → value_of o words ≡ None
@@ -146,13 +159,20 @@ too_often o [] many = absurd (omega arith)
 too_often o (a ∷ []) many = absurd (omega arith)
 too_often o (a ∷ b ∷ rest) many = refl
 
-no_value : (request : Word → Word → ℕ → ℕ → Bool → Request) (places : List Word) (given : Given) (o : OptionName)
+-- the options with numbers
+abbrev HasNumbers : OptionName → Type 0
+HasNumbers option.Budget = Unit {0}
+HasNumbers option.Accuracy = Unit {0}
+HasNumbers option.Stats = ⊥
+
+no_value : (request : Word → Word → ℕ → ℕ → Bool → Bool → Request) (places : List Word) (given : Given) (o : OptionName) → HasNumbers o
     → 1 < length (given.values o) → over_files request places given ≡ None
-no_value request [] given o many = refl
-no_value request (a ∷ []) given o many = refl
-no_value request (a ∷ b ∷ []) given option.Budget many = none_first _ _ (too_often option.Budget _ many)
-no_value request (a ∷ b ∷ []) given option.Accuracy many = none_behind _ _ (λ budget. none_first _ _ (too_often option.Accuracy _ many))
-no_value request (a ∷ b ∷ d ∷ rest) given o many = refl
+no_value request [] given o has many = refl
+no_value request (a ∷ []) given o has many = refl
+no_value request (a ∷ b ∷ []) given option.Budget has many = none_first _ _ (too_often option.Budget _ many)
+no_value request (a ∷ b ∷ []) given option.Accuracy has many = none_behind _ _ (λ budget. none_first _ _ (too_often option.Accuracy _ many))
+no_value request (a ∷ b ∷ []) given option.Stats has many = absurd has
+no_value request (a ∷ b ∷ d ∷ rest) given o has many = refl
 
 -- nothing comes of a flag that stands twice
 set_once : (n : ℕ) → 1 < n → is_set n ≡ None
@@ -160,30 +180,123 @@ set_once zero many = absurd (omega arith)
 set_once (suc zero) many = absurd (omega arith)
 set_once (suc (suc more)) many = refl
 
-no_flag : (request : Word → Word → ℕ → ℕ → Bool → Request) (places : List Word) (given : Given) (f : FlagName)
+-- the stages behind the budget
+module _ (request : Word → Word → ℕ → ℕ → Bool → Bool → Request) (a b : Word) (given : Given) where
+  abbrev by_bushy : ℕ → ℕ → Bool → Bool → Option Request
+  by_bushy budget accuracy reduce bushy = within (most_budget_of bushy) budget (request a b budget accuracy reduce bushy)
+
+  abbrev by_reduce : ℕ → ℕ → Bool → Option Request
+  by_reduce budget accuracy reduce = is_set (given.times flag.Bushy) >>= λ bushy. by_bushy budget accuracy reduce bushy
+
+  abbrev by_accuracy : ℕ → ℕ → Option Request
+  by_accuracy budget accuracy = is_set (given.times flag.Reduce) >>= λ reduce. by_reduce budget accuracy reduce
+
+  abbrev by_budget : ℕ → Option Request
+  by_budget budget = value_of option.Accuracy (given.values option.Accuracy) >>= λ accuracy. by_accuracy budget accuracy
+
+  many_flags : (budget accuracy : ℕ) (f : FlagName) → 1 < given.times f → by_accuracy budget accuracy ≡ None
+  many_flags budget accuracy flag.Reduce many = none_first (is_set (given.times flag.Reduce)) (λ reduce. by_reduce budget accuracy reduce) (set_once (given.times flag.Reduce) many)
+  many_flags budget accuracy flag.Bushy many =
+      none_behind (is_set (given.times flag.Reduce)) (λ reduce. by_reduce budget accuracy reduce)
+      (λ reduce. none_first (is_set (given.times flag.Bushy)) (λ bushy. by_bushy budget accuracy reduce bushy) (set_once (given.times flag.Bushy) many))
+
+  no_flag_of_two : (f : FlagName) → 1 < given.times f → over_files request (a ∷ b ∷ []) given ≡ None
+  no_flag_of_two f many =
+      none_behind (value_of option.Budget (given.values option.Budget)) (λ budget. by_budget budget)
+      (λ budget. none_behind (value_of option.Accuracy (given.values option.Accuracy)) (λ accuracy. by_accuracy budget accuracy) (λ accuracy. many_flags budget accuracy f many))
+
+no_flag : (request : Word → Word → ℕ → ℕ → Bool → Bool → Request) (places : List Word) (given : Given) (f : FlagName)
     → 1 < given.times f → over_files request places given ≡ None
 no_flag request [] given f many = refl
 no_flag request (a ∷ []) given f many = refl
-no_flag request (a ∷ b ∷ []) given flag.Reduce many =
-    none_behind (value_of option.Budget (given.values option.Budget))
-    (λ budget. value_of option.Accuracy (given.values option.Accuracy) >>= λ accuracy. is_set (given.times flag.Reduce) >>= λ reduce. Some (request a b budget accuracy reduce))
-    (λ budget. none_behind (value_of option.Accuracy (given.values option.Accuracy))
-    (λ accuracy. is_set (given.times flag.Reduce) >>= λ reduce. Some (request a b budget accuracy reduce))
-    (λ accuracy. none_first (is_set (given.times flag.Reduce)) (λ reduce. Some (request a b budget accuracy reduce)) (set_once (given.times flag.Reduce) many)))
+no_flag request (a ∷ b ∷ []) given f many = no_flag_of_two request a b given f many
 no_flag request (a ∷ b ∷ d ∷ rest) given f many = refl
+
+-- the same of a plan, which may be from a statistics file
+
+nowhere : (b : Bool) → (b && false) ≡ false
+nowhere true = refl
+nowhere false = refl
+
+times_twice : (b c : Bool) (n : ℕ) → 1 < n → (b && (n == 0 && c)) ≡ false
+times_twice b c n many = let some : (n == 0) ≡ false = ne_eqb n 0 (λ e. absurd (omega (arith, e, many))) in rw some (nowhere b)
+
+times_twice_behind : (b c : Bool) (n : ℕ) → 1 < n → (b && (c && n == 0)) ≡ false
+times_twice_behind b c n many =
+    let some : (n == 0) ≡ false = ne_eqb n 0 (λ e. absurd (omega (arith, e, many))) in rw some (rw (nowhere c) (nowhere b))
+
+words_twice : (words : List Word) (b : Bool) → 1 < length words → (length words == 0 && b) ≡ false
+words_twice words b many = let some : (length words == 0) ≡ false = ne_eqb (length words) 0 (λ e. absurd (omega (arith, e, many))) in rw some refl
+
+-- not alone beside a statistics file
+not_alone : (file schema query : Word) (given : Given) → stands_alone given ≡ false → planned_from (Some file) (schema ∷ query ∷ []) given ≡ None
+not_alone file schema query given beside =
+    none_behind (value_of option.Budget (given.values option.Budget))
+    (λ budget. if stands_alone given then Some (PlanStats schema query file budget) else None) (λ budget. rw beside refl)
+
+plan_without_flag : (file : Option Word) (places : List Word) (given : Given) (f : FlagName) → 1 < given.times f → planned_from file places given ≡ None
+plan_without_flag None places given f many = no_flag Plan places given f many
+plan_without_flag (Some file) [] given f many = refl
+plan_without_flag (Some file) (a ∷ []) given f many = refl
+plan_without_flag (Some file) (a ∷ b ∷ []) given flag.Reduce many =
+    not_alone file a b given (times_twice (length (given.values option.Accuracy) == 0) (given.times flag.Bushy == 0) (given.times flag.Reduce) many)
+plan_without_flag (Some file) (a ∷ b ∷ []) given flag.Bushy many =
+    not_alone file a b given (times_twice_behind (length (given.values option.Accuracy) == 0) (given.times flag.Reduce == 0) (given.times flag.Bushy) many)
+plan_without_flag (Some file) (a ∷ b ∷ d ∷ rest) given f many = refl
+
+plan_without_budget : (file : Option Word) (places : List Word) (given : Given) → 1 < length (given.values option.Budget) → planned_from file places given ≡ None
+plan_without_budget None places given many = no_value Plan places given option.Budget tt many
+plan_without_budget (Some file) [] given many = refl
+plan_without_budget (Some file) (a ∷ []) given many = refl
+plan_without_budget (Some file) (a ∷ b ∷ []) given many =
+    none_first (value_of option.Budget (given.values option.Budget)) (λ budget. if stands_alone given then Some (PlanStats a b file budget) else None)
+    (too_often option.Budget (given.values option.Budget) many)
+plan_without_budget (Some file) (a ∷ b ∷ d ∷ rest) given many = refl
+
+plan_without_accuracy : (file : Option Word) (places : List Word) (given : Given) → 1 < length (given.values option.Accuracy) → planned_from file places given ≡ None
+plan_without_accuracy None places given many = no_value Plan places given option.Accuracy tt many
+plan_without_accuracy (Some file) [] given many = refl
+plan_without_accuracy (Some file) (a ∷ []) given many = refl
+plan_without_accuracy (Some file) (a ∷ b ∷ []) given many =
+    not_alone file a b given (words_twice (given.values option.Accuracy) (given.times flag.Reduce == 0 && given.times flag.Bushy == 0) many)
+plan_without_accuracy (Some file) (a ∷ b ∷ d ∷ rest) given many = refl
+
+no_file : (words : List Word) → 1 < length words → file_of words ≡ None
+no_file [] many = absurd (omega arith)
+no_file (a ∷ []) many = absurd (omega arith)
+no_file (a ∷ b ∷ rest) many = refl
+
+no_accuracy : (places : List Word) (given : Given) → 1 < length (given.values option.Accuracy) → of_stats places given ≡ None
+no_accuracy [] given many = refl
+no_accuracy (a ∷ []) given many = refl
+no_accuracy (a ∷ b ∷ []) given many = ap (option_map (Stats a b)) (too_often option.Accuracy (given.values option.Accuracy) many)
+no_accuracy (a ∷ b ∷ d ∷ rest) given many = refl
 
 flag_refused : (name : CommandName) (f : FlagName) (places : List Word) (given : Given) → IsTrue (has_flag name f) → 1 < given.times f
     → (command_row name).asks places given ≡ None
 flag_refused command.Run f places given has many = no_flag _ places given f many
-flag_refused command.Plan f places given has many = no_flag _ places given f many
+flag_refused command.Plan f places given has many =
+    none_behind (file_of (given.values option.Stats)) (λ file. planned_from file places given) (λ file. plan_without_flag file places given f many)
 flag_refused command.Audit f places given has many = no_flag _ places given f many
+flag_refused command.Stats f places given has many = absurd (false≢true has)
 flag_refused command.Demo f places given has many = absurd (false≢true has)
 
 refused : (name : CommandName) (o : OptionName) (places : List Word) (given : Given) → IsTrue (has_option name o) → 1 < length (given.values o)
     → (command_row name).asks places given ≡ None
-refused command.Run o places given has many = no_value _ places given o many
-refused command.Plan o places given has many = no_value _ places given o many
-refused command.Audit o places given has many = no_value _ places given o many
+refused command.Run option.Budget places given has many = no_value _ places given option.Budget tt many
+refused command.Run option.Accuracy places given has many = no_value _ places given option.Accuracy tt many
+refused command.Run option.Stats places given has many = absurd (false≢true has)
+refused command.Plan option.Budget places given has many =
+    none_behind (file_of (given.values option.Stats)) (λ file. planned_from file places given) (λ file. plan_without_budget file places given many)
+refused command.Plan option.Accuracy places given has many =
+    none_behind (file_of (given.values option.Stats)) (λ file. planned_from file places given) (λ file. plan_without_accuracy file places given many)
+refused command.Plan option.Stats places given has many = none_first (file_of (given.values option.Stats)) (λ file. planned_from file places given) (no_file (given.values option.Stats) many)
+refused command.Audit option.Budget places given has many = no_value _ places given option.Budget tt many
+refused command.Audit option.Accuracy places given has many = no_value _ places given option.Accuracy tt many
+refused command.Audit option.Stats places given has many = absurd (false≢true has)
+refused command.Stats option.Budget places given has many = absurd (false≢true has)
+refused command.Stats option.Accuracy places given has many = no_accuracy places given many
+refused command.Stats option.Stats places given has many = absurd (false≢true has)
 refused command.Demo o places given has many = absurd (false≢true has)
 
 full_place : (name : CommandName) (line : Line) (word : Word) (parts : Parts) → length (words_of line.places) ≡ 2
@@ -348,13 +461,10 @@ anyway (Err error) holds = holds
 
 -- The loop.
 
-pub next_word : (words : List (Bor (List ℕ))) (i : ℕ) (word : Bor (List ℕ)) → i < length words → word ≡ get_or words i word
-    → map (λ w. w.now) (drop i words) ≡ word.now ∷ map (λ w. w.now) (drop (i + 1) words)
-next_word words i word within is = rw (add-one, drop-cons words i word within) (ap (λ (w : Bor (List ℕ)). w.now ∷ map (λ (v : Bor (List ℕ)). v.now) (drop (suc i) words)) (sym is))
-
-pub nothing_given : (line : Line) → line.budget ≡ None → line.accuracy ≡ None → (o : OptionName) → given_to line o ≡ []
-nothing_given line budget accuracy option.Budget = rw budget refl
-nothing_given line budget accuracy option.Accuracy = rw accuracy refl
+pub nothing_given : (line : Line) → line.budget ≡ None → line.accuracy ≡ None → line.stats ≡ None → (o : OptionName) → given_to line o ≡ []
+nothing_given line budget accuracy stats option.Budget = rw budget refl
+nothing_given line budget accuracy stats option.Accuracy = rw accuracy refl
+nothing_given line budget accuracy stats option.Stats = rw stats refl
 
 -- nothing collected yet
 pub start_asked : (name : CommandName) (line : Line) (words : List Word) → words_of line.places ≡ [] → ((o : OptionName) → given_to line o ≡ [])
@@ -373,13 +483,14 @@ start_asked name line words places given times =
 
 -- the line before any word
 abbrev no_words : Line
-no_words = record { places = places.Nothing; budget = None; accuracy = None; reduce = false }
+no_words = record { places = places.Nothing; budget = None; accuracy = None; stats = None; reduce = false; bushy = false }
 
 never_set : (f : FlagName) → times_of no_words f ≡ 0
 never_set flag.Reduce = refl
+never_set flag.Bushy = refl
 
 pub first_asked : (name : CommandName) (words : List Word) → asked_from name no_words next.Item words ≡ asked_by name words
-first_asked name words = start_asked name no_words words refl (nothing_given no_words refl refl) never_set
+first_asked name words = start_asked name no_words words refl (nothing_given no_words refl refl refl) never_set
 
 -- no word is left
 none_left : (words : List (Bor (List ℕ))) (i : ℕ) → length words ≤ i → map (λ w. w.now) (drop i words) ≡ []

@@ -23,27 +23,41 @@ pub names_itself : (name : CommandName) → command_named (command_row name).wor
 names_itself command.Run = refl
 names_itself command.Plan = refl
 names_itself command.Audit = refl
+names_itself command.Stats = refl
 names_itself command.Demo = refl
 
 -- a flag's word sets it
 pub kind-sets : (name : CommandName) (f : FlagName) → IsTrue (has_flag name f) → kind_of name (flag_word f) ≡ Sets f
 unfolding kind_of
 kind-sets command.Run flag.Reduce has = refl
+kind-sets command.Run flag.Bushy has = refl
 kind-sets command.Plan flag.Reduce has = refl
+kind-sets command.Plan flag.Bushy has = refl
 kind-sets command.Audit flag.Reduce has = refl
+kind-sets command.Audit flag.Bushy has = refl
+kind-sets command.Stats flag.Reduce has = absurd (false≢true has)
+kind-sets command.Stats flag.Bushy has = absurd (false≢true has)
 kind-sets command.Demo flag.Reduce has = absurd (false≢true has)
+kind-sets command.Demo flag.Bushy has = absurd (false≢true has)
 
 -- an option's word wants a value
 pub kind-wants : (name : CommandName) (o : OptionName) → IsTrue (has_option name o) → kind_of name (option_row o).word ≡ Wants o
 unfolding kind_of
 kind-wants command.Run option.Budget has = refl
 kind-wants command.Run option.Accuracy has = refl
+kind-wants command.Run option.Stats has = absurd (false≢true has)
 kind-wants command.Plan option.Budget has = refl
 kind-wants command.Plan option.Accuracy has = refl
+kind-wants command.Plan option.Stats has = refl
 kind-wants command.Audit option.Budget has = refl
 kind-wants command.Audit option.Accuracy has = refl
+kind-wants command.Audit option.Stats has = absurd (false≢true has)
+kind-wants command.Stats option.Budget has = absurd (false≢true has)
+kind-wants command.Stats option.Accuracy has = refl
+kind-wants command.Stats option.Stats has = absurd (false≢true has)
 kind-wants command.Demo option.Budget has = absurd (false≢true has)
 kind-wants command.Demo option.Accuracy has = absurd (false≢true has)
+kind-wants command.Demo option.Stats has = absurd (false≢true has)
 
 -- an option's word, `=` and a value gives the value
 pub kind-gives : (name : CommandName) (o : OptionName) (value : Word) → IsTrue (has_option name o)
@@ -51,12 +65,19 @@ pub kind-gives : (name : CommandName) (o : OptionName) (value : Word) → IsTrue
 unfolding kind_of
 kind-gives command.Run option.Budget value has = refl
 kind-gives command.Run option.Accuracy value has = refl
+kind-gives command.Run option.Stats value has = absurd (false≢true has)
 kind-gives command.Plan option.Budget value has = refl
 kind-gives command.Plan option.Accuracy value has = refl
+kind-gives command.Plan option.Stats value has = refl
 kind-gives command.Audit option.Budget value has = refl
 kind-gives command.Audit option.Accuracy value has = refl
+kind-gives command.Audit option.Stats value has = absurd (false≢true has)
+kind-gives command.Stats option.Budget value has = absurd (false≢true has)
+kind-gives command.Stats option.Accuracy value has = refl
+kind-gives command.Stats option.Stats value has = absurd (false≢true has)
 kind-gives command.Demo option.Budget value has = absurd (false≢true has)
 kind-gives command.Demo option.Accuracy value has = absurd (false≢true has)
+kind-gives command.Demo option.Stats value has = absurd (false≢true has)
 
 pub kind-ends : (name : CommandName) → kind_of name (codes "--") ≡ Ends
 unfolding kind_of
@@ -91,7 +112,7 @@ found_so p q (y ∷ ys) x e = elim (chosen (p y) y x (find p ys) e) [
 -- the name that a word is found to be
 pub named_so : (word : Word) (name : CommandName) → command_named word ≡ Some name → word ≡ (command_row name).word
 named_so word name found =
-    (bytes_eq-Decides word (command_row name).word).0 (found_so (λ n. bytes_eq word (command_row n).word) (λ n. true) (command.Run ∷ command.Plan ∷ command.Audit ∷ command.Demo ∷ []) name found).0
+    (bytes_eq-Decides word (command_row name).word).0 (found_so (λ n. bytes_eq word (command_row n).word) (λ n. true) (command.Run ∷ command.Plan ∷ command.Audit ∷ command.Stats ∷ command.Demo ∷ []) name found).0
 
 -- the option that a word is found to be
 option_so : (name : CommandName) (word : Word) (o : OptionName) → option_named name word ≡ Some o → (word ≡ (option_row o).word) × IsTrue (has_option name o)

@@ -32,10 +32,12 @@ option_words given = option_to_list (option_map (λ word. word.now) given)
 abbrev pub given_to : Line → OptionName → List Word
 given_to line option.Budget = option_words line.budget
 given_to line option.Accuracy = option_words line.accuracy
+given_to line option.Stats = option_words line.stats
 
 -- how often a flag was there
 abbrev pub times_of : Line → FlagName → ℕ
 times_of line flag.Reduce = if line.reduce then 1 else 0
+times_of line flag.Bushy = if line.bushy then 1 else 0
 
 abbrev pub given_of : Line → Given
 given_of line = record { values = given_to line; times = times_of line }

@@ -1,9 +1,9 @@
 -- The table of commands, options and flags: a new one is one line here.
-use Rattle.std.specs.Prelude.{ℕ, ◌^◌, ◌-◌, suc, zero, Bool, true, false, List, [], ◌∷◌, Option, Some, None, codes}
+use Rattle.std.specs.Prelude.{ℕ, ◌^◌, ◌-◌, ◌==◌, ◌&&◌, not, nat_le, if◌then◌else◌, suc, zero, Bool, true, false, List, [], ◌∷◌, length, Option, Some, None, codes}
 use Rattle.std.specs.Option.{option_map}
-use Rattle.limits.specs.Profile.{least_accuracy, least_budget, most_accuracy, most_budget, usual_accuracy, usual_budget}
+use Rattle.limits.specs.Profile.{least_accuracy, least_budget, most_accuracy, most_budget, most_rows, usual_accuracy, usual_budget}
 use Rattle.safebound_words.specs.Numbers.{number_within}
-use Rattle.safebound_words.specs.Requests.{Request, Run, Plan, Audit, Demo}
+use Rattle.safebound_words.specs.Requests.{Request, Run, Plan, Audit, Stats, PlanStats, Demo}
 use Rattle.safebound_words.specs.Words.{Word}
 use Rattle.safebound_words.specs.declared.table.CommandName.{CommandName}
 use Rattle.safebound_words.specs.declared.table.CommandName.TheVariants as command
@@ -22,14 +22,20 @@ pub record OptionRow : Type 0 where
 abbrev pub number_option : Word → ℕ → ℕ → ℕ → OptionRow
 number_option word least most otherwise = record { word = word; least = least; most = most; otherwise = otherwise }
 
+-- an option whose value is a file's name has no numbers
+abbrev pub file_option : Word → OptionRow
+file_option word = number_option word 0 0 0
+
 -- one line for each option
 abbrev pub option_row : OptionName → OptionRow
 option_row option.Budget = number_option (codes "--budget") least_budget most_budget usual_budget
 option_row option.Accuracy = number_option (codes "--accuracy") least_accuracy most_accuracy usual_accuracy
+option_row option.Stats = file_option (codes "--stats")
 
 -- one line for each flag: its word
 abbrev pub flag_word : FlagName → Word
 flag_word flag.Reduce = codes "--reduce"
+flag_word flag.Bushy = codes "--bushy"
 
 -- the words that a line gives to each option, in order, and how often each flag stands in it
 pub record Given : Type 0 where
@@ -41,6 +47,17 @@ abbrev pub value_of : OptionName → List Word → Option ℕ
 value_of option [] = Some (option_row option).otherwise
 value_of option (word ∷ []) = number_within (option_row option).least (option_row option).most word
 value_of option (word ∷ another ∷ words) = None
+
+-- a file's name as a value is not empty, and begins with no dash
+abbrev pub is_file : Word → Bool
+is_file [] = false
+is_file (first ∷ rest) = not (first == 45)
+
+-- such an option has one value at most: the file of its word, where it stands
+abbrev pub file_of : List Word → Option (Option Word)
+file_of [] = Some None
+file_of (word ∷ []) = if is_file word then Some (Some word) else None
+file_of (word ∷ another ∷ words) = None
 
 -- a flag stands once at most: whether it stands
 abbrev pub is_set : ℕ → Option Bool
@@ -64,14 +81,43 @@ abbrev pub ◌>>=◌ : {A B : Type 0} → Option A → (A → Option B) → Opti
 None >>= rest = None
 (Some value) >>= rest = rest value
 
+-- the greatest budget: of a join tree of any shape no node may have more rows than a table
+abbrev pub most_budget_of : Bool → ℕ
+most_budget_of bushy = if bushy then most_rows else most_budget
+
+-- what is asked for, where a number is at most so much
+abbrev pub within : ℕ → ℕ → Request → Option Request
+within most number request = if nat_le number most then Some request else None
+
 -- exactly two place words, SCHEMA and QUERY
-abbrev pub over_files : (Word → Word → ℕ → ℕ → Bool → Request) → List Word → Given → Option Request
+abbrev pub over_files : (Word → Word → ℕ → ℕ → Bool → Bool → Request) → List Word → Given → Option Request
 over_files request (schema ∷ query ∷ []) given = do
   budget ← value_of option.Budget (given.values option.Budget)
   accuracy ← value_of option.Accuracy (given.values option.Accuracy)
   reduce ← is_set (given.times flag.Reduce)
-  Some (request schema query budget accuracy reduce)
+  bushy ← is_set (given.times flag.Bushy)
+  within (most_budget_of bushy) budget (request schema query budget accuracy reduce bushy)
 over_files request places given = None
+
+-- beside a statistics file stands no accuracy, which is the file's, and no flag
+abbrev pub stands_alone : Given → Bool
+stands_alone given = length (given.values option.Accuracy) == 0 && (given.times flag.Reduce == 0 && given.times flag.Bushy == 0)
+
+-- a plan from a statistics file, where there is one, or from the tables
+abbrev pub planned_from : Option Word → List Word → Given → Option Request
+planned_from None places given = over_files Plan places given
+planned_from (Some file) (schema ∷ query ∷ []) given = do
+  budget ← value_of option.Budget (given.values option.Budget)
+  if stands_alone given then Some (PlanStats schema query file budget) else None
+planned_from (Some file) places given = None
+
+abbrev pub of_plan : List Word → Given → Option Request
+of_plan places given = file_of (given.values option.Stats) >>= λ file. planned_from file places given
+
+-- exactly two place words, SCHEMA and QUERY, and the accuracy
+abbrev pub of_stats : List Word → Given → Option Request
+of_stats (schema ∷ query ∷ []) given = option_map (Stats schema query) (value_of option.Accuracy (given.values option.Accuracy))
+of_stats places given = None
 
 -- exactly one place word, NUMBER
 abbrev pub of_number : (ℕ → Request) → List Word → Given → Option Request
@@ -80,7 +126,8 @@ of_number request places given = None
 
 -- one line for each command
 abbrev pub command_row : CommandName → CommandRow
-command_row command.Run = named (codes "run") (option.Budget ∷ option.Accuracy ∷ []) (flag.Reduce ∷ []) (over_files Run)
-command_row command.Plan = named (codes "plan") (option.Budget ∷ option.Accuracy ∷ []) (flag.Reduce ∷ []) (over_files Plan)
-command_row command.Audit = named (codes "audit") (option.Budget ∷ option.Accuracy ∷ []) (flag.Reduce ∷ []) (over_files Audit)
+command_row command.Run = named (codes "run") (option.Budget ∷ option.Accuracy ∷ []) (flag.Reduce ∷ flag.Bushy ∷ []) (over_files Run)
+command_row command.Plan = named (codes "plan") (option.Budget ∷ option.Accuracy ∷ option.Stats ∷ []) (flag.Reduce ∷ flag.Bushy ∷ []) of_plan
+command_row command.Audit = named (codes "audit") (option.Budget ∷ option.Accuracy ∷ []) (flag.Reduce ∷ flag.Bushy ∷ []) (over_files Audit)
+command_row command.Stats = named (codes "stats") (option.Accuracy ∷ []) [] of_stats
 command_row command.Demo = named (codes "demo") [] [] (of_number Demo)

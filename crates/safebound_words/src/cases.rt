@@ -1,35 +1,35 @@
 //! What small command lines ask for.
 ghost use Rattle.std.specs.Prelude.{◌≡◌, Some, None, [], ◌∷◌, codes, false, true};
 ghost use Rattle.safebound_words.specs.Answer.{command_of};
-ghost use Rattle.safebound_words.specs.Requests.{Run, Plan, Audit, Demo};
+ghost use Rattle.safebound_words.specs.Requests.{Run, Plan, Audit, Stats, PlanStats, Demo};
 
 /// Commands and their place words. It does nothing.
 pub fn small_commands()
-    ensures run { command_of (codes "run" ∷ codes "s" ∷ codes "q" ∷ []) ≡ Some (Run (codes "s") (codes "q") 1000000 1 false) }
-    ensures audit { command_of (codes "audit" ∷ codes "s" ∷ codes "q" ∷ []) ≡ Some (Audit (codes "s") (codes "q") 1000000 1 false) }
-    ensures dash { command_of (codes "plan" ∷ codes "-" ∷ codes "q" ∷ []) ≡ Some (Plan (codes "-") (codes "q") 1000000 1 false) }
-    ensures empty { command_of (codes "plan" ∷ [] ∷ codes "q" ∷ []) ≡ Some (Plan [] (codes "q") 1000000 1 false) }
+    ensures run { command_of (codes "run" ∷ codes "s" ∷ codes "q" ∷ []) ≡ Some (Run (codes "s") (codes "q") 1000000 1 false false) }
+    ensures audit { command_of (codes "audit" ∷ codes "s" ∷ codes "q" ∷ []) ≡ Some (Audit (codes "s") (codes "q") 1000000 1 false false) }
+    ensures dash { command_of (codes "plan" ∷ codes "-" ∷ codes "q" ∷ []) ≡ Some (Plan (codes "-") (codes "q") 1000000 1 false false) }
+    ensures empty { command_of (codes "plan" ∷ [] ∷ codes "q" ∷ []) ≡ Some (Plan [] (codes "q") 1000000 1 false false) }
     ensures number { command_of (codes "demo" ∷ codes "7" ∷ []) ≡ Some (Demo 7) }
     ensures zeros { command_of (codes "demo" ∷ codes "007" ∷ []) ≡ Some (Demo 7) }
     ensures last_number { command_of (codes "demo" ∷ codes "4294967295" ∷ []) ≡ Some (Demo 4294967295) }
 
     // Behind `--` every word is a place word, a second `--` too.
     ensures behind { command_of (codes "run" ∷ codes "--" ∷ codes "--budget" ∷ codes "--" ∷ [])
-        ≡ Some (Run (codes "--budget") (codes "--") 1000000 1 false) }
+        ≡ Some (Run (codes "--budget") (codes "--") 1000000 1 false false) }
     ensures value_behind { command_of (codes "run" ∷ codes "--budget" ∷ codes "5" ∷ codes "--" ∷ codes "--budget" ∷ codes "6" ∷ [])
-        ≡ Some (Run (codes "--budget") (codes "6") 5 1 false) }
+        ≡ Some (Run (codes "--budget") (codes "6") 5 1 false false) }
     ensures number_behind { command_of (codes "demo" ∷ codes "--" ∷ codes "7" ∷ []) ≡ Some (Demo 7) }
 {}
 
 /// Options and their values. It does nothing.
 pub fn small_options()
     ensures joined { command_of (codes "run" ∷ codes "--budget=12" ∷ codes "--" ∷ codes "s" ∷ codes "q" ∷ [])
-        ≡ Some (Run (codes "s") (codes "q") 12 1 false) }
+        ≡ Some (Run (codes "s") (codes "q") 12 1 false false) }
     ensures beside { command_of (codes "plan" ∷ codes "s" ∷ codes "--accuracy" ∷ codes "64" ∷ codes "q" ∷ codes "--budget" ∷ codes "007"
         ∷ [])
-        ≡ Some (Plan (codes "s") (codes "q") 7 64 false) }
+        ≡ Some (Plan (codes "s") (codes "q") 7 64 false false) }
     ensures most { command_of (codes "audit" ∷ codes "s" ∷ codes "q" ∷ codes "--budget" ∷ codes "20000000" ∷ [])
-        ≡ Some (Audit (codes "s") (codes "q") 20000000 1 false) }
+        ≡ Some (Audit (codes "s") (codes "q") 20000000 1 false false) }
     ensures past_most { command_of (codes "audit" ∷ codes "s" ∷ codes "q" ∷ codes "--budget" ∷ codes "20000001" ∷ []) ≡ None }
     ensures no_rows { command_of (codes "run" ∷ codes "s" ∷ codes "q" ∷ codes "--budget" ∷ codes "0" ∷ []) ≡ None }
     ensures least { command_of (codes "run" ∷ codes "s" ∷ codes "q" ∷ codes "--accuracy=0" ∷ []) ≡ None }
@@ -64,17 +64,58 @@ pub fn small_refusals()
 /// Words with `--reduce`. It does nothing.
 pub fn small_flags()
     ensures behind { command_of (codes "run" ∷ codes "s" ∷ codes "q" ∷ codes "--reduce" ∷ [])
-        ≡ Some (Run (codes "s") (codes "q") 1000000 1 true) }
+        ≡ Some (Run (codes "s") (codes "q") 1000000 1 true false) }
     ensures in_front { command_of (codes "plan" ∷ codes "--reduce" ∷ codes "s" ∷ codes "q" ∷ codes "--budget" ∷ codes "5" ∷ [])
-        ≡ Some (Plan (codes "s") (codes "q") 5 1 true) }
+        ≡ Some (Plan (codes "s") (codes "q") 5 1 true false) }
     ensures between { command_of (codes "audit" ∷ codes "s" ∷ codes "--accuracy=8" ∷ codes "--reduce" ∷ codes "q" ∷ [])
-        ≡ Some (Audit (codes "s") (codes "q") 1000000 8 true) }
+        ≡ Some (Audit (codes "s") (codes "q") 1000000 8 true false) }
     ensures a_place_word { command_of (codes "run" ∷ codes "--" ∷ codes "--reduce" ∷ codes "q" ∷ [])
-        ≡ Some (Run (codes "--reduce") (codes "q") 1000000 1 false) }
+        ≡ Some (Run (codes "--reduce") (codes "q") 1000000 1 false false) }
     ensures twice { command_of (codes "run" ∷ codes "--reduce" ∷ codes "s" ∷ codes "q" ∷ codes "--reduce" ∷ []) ≡ None }
     ensures value { command_of (codes "run" ∷ codes "s" ∷ codes "q" ∷ codes "--reduce=1" ∷ []) ≡ None }
     ensures value_behind { command_of (codes "run" ∷ codes "s" ∷ codes "q" ∷ codes "--reduce" ∷ codes "1" ∷ []) ≡ None }
     ensures as_a_value { command_of (codes "run" ∷ codes "s" ∷ codes "q" ∷ codes "--budget" ∷ codes "--reduce" ∷ []) ≡ None }
     ensures of_demo { command_of (codes "demo" ∷ codes "7" ∷ codes "--reduce" ∷ []) ≡ None }
     ensures letter_case { command_of (codes "run" ∷ codes "s" ∷ codes "q" ∷ codes "--Reduce" ∷ []) ≡ None }
+{}
+
+/// Words with `--bushy`. It does nothing.
+pub fn small_trees()
+    ensures behind { command_of (codes "run" ∷ codes "s" ∷ codes "q" ∷ codes "--bushy" ∷ [])
+        ≡ Some (Run (codes "s") (codes "q") 1000000 1 false true) }
+    ensures reduced { command_of (codes "audit" ∷ codes "--bushy" ∷ codes "s" ∷ codes "--reduce" ∷ codes "q" ∷ [])
+        ≡ Some (Audit (codes "s") (codes "q") 1000000 1 true true) }
+    ensures most { command_of (codes "plan" ∷ codes "--bushy" ∷ codes "s" ∷ codes "q" ∷ codes "--budget=4000000" ∷ [])
+        ≡ Some (Plan (codes "s") (codes "q") 4000000 1 false true) }
+    ensures past_most { command_of (codes "plan" ∷ codes "--budget=4000001" ∷ codes "s" ∷ codes "q" ∷ codes "--bushy" ∷ []) ≡ None }
+    ensures of_orders { command_of (codes "plan" ∷ codes "--budget=4000001" ∷ codes "s" ∷ codes "q" ∷ [])
+        ≡ Some (Plan (codes "s") (codes "q") 4000001 1 false false) }
+    ensures twice { command_of (codes "run" ∷ codes "--bushy" ∷ codes "s" ∷ codes "q" ∷ codes "--bushy" ∷ []) ≡ None }
+    ensures value { command_of (codes "run" ∷ codes "s" ∷ codes "q" ∷ codes "--bushy=1" ∷ []) ≡ None }
+    ensures of_demo { command_of (codes "demo" ∷ codes "7" ∷ codes "--bushy" ∷ []) ≡ None }
+{}
+
+/// `stats`, and `plan` with `--stats`. It does nothing.
+pub fn small_statistics()
+    ensures stats { command_of (codes "stats" ∷ codes "s" ∷ codes "q" ∷ codes "--accuracy" ∷ codes "8" ∷ []) ≡ Some (Stats (codes "s") (codes "q") 8) }
+    ensures usual { command_of (codes "stats" ∷ codes "s" ∷ codes "q" ∷ []) ≡ Some (Stats (codes "s") (codes "q") 1) }
+    ensures plan { command_of (codes "plan" ∷ codes "s" ∷ codes "q" ∷ codes "--stats" ∷ codes "f" ∷ codes "--budget=5" ∷ [])
+        ≡ Some (PlanStats (codes "s") (codes "q") (codes "f") 5) }
+    ensures joined { command_of (codes "plan" ∷ codes "--stats=a=b" ∷ codes "s" ∷ codes "q" ∷ [])
+        ≡ Some (PlanStats (codes "s") (codes "q") (codes "a=b") 1000000) }
+
+    // The file is named, and its name is no option's word.
+    ensures no_name { command_of (codes "plan" ∷ codes "s" ∷ codes "q" ∷ codes "--stats=" ∷ []) ≡ None }
+    ensures a_dash { command_of (codes "plan" ∷ codes "s" ∷ codes "q" ∷ codes "--stats=-f" ∷ []) ≡ None }
+    ensures next_word { command_of (codes "plan" ∷ codes "s" ∷ codes "q" ∷ codes "--stats" ∷ codes "--budget=5" ∷ []) ≡ None }
+    ensures two_files { command_of (codes "plan" ∷ codes "s" ∷ codes "q" ∷ codes "--stats=f" ∷ codes "--stats=f" ∷ []) ≡ None }
+
+    // Beside it stands the budget alone, and `stats` has the accuracy alone.
+    ensures accuracy { command_of (codes "plan" ∷ codes "s" ∷ codes "q" ∷ codes "--stats=f" ∷ codes "--accuracy=1" ∷ []) ≡ None }
+    ensures reduced { command_of (codes "plan" ∷ codes "s" ∷ codes "q" ∷ codes "--stats=f" ∷ codes "--reduce" ∷ []) ≡ None }
+    ensures tree { command_of (codes "plan" ∷ codes "s" ∷ codes "q" ∷ codes "--stats=f" ∷ codes "--bushy" ∷ []) ≡ None }
+    ensures of_run { command_of (codes "run" ∷ codes "s" ∷ codes "q" ∷ codes "--stats=f" ∷ []) ≡ None }
+    ensures budget { command_of (codes "stats" ∷ codes "s" ∷ codes "q" ∷ codes "--budget=5" ∷ []) ≡ None }
+    ensures flag { command_of (codes "stats" ∷ codes "s" ∷ codes "q" ∷ codes "--reduce" ∷ []) ≡ None }
+    ensures a_third { command_of (codes "stats" ∷ codes "s" ∷ codes "q" ∷ codes "f" ∷ []) ≡ None }
 {}

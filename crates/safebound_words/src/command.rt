@@ -1,8 +1,4 @@
 //! What the words of a command line ask for.
-ghost use Rattle.std.specs.Prelude.{◌≡◌};
-ghost use Rattle.safebound_words.specs.Requests.{name_of, request_of};
-
-use crate::table::CommandName;
 
 /// A command, with its words as they were given.
 #[derive(Clone, Copy, Debug, PartialEq, Eq)]
@@ -14,6 +10,7 @@ pub enum Command<'a> {
         budget: u64,
         accuracy: u8,
         reduce: bool,
+        bushy: bool,
     },
     /// Prints the plan of a query alone.
     Plan {
@@ -22,6 +19,7 @@ pub enum Command<'a> {
         budget: u64,
         accuracy: u8,
         reduce: bool,
+        bushy: bool,
     },
     /// Lists the rows, and prints beside each level's bound how many it has, in the place of the rows.
     Audit {
@@ -30,25 +28,25 @@ pub enum Command<'a> {
         budget: u64,
         accuracy: u8,
         reduce: bool,
+        bushy: bool,
+    },
+    /// Writes the statistics of a query's tables.
+    Stats {
+        schema: &'a str,
+        query: &'a str,
+        accuracy: u8,
+    },
+    /// Prints the plan of a query from a file of statistics, and reads no table.
+    PlanStats {
+        schema: &'a str,
+        query: &'a str,
+        stats: &'a str,
+        budget: u64,
     },
     /// Audits the query of a shop that is made from a number.
     Demo {
         number: u32,
     },
-}
-
-impl Command<'_> {
-    /// The command's name, by which a program that has only some commands takes up those and refuses the others.
-    pub fn name(&self) -> CommandName
-        ensures { result ≡ name_of (request_of self.now) }
-    {
-        match self {
-            Command::Run { .. } => CommandName::Run,
-            Command::Plan { .. } => CommandName::Plan,
-            Command::Audit { .. } => CommandName::Audit,
-            Command::Demo { .. } => CommandName::Demo,
-        }
-    }
 }
 
 /// Why words are no command.

@@ -18,7 +18,9 @@ mod request;
 mod table;
 mod words;
 
-pub use cases::{small_commands, small_flags, small_options, small_refusals};
+pub use cases::{
+    small_commands, small_flags, small_options, small_refusals, small_statistics, small_trees,
+};
 pub use command::{Command, WordsError};
 pub use laws::{one_command, one_reading};
 pub use table::{CommandName, FlagName, OptionName};

@@ -30,7 +30,9 @@ pub(crate) struct Line<'a> {
     pub places: Places<'a>,
     pub budget: Option<&'a str>,
     pub accuracy: Option<&'a str>,
+    pub stats: Option<&'a str>,
     pub reduce: bool,
+    pub bushy: bool,
 }
 
 // Puts a word where there is none.
@@ -84,6 +86,7 @@ impl<'a> Line<'a> {
         match option {
             OptionName::Budget => put(&mut self.budget, word),
             OptionName::Accuracy => put(&mut self.accuracy, word),
+            OptionName::Stats => put(&mut self.stats, word),
         }
     }
 
@@ -97,6 +100,7 @@ impl<'a> Line<'a> {
     {
         match flag {
             FlagName::Reduce => mark(&mut self.reduce),
+            FlagName::Bushy => mark(&mut self.bushy),
         }
     }
 
@@ -157,7 +161,9 @@ pub(crate) fn read_line<'a>(name: CommandName, words: &[&'a str]) -> Result<Line
         places: Places::Nothing,
         budget: None,
         accuracy: None,
+        stats: None,
         reduce: false,
+        bushy: false,
     };
     let mut next = Next::Item;
     'words: for word in words {

@@ -1,17 +1,18 @@
 //! What a whole line asks for.
-ghost use Rattle.std.specs.Prelude.{◌≡◌, ◌≤◌, ℕ, Bool, IfSome};
+ghost use Rattle.std.specs.Prelude.{◌≡◌, ◌≤◌, ℕ, Bool, IfSome, Some};
 ghost use Rattle.std.specs.Option.{option_map};
 ghost use Rattle.safebound_words.specs.Collected.{collected, given_of, option_words, words_of};
 ghost use Rattle.safebound_words.specs.Requests.{Request, request_of};
-ghost use Rattle.safebound_words.specs.Table.{of_number as asked_of_number, option_row, over_files as asked_over_files, value_of as option_value};
+ghost use Rattle.safebound_words.specs.Table.{is_file, most_budget_of, of_number as asked_of_number, of_plan, of_stats, option_row, over_files as asked_over_files, planned_from, value_of as option_value};
 ghost use Rattle.safebound_words.specs.Words.{Word};
 
 use crate::command::Command;
 use crate::line::{Line, Places};
 use crate::number::number_within;
 use crate::table::{CommandName, OptionName};
+use limits::{MOST_BUDGET, MOST_ROWS};
 
-// Two files, the values of the options, and whether scans are reduced.
+// Two files, the values of the options, and which flags stand.
 #[derive(Clone, Copy)]
 struct OverFiles<'a> {
     schema: &'a str,
@@ -19,6 +20,7 @@ struct OverFiles<'a> {
     budget: u64,
     accuracy: u8,
     reduce: bool,
+    bushy: bool,
 }
 
 // The value of an option that was given this word, or none.
@@ -33,10 +35,17 @@ fn value_of(option: OptionName, given: Option<&str>) -> Option<u64>
     }
 }
 
+// The greatest budget: of a join tree no node may have more rows than a table.
+fn most_budget(bushy: bool) -> u64
+    ensures { result ≡ most_budget_of bushy }
+{
+    if bushy { MOST_ROWS as u64 } else { MOST_BUDGET }
+}
+
 // SCHEMA and QUERY, where these are the place words, and where each option has a value.
 fn over_files<'a>(line: &Line<'a>) -> Option<OverFiles<'a>>
-    ensures { (request : Word → Word → ℕ → ℕ → Bool → Request) →
-        option_map (λ files. request files.schema.now files.query.now files.budget files.accuracy files.reduce) result
+    ensures { (request : Word → Word → ℕ → ℕ → Bool → Bool → Request) →
+        option_map (λ files. request files.schema.now files.query.now files.budget files.accuracy files.reduce files.bushy) result
         ≡ asked_over_files request (words_of line.now.places) (given_of line.now) }
 {
     let Places::Two(schema, query) = line.places else {
@@ -44,12 +53,81 @@ fn over_files<'a>(line: &Line<'a>) -> Option<OverFiles<'a>>
     };
     let budget = value_of(OptionName::Budget, line.budget)?;
     let accuracy = value_of(OptionName::Accuracy, line.accuracy)?;
+    if budget > most_budget(line.bushy) {
+        return None;
+    }
     Some(OverFiles {
         schema,
         query,
         budget,
         accuracy: accuracy as u8,
         reduce: line.reduce,
+        bushy: line.bushy,
+    })
+}
+
+// Whether a word may be a file's name as a value.
+fn is_file(word: &str) -> bool
+    ensures { result ≡ is_file word.now }
+{
+    match word.as_bytes() {
+        [] => false,
+        [first, ..] => *first != b'-',
+    }
+}
+
+// A plan from a statistics file: SCHEMA and QUERY, and only the budget beside the file.
+fn plan_from<'a>(line: &Line<'a>, stats: &'a str) -> Option<Command<'a>>
+    ensures { option_map request_of result ≡ planned_from (Some stats.now) (words_of line.now.places) (given_of line.now) }
+{
+    let Places::Two(schema, query) = line.places else {
+        return None;
+    };
+    let budget = value_of(OptionName::Budget, line.budget)?;
+    if line.accuracy.is_some() || line.reduce || line.bushy {
+        return None;
+    }
+    Some(Command::PlanStats {
+        schema,
+        query,
+        stats,
+        budget,
+    })
+}
+
+// A plan from a statistics file, or from tables.
+fn plan_of<'a>(line: &Line<'a>) -> Option<Command<'a>>
+    ensures { option_map request_of result ≡ of_plan (words_of line.now.places) (given_of line.now) }
+{
+    let Some(stats) = line.stats else {
+        let files = over_files(line)?;
+        return Some(Command::Plan {
+            schema: files.schema,
+            query: files.query,
+            budget: files.budget,
+            accuracy: files.accuracy,
+            reduce: files.reduce,
+            bushy: files.bushy,
+        });
+    };
+    if is_file(stats) {
+        return plan_from(line, stats);
+    }
+    None
+}
+
+// The statistics of a query: SCHEMA and QUERY, and the accuracy.
+fn stats_of<'a>(line: &Line<'a>) -> Option<Command<'a>>
+    ensures { option_map request_of result ≡ of_stats (words_of line.now.places) (given_of line.now) }
+{
+    let Places::Two(schema, query) = line.places else {
+        return None;
+    };
+    let accuracy = value_of(OptionName::Accuracy, line.accuracy)?;
+    Some(Command::Stats {
+        schema,
+        query,
+        accuracy: accuracy as u8,
     })
 }
 
@@ -78,18 +156,11 @@ pub(crate) fn command_of<'a>(name: CommandName, line: &Line<'a>) -> Option<Comma
                 budget: files.budget,
                 accuracy: files.accuracy,
                 reduce: files.reduce,
+                bushy: files.bushy,
             })
         }
-        CommandName::Plan => {
-            let files = over_files(line)?;
-            Some(Command::Plan {
-                schema: files.schema,
-                query: files.query,
-                budget: files.budget,
-                accuracy: files.accuracy,
-                reduce: files.reduce,
-            })
-        }
+        CommandName::Plan => plan_of(line),
+        CommandName::Stats => stats_of(line),
         CommandName::Audit => {
             let files = over_files(line)?;
             Some(Command::Audit {
@@ -98,6 +169,7 @@ pub(crate) fn command_of<'a>(name: CommandName, line: &Line<'a>) -> Option<Comma
                 budget: files.budget,
                 accuracy: files.accuracy,
                 reduce: files.reduce,
+                bushy: files.bushy,
             })
         }
         CommandName::Demo => {

@@ -13,6 +13,7 @@ pub enum CommandName {
     Run,
     Plan,
     Audit,
+    Stats,
     Demo,
 }
 
@@ -21,12 +22,14 @@ pub enum CommandName {
 pub enum OptionName {
     Budget,
     Accuracy,
+    Stats,
 }
 
 /// The name of a flag: an option without a value.
 #[derive(Clone, Copy, Debug, PartialEq, Eq)]
 pub enum FlagName {
     Reduce,
+    Bushy,
 }
 
 /// The least and the greatest value of an option, and its value where it doesn't stand.
@@ -55,6 +58,11 @@ impl OptionName {
                 most: MOST_ACCURACY as u64,
                 otherwise: USUAL_ACCURACY as u64,
             },
+            OptionName::Stats => Range {
+                least: 0,
+                most: 0,
+                otherwise: 0,
+            },
         }
     }
 }
@@ -69,6 +77,8 @@ pub(crate) fn command_named(word: &str) -> Option<CommandName>
         Some(CommandName::Plan)
     } else if word == "audit" {
         Some(CommandName::Audit)
+    } else if word == "stats" {
+        Some(CommandName::Stats)
     } else if word == "demo" {
         Some(CommandName::Demo)
     } else {
@@ -76,8 +86,19 @@ pub(crate) fn command_named(word: &str) -> Option<CommandName>
     }
 }
 
-// The option that a word names.
-fn any_option_named(word: &str) -> Option<OptionName>
+// The accuracy, where a word names it.
+fn accuracy_named(word: &str) -> Option<OptionName>
+    ensures { result ≡ named_option CommandName.Stats word.now }
+{
+    if word == "--accuracy" {
+        Some(OptionName::Accuracy)
+    } else {
+        None
+    }
+}
+
+// The option with a number that a word names.
+fn number_named(word: &str) -> Option<OptionName>
     ensures { result ≡ named_option CommandName.Run word.now }
 {
     if word == "--budget" {
@@ -89,12 +110,29 @@ fn any_option_named(word: &str) -> Option<OptionName>
     }
 }
 
+// The option that a word names.
+fn any_option_named(word: &str) -> Option<OptionName>
+    ensures { result ≡ named_option CommandName.Plan word.now }
+{
+    if word == "--budget" {
+        Some(OptionName::Budget)
+    } else if word == "--accuracy" {
+        Some(OptionName::Accuracy)
+    } else if word == "--stats" {
+        Some(OptionName::Stats)
+    } else {
+        None
+    }
+}
+
 // The flag that a word names.
 fn any_flag_named(word: &str) -> Option<FlagName>
     ensures { result ≡ named_flag CommandName.Run word.now }
 {
     if word == "--reduce" {
         Some(FlagName::Reduce)
+    } else if word == "--bushy" {
+        Some(FlagName::Bushy)
     } else {
         None
     }
@@ -105,7 +143,9 @@ pub(crate) fn option_named(name: CommandName, word: &str) -> Option<OptionName>
     ensures option { result ≡ named_option name word.now }
 {
     match name {
-        CommandName::Run | CommandName::Plan | CommandName::Audit => any_option_named(word),
+        CommandName::Run | CommandName::Audit => number_named(word),
+        CommandName::Plan => any_option_named(word),
+        CommandName::Stats => accuracy_named(word),
         CommandName::Demo => None,
     }
 }
@@ -114,7 +154,7 @@ pub(crate) fn option_named(name: CommandName, word: &str) -> Option<OptionName>
 pub(crate) fn flag_named(name: CommandName, word: &str) -> Option<FlagName>
     ensures flag { result ≡ named_flag name word.now }
 {
-    if matches!(name, CommandName::Demo) {
+    if matches!(name, CommandName::Stats | CommandName::Demo) {
         return None;
     }
     any_flag_named(word)

@@ -5,22 +5,17 @@ use Rattle.ll_grammars.specs.declared.lexeme.Lexeme.{Lexeme}
 use Rattle.ll_grammars.specs.declared.terminal.Terminal.{Terminal}
 use Rattle.ll_grammars.specs.declared.terminal.Terminal.TheVariants as terminal
 use Rattle.ll_grammars.specs.Language.{Language, made, many}
-use Rattle.ll_grammars.specs.Rules.{all, second, middle, word, listed, in_parentheses}
+use Rattle.ll_grammars.specs.Rules.{all, second, word, listed, in_parentheses}
 use Rattle.ll_grammars.specs.Keeping.{Keeps, IsOneOf}
 use Rattle.ll_grammars.proofs.Keeping.{keeps_one, keeps_then, keeps_made, keeps_union, keeps_maybe, keeps_many, kept_of_text}
+use Rattle.ll_grammars.proofs.KeepingRules.{keeps_any, keeps_inside}
 use Rattle.schema_grammar.specs.declared.tree.TableText.{TableText}
 use Rattle.schema_grammar.specs.Grammar.{nothing, target, number_type, text_type, varying_type, not_null, primary_key, unique, references, column, primary_key_over, unique_over, foreign_key, of_column, of_rule, table, tables, name_terminals, number_types, Name, Names, Length, DataType, TriggeredAction, Target, ConstraintName, named, ColumnConstraint, TableConstraint, ColumnDefinition, TableElement, TableDefinition, SchemaText}
 use Rattle.schema_grammar.specs.Lexemes.{IsNameOf, IsTargetOf, IsTypeOf, IsColumnRuleOf, IsColumnOf, IsTableRuleOf, IsElementOf, IsTableOf, AreOf}
 
-keeps_any : {P : Lexeme → Type 0} {A : Type 0} {L : Language A} → Keeps P L (λ _. Unit {0})
-keeps_any = record { kept = λ text value l h. tt }
-
 keeps_listed : {P : Lexeme → Type 0} {A : Type 0} {L : Language A} {Q : A → Type 0} → Keeps P L Q → Keeps P (listed terminal.Comma L) (All Q)
 keeps_listed {P = P} {L = L} {Q = Q} item =
     keeps_made all (All Q) (keeps_then item (keeps_many (keeps_made second Q (keeps_then (keeps_one P (terminal.Comma ∷ [])) item) (λ parts q. q.1)))) (λ parts q. All-cons Q parts.0 parts.1 q.0 q.1)
-
-keeps_inside : {P : Lexeme → Type 0} {A : Type 0} {L : Language A} {Q : A → Type 0} → Keeps P L Q → Keeps P (in_parentheses L) Q
-keeps_inside {P = P} {Q = Q} inner = keeps_made middle Q (keeps_then (keeps_one P (terminal.Open ∷ [])) (keeps_then inner (keeps_one P (terminal.Close ∷ [])))) (λ parts q. q.1.0)
 
 module _ (P : Lexeme → Type 0) where
   a_word : (t : Terminal) → Keeps P (word t) (IsOneOf (t ∷ []) P)

@@ -13,7 +13,7 @@ use Rattle.schema_types.specs.Finds.{FindsNullable, FindsAbove}
 use Rattle.schema_types.specs.Names.{first, names_of}
 use Rattle.schema_types.specs.Refusals.{key_names, in_64_bits}
 
-first-append : (front rest : List ℕ) (at : ℕ) → first front ≡ Some at → first (front ++ rest) ≡ Some at
+pub first-append : (front rest : List ℕ) (at : ℕ) → first front ≡ Some at → first (front ++ rest) ≡ Some at
 first-append [] rest at e = cc
 first-append (x ∷ front) rest at e = e
 

@@ -35,10 +35,6 @@ bytes_eq-comm a b = same_tests (bytes_eq a b) (bytes_eq b a)
     (λ e. (bytes_eq-Decides b a).1 (sym ((bytes_eq-Decides a b).0 e)))
     (λ e. (bytes_eq-Decides a b).1 (sym ((bytes_eq-Decides b a).0 e)))
 
-held_stays : (o : Option ℕ) (last : ℕ) (same : Bool) → is_none o ≡ false → o ≡ or_last o last same
-held_stays (Some place) last same held = refl
-held_stays None last same held = cc
-
 not_last : (o : Option ℕ) (last : ℕ) → o ≡ or_last o last false
 not_last (Some place) last = refl
 not_last None last = refl
@@ -46,13 +42,6 @@ not_last None last = refl
 is_last : (o : Option ℕ) (last : ℕ) → is_none o ≡ true → Some last ≡ or_last o last true
 is_last (Some place) last none = cc
 is_last None last none = refl
-
--- a name that is held already stays where it is
-pub place_kept : (f : List ℕ → Option ℕ) (name other : List ℕ) (last : ℕ) → is_none (f name) ≡ false → f other ≡ or_last (f other) last (bytes_eq other name)
-place_kept f name other last held = elim (cases_Bool (bytes_eq other name)) [
-  | inl e ↦ held_stays (f other) last (bytes_eq other name) (subst (λ (n : List ℕ). is_none (f n) ≡ false) (sym ((bytes_eq-Decides other name).0 e)) held)
-  | inr e ↦ rw e (not_last (f other) last)
-]
 
 -- a name that was not held has the last place
 pub place_added : (f : List ℕ → Option ℕ) (name other : List ℕ) (last : ℕ) → is_none (f name) ≡ true → cond (bytes_eq name other) (Some last) (f other) ≡ or_last (f other) last (bytes_eq other name)

@@ -1,11 +1,12 @@
 -- Checks that walk a list and are told what stood before.
-use Rattle.std.proofs.Common.{◌≡◌, ℕ, suc, ◌+◌, ◌<◌, List, [], ◌∷◌, ◌++◌, length, get_or, take, drop, Some, Err, refl, sym, ◌∙◌, ap, append_assoc}
+use Rattle.std.proofs.Common.{◌≡◌, ℕ, suc, ◌+◌, ◌<◌, List, [], ◌∷◌, ◌++◌, length, get_or, take, drop, Err, refl, sym, ◌∙◌, ap, append_assoc}
 use Rattle.std.proofs.Math.Seq.{drop-cons}
 use Rattle.std.proofs.lemmas.List.{take-append-drop, append-nil, take_more}
+use Rattle.schema_types.proofs.Flat.{first-append}
 use Rattle.schema_types.specs.declared.errors.SchemaError.{SchemaError}
 use Rattle.schema_types.specs.declared.errors.SchemaError.TheVariants as error
 use Rattle.schema_types.specs.Finds.{Finds}
-use Rattle.schema_types.specs.Names.{first, told_from, each_told}
+use Rattle.schema_types.specs.Names.{told_from, each_told}
 
 told_from-append : {X : Type 0} (f : List X → X → List ℕ) (earlier xs ys : List X) → told_from f earlier (xs ++ ys) ≡ told_from f earlier xs ++ told_from f (earlier ++ xs) ys
 unfolding told_from
@@ -13,10 +14,6 @@ told_from-append f earlier [] ys = rw append-nil refl
 told_from-append f earlier (x ∷ xs) ys =
     ap (λ found. f earlier x ++ found) (rw (append_assoc earlier (x ∷ []) xs) at (told_from-append f (earlier ++ x ∷ []) xs ys))
     ∙ sym (append_assoc (f earlier x) (told_from f (earlier ++ x ∷ []) xs) (told_from f (earlier ++ x ∷ xs) ys))
-
-first-append : (front rest : List ℕ) (at : ℕ) → first front ≡ Some at → first (front ++ rest) ≡ Some at
-first-append [] rest at e = cc
-first-append (x ∷ front) rest at e = e
 
 told_one : {X : Type 0} (f : List X → X → List ℕ) (earlier : List X) (x : X) (rest : List X) → told_from f earlier (x ∷ rest) ≡ f earlier x ++ told_from f (earlier ++ x ∷ []) rest
 unfolding told_from

@@ -1,18 +1,16 @@
 -- Equalities beside columns of their classes, and what these tell of whether equalities are alike.
-use Rattle.std.proofs.Common.{◌≡◌, ◌≢◌, ◌⊎◌, ℕ, zero, suc, ◌+◌, ◌<◌, Bool, true, false, cond, List, [], ◌∷◌, ◌++◌, drop, get_or, length, map, set, take, refl, ap, sym, ◌∙◌, subst, inl, inr, arith}
-use Rattle.std.specs.Prelude.{◌||◌}
+use Rattle.std.proofs.Common.{◌≡◌, ◌≢◌, ℕ, zero, suc, ◌+◌, ◌<◌, Bool, true, false, cond, List, [], ◌∷◌, ◌++◌, drop, get_or, length, map, set, take, refl, ap, sym, ◌∙◌, subst, inl, inr, arith}
 use Rattle.std.specs.List.{AllByRecursion, Contains}
-use Rattle.std.proofs.lemmas.Bool.{cases_Bool}
 use Rattle.std.proofs.lemmas.List.{get_or_default, length-map}
 use Rattle.std.proofs.lemmas.List.Edits.{map_over_more}
 use Rattle.std.proofs.lemmas.List.Elements.{Contains-append_left, Contains-append_right}
-use Rattle.entry_sets.proofs.Listing.{in_front, in_none, in_rest, one_in}
+use Rattle.entry_sets.proofs.Listing.{in_front, in_none, one_in}
 use Rattle.berge_tree.specs.declared.edges.Edge.{Edge}
 use Rattle.berge_tree.specs.declared.edges.Place.{Place}
-use Rattle.berge_tree.specs.Equalities.{ClosesNoCycle, ClosesNoCycleAfter, class_of, place, places_of, same_place}
+use Rattle.berge_tree.specs.Equalities.{ClosesNoCycle, ClosesNoCycleAfter, class_of, places_of, same_place}
 use Rattle.berge_tree.proofs.Joining.{class_of-joined, joined}
 use Rattle.berge_tree.proofs.NoCycle.{same_place-true}
-use Rattle.berge_tree.proofs.Steps.{same_place-is}
+use Rattle.berge_tree.proofs.Closed.{named}
 use Rattle.set_bounds.specs.Alike.{AreAlike, AreClassed, AreInOneClass, HasItsClass, renamed}
 use Rattle.set_bounds.specs.declared.alike.ClassedEdge.{ClassedEdge}
 use Rattle.set_bounds.proofs.Forests.{all_in, each}
@@ -101,56 +99,6 @@ wider : (es fs : List Edge) → AllByRecursion (AreInOneClass es) fs → (p q : 
 wider es fs h p q same =
     class_of-joined es p q (λ key all. joined fs p q same key (all_in (λ f. key f.left.entry f.left.column ≡ key f.right.entry f.right.column) fs
     (λ f k. joined es f.left f.right (each (AreInOneClass es) fs h f k) key all)))
-
--- ---- what is in a class with another column is named
-
-abbrev is_named : List Edge → Place → Bool
-is_named [] p = false
-is_named (e ∷ es) p = same_place e.left p || (same_place e.right p || is_named es p)
-
-either : (x y : Bool) → (x || y) ≡ true → (x ≡ true) ⊎ (y ≡ true)
-either true y e = inl refl
-either false y e = inr e
-
-neither : (x y : Bool) → (x || y) ≡ false → (x ≡ false) × (y ≡ false)
-neither true y e = absurd (cc e)
-neither false y e = (refl, e)
-
-names : (es : List Edge) (p : Place) → is_named es p ≡ true → Contains (places_of es) p
-names [] p h = absurd (cc h)
-names (e ∷ es) p h = elim (either (same_place e.left p) (same_place e.right p || is_named es p) h) [
-  | inl left ↦ in_front e.left (e.right ∷ places_of es) p (sym (same_place-true e.left p left))
-  | inr later ↦ in_rest e.left (e.right ∷ places_of es) p (elim (either (same_place e.right p) (is_named es p) later) [
-    | inl right ↦ in_front e.right (places_of es) p (sym (same_place-true e.right p right))
-    | inr rest ↦ in_rest e.right (places_of es) p (names es p rest)
-  ])
-]
-
-abbrev count : Bool → ℕ
-count true = 1
-count false = 0
-
--- 1 at this column, and 0 at all others
-abbrev mark : Place → ℕ → ℕ → ℕ
-mark p entry column = count (same_place (place entry column) p)
-
-unmarked : (es : List Edge) (p : Place) → is_named es p ≡ false → AllByRecursion (λ e. mark p e.left.entry e.left.column ≡ mark p e.right.entry e.right.column) es
-unmarked [] p h = tt
-unmarked (e ∷ es) p h =
-    let left : (same_place e.left p ≡ false) × ((same_place e.right p || is_named es p) ≡ false) = neither (same_place e.left p) (same_place e.right p || is_named es p) h in
-    let right : (same_place e.right p ≡ false) × (is_named es p ≡ false) = neither (same_place e.right p) (is_named es p) left.1 in
-    (ap count (left.0 ∙ sym right.0), unmarked es p right.1)
-
-marked : (b : Bool) → count b ≡ 1 → b ≡ true
-marked true e = refl
-marked false e = absurd (omega (arith, e))
-
-pub named : (es : List Edge) (p q : Place) → class_of es p ≡ class_of es q → p ≢ q → Contains (places_of es) p
-named es p q same differ = elim (cases_Bool (is_named es p)) [
-  | inl t ↦ names es p t
-  | inr n ↦ absurd (differ (sym (same_place-true q p (marked (same_place q p)
-      (sym (joined es p q same (mark p) (unmarked es p n)) ∙ ap count (same_place-is p p refl))))))
-]
 
 -- ---- alike
 

@@ -121,7 +121,7 @@ still_apart earlier e f s t = elim (same_or_not (s.side f.left.entry) (s.side f.
     so x y one other = ap (λ v. turned (beside v (t.side f.right.entry)) (s.side x)) other ∙ ap (turned (beside (t.side y) (t.side f.right.entry))) one
 
 -- the equalities before, when these have come too
-abbrev onto : List Edge → List Edge → List Edge
+abbrev pub onto : List Edge → List Edge → List Edge
 onto earlier [] = earlier
 onto earlier (e ∷ es) = onto (e ∷ earlier) es
 

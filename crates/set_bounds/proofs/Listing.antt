@@ -1,8 +1,8 @@
 -- What a set needs, each set within it has.
-use Rattle.std.proofs.Common.{◌≡◌, ℕ, ◌-◌, ◌^◌, ◌<◌, Bool, true, false, ◌&&◌, List, get_or, refl, inl, inr, arith}
+use Rattle.std.proofs.Common.{◌≡◌, ℕ, ◌-◌, ◌^◌, ◌<◌, true, List, get_or, inl, inr, arith}
 use Rattle.std.specs.Prelude.{IsSome}
 use Rattle.std.specs.Int.{bit_at}
-use Rattle.std.proofs.lemmas.Bool.{cases_lt}
+use Rattle.std.proofs.lemmas.Bool.{cases_lt, and_parts, and_from}
 use Rattle.std.proofs.lemmas.Nat.Bits.{bit_at_above, bit_at_ones}
 use Rattle.entry_sets.specs.Sets.{IsWithin, has_entry}
 use Rattle.entry_sets.proofs.Listing.{bit_has, has_bit}
@@ -13,17 +13,10 @@ use Rattle.bound_fold.specs.Lists.{list_of, rows_of}
 use Rattle.bound_fold.specs.Sets.{SetIsListed}
 use Rattle.bound_fold.proofs.TestedSets.{each_in_set, each_named, entry_at, named_at}
 
-both : (x y : Bool) → (x && y) ≡ true → (x ≡ true) × (y ≡ true)
-both true y e = (refl, e)
-both false y e = absurd (cc e)
-
-together : (x y : Bool) → x ≡ true → y ≡ true → (x && y) ≡ true
-together x y e f = rw (e, f) refl
-
 pub joins_more : (subset whole : ℕ) → IsWithin subset whole → (e : Edge) → joins_within subset e ≡ true → joins_within whole e ≡ true
 joins_more subset whole within e joins =
-    let has : (has_entry subset e.left.entry ≡ true) × (has_entry subset e.right.entry ≡ true) = both (has_entry subset e.left.entry) (has_entry subset e.right.entry) joins in
-    together (has_entry whole e.left.entry) (has_entry whole e.right.entry) (within e.left.entry has.0) (within e.right.entry has.1)
+    let has : (has_entry subset e.left.entry ≡ true) × (has_entry subset e.right.entry ≡ true) = and_parts (has_entry subset e.left.entry) (has_entry subset e.right.entry) joins in
+    and_from (has_entry whole e.left.entry) (has_entry whole e.right.entry) (within e.left.entry has.0) (within e.right.entry has.1)
 
 pub listed_within : (lists : EntryLists) (es : List Edge) (subset whole : ℕ) → IsWithin subset whole → SetIsListed lists es whole → SetIsListed lists es subset
 listed_within lists es subset whole within h = record {

@@ -3,7 +3,7 @@ use Rattle.std.proofs.Common.{◌≡◌, ◌≢◌, ◌⊎◌, ℕ, ◌*◌, Boo
 use Rattle.std.specs.Prelude.{filter}
 use Rattle.std.specs.List.{AllByRecursion, AllPairs, Contains}
 use Rattle.std.specs.List.Sorted.{IsStrictlyIncreasing}
-use Rattle.std.proofs.lemmas.Bool.{cases_Bool}
+use Rattle.std.proofs.lemmas.Bool.{cases_Bool, and_parts, and_from}
 use Rattle.std.proofs.lemmas.List.Elements.{Contains-append_left, Contains-append_right, filter-append}
 use Rattle.std.proofs.lemmas.List.Kept.{AllPairs-filter, IsStrictlyIncreasing-filter}
 use Rattle.entry_sets.specs.Sets.{IsWithin, entries_of_set, has_entry}
@@ -58,13 +58,6 @@ filter_every p (x ∷ xs) h = rw h.0 (ap (λ ys. x ∷ ys) (filter_every p xs h.
 
 -- ---- equalities of a set, and of a part of it
 
-both : (x y : Bool) → (x && y) ≡ true → (x ≡ true) × (y ≡ true)
-both true y e = (refl, e)
-both false y e = absurd (cc e)
-
-together : (x y : Bool) → x ≡ true → y ≡ true → (x && y) ≡ true
-together x y e f = rw (e, f) refl
-
 abbrev count : Bool → ℕ
 count true = 1
 count false = 0
@@ -111,7 +104,7 @@ module _ (es : List Edge) (subset part : ℕ) (forest : ClosesNoCycle (equalitie
   whole_in_part : (e : Edge) → Contains kept_whole e → side e.left.entry ≡ true → Contains kept_part e
   whole_in_part e k left =
       to_part e (subst (λ (xs : List Edge). Contains xs e) (sym (within_of part subset within es))
-      (in_filter (joins_within part) (equalities_within subset es) e (of_whole e k) (together (side e.left.entry) (side e.right.entry) left (sym (same_side e k) ∙ left))))
+      (in_filter (joins_within part) (equalities_within subset es) e (of_whole e k) (and_from (side e.left.entry) (side e.right.entry) left (sym (same_side e k) ∙ left))))
 
   side_of_class : (p q : Place) → class_of kept_whole p ≡ class_of kept_whole q → side p.entry ≡ side q.entry
   side_of_class p q e =
@@ -221,7 +214,7 @@ in_two b p q (t ∷ ts) h = elim (cases_Bool (p t)) [
 ]
 
 rest_within : (es : List Edge) (subset part rest : ℕ) → FallsInto es subset part rest → IsWithin rest subset
-rest_within es subset part rest falls x has = (both (has_entry subset x) (not (has_entry part x)) (sym (falls.others x) ∙ has)).0
+rest_within es subset part rest falls x has = (and_parts (has_entry subset x) (not (has_entry part x)) (sym (falls.others x) ∙ has)).0
 
 rest_unjoined : (es : List Edge) (subset part rest : ℕ) → FallsInto es subset part rest → AreUnjoined es subset rest
 rest_unjoined es subset part rest falls = all_in (λ (e : Edge). has_entry rest e.left.entry ≡ has_entry rest e.right.entry) (equalities_within subset es) at
@@ -229,7 +222,7 @@ rest_unjoined es subset part rest falls = all_in (λ (e : Edge). has_entry rest 
     at : (e : Edge) → Contains (equalities_within subset es) e → has_entry rest e.left.entry ≡ has_entry rest e.right.entry
     at e k =
         let ends : (has_entry subset e.left.entry ≡ true) × (has_entry subset e.right.entry ≡ true) =
-        both (has_entry subset e.left.entry) (has_entry subset e.right.entry) (from_filter (joins_within subset) es e k).1 in
+        and_parts (has_entry subset e.left.entry) (has_entry subset e.right.entry) (from_filter (joins_within subset) es e k).1 in
         let same : has_entry part e.left.entry ≡ has_entry part e.right.entry =
         each (λ (f : Edge). has_entry part f.left.entry ≡ has_entry part f.right.entry) (equalities_within subset es) falls.unjoined e k in
         falls.others e.left.entry ∙ ap (λ c. c && not (has_entry part e.left.entry)) (ends.0 ∙ sym ends.1) ∙ ap (λ c. has_entry subset e.right.entry && not c) same ∙ sym (falls.others e.right.entry)

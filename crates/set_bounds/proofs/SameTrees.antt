@@ -1,5 +1,5 @@
 -- Equalities that name the same columns and make the same classes, of some entries, have the same trees of these.
-use Rattle.std.proofs.Common.{◌≡◌, ◌⊎◌, ℕ, zero, suc, ◌-◌, List, [], ◌∷◌, ◌++◌, refl, ap, sym, subst, inl, inr, arith}
+use Rattle.std.proofs.Common.{◌≡◌, ◌⊎◌, ℕ, zero, suc, ◌-◌, List, [], ◌∷◌, refl, ap, sym, subst, inl, inr, arith}
 use Rattle.std.specs.Prelude.{⊤, Option, Some, None}
 use Rattle.std.specs.List.{AllByRecursion, Contains}
 use Rattle.entry_sets.specs.Sets.{entries_of_set}
@@ -13,7 +13,7 @@ use Rattle.berge_tree.proofs.Joining.{class_of-joined, joined}
 use Rattle.join_graph.specs.Kept.{equalities_within, kept_of, turn_count}
 use Rattle.tree_bounds.specs.SetBounds.{bound_of_set, bound_of_turn, least_to, trees_of}
 use Rattle.tree_bounds.specs.TreeBounds.{EntryBounds, bound_of_trees}
-use Rattle.tree_bounds.proofs.Agreeing.{for_trees}
+use Rattle.tree_bounds.proofs.Agreeing.{for_trees, all_left, all_right}
 use Rattle.tree_bounds.proofs.Turns.{trees_are, trees_there}
 use Rattle.set_bounds.specs.Alike.{AreAlike}
 use Rattle.set_bounds.proofs.Forests.{AreAmong, all_among, all_in, among_round, each, forest_kept, round_among}
@@ -26,14 +26,6 @@ pub record Carries (Q : ℕ → Type 0) (es fs : List Edge) : Type 0 where
   pub places_from : (q : Place) → Q q.entry → Contains (places_of es) q → Contains (places_of fs) q
   pub class_to : (p q : Place) → Q p.entry → class_of fs p ≡ class_of fs q → class_of es p ≡ class_of es q
   pub class_from : (p q : Place) → Q p.entry → class_of es p ≡ class_of es q → class_of fs p ≡ class_of fs q
-
-all_left : (Q : ℕ → Type 0) (xs ys : List ℕ) → AllByRecursion Q (xs ++ ys) → AllByRecursion Q xs
-all_left Q [] ys h = tt
-all_left Q (x ∷ xs) ys h = (h.0, all_left Q xs ys h.1)
-
-all_right : (Q : ℕ → Type 0) (xs ys : List ℕ) → AllByRecursion Q (xs ++ ys) → AllByRecursion Q ys
-all_right Q [] ys h = h
-all_right Q (x ∷ xs) ys h = all_right Q xs ys h.1
 
 module _ (Q : ℕ → Type 0) (es fs : List Edge) (c : Carries Q es fs) where
   columns_carry : (entry : ℕ) (above : Option ℕ) (xs : List ℕ) → Q entry → AreItsColumns es entry above xs → AreItsColumns fs entry above xs

@@ -1,8 +1,7 @@
 -- What the tests of a set tell.
 use Rattle.std.proofs.Common.{◌≡◌, ℕ, zero, suc, ◌-◌, ◌*◌, ◌^◌, ◌<◌, ◌≤◌, min, Bool, true, false, cond, not, ◌&&◌, eqb, ltb, bit_and, w16, List, [], ◌∷◌, get_or, length, refl, ap, sym, ◌∙◌, subst, inl, inr, arith}
-use Rattle.std.specs.Prelude.{◌||◌}
 use Rattle.std.specs.Int.{bit_at, bit_not}
-use Rattle.std.proofs.lemmas.Bool.{cases_Bool, ltb-true}
+use Rattle.std.proofs.lemmas.Bool.{cases_Bool, ltb-true, or_parts}
 use Rattle.std.proofs.lemmas.List.{append-nil}
 use Rattle.std.proofs.lemmas.List.FromFn.{get_or-map-range_with_len, length-map-range_with_len}
 use Rattle.std.proofs.lemmas.Nat.Bits.{bit_at-lt, bit_at_and, bit_at_not}
@@ -52,10 +51,6 @@ forest_told es subset kept is same closes =
 
 -- ---- no equality crosses
 
-neither : (a b : Bool) → (a || b) ≡ false → (a ≡ false) × (b ≡ false)
-neither true b e = absurd (cc e)
-neither false b e = (refl, e)
-
 one_side : (joins a b : Bool) → joins ≡ true → (joins && cond a (not b) b) ≡ false → a ≡ b
 one_side true true true t e = refl
 one_side true true false t e = absurd (cc e)
@@ -66,15 +61,11 @@ one_side false a b t e = absurd (cc t)
 pub none_cross : (es : List Edge) (subset part : ℕ) → some_cross subset part es ≡ false → AreUnjoined es subset part
 none_cross [] subset part h = tt
 none_cross (e ∷ es) subset part h =
-    let apart : (crosses subset part e ≡ false) × (some_cross subset part es ≡ false) = neither (crosses subset part e) (some_cross subset part es) h in
+    let apart : (crosses subset part e ≡ false) × (some_cross subset part es ≡ false) = or_parts (crosses subset part e) (some_cross subset part es) h in
     elim (cases_Bool (joins_within subset e)) [
       | inl t ↦ rw t (one_side (joins_within subset e) (has_entry part e.left.entry) (has_entry part e.right.entry) t apart.0, none_cross es subset part apart.1)
       | inr n ↦ rw n (none_cross es subset part apart.1)
     ]
-
-pub not_true : (b : Bool) → not b ≡ true → b ≡ false
-not_true true e = absurd (cc e)
-not_true false e = refl
 
 -- ---- the rest of a set
 

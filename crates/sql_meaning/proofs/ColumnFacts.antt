@@ -1,19 +1,15 @@
 -- Cells by column and by row.
 use Rattle.std.proofs.Common.{◌≡◌, ℕ, zero, suc, ◌<◌, List, [], ◌∷◌, length, get_or, refl, ap, sym, ◌∙◌, subst, inl, inr, arith}
 use Rattle.std.proofs.lemmas.Bool.{cases_eq}
-use Rattle.std.proofs.lemmas.List.{get_or_append_left, get_or_push, length_push}
+use Rattle.std.proofs.lemmas.List.{get_or_append_left, get_or_push}
 use Rattle.schema_types.specs.declared.types.Kind.{Kind}
 use Rattle.schema_types.specs.declared.types.Kind.TheVariants as kind
 use Rattle.csv_tables.specs.declared.types.Cells.{Cells}
 use Rattle.csv_tables.specs.Cells.{AreColumns, IsCell, IsColumn, row_of_columns, rows_of_columns, value_of_cell}
 use Rattle.csv_tables.specs.Rows.{Row}
 use Rattle.csv_tables.specs.Values.{Value}
-
-pub column_count : (texts : List (List ℕ)) (rows : ℕ) (kinds : List Kind) (columns : List (List ℕ)) → AreColumns texts rows kinds columns → length columns ≡ length kinds
-column_count texts rows [] [] h = refl
-column_count texts rows [] (column ∷ columns) h = absurd h
-column_count texts rows (kind ∷ kinds) [] h = absurd h
-column_count texts rows (kind ∷ kinds) (column ∷ columns) h = ap suc (column_count texts rows kinds columns h.1)
+use Rattle.csv_tables.proofs.TableFacts.{columns_long}
+use Rattle.csv_tables.proofs.KeyFacts.{rows-length}
 
 pub column_at : (texts : List (List ℕ)) (rows : ℕ) (kinds : List Kind) (columns : List (List ℕ)) → AreColumns texts rows kinds columns
     → (i : ℕ) (kind : Kind) (column : List ℕ) → i < length kinds → IsColumn texts rows (get_or kinds i kind) (get_or columns i column)
@@ -22,18 +18,13 @@ column_at texts rows (k ∷ kinds) [] h i kind column low = absurd h
 column_at texts rows (k ∷ kinds) (c ∷ columns) h zero kind column low = h.0
 column_at texts rows (k ∷ kinds) (c ∷ columns) h (suc i) kind column low = column_at texts rows kinds columns h.1 i kind column (omega arith)
 
-pub row_count : (texts : List (List ℕ)) (kinds : List Kind) (columns : List (List ℕ)) (n : ℕ) → length (rows_of_columns texts kinds columns n) ≡ n
-row_count texts kinds columns zero = refl
-row_count texts kinds columns (suc n) =
-    length_push (rows_of_columns texts kinds columns n) (row_of_columns texts kinds columns n) ∙ omega (arith, row_count texts kinds columns n)
-
 row_at : (texts : List (List ℕ)) (kinds : List Kind) (columns : List (List ℕ)) (n row : ℕ) → row < n → get_or (rows_of_columns texts kinds columns n) row [] ≡ row_of_columns texts kinds columns row
 row_at texts kinds columns zero row low = absurd (omega arith)
 row_at texts kinds columns (suc n) row low = elim (cases_eq row n) [
-  | inl same ↦ get_or_push (rows_of_columns texts kinds columns n) (row_of_columns texts kinds columns n) [] row (row_count texts kinds columns n ∙ sym same)
+  | inl same ↦ get_or_push (rows_of_columns texts kinds columns n) (row_of_columns texts kinds columns n) [] row (rows-length texts kinds columns n ∙ sym same)
       ∙ ap (row_of_columns texts kinds columns) (sym same)
   | inr apart ↦ (let before : row < n = omega arith in
-      get_or_append_left (rows_of_columns texts kinds columns n) (row_of_columns texts kinds columns n ∷ []) [] row (omega (arith, row_count texts kinds columns n))
+      get_or_append_left (rows_of_columns texts kinds columns n) (row_of_columns texts kinds columns n ∷ []) [] row (omega (arith, rows-length texts kinds columns n))
       ∙ row_at texts kinds columns n row before)
 ]
 
@@ -50,7 +41,7 @@ pub value_at : (texts : List (List ℕ)) (rows : ℕ) (kinds : List Kind) (colum
     → get_or (get_or (rows_of_columns texts kinds columns rows) row []) i d ≡ value_of_cell texts (get_or kinds i kind) (get_or (get_or columns i column) row 0)
 value_at texts rows kinds columns h row i kind column d low within =
     ap (λ (r : Row). get_or r i d) (row_at texts kinds columns rows row low)
-    ∙ cell_at texts kinds columns row i kind column d within (column_count texts rows kinds columns h)
+    ∙ cell_at texts kinds columns row i kind column d within (columns_long texts rows kinds columns h)
 
 -- ---- as the code reads them
 

@@ -1,13 +1,11 @@
 -- A query that a text may be answered with is a query of the schema.
-use Rattle.std.proofs.Common.{◌≡◌, inl, inr, ℕ, ◌≤◌, Bool, true, false, cond, nat_lt, List, [], ◌∷◌, ◌++◌, length, Result, Ok, Err, subst, sym, refl, arith}
+use Rattle.std.proofs.Common.{◌≡◌, inl, inr, ℕ, ◌≤◌, List, [], ◌∷◌, ◌++◌, length, Result, Ok, Err, subst, sym, refl, arith}
 use Rattle.std.specs.Prelude.{IfOk}
-use Rattle.std.proofs.lemmas.Bool.{ltb-false}
 use Rattle.limits.specs.Profile.{most_conjuncts, most_entries, most_outputs}
 use Rattle.ll_grammars.specs.declared.lexeme.Lexeme.{Lexeme}
 use Rattle.query_grammar.specs.declared.tree.QueryText.{QueryText}
 use Rattle.query_grammar.specs.Grammar.{QuerySpecification}
 use Rattle.schema_types.specs.declared.types.Schema.{Schema}
-use Rattle.schema_types.specs.declared.errors.LimitKind.{LimitKind}
 use Rattle.schema_types.specs.declared.errors.LimitKind.TheVariants as limit
 use Rattle.query_names.specs.declared.errors.QueryError.{QueryError}
 use Rattle.query_types.specs.declared.types.Query.{Query}
@@ -16,17 +14,18 @@ use Rattle.query_types.specs.Validity.{IsOf}
 use Rattle.query_names.specs.Names.{entries}
 use Rattle.query_names.specs.Offences.{name_offences, all_kind_offences}
 use Rattle.query_names.specs.Values.{conjuncts, query_of}
-use Rattle.sql_parse.specs.Bound.{over, first_list, first_place, name_error, kind_error, limit_refusals, long_lists, refusals, unless, bound, refusal}
+use Rattle.sql_parse.specs.Bound.{over, first_list, first_place, name_error, kind_error, limit_refusals, long_lists, refusals, unless, bound}
 use Rattle.query_names.specs.Numbers.{number_offences}
+use Rattle.sql_parse.proofs.BindFacts.{not_over}
 use Rattle.sql_parse.specs.Reading.{lexemes_of, unless_number, IsAnswer}
 use Rattle.sql_parse.proofs.OfSchema.{of_schema}
 use Rattle.sql_parse.proofs.SomeEntry.{some_entries}
 
-none_before : (xs ys : List QueryError) → xs ++ ys ≡ [] → xs ≡ []
+pub none_before : (xs ys : List QueryError) → xs ++ ys ≡ [] → xs ≡ []
 none_before [] ys none = refl
 none_before (x ∷ xs) ys none = absurd cc
 
-none_behind : (xs ys : List QueryError) → xs ++ ys ≡ [] → ys ≡ []
+pub none_behind : (xs ys : List QueryError) → xs ++ ys ≡ [] → ys ≡ []
 none_behind [] ys none = none
 none_behind (x ∷ xs) ys none = absurd cc
 
@@ -34,13 +33,7 @@ no_place : (wrong : ℕ → QueryError) (places : List ℕ) → first_place wron
 no_place wrong [] none = refl
 no_place wrong (place ∷ rest) none = absurd cc
 
-not_over : (which : LimitKind) (most n : ℕ) → over which most n ≡ [] → n ≤ most
-not_over which most n none = at (nat_lt most n) refl none where
-  at : (more : Bool) → more ≡ nat_lt most n → cond more (refusal which n ∷ []) [] ≡ [] → n ≤ most
-  at true is none = absurd cc
-  at false is none = ltb-false most n (sym is)
-
-unless_ok : (wrong : List QueryError) (value query : Query) → unless wrong value ≡ Ok query → (wrong ≡ []) × (value ≡ query)
+pub unless_ok : (wrong : List QueryError) (value query : Query) → unless wrong value ≡ Ok query → (wrong ≡ []) × (value ≡ query)
 unless_ok [] value query is = (refl, cc)
 unless_ok (e ∷ rest) value query is = absurd cc
 
@@ -66,7 +59,7 @@ bound_of_schema schema text tokens tree query spelled is =
     (no_place name_error (name_offences schema text from tree) (none_before names kinds bad))
     (no_place kind_error (all_kind_offences schema text from tree) (none_behind names kinds bad)))
 
-unless_number_ok : (places : List ℕ) (answer : Result Query QueryError) (query : Query) → Ok query ≡ unless_number places answer → answer ≡ Ok query
+pub unless_number_ok : (places : List ℕ) (answer : Result Query QueryError) (query : Query) → Ok query ≡ unless_number places answer → answer ≡ Ok query
 unless_number_ok [] answer query is = sym is
 unless_number_ok (place ∷ rest) answer query is = absurd cc
 

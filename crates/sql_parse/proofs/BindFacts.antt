@@ -62,7 +62,7 @@ no_place wrong (place ∷ rest) none = absurd cc
 
 -- ---- limits
 
-not_over : (which : LimitKind) (most n : ℕ) → over which most n ≡ [] → n ≤ most
+pub not_over : (which : LimitKind) (most n : ℕ) → over which most n ≡ [] → n ≤ most
 not_over which most n none = at (nat_lt most n) refl none where
   at : (more : Bool) → more ≡ nat_lt most n → cond more (refusal which n ∷ []) [] ≡ [] → n ≤ most
   at true is none = absurd cc

@@ -34,17 +34,10 @@ use Rattle.query_names.specs.Offences.{of_literal, first_of, differ, operand_off
 use Rattle.query_names.specs.Values.{Meaning, alone, wholes, all_of, any_of, negated_where, reference_to, operand_value, comparison, equality, test_meaning, meaning_step, meaning}
 use Rattle.query_names.proofs.TestFacts.{tests_and, tests_or, tests_not, tests_test}
 use Rattle.query_names.proofs.Resolved.{Stands, resolve_stands}
+use Rattle.schema_types.proofs.Above.{empty_left, empty_right}
 use Rattle.sql_parse.proofs.CondShapes.{compare_of, not_of, and_of, or_of}
 
 -- ---- lists without offences
-
-pub none_left : (xs ys : List ℕ) → xs ++ ys ≡ [] → xs ≡ []
-none_left [] ys none = refl
-none_left (x ∷ xs) ys none = absurd cc
-
-pub none_right : (xs ys : List ℕ) → xs ++ ys ≡ [] → ys ≡ []
-none_right [] ys none = none
-none_right (x ∷ xs) ys none = absurd cc
 
 pub flat_map-append : {A B : Type 0} (f : A → List B) (xs ys : List A) → flat_map f (xs ++ ys) ≡ flat_map f xs ++ flat_map f ys
 flat_map-append f [] ys = refl
@@ -56,8 +49,8 @@ pub without_offences : {A B : Type 0} (f g : A → List ℕ) (h : A → List B) 
 without_offences f g h P each [] no_f no_g = All-nil P
 without_offences f g h P each (x ∷ xs) no_f no_g =
     All-append P (h x) (flat_map h xs)
-    (each x (none_left (f x) (flat_map f xs) no_f) (none_left (g x) (flat_map g xs) no_g))
-    (without_offences f g h P each xs (none_right (f x) (flat_map f xs) no_f) (none_right (g x) (flat_map g xs) no_g))
+    (each x (empty_left (f x) (flat_map f xs) no_f) (empty_left (g x) (flat_map g xs) no_g))
+    (without_offences f g h P each xs (empty_right (f x) (flat_map f xs) no_f) (empty_right (g x) (flat_map g xs) no_g))
 
 pub not_at : (wrong : Bool) (token : Lexeme) → at wrong token ≡ [] → wrong ≡ false
 not_at true token none = absurd cc
@@ -151,34 +144,34 @@ module _ (schema : Schema) (words : List ℕ) (from : List Source) (scope : Scop
   equalities_of left (l ∷ values) named alike =
       let wrong : OperandText → List ℕ = kind_offence schema words from scope (is_text_operand schema words from scope left) in
       All-cons (IsCondOf schema from) (equality schema words from scope left l) (map (equality schema words from scope left) values)
-      (comparison_of op.Eq left (of_literal l) named refl (none_left (wrong (of_literal l)) (flat_map wrong (map of_literal values)) alike))
-      (equalities_of left values named (none_right (wrong (of_literal l)) (flat_map wrong (map of_literal values)) alike))
+      (comparison_of op.Eq left (of_literal l) named refl (empty_left (wrong (of_literal l)) (flat_map wrong (map of_literal values)) alike))
+      (equalities_of left values named (empty_right (wrong (of_literal l)) (flat_map wrong (map of_literal values)) alike))
 
   test_of : (t : TestText) → test_offences schema words from scope t ≡ [] → kind_offences schema words from scope t ≡ [] → IsMeaningOf schema from (test_meaning schema words from scope t)
   test_of (test.Compare left how right) names kinds =
       let rest : List ℕ = operand_offences schema words from scope right ++ [] in
       alone_of schema from (comparison schema words from scope how left right)
-      (comparison_of how left right (none_left (operand_offences schema words from scope left) rest names)
-      (none_left (operand_offences schema words from scope right) [] (none_right (operand_offences schema words from scope left) rest names))
-      (none_left (kind_offence schema words from scope (is_text_operand schema words from scope left) right) [] kinds))
+      (comparison_of how left right (empty_left (operand_offences schema words from scope left) rest names)
+      (empty_left (operand_offences schema words from scope right) [] (empty_right (operand_offences schema words from scope left) rest names))
+      (empty_left (kind_offence schema words from scope (is_text_operand schema words from scope left) right) [] kinds))
   test_of (test.Between left negated low high) names kinds =
       let name : OperandText → List ℕ = operand_offences schema words from scope in
       let wrong : OperandText → List ℕ = kind_offence schema words from scope (is_text_operand schema words from scope left) in
-      let both : name low ++ (name high ++ []) ≡ [] = none_right (name left) (name low ++ (name high ++ [])) names in
-      let named : name left ≡ [] = none_left (name left) (name low ++ (name high ++ [])) names in
+      let both : name low ++ (name high ++ []) ≡ [] = empty_right (name left) (name low ++ (name high ++ [])) names in
+      let named : name left ≡ [] = empty_left (name left) (name low ++ (name high ++ [])) names in
       let at_least : Cond = comparison schema words from scope op.Ge left low in
       let at_most : Cond = comparison schema words from scope op.Le left high in
       negated_of schema from negated (all_of (alone at_least ∷ alone at_most ∷ []))
       (all_of_of schema from (alone at_least ∷ alone at_most ∷ [])
       (All-cons (IsMeaningOf schema from) (alone at_least) (alone at_most ∷ [])
-      (alone_of schema from at_least (comparison_of op.Ge left low named (none_left (name low) (name high ++ []) both) (none_left (wrong low) (wrong high ++ []) kinds)))
+      (alone_of schema from at_least (comparison_of op.Ge left low named (empty_left (name low) (name high ++ []) both) (empty_left (wrong low) (wrong high ++ []) kinds)))
       (All-cons (IsMeaningOf schema from) (alone at_most) []
-      (alone_of schema from at_most (comparison_of op.Le left high named (none_left (name high) [] (none_right (name low) (name high ++ []) both))
-      (none_left (wrong high) [] (none_right (wrong low) (wrong high ++ []) kinds))))
+      (alone_of schema from at_most (comparison_of op.Le left high named (empty_left (name high) [] (empty_right (name low) (name high ++ []) both))
+      (empty_left (wrong high) [] (empty_right (wrong low) (wrong high ++ []) kinds))))
       (All-nil (IsMeaningOf schema from)))))
   test_of (test.In left negated values) names kinds =
       let named : operand_offences schema words from scope left ≡ [] =
-      none_left (operand_offences schema words from scope left) (flat_map (operand_offences schema words from scope) (map of_literal values)) names in
+      empty_left (operand_offences schema words from scope left) (flat_map (operand_offences schema words from scope) (map of_literal values)) names in
       negated_of schema from negated (any_of (map (equality schema words from scope left) values))
       (any_of_of schema from (map (equality schema words from scope left) values) (equalities_of left values named kinds))
 
@@ -218,8 +211,8 @@ module _ (schema : Schema) (words : List ℕ) (from : List Source) (scope : Scop
       let alike : kinds_in e.0 ++ flat_map (kind_offences schema words from scope) (flat_map tests cs) ≡ [] =
       sym (flat_map-append (kind_offences schema words from scope) (tests e.0) (flat_map tests cs)) ∙ kinds in
       All-cons (IsMeaningOf schema from) (means e.0) (map means cs)
-      (e.1 (none_left (names_in e.0) _ named) (none_left (kinds_in e.0) _ alike))
-      (chain_of held (none_right (names_in e.0) _ named) (none_right (kinds_in e.0) _ alike))
+      (e.1 (empty_left (names_in e.0) _ named) (empty_left (kinds_in e.0) _ alike))
+      (chain_of held (empty_right (names_in e.0) _ named) (empty_right (kinds_in e.0) _ alike))
 
   good_layer : (y : CondText-F ((c : CondText) × Good c)) → Good (roll-CondText (map-CondText ((c : CondText) × Good c) CondText (λ e. e.0) y))
   good_layer (CondText-F.And held) =
@@ -238,8 +231,8 @@ module _ (schema : Schema) (words : List ℕ) (from : List Source) (scope : Scop
       (e.1 (sym (ap (flat_map (test_offences schema words from scope)) (tests_not e.0)) ∙ names) (sym (ap (flat_map (kind_offences schema words from scope)) (tests_not e.0)) ∙ kinds)).whole)))
   good_layer (CondText-F.Test t) =
       subst Good (sym (rolls-Test t)) (λ names kinds. subst (IsMeaningOf schema from) (sym (means_test t))
-      (test_of t (none_left (test_offences schema words from scope t) [] (sym (ap (flat_map (test_offences schema words from scope)) (tests_test t)) ∙ names))
-      (none_left (kind_offences schema words from scope t) [] (sym (ap (flat_map (kind_offences schema words from scope)) (tests_test t)) ∙ kinds))))
+      (test_of t (empty_left (test_offences schema words from scope t) [] (sym (ap (flat_map (test_offences schema words from scope)) (tests_test t)) ∙ names))
+      (empty_left (kind_offences schema words from scope t) [] (sym (ap (flat_map (kind_offences schema words from scope)) (tests_test t)) ∙ kinds))))
 
   -- a condition without offences
   pub condition_of : (c : CondText) → names_in c ≡ [] → kinds_in c ≡ [] → IsMeaningOf schema from (means c)

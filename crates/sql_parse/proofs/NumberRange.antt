@@ -5,7 +5,7 @@ use Rattle.std.proofs.lemmas.List.{drop_all}
 use Rattle.ll_grammars.specs.declared.lexeme.Lexeme.{Lexeme}
 use Rattle.query_names.specs.Answers.{first}
 use Rattle.query_names.specs.Numbers.{is_too_large, sign_before, number_offence, offences_after}
-use Rattle.query_names.proofs.Walk.{left_at}
+use Rattle.query_names.proofs.Walk.{left_at, first-append}
 
 pub still_too_large : (negative : Bool) (n : ℕ) → is_too_large negative (min n (2 ^ 64 - 1)) ≡ is_too_large negative n
 still_too_large true n = grind (arith, common_steps)
@@ -14,10 +14,6 @@ still_too_large false n = grind (arith, common_steps)
 none_before : (xs ys : List ℕ) → first xs ≡ None → first (xs ++ ys) ≡ first ys
 none_before [] ys none = refl
 none_before (x ∷ xs) ys none = absurd cc
-
-some_before : (xs ys : List ℕ) (n : ℕ) → first xs ≡ Some n → first (xs ++ ys) ≡ Some n
-some_before [] ys n is = absurd cc
-some_before (x ∷ xs) ys n is = is
 
 module _ (text : List ℕ) (tokens : List Lexeme) (before : Option Lexeme) (whole : Option ℕ) (i : ℕ) (d : Lexeme) where
   abbrev here : List ℕ
@@ -33,7 +29,7 @@ module _ (text : List ℕ) (tokens : List Lexeme) (before : Option Lexeme) (whol
   none_here below left none = split below left ∙ none_before here rest none
 
   pub offence_here : (n : ℕ) → i < length tokens → whole ≡ first (offences_after text before (drop i tokens)) → first here ≡ Some n → whole ≡ Some n
-  offence_here n below left is = split below left ∙ some_before here rest n is
+  offence_here n below left is = split below left ∙ first-append here rest n is
 
   pub none_at_end : length tokens ≤ i → whole ≡ first (offences_after text before (drop i tokens)) → whole ≡ None
   none_at_end done left = left ∙ ap (λ l. first (offences_after text before l)) (drop_all i tokens done)

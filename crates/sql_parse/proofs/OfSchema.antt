@@ -26,7 +26,8 @@ use Rattle.query_names.specs.Offences.{name_offences, all_kind_offences, name_of
 use Rattle.query_names.specs.Values.{reference_to, members_in, conjuncts, outs_from, outs_of_table, outs_of_entry, outs_of_found, outs_of, selected, query_of}
 use Rattle.schema_types.proofs.Places.{place_of_within}
 use Rattle.query_names.proofs.Resolved.{Stands, resolve_stands, IsEntry, AllEntries, in_scope_are, named_is}
-use Rattle.sql_parse.proofs.KindFacts.{none_left, none_right, not_at, without_offences, found_finds, condition_of}
+use Rattle.schema_types.proofs.Above.{empty_left, empty_right}
+use Rattle.sql_parse.proofs.KindFacts.{not_at, without_offences, found_finds, condition_of}
 
 -- ---- the entries
 
@@ -43,10 +44,10 @@ module _ (schema : Schema) (text : List ℕ) where
       let unknown : List ℕ = at (is_none (table_of schema text source)) source.table in
       let again : List ℕ = at (is_among earlier (alias_of schema text source)) (alias_token source) in
       let others : List ℕ = offences_behind schema text (earlier ++ alias_of schema text source ∷ []) rest in
-      let known : unknown ≡ [] = none_left unknown again (none_left (unknown ++ again) others none) in
+      let known : unknown ≡ [] = empty_left unknown again (empty_left (unknown ++ again) others none) in
       All-cons (IsSourceOf schema) (entry_of schema text source) (map (entry_of schema text) rest)
       (table_exists source (table_of schema text source) refl (not_at (is_none (table_of schema text source)) source.table known))
-      (sources_of_schema (earlier ++ alias_of schema text source ∷ []) rest (none_right (unknown ++ again) others none))
+      (sources_of_schema (earlier ++ alias_of schema text source ∷ []) rest (empty_right (unknown ++ again) others none))
 
 -- ---- the outputs
 
@@ -126,12 +127,12 @@ module _ (schema : Schema) (text : List ℕ) (query : QueryText) where
       let in_from : List ℕ = from_offences schema text query in
       let in_outs : List ℕ = outs_offences schema text from (everything from) query.outs in
       let in_conditions : List ℕ = flat_map (name_offences_in schema text from) (conditions from query) in
-      let front : in_from ++ in_outs ≡ [] = none_left (in_from ++ in_outs) in_conditions names in
+      let front : in_from ++ in_outs ≡ [] = empty_left (in_from ++ in_outs) in_conditions names in
       record {
         some = some;
         few = few;
         conjuncts_few = conjuncts_few;
-        sources = from_are schema text query (none_left in_from in_outs front);
-        conjuncts = conjuncts_are schema from text query (none_right (in_from ++ in_outs) in_conditions names) kinds;
-        outs = selected_are schema from text query.outs (none_right in_from in_outs front);
+        sources = from_are schema text query (empty_left in_from in_outs front);
+        conjuncts = conjuncts_are schema from text query (empty_right (in_from ++ in_outs) in_conditions names) kinds;
+        outs = selected_are schema from text query.outs (empty_right in_from in_outs front);
       }

@@ -1,8 +1,9 @@
 -- What stands at the front of a text by the relation is the piece that is computed.
-use Rattle.std.proofs.Common.{◌≡◌, ◌≢◌, ℕ, suc, ◌+◌, ◌<◌, ◌≤◌, Bool, true, false, ◌&&◌, ◌||◌, eqb, List, [], ◌∷◌, ◌++◌, length, Option, Some, None, refl, sym, ap, ◌∙◌, inl, inr, ⊎_elim, arith, append_assoc, length-append}
+use Rattle.std.proofs.Common.{◌≡◌, ◌≢◌, ℕ, suc, ◌+◌, ◌<◌, ◌≤◌, true, false, ◌&&◌, ◌||◌, eqb, List, [], ◌∷◌, ◌++◌, length, Option, Some, None, refl, sym, ap, ◌∙◌, inl, inr, ⊎_elim, arith, append_assoc, length-append}
 use Rattle.std.proofs.lemmas.Bool.{and_parts, and_left, or_parts, or_cases, eqb-true, ne_eqb, le-ltb, lt-ltb, false≢true}
 use Rattle.std.specs.Prelude.{slice_index}
 use Rattle.std.specs.List.{prefix_len, list_all}
+use Rattle.std.proofs.Math.Bool.{and-false}
 use Rattle.sql_tokens.specs.declared.token.TokenKind.{TokenKind}
 use Rattle.sql_tokens.specs.declared.token.TokenKind.TheVariants as kind
 use Rattle.sql_tokens.specs.declared.pieces.Piece.TheVariants as piece_
@@ -117,10 +118,7 @@ token_front kind.Number (b ∷ front) rest form ends = let parts = and_parts (is
 token_front kind.Quoted bytes rest form ends = quoted_piece bytes rest form ends
 token_front kind.Text bytes rest form ends = text_piece bytes rest form ends
 token_front kind.Symbol [] rest form ends = absurd (false≢true form)
-token_front kind.Symbol (b ∷ []) [] form ends = sign_piece b [] form (pair_zero b) (and_right_false (eqb b 45)) where
-  and_right_false : (x : Bool) → (x && false) ≡ false
-  and_right_false true = refl
-  and_right_false false = refl
+token_front kind.Symbol (b ∷ []) [] form ends = sign_piece b [] form (pair_zero b) (and-false (eqb b 45))
 token_front kind.Symbol (b ∷ []) (c ∷ rest) form ends = let parts = or_parts (is_pair b c) (eqb b 45 && eqb c 45) ends in sign_piece b (c ∷ rest) form parts.0 parts.1
 token_front kind.Symbol (b ∷ c ∷ []) rest form ends = pair_piece b c rest form
 token_front kind.Symbol (b ∷ c ∷ d ∷ more) rest form ends = absurd (false≢true form)

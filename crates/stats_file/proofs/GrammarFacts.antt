@@ -35,11 +35,11 @@ value_word (datum.Int number) (kind.Text most) never bytes = absurd never
 value_word (datum.Text text) kind.Int never bytes = absurd never
 value_word (datum.Text text) (kind.Text most) utf8 bytes = inr (hex_word text bytes)
 
-cuts_are_of : (k : Kind) (rows : ℕ) (cuts : List Datum) (nodes : List (List ℕ)) → IsTreeOf k rows cuts nodes → All (IsOfKind k) cuts
+pub cuts_are_of : (k : Kind) (rows : ℕ) (cuts : List Datum) (nodes : List (List ℕ)) → IsTreeOf k rows cuts nodes → All (IsOfKind k) cuts
 cuts_are_of k zero cuts nodes (none, others) = subst (λ (ds : List Datum). All (IsOfKind k) ds) (sym none) (λ i d lt. absurd (omega arith))
 cuts_are_of k (suc n) cuts nodes tree = tree.values
 
-nodes_are_lists : (k : Kind) (rows : ℕ) (cuts : List Datum) (nodes : List (List ℕ)) → IsTreeOf k rows cuts nodes → All (IsList rows) nodes
+pub nodes_are_lists : (k : Kind) (rows : ℕ) (cuts : List Datum) (nodes : List (List ℕ)) → IsTreeOf k rows cuts nodes → All (IsList rows) nodes
 nodes_are_lists k zero cuts nodes (none, others) = subst (λ (ns : List (List ℕ)). All (IsList zero) ns) (sym others) (λ i d lt. absurd (omega arith))
 nodes_are_lists k (suc n) cuts nodes tree = tree.lists
 

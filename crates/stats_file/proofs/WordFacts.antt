@@ -17,7 +17,7 @@ use Rattle.stats_file.specs.Lines.{hex_byte, hex_digit, hex_text, run_text, runs
 use Rattle.stats_file.specs.Rules.{IsList}
 use Rattle.stats_file.specs.Runs.{in_front, run_of, runs_of}
 
-own : IsNumeralModel (λ ds. list_all is_ascii_digit ds ≡ true) (digits_value 10)
+pub own : IsNumeralModel (λ ds. list_all is_ascii_digit ds ≡ true) (digits_value 10)
 own = numerals_by_value _ (search rules)
 
 digits_then : (ds : List ℕ) → list_all is_ascii_digit ds ≡ true → 48 < get_or ds 0 0 → IsNumeral ds

@@ -1,6 +1,6 @@
 -- Each line of a file has one end, and lines with ends are read off their text in one way.
-use Rattle.std.proofs.Common.{◌≡◌, ℕ, zero, suc, ◌^◌, ◌<◌, ◌≤◌, ◌==◌, Bool, true, false, if◌then◌else◌, List, [], ◌∷◌, ◌++◌, length, get_or, map, refl, ap, sym, subst, ◌∙◌, arith, append_assoc}
-use Rattle.std.specs.Prelude.{All, codes, decimal, sum}
+use Rattle.std.proofs.Common.{◌≡◌, ℕ, suc, ◌^◌, ◌<◌, ◌≤◌, ◌==◌, Bool, true, false, if◌then◌else◌, List, [], ◌∷◌, ◌++◌, length, get_or, map, refl, ap, sym, subst, ◌∙◌, arith, append_assoc}
+use Rattle.std.specs.Prelude.{codes, decimal, sum}
 use Rattle.std.specs.List.{concat, flat_map, AllByRecursion}
 use Rattle.std.proofs.lemmas.Bool.{eq-eqb}
 use Rattle.piece_math.specs.declared.pieces.Piece.{Piece}
@@ -15,14 +15,15 @@ use Rattle.stats_file.specs.declared.types.StatsFile.{StatsFile}
 use Rattle.stats_file.specs.declared.types.TableStats.{TableStats}
 use Rattle.stats_file.specs.FileText.{file_lines, name_at, node_line, pair_lines, section_lines, table_lines, value_line}
 use Rattle.stats_file.specs.Lines.{cut_line, datum_text, end_line, hex_text, run_text, runs_text}
-use Rattle.stats_file.specs.Rules.{IsList, IsOfKind, IsPair, IsSection, IsTreeOf, KeepsRules}
+use Rattle.stats_file.specs.Rules.{IsList, IsOfKind, IsPair, IsSection, KeepsRules}
 use Rattle.stats_file.specs.Runs.{runs_of}
 use Rattle.stats_file.proofs.WordFacts.{numeral}
 use Rattle.stats_words.specs.Runs.{list_text}
 use Rattle.stats_words.specs.Splits.{Without}
 use Rattle.stats_words.proofs.ListWordFacts.{numeral_without}
-use Rattle.stats_words.proofs.RunTexts.{expanded_runs, runs_fall, small_runs, IsSmall}
+use Rattle.stats_words.proofs.RunTexts.{expanded_runs, runs_fall, small_runs, IsSmall, next}
 use Rattle.stats_words.proofs.SplitFacts.{both_without, front_without, split_same}
+use Rattle.stats_file.proofs.GrammarFacts.{cuts_are_of, nodes_are_lists}
 use Rattle.stats_reading.specs.Left.{rest_line}
 use Rattle.stats_reading.proofs.WordFacts.{pairs_without, signed_without}
 
@@ -58,9 +59,6 @@ run_free most run fits small =
     let count : run.count ≤ most = small.1 in
     both_without 10 (decimal run.value) (codes "*" ++ decimal run.count) (number_free run.value (omega arith))
     (front_without 10 42 (decimal run.count) (λ e. omega (arith, e)) (number_free run.count (omega arith)))
-
-abbrev next : Piece → List ℕ
-next run = codes " " ++ run_text run
 
 others_free : (most : ℕ) (runs : List Piece) → most < 2 ^ 64 → AllByRecursion (IsSmall most) runs → Without 10 (flat_map next runs)
 others_free most [] fits small = λ k d lt. absurd (omega arith)
@@ -107,14 +105,6 @@ each_part : {X : Type 0} (f : X → List (List ℕ)) (xs : List X) → ((k : ℕ
 each_part f [] each = tt
 each_part f (x ∷ xs) each = joined (f x) (flat_map f xs) (each 0 x (omega arith)) (each_part f xs (λ k d lt. each (suc k) d (omega arith)))
 
-pub cuts_of : (k : Kind) (rows : ℕ) (cuts : List Datum) (nodes : List (List ℕ)) → IsTreeOf k rows cuts nodes → All (IsOfKind k) cuts
-cuts_of k zero cuts nodes (none, others) = subst (λ (ds : List Datum). All (IsOfKind k) ds) (sym none) (λ i d lt. absurd (omega arith))
-cuts_of k (suc n) cuts nodes tree = tree.values
-
-pub nodes_of : (k : Kind) (rows : ℕ) (cuts : List Datum) (nodes : List (List ℕ)) → IsTreeOf k rows cuts nodes → All (IsList rows) nodes
-nodes_of k zero cuts nodes (none, others) = subst (λ (ns : List (List ℕ)). All (IsList zero) ns) (sym others) (λ i d lt. absurd (omega arith))
-nodes_of k (suc n) cuts nodes tree = tree.lists
-
 pair_ended : (table : Table) (rows : ℕ) (p : Pair) → rows ≤ 4000000 → IsPair table rows p → AreEnded (pair_lines table p)
 unfolding pair_lines
 pair_ended table rows p few is = (
@@ -127,9 +117,9 @@ pair_ended table rows p few is = (
           one_ended (codes "rest ") (list_text p.rest) (literal (codes "rest ") refl) (list_free rows p.rest few is.rest),
           joined (map cut_line p.cuts) (map node_line p.nodes)
               (mapped cut_line p.cuts (λ k d lt. one_ended (codes "cut ") (datum_text (get_or p.cuts k d)) (literal (codes "cut ") refl)
-              (datum_free is.filter.kind (get_or p.cuts k d) (cuts_of is.filter.kind rows p.cuts p.nodes is.tree k d lt))))
+              (datum_free is.filter.kind (get_or p.cuts k d) (cuts_are_of is.filter.kind rows p.cuts p.nodes is.tree k d lt))))
               (mapped node_line p.nodes (λ k d lt. one_ended (codes "node ") (list_text (get_or p.nodes k d)) (literal (codes "node ") refl)
-              (list_free rows (get_or p.nodes k d) few (nodes_of is.filter.kind rows p.cuts p.nodes is.tree k d lt)))),
+              (list_free rows (get_or p.nodes k d) few (nodes_are_lists is.filter.kind rows p.cuts p.nodes is.tree k d lt)))),
         ),
   ),
 )

@@ -22,13 +22,13 @@ use Rattle.stats_file.specs.FileText.{file_lines, file_text, name_at, node_line,
 use Rattle.stats_file.specs.Grammar.{IsText}
 use Rattle.stats_file.specs.Lines.{cut_line, datum_text, end_line, first_line, hex_text, pair_line, table_line}
 use Rattle.stats_file.specs.Rules.{IsList, IsOfKind, IsPair, IsSection, KeepsRules}
-use Rattle.stats_file.proofs.GrammarFacts.{file_is_text}
+use Rattle.stats_file.proofs.GrammarFacts.{file_is_text, cuts_are_of, nodes_are_lists}
 use Rattle.stats_words.specs.Runs.{list_text}
 use Rattle.stats_words.specs.Splits.{Without}
 use Rattle.stats_words.proofs.SplitFacts.{not_without, split_same}
 use Rattle.stats_reading.specs.Left.{frequent_lines, pairs_left, rest_line, tables_left, tree_lines, whole_line}
 use Rattle.stats_reading.proofs.Edges.{same_pair}
-use Rattle.stats_reading.proofs.LineEnds.{cuts_of, front_of, lines_ended, nodes_of, not_empty, IsEnded, IsFront}
+use Rattle.stats_reading.proofs.LineEnds.{front_of, lines_ended, not_empty, IsEnded, IsFront}
 use Rattle.stats_reading.proofs.Seams.{all_at, same_some}
 use Rattle.stats_reading.proofs.Tags.{after_pair, after_pairs, from_tables, pair_opened, pair_rest, same_tag, tag, to_tables}
 use Rattle.stats_reading.proofs.Turns.{column_place, one_place}
@@ -111,10 +111,10 @@ same_pair_lines table rows p q A B few is_p is_q filter joined none_a none_b e =
     let split : map cut_line p.cuts ++ (map node_line p.nodes ++ A) ≡ map cut_line q.cuts ++ (map node_line q.nodes ++ B) =
     sym (append_assoc (map cut_line p.cuts) (map node_line p.nodes) A) ∙ trees ∙ append_assoc (map cut_line q.cuts) (map node_line q.nodes) B in
     let cuts = same_mapped cut_line (IsOfKind kind) (λ a b x y f. same_datum kind a b x y (one_same (codes "cut ") (datum_text a) (datum_text b) f)) 99 (λ x. refl) p.cuts q.cuts
-    (map node_line p.nodes ++ A) (map node_line q.nodes ++ B) (cuts_of kind rows p.cuts p.nodes is_p.tree)
-    (subst (λ x. All (IsOfKind x) q.cuts) same_kind (cuts_of is_q.filter.kind rows q.cuts q.nodes is_q.tree)) (no_node_tag p.nodes A none_a) (no_node_tag q.nodes B none_b) split in
+    (map node_line p.nodes ++ A) (map node_line q.nodes ++ B) (cuts_are_of kind rows p.cuts p.nodes is_p.tree)
+    (subst (λ x. All (IsOfKind x) q.cuts) same_kind (cuts_are_of is_q.filter.kind rows q.cuts q.nodes is_q.tree)) (no_node_tag p.nodes A none_a) (no_node_tag q.nodes B none_b) split in
     let nodes = same_mapped node_line (IsList rows) (λ a b x y f. lists_same rows few (codes "node ") a b x y f) 110 (λ x. refl) p.nodes q.nodes A B
-    (nodes_of kind rows p.cuts p.nodes is_p.tree) (nodes_of is_q.filter.kind rows q.cuts q.nodes is_q.tree) (λ l more f. (none_a l more f).1) (λ l more f. (none_b l more f).1) cuts.1 in
+    (nodes_are_lists kind rows p.cuts p.nodes is_p.tree) (nodes_are_lists is_q.filter.kind rows q.cuts q.nodes is_q.tree) (λ l more f. (none_a l more f).1) (λ l more f. (none_b l more f).1) cuts.1 in
     record { pairs = same_pair p q filter joined whole values.0 rest cuts.0 nodes.0; behind = nodes.1 }
   where
     frequent_same : (kind : Kind) (a b : Datum × List ℕ) → IsOfKind kind a.0 × IsList rows a.1 → IsOfKind kind b.0 × IsList rows b.1 → value_line a ≡ value_line b → a ≡ b

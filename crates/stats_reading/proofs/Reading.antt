@@ -17,7 +17,6 @@ use Rattle.stats_reading.specs.declared.fault.Fault.{Fault}
 use Rattle.stats_reading.specs.declared.fault.Fault.TheVariants as fault
 use Rattle.stats_reading.specs.declared.stages.Stage.{Stage}
 use Rattle.stats_reading.specs.declared.stages.Stage.TheVariants as stage
-use Rattle.stats_reading.specs.Drafts.{empty_draft}
 use Rattle.stats_reading.specs.Goes.{Answers, Goes}
 use Rattle.stats_reading.specs.Left.{file_of, section_of, CutsLeft, FileLeft, FrequentLeft, InPair, NodesLeft, WholeLeft}
 use Rattle.stats_reading.specs.Refusals.{refusal_of}
@@ -37,17 +36,6 @@ pub record IsRead (schema : Schema) (bytes rest : List ℕ) (s : Draft) (line : 
   pub valid : IsValidDraft s.stage schema s
   pub files : (file : StatsFile) (more : Lines) → (KeepsRules schema file × (lines ++ more ≡ file_lines schema file)) ↔ FileLeft s.stage schema s file more
   pub texts : (more : Lines) → IsText (lines ++ more) ↔ TextLeft s.stage more
-
-pub read_start : (schema : Schema) (bytes : List ℕ) (s : Draft) → s ≡ empty_draft → IsRead schema bytes bytes s 1
-read_start schema bytes s is = subst (λ (x : Draft). IsRead schema bytes bytes x 1) (sym is) (record {
-  lines = [];
-  whole = refl;
-  here = refl;
-  few = omega arith;
-  valid = refl;
-  files = λ file more. (λ h. h, λ h. h);
-  texts = λ more. (λ h. h, λ h. h);
-})
 
 concat_append : (a b : Lines) → concat (a ++ b) ≡ concat a ++ concat b
 concat_append [] b = refl

@@ -1,7 +1,5 @@
 -- Pairs of hexadecimal digits.
-use Rattle.std.proofs.Common.{[], ◌≡◌, ℕ, zero, suc, ◌+◌, ◌*◌, ◌/◌, ◌%◌, ◌<◌, Bool, true, false, ◌&&◌, ◌==◌, List, ◌∷◌, ◌++◌, length, get_or, take, refl, ap, sym, ◌∙◌, arith, append_assoc}
-use Rattle.std.proofs.Math.Seq.{take-suc}
-use Rattle.std.proofs.lemmas.Grind.{flat_map-append}
+use Rattle.std.proofs.Common.{[], ◌≡◌, ℕ, zero, suc, ◌+◌, ◌*◌, ◌/◌, ◌%◌, ◌<◌, Bool, true, false, ◌&&◌, ◌==◌, List, ◌∷◌, length, get_or, refl, ap, sym, ◌∙◌, arith}
 use Rattle.std.proofs.lemmas.Bool.{eqb-true}
 use Rattle.std.specs.List.{flat_map, list_all}
 use Rattle.std.proofs.lemmas.Bool.{and_parts}
@@ -93,20 +91,3 @@ pairs_of ds bytes e k lt = (ap (λ (x : List ℕ). get_or x (2 * k) 0) e ∙ (at
         let f : 2 * suc k + 1 ≡ suc (suc (2 * k + 1)) = omega arith in
         let rest = at bytes k (omega arith) in
         (ap (λ i. get_or (flat_map hex_byte (b ∷ bytes)) i 0) e ∙ rest.0, ap (λ i. get_or (flat_map hex_byte (b ∷ bytes)) i 0) f ∙ rest.1)
-
--- two more digits, and the byte that they spell
-pub pair_more : (ds bytes : List ℕ) (i b : ℕ) → 2 * i + 1 < length ds → hex_byte b ≡ get_or ds (2 * i) 0 ∷ (get_or ds (2 * i + 1) 0 ∷ []) → flat_map hex_byte bytes ≡ take (2 * i) ds
-    → flat_map hex_byte (bytes ++ b ∷ []) ≡ take (2 * (i + 1)) ds
-pair_more ds bytes i b lt is so_far =
-    let two : 2 * (i + 1) ≡ suc (suc (2 * i)) = omega arith in
-    let one : 2 * i + 1 ≡ suc (2 * i) = omega arith in
-    let last = take-suc ds (suc (2 * i)) 0 (omega arith) in
-    let front = take-suc ds (2 * i) 0 (omega arith) in
-    flat_map-append hex_byte bytes (b ∷ [])
-    ∙ ap (λ (x : List ℕ). x ++ (hex_byte b ++ [])) so_far
-    ∙ ap (λ (x : List ℕ). take (2 * i) ds ++ (x ++ [])) is
-    ∙ ap (λ (n : ℕ). take (2 * i) ds ++ (get_or ds (2 * i) 0 ∷ (get_or ds n 0 ∷ []))) one
-    ∙ sym (append_assoc (take (2 * i) ds) (get_or ds (2 * i) 0 ∷ []) (get_or ds (suc (2 * i)) 0 ∷ []))
-    ∙ ap (λ (x : List ℕ). x ++ (get_or ds (suc (2 * i)) 0 ∷ [])) (sym front)
-    ∙ sym last
-    ∙ ap (λ n. take n ds) (sym two)

@@ -4,10 +4,11 @@ use Rattle.std.specs.Prelude.{All, codes, sum}
 use Rattle.std.specs.List.{AllByRecursion, flat_map}
 use Rattle.std.proofs.lemmas.Grind.{flat_map-append}
 use Rattle.std.proofs.lemmas.List.{length-replicate}
+use Rattle.std.proofs.lemmas.List.Elements.{All-from_recursion}
 use Rattle.degree_sequences.specs.Falling.{IsFalling}
 use Rattle.piece_math.specs.declared.pieces.Piece.{Piece}
 use Rattle.piece_math.specs.Expanded.{expanded, AreRuns}
-use Rattle.piece_math.proofs.Expansion.{All-from_recursion, AreRuns-push, expanded-push, IsFalling-expanded, positive-expanded, sum-expanded-push}
+use Rattle.piece_math.proofs.Expansion.{AreRuns-push, expanded-push, IsFalling-expanded, positive-expanded, sum-expanded-push}
 use Rattle.stats_file.specs.Lines.{run_text, runs_text}
 use Rattle.stats_file.specs.Rules.{IsList}
 use Rattle.stats_file.specs.Runs.{runs_of}
@@ -58,9 +59,6 @@ pub record Listed (rows : ℕ) (word rest list : List ℕ) (below left : ℕ) : 
   pub above : AllByRecursion (λ (r : Piece). below ≤ r.value) runs
   pub total : sum list + left ≡ rows
   pub few : length list + left ≤ rows
-
-pub listed_start : (rows : ℕ) (word : List ℕ) → Listed rows word word [] (rows + 1) rows
-listed_start rows word = record { runs = []; front = refl; list_is = refl; falls = tt; below_is = refl; above = tt; total = omega arith; few = omega arith }
 
 -- the next run may be appended
 pub may_push : (rows : ℕ) (word rest list : List ℕ) (below left : ℕ) (run : Piece) → Listed rows word rest list below left → MayFollow below left run → All (λ x. run.value ≤ x) list

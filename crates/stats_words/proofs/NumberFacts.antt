@@ -1,24 +1,21 @@
 -- Numerals and their values.
-use Rattle.std.proofs.Common.{[], ◌≡◌, ◌≢◌, ℕ, suc, ◌+◌, ◌*◌, ◌-◌, ◌^◌, ◌<◌, ◌≤◌, true, false, ◌||◌, ◌&&◌, ◌==◌, List, ◌∷◌, length, get_or, drop, refl, ap, sym, subst, ◌∙◌, arith, rules, Bool, Option, None, Some}
-use Rattle.std.specs.Prelude.{ℤ, pos, negsuc, decimal, FitsSigned, nat_lt, option_map}
+use Rattle.std.proofs.Common.{[], ◌≡◌, ◌≢◌, ℕ, suc, ◌+◌, ◌*◌, ◌-◌, ◌^◌, ◌<◌, ◌≤◌, true, false, ◌||◌, ◌&&◌, ◌==◌, List, ◌∷◌, length, get_or, drop, refl, ap, sym, subst, ◌∙◌, arith, Bool, Option, None, Some}
+use Rattle.std.specs.Prelude.{ℤ, pos, negsuc, decimal, FitsSigned, nat_lt}
 use Rattle.std.specs.Char.{digit_value, is_ascii_digit}
 use Rattle.std.specs.Fmt.{signed_decimal}
 use Rattle.std.specs.Int.{w64}
 use Rattle.std.specs.List.{list_all}
 use Rattle.std.specs.Option.{SomeIff}
 use Rattle.std.specs.Str.Parse.{digits_value, digits_value_after}
-use Rattle.std.proofs.lemmas.Bool.{and_from, and_parts}
+use Rattle.std.proofs.lemmas.Bool.{and_from, and_parts, and_right}
 use Rattle.std.proofs.lemmas.Bool.Decides.{nat_tests}
 use Rattle.std.proofs.lemmas.Fmt.{decimal-digits_value, digits_value-decimal, digits_decimal, decimal_injective, decimal_nonempty}
 use Rattle.std.proofs.lemmas.List.{at_drop_more}
 use Rattle.std.proofs.lemmas.Str.{digit_value_digit}
-use Rattle.std.proofs.lemmas.Str.Parse.{IsNumeralModel, numerals_by_value, digit_at}
+use Rattle.std.proofs.lemmas.Str.Parse.{digit_at}
 use Rattle.stats_file.specs.Grammar.{is_numeral}
-use Rattle.stats_file.proofs.WordFacts.{numeral}
+use Rattle.stats_file.proofs.WordFacts.{numeral, own}
 use Rattle.stats_words.specs.Words.{Spells}
-
-pub own : IsNumeralModel (λ ds. list_all is_ascii_digit ds ≡ true) (digits_value 10)
-own = numerals_by_value _ (search rules)
 
 pub at_least : (n : ℕ) (ds : List ℕ) → n ≤ digits_value_after 10 n ds
 at_least n [] = omega arith
@@ -41,17 +38,6 @@ next_value ds i v lt is =
 pub record Reads (ds : List ℕ) (i v : ℕ) : Type 0 where
   pub value : digits_value_after 10 v (drop i ds) ≡ digits_value 10 ds
   pub digits : list_all is_ascii_digit (drop i ds) ≡ list_all is_ascii_digit ds
-
-rest_digits : (ds : List ℕ) (i : ℕ) → i < length ds → is_ascii_digit (get_or ds i 0) ≡ true
-    → list_all is_ascii_digit (drop i ds) ≡ list_all is_ascii_digit (drop (i + 1) ds)
-rest_digits ds i lt is = at_drop_more (list_all is_ascii_digit) ds i 0 lt ∙ rw is refl
-
-pub read_more : (ds : List ℕ) (i v next : ℕ) → i < length ds → is_ascii_digit (get_or ds i 0) ≡ true
-    → next ≡ 10 * v + (get_or ds i 0 - 48) → Reads ds i v → Reads ds (i + 1) next
-read_more ds i v next lt is e h = record {
-  value = ap (λ n. digits_value_after 10 n (drop (i + 1) ds)) e ∙ sym (next_value ds i v lt is) ∙ h.value;
-  digits = sym (rest_digits ds i lt is) ∙ h.digits;
-}
 
 -- a byte that is no digit, or a value that is too large: so it is with the whole
 pub read_none : (ds : List ℕ) (i v most : ℕ) → i < length ds
@@ -114,13 +100,9 @@ number_read word most lead None small whole leads stops = λ n le e.
 number_read word most lead (Some n) small whole leads (both, at') =
     spelled word most (Some n) small (whole ∙ and_from (list_all is_ascii_digit word) lead both.0 leads) (both.1, at')
 
-never : (a lead : Bool) → lead ≡ false → (a && lead) ≡ false
-never true lead e = e
-never false lead e = refl
-
 pub none_read : (word : List ℕ) (most : ℕ) (lead : Bool) → most < 2 ^ 64 → is_numeral word ≡ (list_all is_ascii_digit word && lead) → lead ≡ false
     → Spells decimal (λ n. n ≤ most) word None
-none_read word most lead small whole leads = not_spelled word most small (whole ∙ never (list_all is_ascii_digit word) lead leads)
+none_read word most lead small whole leads = not_spelled word most small (whole ∙ and_right (list_all is_ascii_digit word) lead leads)
 
 no_dash : (n : ℕ) (rest : List ℕ) → n < 2 ^ 64 → decimal n ≢ 45 ∷ rest
 no_dash n rest small e =
@@ -148,17 +130,3 @@ negative_zero digits n zero' h = none
         let lt : m < 2 ^ 63 = omega (arith, fits.sfits) in
         let same : suc m ≡ n = decimal_injective (suc m) n (omega arith) (omega arith) (behind _ _ e ∙ sym h.1) in
         absurd (omega arith)
-
-pub negative_some : (digits : List ℕ) (n m : ℕ) → n ≡ suc m → Spells decimal (λ n. n ≤ 2 ^ 63) digits (Some n) → Spells signed_decimal (FitsSigned w64) (45 ∷ digits) (Some (negsuc m))
-negative_some digits n m is h =
-    let le : n ≤ 2 ^ 63 = h.0 in
-    (record { sfits = omega arith }, ap (λ (w : List ℕ). 45 ∷ w) (ap decimal (sym is) ∙ h.1))
-
--- a word without a dash
-pub natural_is : (word : List ℕ) (r : Option ℕ) → get_or word 0 0 ≢ 45 → Spells decimal (λ n. n ≤ 2 ^ 63 - 1) word r → Spells signed_decimal (FitsSigned w64) word (option_map pos r)
-natural_is word None other h = none
-  where
-    none : (z : ℤ) → FitsSigned w64 z → signed_decimal z ≢ word
-    none (pos n) fits e = let lt : n < 2 ^ 63 = omega (arith, fits.sfits) in h n (omega arith) e
-    none (negsuc n) fits e = other (ap (λ (w : List ℕ). get_or w 0 0) (sym e))
-natural_is word (Some n) other h = let le : n ≤ 2 ^ 63 - 1 = h.0 in (record { sfits = omega arith }, h.1)

@@ -113,7 +113,7 @@ starless below left word none run may e = not_without 42 (decimal run.value) (de
 abbrev pub ended : Piece → List ℕ
 ended run = run_text run ++ codes " "
 
-abbrev next : Piece → List ℕ
+abbrev pub next : Piece → List ℕ
 next run = codes " " ++ run_text run
 
 next_text : (rs : List Piece) (m : Piece) → codes " " ++ runs_text (rs ++ m ∷ []) ≡ flat_map next (rs ++ m ∷ [])

@@ -1,11 +1,11 @@
 -- A text is split at a byte in one way.
-use Rattle.std.proofs.Common.{[], ◌≡◌, ◌≢◌, ℕ, zero, suc, ◌<◌, true, List, ◌∷◌, ◌++◌, length, get_or, take, drop, refl, ap, subst, arith}
+use Rattle.std.proofs.Common.{[], ◌≡◌, ◌≢◌, ℕ, zero, suc, true, List, ◌∷◌, ◌++◌, refl, subst, arith}
 use Rattle.std.specs.Char.{is_ascii_digit}
 use Rattle.std.specs.Int.{IsInRange}
 use Rattle.std.specs.List.{list_all}
 use Rattle.std.proofs.lemmas.Str.Parse.{digit_from_value}
+use Rattle.stats_file.proofs.WordFacts.{own}
 use Rattle.stats_words.specs.Splits.{Without}
-use Rattle.stats_words.proofs.NumberFacts.{own}
 
 pub split_same : (b : ℕ) (f g r t : List ℕ) → Without b f → Without b g → f ++ (b ∷ r) ≡ g ++ (b ∷ t) → (f ≡ g) × (r ≡ t)
 split_same b [] [] r t nf ng e = (refl, cc)
@@ -32,9 +32,3 @@ digits_without c other (x ∷ ds) are = front_without c x ds (λ e. other (subst
 pub both_without : (c : ℕ) (f g : List ℕ) → Without c f → Without c g → Without c (f ++ g)
 both_without c [] g nf ng = ng
 both_without c (x ∷ f) g nf ng = front_without c x (f ++ g) (nf 0 0 (omega arith)) (both_without c f g (λ j e le. nf (suc j) e (omega arith)) ng)
-
--- the byte at this place, and what stands around it
-pub split_here : (text : List ℕ) (i b : ℕ) → i < length text → get_or text i 0 ≡ b → text ≡ take i text ++ (b ∷ drop (suc i) text)
-split_here [] i b lt is = absurd (omega arith)
-split_here (x ∷ text) zero b lt is = ap (λ (y : ℕ). y ∷ text) is
-split_here (x ∷ text) (suc i) b lt is = ap (λ (rest : List ℕ). x ∷ rest) (split_here text i b (omega arith) is)

@@ -5,7 +5,6 @@ use Rattle.std.proofs.lemmas.List as list
 use Rattle.std.proofs.lemmas.List.{length-map}
 use Rattle.std.proofs.lemmas.List.Elements.{All-from_get_or, All-from_recursion, All-map, recursion_from_All}
 use Rattle.std.proofs.lemmas.Option.{get_or_from_slice_get, slice_get_within, slice_get-map}
-use Rattle.schema_types.specs.Validity.{IsValid, IsValidTable}
 use Rattle.schema_types.specs.declared.types.Column.{Column}
 use Rattle.schema_types.specs.declared.types.Schema.{Schema}
 use Rattle.schema_types.specs.declared.types.Table.{Table}
@@ -145,7 +144,3 @@ numbers_low schema query is_of = All-from_recursion (λ number. number < length 
 
 pub numbers_few : (schema : Schema) (query : Query) → valid.IsOf schema query → length (tables_of_query query.from) ≤ 12
 numbers_few schema query is_of = omega (arith, different_short (numbers_of query.from), length-map query.from (λ (source : Source). source.table), is_of.few)
-
-pub table_valid : (schema : Schema) (number : ℕ) (table : Table) → IsValid schema → slice_get schema.tables number ≡ Some table → IsValidTable table
-table_valid schema number table valid found =
-    subst IsValidTable (get_or_from_slice_get schema.tables number table table found) (valid.tables number table (slice_get_within schema.tables number table found))

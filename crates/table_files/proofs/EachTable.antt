@@ -13,13 +13,11 @@ use Rattle.csv_tables.specs.Rows.{Row}
 use Rattle.csv_tables.specs.declared.types.Cells.{Cells}
 use Rattle.csv_tables.proofs.TableFacts.{columns-grown, rows_of_columns-grown}
 use Rattle.base_io.specs.Devices.{Reading}
-use Rattle.outcomes.specs.Reads.{◌>>=◌, AtFile, MissesNothing, Reads}
+use Rattle.outcomes.specs.Reads.{◌>>=◌, AtFile, Reads}
 use Rattle.outcomes.specs.declared.ending.Ending.{Ending}
-use Rattle.outcomes.specs.declared.ending.Ending.TheVariants as ending
 use Rattle.outcomes.specs.declared.names.FileId.{FileId}
 use Rattle.outcomes.specs.declared.names.FileId.TheVariants as file
 use Rattle.outcomes.specs.declared.refusal.Refusal.{Refusal}
-use Rattle.outcomes.specs.declared.refusal.Refusal.TheVariants as refusal
 use Rattle.outcomes.proofs.ReadFacts.{Meets, joined, reads_as, then_gives, then_reads, then_stops}
 use Rattle.table_files.specs.EntryTables.{AreCellsOfEach, rows_of_tables}
 use Rattle.table_files.specs.Stage.{IsReached, no_table, rows_of_each, table_at, table_rows}
@@ -62,25 +60,6 @@ parted schema (m ∷ before) n after files =
 abbrev pub Anywhere : Files → FileId → Type 0
 Anywhere files id = ⊤
 
-elsewhere : {A : Type 0} {store : Reading} {stage : Files → Result A Refusal} (C D : Files → FileId → Type 0) (x : A) → Reads store stage C (Ok x) → Reads store stage D (Ok x)
-elsewhere C D x h = record { gives = h.gives; misses = h.misses; later = h.later; same = h.same }
-
-err_first : {A B : Type 0} (r : Result A Refusal) (f : A → Result B Refusal) (s : Refusal) → r ≡ Err s → (r >>= f) ≡ Err s
-err_first r f s e = rw e refl
-
-misses_first : {A B : Type 0} (r : Result A Refusal) (f : A → Result B Refusal) → MissesNothing (r >>= f) → MissesNothing r
-misses_first r f h id e = h id (err_first r f (refusal.Missing id) e)
-
--- want of memory after a value
-wants_after : {A B : Type 0} {store : Reading} (one : Files → Result A Refusal) (next : A → Files → Result B Refusal) (C : Files → FileId → Type 0) (x : A)
-    → Reads store one C (Ok x) → Reads store (λ files. one files >>= (λ y. next y files)) C (Err ending.NoMemory)
-wants_after one next C x h = record {
-  gives = tt;
-  misses = λ files told missed. h.misses files told (misses_first (one files) (λ y. next y files) missed);
-  later = h.later;
-  same = h.same;
-}
-
 module _ (schema : Schema) (first second : Reading) (meets : Meets first second) (before : List ℕ) (n : ℕ) (rs : List (List Row))
     (h : Reads first (rows_of_each schema before) Anywhere (Ok rs)) where
   abbrev AtThis : Files → FileId → Type 0
@@ -100,12 +79,6 @@ module _ (schema : Schema) (first second : Reading) (meets : Meets first second)
       → Reads (joined first second) (rows_of_each schema numbers) (IsReached schema numbers) (Err e)
   each_stops after numbers e order k = ends_there after numbers e order
       (then_stops (table_rows schema n) (λ r files. rows_of_each schema after files >>= (λ others. Ok (rs ++ (r ∷ others)))) second AtThis AtThis e (λ files id at. at) k)
-
-  -- memory was wanting for the table's place
-  pub each_wants : (after numbers : List ℕ) (r : List Row) → before ++ (n ∷ after) ≡ numbers → Reads second (table_rows schema n) AtThis (Ok r)
-      → Reads (joined first second) (rows_of_each schema numbers) (IsReached schema numbers) (Err ending.NoMemory)
-  each_wants after numbers r order k = ends_there after numbers ending.NoMemory order
-      (wants_after (table_rows schema n) (λ r files. rows_of_each schema after files >>= (λ others. Ok (rs ++ (r ∷ others)))) AtThis r k)
 
   -- one more table
   each_more : (r : List Row) → Reads second (table_rows schema n) AtThis (Ok r)
@@ -153,14 +126,6 @@ pub record SoFar (schema : Schema) (numbers : List ℕ) (store : Reading) (i : �
   pub reads : Reads store (rows_of_each schema (take i numbers)) Anywhere (Ok (rows_of_tables texts found))
   pub few : length texts ≤ i * 256000000
 
-pub none_yet : (schema : Schema) (numbers : List ℕ) (store : Reading) (texts : List (List ℕ)) → texts ≡ [] → store.misses_after ≡ store.misses_before
-    → store.faults_before ≤ store.faults_after → store.files_after ≡ store.files → SoFar schema numbers store 0 texts []
-none_yet schema numbers store texts empty misses later same = record {
-  cells = tt;
-  reads = record { gives = λ files told. refl; misses = λ files told missed. misses; later = later; same = same };
-  few = omega (arith, ap length empty);
-}
-
 parts_at : (numbers : List ℕ) (i n : ℕ) → i < length numbers → n ≡ get_or numbers i 0 → take i numbers ++ (n ∷ drop (i + 1) numbers) ≡ numbers
 parts_at numbers i n lt is =
     ap (λ (m : ℕ). take i numbers ++ (m ∷ drop (i + 1) numbers)) is
@@ -185,11 +150,6 @@ module _ (schema : Schema) (numbers : List ℕ) (first second : Reading) (meets 
   next_stops e k = each_stops schema first second meets (take i numbers) n (rows_of_tables a found) so_far.reads (drop (i + 1) numbers) numbers e (parts_at numbers i n lt is)
       (named_rows schema n t declared second (Err e) k)
 
-  pub next_wants : (rows : List Row) → Reads second (file_rows n t) (AtFile (file.Table n)) (Ok rows)
-      → Reads (joined first second) (rows_of_each schema numbers) (IsReached schema numbers) (Err ending.NoMemory)
-  next_wants rows k = each_wants schema first second meets (take i numbers) n (rows_of_tables a found) so_far.reads (drop (i + 1) numbers) numbers rows (parts_at numbers i n lt is)
-      (named_rows schema n t declared second (Ok rows) k)
-
   taken : take (i + 1) numbers ≡ take i numbers ++ n ∷ []
   taken = take_more numbers i 0 lt ∙ ap (λ (m : ℕ). take i numbers ++ m ∷ []) (sym is)
 
@@ -206,14 +166,3 @@ module _ (schema : Schema) (numbers : List ℕ) (first second : Reading) (meets 
             (each_more schema first second meets (take i numbers) n (rows_of_tables a found) so_far.reads (rows_of_cells b c) (named_rows schema n t declared second (Ok (rows_of_cells b c)) k)));
         few = omega (arith, so_far.few, more);
       }
-
--- all tables are read
-pub all_cells : (schema : Schema) (numbers : List ℕ) (store : Reading) (i : ℕ) (texts : List (List ℕ)) (found : List Cells) → take i numbers ≡ numbers
-    → SoFar schema numbers store i texts found → AreCellsOfEach schema texts numbers found
-all_cells schema numbers store i texts found all h = subst (λ (l : List ℕ). AreCellsOfEach schema texts l found) all h.cells
-
-pub all_reads : (schema : Schema) (numbers : List ℕ) (store : Reading) (i : ℕ) (texts : List (List ℕ)) (found : List Cells) → take i numbers ≡ numbers
-    → SoFar schema numbers store i texts found → Reads store (rows_of_each schema numbers) (IsReached schema numbers) (Ok (rows_of_tables texts found))
-all_reads schema numbers store i texts found all h =
-    elsewhere Anywhere (IsReached schema numbers) (rows_of_tables texts found)
-    (subst (λ (l : List ℕ). Reads store (rows_of_each schema l) Anywhere (Ok (rows_of_tables texts found))) all h.reads)

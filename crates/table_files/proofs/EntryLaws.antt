@@ -13,7 +13,7 @@ use Rattle.table_files.specs.Stage.{numbers_of, place_of, rows_by_entry, rows_of
 use Rattle.table_files.proofs.PlaceFacts.{at_place, has_different, has_each, has_place}
 
 -- a value of two steps is a value of the first, and then of the second
-two_steps : {A B : Type 0} (r : Result A Refusal) (f : A → Result B Refusal) (y : B) → (r >>= f) ≡ Ok y → (x : A) × (r ≡ Ok x) × (f x ≡ Ok y)
+pub two_steps : {A B : Type 0} (r : Result A Refusal) (f : A → Result B Refusal) (y : B) → (r >>= f) ≡ Ok y → (x : A) × (r ≡ Ok x) × (f x ≡ Ok y)
 two_steps (Ok x) f y h = (x, refl, h)
 two_steps (Err e) f y h = cc
 

@@ -20,7 +20,7 @@ use Rattle.csv_tables.specs.Records.{Record, records_of}
 use Rattle.csv_tables.specs.Rows.{Row, rows_of_records, values_of_record}
 use Rattle.csv_tables.specs.Steps.{◌>>=◌, refuse_if, then_all}
 use Rattle.sql_meaning.specs.Tables.{cells_of, no_cells, row_counts, tables_of}
-use Rattle.sql_meaning.proofs.ColumnFacts.{row_count}
+use Rattle.csv_tables.proofs.KeyFacts.{rows-length}
 
 -- ---- the records are numbered, and none past the limit is read
 
@@ -85,7 +85,7 @@ HasFewRows cells = cells.rows ≤ 4000000
 
 pub cells_are_few : (table : Table) (bytes : List ℕ) (texts : List (List ℕ)) (cells : Cells) → rows_of_file table bytes ≡ Ok (rows_of_cells texts cells) → HasFewRows cells
 cells_are_few table bytes texts cells is =
-    omega (arith, file_is_few table bytes (rows_of_cells texts cells) is, row_count texts cells.kinds cells.columns cells.rows)
+    omega (arith, file_is_few table bytes (rows_of_cells texts cells) is, rows-length texts cells.kinds cells.columns cells.rows)
 
 pub tables_are_few : (db : Database) → All HasFewRows db.cells → (entry : ℕ) → row_counts (tables_of db) entry ≤ 4000000
 tables_are_few db few entry =
@@ -94,4 +94,4 @@ tables_are_few db few entry =
       | inl low ↦ few (get_or db.slots entry 0) no_cells low
       | inr far ↦ (let none : cells ≡ no_cells = get_or_past db.cells (get_or db.slots entry 0) no_cells far in omega (arith, ap (λ (c : Cells). c.rows) none))
     ] in
-    omega (arith, few_cells, row_count db.pool cells.kinds cells.columns cells.rows)
+    omega (arith, few_cells, rows-length db.pool cells.kinds cells.columns cells.rows)

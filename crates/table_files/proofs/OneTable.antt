@@ -14,7 +14,8 @@ use Rattle.outcomes.specs.declared.ending.Ending.{Ending}
 use Rattle.outcomes.specs.declared.names.FileId.{FileId}
 use Rattle.outcomes.specs.declared.names.FileId.TheVariants as file
 use Rattle.outcomes.proofs.ReadFacts.{then_gives, then_stops, then_tells}
-use Rattle.table_files.specs.TableFile.{file_name, file_rows, read, rows_of_bytes}
+use Rattle.table_files.specs.FileNames.{file_name}
+use Rattle.table_files.specs.TableFile.{file_rows, read, rows_of_bytes}
 
 -- a reader's error, as the ending that tells it
 table_tells : (number : ℕ) (answer : Result (List Row) TableError) (e : TableError) → Refuses answer e → Tells (told (table_refusal number) answer) (table_ending number e)

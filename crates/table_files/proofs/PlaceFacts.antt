@@ -1,5 +1,5 @@
 -- Numbers, each once, and their places.
-use Rattle.std.proofs.Common.{◌≡◌, ℕ, zero, suc, ◌+◌, ◌<◌, ◌≤◌, ◌||◌, Bool, true, false, cond, not, eqb, inl, inr, List, [], ◌∷◌, ◌++◌, length, get_or, map, take, refl, sym, ap, ◌∙◌, arith, append-nil}
+use Rattle.std.proofs.Common.{◌≡◌, ℕ, zero, suc, ◌+◌, ◌<◌, ◌≤◌, ◌||◌, Bool, true, false, cond, not, eqb, inl, inr, List, [], ◌∷◌, ◌++◌, length, get_or, take, refl, sym, ap, ◌∙◌, arith, append-nil}
 use Rattle.std.proofs.lemmas.Bool.{cases_Bool, eq-eqb, eqb-false, eqb-true, false≢true}
 use Rattle.std.proofs.lemmas.List.{map-append, take_more}
 use Rattle.std.proofs.lemmas.List.Elements.{filter-append}
@@ -170,10 +170,3 @@ pub tables_more : (from : List Source) (i : ℕ) (s : Source) (old new : List �
 tables_more from i s old new lt is so_far put =
     put ∙ ap (λ (l : List ℕ). cond (eqb (place_of l s.table) (length l)) (l ++ s.table ∷ []) l) so_far
     ∙ sym (different_put (numbers_of (take i from)) s.table) ∙ ap different (sym (numbers_more from i s lt is))
-
-pub slots_more : (numbers : List ℕ) (from : List Source) (i : ℕ) (s : Source) (old : List ℕ) → i < length from → s ≡ get_or from i s → old ≡ map (place_of numbers) (numbers_of (take i from))
-    → old ++ place_of numbers s.table ∷ [] ≡ map (place_of numbers) (numbers_of (take (i + 1) from))
-slots_more numbers from i s old lt is so_far =
-    ap (λ (l : List ℕ). l ++ place_of numbers s.table ∷ []) so_far
-    ∙ sym (map-append (place_of numbers) (numbers_of (take i from)) (s.table ∷ []))
-    ∙ ap (map (place_of numbers)) (sym (numbers_more from i s lt is))

@@ -1,4 +1,5 @@
 pub mod Examples
 pub mod EntryTables
 pub mod Stage
+pub mod FileNames
 pub mod TableFile

@@ -1,6 +1,5 @@
 -- The rows of one table, in its file.
-use Rattle.std.specs.Prelude.{ℕ, ◌+◌, List, ◌++◌, length, map, codes, nat_lt, Option, None, Some, Result, Ok, Err, if◌then◌else◌}
-use Rattle.std.specs.Char.{to_ascii_lowercase}
+use Rattle.std.specs.Prelude.{ℕ, ◌+◌, List, length, nat_lt, Option, None, Some, Result, Ok, Err, if◌then◌else◌}
 use Rattle.limits.specs.Profile.{most_file}
 use Rattle.base_io.specs.Files.{Files, file_of}
 use Rattle.schema_types.specs.declared.errors.LimitKind.TheVariants as limit
@@ -13,6 +12,7 @@ use Rattle.outcomes.specs.declared.names.FileId.{FileId}
 use Rattle.outcomes.specs.declared.names.FileId.TheVariants as file
 use Rattle.outcomes.specs.declared.refusal.Refusal.{Refusal}
 use Rattle.outcomes.specs.declared.refusal.Refusal.TheVariants as refusal
+use Rattle.table_files.specs.FileNames.{file_name}
 
 -- the bytes of a file of at most so many, or why there are none
 abbrev pub bytes_of : FileId → ℕ → Option (List ℕ) → Result (List ℕ) Refusal
@@ -21,10 +21,6 @@ bytes_of id most (Some bytes) = if nat_lt most (length bytes) then Err (refusal.
 
 abbrev pub read : FileId → ℕ → List ℕ → Files → Result (List ℕ) Refusal
 read id most name files = bytes_of id most (file_of files name)
-
--- the name of a table's file: the table's in lower case, and `.csv`
-abbrev pub file_name : Table → List ℕ
-file_name table = map to_ascii_lowercase table.name ++ codes ".csv"
 
 -- the rows in the bytes of the table with this number in the schema
 abbrev pub rows_of_bytes : ℕ → Table → List ℕ → Result (List Row) Refusal

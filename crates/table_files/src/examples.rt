@@ -4,7 +4,7 @@ ghost use Rattle.outcomes.specs.declared.names.FileId.TheVariants as file;
 ghost use Rattle.outcomes.specs.declared.refusal.Refusal.TheVariants as refusal;
 ghost use Rattle.table_files.specs.Examples.{numbers_table, only_r, s_r_s, two_tables};
 ghost use Rattle.table_files.specs.Stage.{different, rows_by_entry, tables_of_query, tables_stage};
-ghost use Rattle.table_files.specs.TableFile.{file_name};
+ghost use Rattle.table_files.specs.FileNames.{file_name};
 
 /// FROM S, R, S reads S and then R, and the third entry has the rows of the first.
 pub fn orders()

@@ -6,7 +6,8 @@ ghost use Rattle.csv_tables.specs.Pools.{BeginsWith};
 ghost use Rattle.base_io.specs.Devices.{reading};
 ghost use Rattle.outcomes.specs.Reads.{AtFile, Reads, seen};
 ghost use Rattle.schema_types.specs.Validity.{IsValidTable};
-ghost use Rattle.table_files.specs.TableFile.{file_name, file_rows};
+ghost use Rattle.table_files.specs.FileNames.{file_name};
+ghost use Rattle.table_files.specs.TableFile.{file_rows};
 
 use crate::load::load_file;
 use base_io::{NoMemory, Store};

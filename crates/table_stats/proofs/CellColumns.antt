@@ -1,11 +1,10 @@
 -- A column of cells as values: one number for each cell, and cells that compare as their values do.
-use Rattle.std.proofs.Common.{◌≡◌, ◌⊎◌, ℕ, ◌<◌, true, List, [], ◌∷◌, length, map, get_or, pos, Option, None, Some, refl, ap, sym, ◌∙◌, subst, arith, inl, inr}
+use Rattle.std.proofs.Common.{◌≡◌, ℕ, ◌<◌, true, List, [], ◌∷◌, length, map, get_or, pos, Option, None, Some, refl, ap, sym, ◌∙◌, subst, arith, inl, inr}
 use Rattle.std.specs.Prelude.{option_map}
 use Rattle.std.specs.List.{All, Contains, zip}
-use Rattle.std.proofs.lemmas.Bool.{cases_eq, false≢true}
+use Rattle.std.proofs.lemmas.Bool.{false≢true}
 use Rattle.std.proofs.lemmas.List.{get_or-map, length-map}
 use Rattle.std.proofs.lemmas.List.Elements.{Contains-get_or}
-use Rattle.entry_sets.proofs.Listing.{in_front, in_none, in_rest, one_in}
 use Rattle.schema_types.specs.declared.types.Kind.{Kind}
 use Rattle.csv_tables.specs.Cells.{IsCell, value_of_cell}
 use Rattle.csv_tables.specs.Values.{Value, Int}
@@ -17,7 +16,7 @@ use Rattle.level_bounds.proofs.CellKeys.{equal_cells}
 use Rattle.level_bounds.proofs.Lists.{map_both}
 use Rattle.renamed_lists.specs.Renaming.{IsMissing, IsOneToOne, KeepsOrder, PassAlike}
 use Rattle.renamed_lists.proofs.Columns.{leaf_is}
-use Rattle.renamed_lists.proofs.Rows.{absent_is, columns_are, range_is, value_is, whole_is}
+use Rattle.renamed_lists.proofs.Rows.{absent_is, columns_are, range_is, value_is, whole_is, stands_or_misses as found}
 use Rattle.table_stats.specs.Cells.{StandsFor}
 use Rattle.table_stats.specs.Columns.{first_row, leaf_of_value, numbered, paired, row_le, value_of_row}
 use Rattle.table_stats.specs.Statistics.{end_leaf, list_between, list_with}
@@ -100,17 +99,6 @@ module _ (texts : List (List ℕ)) (differ : HaveDifferentCharacters texts) (kin
 
   pub its_number : (value : Value) (cell : ℕ) → StandsFor texts kind value (Some cell) → first_row cell_values value ≡ number_of cell
   its_number value cell stands = sym (same_first cell_values (of_cell cell) value stands.1)
-
--- a cell is in a column, or it isn't
-found : (cells : List ℕ) (cell : ℕ) → Contains cells cell ⊎ (Contains cells cell → ⊥)
-found [] cell = inr (in_none cell)
-found (other ∷ cells) cell = elim (found cells cell) [
-  | inl later ↦ inl (in_rest other cells cell later)
-  | inr not_later ↦ elim (cases_eq cell other) [
-    | inl same ↦ inl (in_front other cells cell same)
-    | inr apart ↦ inr (λ has. elim (one_in other cells cell has) [ inl later ↦ not_later later | inr same ↦ apart same ])
-  ]
-]
 
 -- ---- two columns of cells, and the lists of their values
 

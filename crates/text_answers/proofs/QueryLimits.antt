@@ -1,9 +1,7 @@
 -- A query that a text is answered with keeps the limits.
-use Rattle.std.proofs.Common.{◌≡◌, inl, inr, ℕ, ◌≤◌, Bool, true, false, cond, nat_lt, List, [], ◌∷◌, ◌++◌, length, Result, Ok, Err, refl, sym, subst}
-use Rattle.std.proofs.lemmas.Bool.{ltb-false}
+use Rattle.std.proofs.Common.{◌≡◌, inl, inr, ℕ, ◌≤◌, List, [], ◌∷◌, ◌++◌, length, Ok, Err, subst}
 use Rattle.limits.specs.Profile.{most_conjuncts, most_entries, most_outputs}
 use Rattle.query_grammar.specs.declared.tree.QueryText.{QueryText}
-use Rattle.schema_types.specs.declared.errors.LimitKind.{LimitKind}
 use Rattle.schema_types.specs.declared.errors.LimitKind.TheVariants as limit
 use Rattle.schema_types.specs.declared.types.Schema.{Schema}
 use Rattle.query_types.specs.declared.types.Query.{Query}
@@ -11,35 +9,13 @@ use Rattle.query_names.specs.declared.errors.QueryError.{QueryError}
 use Rattle.query_names.specs.Names.{entries}
 use Rattle.query_names.specs.Offences.{name_offences, all_kind_offences}
 use Rattle.query_names.specs.Values.{query_of}
-use Rattle.sql_parse.specs.Bound.{refusal, over, first_list, limit_refusals, first_place, name_error, kind_error, long_lists, refusals, unless, bound}
+use Rattle.sql_parse.specs.Bound.{over, first_list, limit_refusals, first_place, name_error, kind_error, long_lists, refusals, bound}
 use Rattle.query_names.specs.Numbers.{number_offences}
-use Rattle.sql_parse.specs.Reading.{lexemes_of, unless_number, IsAnswer}
+use Rattle.sql_parse.specs.Reading.{lexemes_of, IsAnswer}
+use Rattle.sql_parse.proofs.AnswerOfSchema.{none_before, none_behind, unless_ok, unless_number_ok}
+use Rattle.sql_parse.proofs.BindFacts.{not_over}
 use Rattle.text_answers.specs.QueryTexts.{query_answer}
 use Rattle.text_answers.proofs.QueryAnswers.{allowed}
-
--- ---- no refusal
-
-none_before : (xs ys : List QueryError) → xs ++ ys ≡ [] → xs ≡ []
-none_before [] ys none = refl
-none_before (x ∷ xs) ys none = absurd cc
-
-none_behind : (xs ys : List QueryError) → xs ++ ys ≡ [] → ys ≡ []
-none_behind [] ys none = none
-none_behind (x ∷ xs) ys none = absurd cc
-
-not_over : (which : LimitKind) (most n : ℕ) → over which most n ≡ [] → n ≤ most
-not_over which most n none = at (nat_lt most n) refl none where
-  at : (more : Bool) → more ≡ nat_lt most n → cond more (refusal which n ∷ []) [] ≡ [] → n ≤ most
-  at true is none = absurd cc
-  at false is none = ltb-false most n (sym is)
-
-unless_ok : (wrong : List QueryError) (value query : Query) → unless wrong value ≡ Ok query → (wrong ≡ []) × (value ≡ query)
-unless_ok [] value query is = (refl, cc)
-unless_ok (e ∷ rest) value query is = absurd cc
-
-unless_number_ok : (places : List ℕ) (answer : Result Query QueryError) (query : Query) → Ok query ≡ unless_number places answer → answer ≡ Ok query
-unless_number_ok [] answer query is = sym is
-unless_number_ok (place ∷ rest) answer query is = absurd cc
 
 -- ---- of what is wrong with a query of a tree nothing is
 

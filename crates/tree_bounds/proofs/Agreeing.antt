@@ -9,12 +9,11 @@ use Rattle.berge_tree.specs.Rooted.{class_columns, member_places, FollowsBelow, 
 use Rattle.entry_sets.specs.Sets.{entries_of_set}
 use Rattle.berge_tree.specs.Testing.{joined_parts}
 use Rattle.berge_tree.specs.Trees.{Classes, no_class, and_class, Members, one_member, and_member, JoinTree, entries_below, entries_within, entries, entries_of_all}
-use Rattle.berge_tree.proofs.Forest.{each}
 use Rattle.berge_tree.proofs.Joining.{joined}
 use Rattle.berge_tree.proofs.Separate.{all_map}
-use Rattle.berge_tree.proofs.Steps.{one_in, in_rest, in_front, in_none}
 use Rattle.join_graph.specs.Kept.{equalities_within, order_of_turn, kept_by_names, kept_of}
 use Rattle.join_graph.proofs.Turning.{append_all}
+use Rattle.entry_sets.proofs.Listing.{in_rest, in_front, in_none, each, one_in}
 use Rattle.tree_bounds.specs.Columns.{EachColumnBelow, EachColumnWithin, EachColumn, EachNamedColumn}
 use Rattle.tree_bounds.specs.TreeBounds.{EntryBounds, HasList, HasLists, bound_of_trees}
 use Rattle.tree_bounds.specs.SetBounds.{SetHasLists}
@@ -98,11 +97,11 @@ for_trees Q R f (t ∷ ts) h = (f t h.0, for_trees Q R f ts h.1)
 
 -- ---- a choice for which the equalities hold agrees in their trees
 
-all_left : (Q : ℕ → Type 0) (xs ys : List ℕ) → AllByRecursion Q (xs ++ ys) → AllByRecursion Q xs
+pub all_left : (Q : ℕ → Type 0) (xs ys : List ℕ) → AllByRecursion Q (xs ++ ys) → AllByRecursion Q xs
 all_left Q [] ys h = tt
 all_left Q (x ∷ xs) ys h = (h.0, all_left Q xs ys h.1)
 
-all_right : (Q : ℕ → Type 0) (xs ys : List ℕ) → AllByRecursion Q (xs ++ ys) → AllByRecursion Q ys
+pub all_right : (Q : ℕ → Type 0) (xs ys : List ℕ) → AllByRecursion Q (xs ++ ys) → AllByRecursion Q ys
 all_right Q [] ys h = h
 all_right Q (x ∷ xs) ys h = all_right Q xs ys h.1
 

@@ -1,10 +1,10 @@
 -- Different choices that agree are different members of the list of all choices, so that they are no more than it has.
-use Rattle.std.proofs.Common.{◌≡◌, ◌≢◌, ℕ, zero, suc, ◌+◌, ◌<◌, ◌≤◌, Bool, true, false, cond, ◌||◌, eqb, List, [], ◌∷◌, ◌++◌, length, get_or, map, refl, ap, sym, ◌∙◌, subst, arith, ◌⊎◌, inl, inr, nat_eq}
+use Rattle.std.proofs.Common.{◌≡◌, ◌≢◌, ℕ, zero, suc, ◌+◌, ◌<◌, ◌≤◌, true, false, cond, eqb, List, [], ◌∷◌, ◌++◌, length, get_or, map, refl, ap, sym, ◌∙◌, subst, arith, ◌⊎◌, inl, inr, nat_eq}
 use Rattle.std.specs.List.{AllByRecursion, Contains, IsDistinct, flat_map, range_with_len, list_any}
 use Rattle.std.specs.Set.{is_member}
 use Rattle.std.specs.Cmp.Lexicographic.{pointwise, same_text}
 use Rattle.std.proofs.Math.Nat.{mul-le-mul}
-use Rattle.std.proofs.lemmas.Bool.{cases_Bool, cases_lt, eq-eqb, false≢true}
+use Rattle.std.proofs.lemmas.Bool.{cases_Bool, cases_lt, eq-eqb, false≢true, or_right}
 use Rattle.std.proofs.lemmas.Cmp.{nat_list_eq_equiv}
 use Rattle.std.proofs.lemmas.List.{length-map, map-append, get_or-map}
 use Rattle.std.proofs.lemmas.Map.Keys.{IsDistinct-cons}
@@ -112,12 +112,8 @@ is_member_where : (q : List ℕ) (xs : List (List ℕ)) → Stands q xs → is_m
 is_member_where q [] h = absurd h
 is_member_where q (x ∷ xs) h = elim h [
   | inl now ↦ rw (sym now, nat_list_eq_equiv.refl q) refl
-  | inr later ↦ or_true (pointwise nat_eq q x) (list_any (pointwise nat_eq q) xs) (is_member_where q xs later)
+  | inr later ↦ or_right (pointwise nat_eq q x) (list_any (pointwise nat_eq q) xs) (is_member_where q xs later)
 ]
-  where
-    or_true : (a b : Bool) → b ≡ true → (a || b) ≡ true
-    or_true true b e = refl
-    or_true false b e = e
 
 none_alike : IsDistinct (pointwise nat_eq) []
 unfolding IsDistinct

@@ -1,12 +1,12 @@
 -- The choices that are listed are as many as the sums of products say.
 use Rattle.std.proofs.Common.{◌≡◌, ℕ, ◌*◌, Bool, true, false, cond, eqb, List, [], ◌∷◌, ◌++◌, length, get_or, map, refl, sym, ◌∙◌, arith, length-append}
-use Rattle.std.specs.List.{sum_by, range_with_len}
+use Rattle.std.specs.List.{range_with_len}
 use Rattle.std.proofs.Math.Nat.{suc-mul, zero-mul}
 use Rattle.std.proofs.lemmas.List.{length-map}
 use Rattle.std.proofs.lemmas.List.Concat.{length-flat_map}
-use Rattle.std.proofs.lemmas.List.Sums.{sum_by-cons}
 use Rattle.degree_sequences.specs.KeyedRows.{ChildKeys, weight_of_row, weight_of_key}
 use Rattle.berge_tree.specs.Trees.{Classes, no_class, and_class, Members, one_member, and_member, JoinTree}
+use Rattle.degree_sequences.proofs.Counting.{sum_by-same}
 use Rattle.tree_bounds.specs.Tables.{KeyedTables}
 use Rattle.tree_bounds.specs.Counting.{child_keys, choices_for, number_of_choices, with_row, paired, rows_with_key, chosen_below, chosen_within, chosen_rows}
 
@@ -21,10 +21,6 @@ length-paired (x ∷ xs) ys =
       suc-mul (length xs) (length ys),
     )
 
-sum_by-alike : (f g : ℕ → ℕ) → ((x : ℕ) → f x ≡ g x) → (xs : List ℕ) → sum_by f xs ≡ sum_by g xs
-sum_by-alike f g same [] = refl
-sum_by-alike f g same (x ∷ xs) = omega (arith, same x, sum_by-cons f x xs, sum_by-cons g x xs, sum_by-alike f g same xs)
-
 length-where : (holds : Bool) (row : ℕ) (xs : List (List ℕ)) (n : ℕ) → length xs ≡ n → length (cond holds (with_row row xs) []) ≡ cond holds n 0
 length-where true row xs n e = length-map xs (λ (rows : List ℕ). row ∷ rows) ∙ e
 length-where false row xs n e = refl
@@ -34,7 +30,7 @@ length-rows_with_key : (keys : List ℕ) (below : ℕ → List (List ℕ)) (chil
 length-rows_with_key keys below children same key =
     let has : ℕ → Bool = λ row. eqb (get_or keys row 0) key in
     length-flat_map (λ row. cond (has row) (with_row row (below row)) []) (range_with_len 0 (length keys))
-    ∙ sum_by-alike (λ row. length (cond (has row) (with_row row (below row)) [])) (λ row. cond (has row) (weight_of_row children row) 0)
+    ∙ sum_by-same (λ row. length (cond (has row) (with_row row (below row)) [])) (λ row. cond (has row) (weight_of_row children row) 0)
     (λ row. length-where (has row) row (below row) (weight_of_row children row) (same row)) (range_with_len 0 (length keys))
 
 times : (a b c d : ℕ) → a ≡ b → c ≡ d → a * c ≡ b * d
@@ -57,6 +53,6 @@ module _ (tables : KeyedTables) where
   pub length-chosen_rows : (t : JoinTree) → length (chosen_rows tables t) ≡ number_of_choices tables t
   length-chosen_rows t =
       length-flat_map (λ row. with_row row (chosen_below tables t.root t.below row)) (range_with_len 0 (tables.rows t.root))
-      ∙ sum_by-alike (λ row. length (with_row row (chosen_below tables t.root t.below row))) (weight_of_row (child_keys tables t.root t.below))
+      ∙ sum_by-same (λ row. length (with_row row (chosen_below tables t.root t.below row))) (weight_of_row (child_keys tables t.root t.below))
       (λ row. length-map (chosen_below tables t.root t.below row) (λ (rows : List ℕ). row ∷ rows) ∙ length-below t.root t.below row)
       (range_with_len 0 (tables.rows t.root))

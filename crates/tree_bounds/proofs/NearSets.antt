@@ -1,9 +1,9 @@
 -- Near bounds of entries give a set a near bound, in each turn and over its turns.
-use Rattle.std.proofs.Common.{◌≡◌, ◌≢◌, ℕ, suc, ◌+◌, ◌-◌, ◌*◌, ◌^◌, ◌<◌, ◌≤◌, Bool, true, false, eqb, ◌||◌, List, [], ◌∷◌, length, get_or, refl, sym, subst, arith, inl, inr, nat_eq}
+use Rattle.std.proofs.Common.{◌≡◌, ◌≢◌, ℕ, suc, ◌+◌, ◌-◌, ◌*◌, ◌^◌, ◌<◌, ◌≤◌, true, false, eqb, List, [], ◌∷◌, length, get_or, refl, sym, subst, arith, inl, inr, nat_eq}
 use Rattle.std.specs.List.{AllByRecursion, AllPairs, Contains, IsDistinct, list_any}
 use Rattle.std.specs.Set.{is_member}
 use Rattle.std.proofs.Math.Nat.{mul-le-mul_left}
-use Rattle.std.proofs.lemmas.Bool.{cases_Bool, eq-eqb, eqb-true, false≢true}
+use Rattle.std.proofs.lemmas.Bool.{cases_Bool, eq-eqb, eqb-true, false≢true, or_right}
 use Rattle.std.proofs.lemmas.Cmp.{nat_eq_equiv}
 use Rattle.std.proofs.lemmas.List.Kept.{AllPairs-from_increasing}
 use Rattle.std.proofs.lemmas.Map.Keys.{IsDistinct-cons}
@@ -12,8 +12,7 @@ use Rattle.berge_tree.specs.declared.edges.Edge.{Edge}
 use Rattle.berge_tree.specs.Rooted.{IsTreeOf, AreAllTreesOf}
 use Rattle.entry_sets.specs.Sets.{entries_of_set}
 use Rattle.berge_tree.specs.Trees.{JoinTree, entries_of_all}
-use Rattle.entry_sets.proofs.Listing.{set_increases}
-use Rattle.berge_tree.proofs.Steps.{one_in, in_none}
+use Rattle.entry_sets.proofs.Listing.{set_increases, in_none, one_in}
 use Rattle.join_graph.specs.Kept.{kept_of, turn_count}
 use Rattle.tree_bounds.specs.TreeBounds.{EntryBounds, bound_of_trees}
 use Rattle.tree_bounds.specs.SetBounds.{SetHasLists, trees_of, bound_of_turn, bound_of_set}
@@ -27,7 +26,7 @@ use Rattle.tree_bounds.proofs.Turns.{least_to-le, least_to-some, trees_there}
 not_eqb : (a b : ℕ) → a ≢ b → eqb a b ≡ false
 not_eqb a b differ = elim (cases_Bool (eqb a b)) [ inl same ↦ absurd (differ (eqb-true a b same)) | inr other ↦ other ]
 
-none_twice : IsDistinct nat_eq []
+pub none_twice : IsDistinct nat_eq []
 unfolding IsDistinct
 none_twice = tt
 
@@ -40,15 +39,11 @@ all_apart [] h = none_twice
 all_apart (x ∷ xs) h =
     IsDistinct-cons nat_eq x xs (unlike x xs (λ j k. h 0 (suc j) x (omega arith) (omega arith))) (all_apart xs (λ i j d k l. h (suc i) (suc j) d (omega arith) (omega arith)))
 
-or_true : (a b : Bool) → b ≡ true → (a || b) ≡ true
-or_true true b e = refl
-or_true false b e = e
-
 is_there : (xs : List ℕ) (x : ℕ) → Contains xs x → is_member nat_eq xs x ≡ true
 is_there [] x k = absurd (in_none x k)
 is_there (y ∷ ys) x k = elim (one_in y ys x k) [
   | inr is ↦ rw (eq-eqb x y is) refl
-  | inl later ↦ or_true (nat_eq x y) (list_any (nat_eq x) ys) (is_there ys x later)
+  | inl later ↦ or_right (nat_eq x y) (list_any (nat_eq x) ys) (is_there ys x later)
 ]
 
 all_there : (xs ys : List ℕ) → AllByRecursion (Contains ys) xs → (q : ℕ) → is_member nat_eq xs q ≡ true → is_member nat_eq ys q ≡ true

@@ -4,10 +4,10 @@ use Rattle.std.specs.List.{AllByRecursion, range_with_len}
 use Rattle.std.proofs.Math.Nat.{mul-le-mul, pow-succ', pow-zero}
 use Rattle.std.proofs.lemmas.Nat.{pow-add}
 use Rattle.std.proofs.lemmas.List.{length-map}
+use Rattle.std.proofs.lemmas.List.FromFn.{length-range_with_len}
 use Rattle.degree_sequences.specs.Composition.{ChildLists, composed, row_weights, root_total, weight_by_rank}
 use Rattle.degree_sequences.specs.Families.{ColumnFalls, IsNear, IsWithin, MatchedChild, factors, scales}
 use Rattle.degree_sequences.specs.RunningSums.{running_sum}
-use Rattle.degree_sequences.proofs.Places.{length-range}
 use Rattle.degree_sequences.proofs.RowWeights.{IsFalling-composed, running_sum-composition}
 use Rattle.degree_sequences.proofs.RunningSums.{running_sum-nil, running_sum-whole}
 use Rattle.degree_sequences.proofs.Scaling.{composed-near, rank_product-near}
@@ -112,7 +112,7 @@ module _ (accuracy : ℕ) (b exact : EntryBounds) where
     where
       all_weights : (children : List ChildLists) (n : ℕ) → running_sum (row_weights children n) n ≡ root_total children n
       all_weights children n =
-          let whole : length (row_weights children n) ≡ n = length-map (range_with_len 1 n) (weight_by_rank children) ∙ length-range 1 n in
+          let whole : length (row_weights children n) ≡ n = length-map (range_with_len 1 n) (weight_by_rank children) ∙ length-range_with_len 1 n in
           ap (running_sum (row_weights children n)) (sym whole) ∙ running_sum-whole (row_weights children n)
 
   one_within : (m n : ℕ) → accuracy * m ≤ (accuracy + 1) * n → IsWithin accuracy (accuracy + 1) (m ∷ []) (n ∷ [])

@@ -1,5 +1,5 @@
 -- The lists of nodes, which stand later than the node above them, are the lists of the tree that stands in the nodes.
-use Rattle.std.proofs.Common.{◌≡◌, ◌≢◌, ℕ, zero, suc, ◌+◌, ◌<◌, ◌≤◌, List, [], ◌∷◌, length, map, get_or, refl, ap, sym, ◌∙◌, subst, arith, inl, inr}
+use Rattle.std.proofs.Common.{◌≡◌, ◌≢◌, ℕ, zero, suc, ◌+◌, ◌<◌, ◌≤◌, List, [], ◌∷◌, length, map, refl, ap, sym, ◌∙◌, subst, arith, inl, inr}
 use Rattle.std.specs.Prelude.{⊤, Option, Some, None, slice_get}
 use Rattle.std.specs.List.{AllByRecursion}
 use Rattle.std.proofs.lemmas.Option.{slice_get-get_or, slice_get_cases}
@@ -12,14 +12,12 @@ use Rattle.berge_tree.specs.Standing.{AreClassesAt, AreMembersAt, LeadsTo, Stand
 use Rattle.berge_tree.specs.Trees.{Classes, no_class, and_class, Members, one_member, and_member, JoinTree}
 use Rattle.berge_tree.specs.Valid.{IsClass, LeadsLater, LeadsWithin, AreLinked, children_of, first_child_of, sibling_of, siblings}
 use Rattle.berge_tree.proofs.Separate.{all_map}
-use Rattle.berge_tree.proofs.Siblings.{siblings-step, sibling_of-is}
+use Rattle.berge_tree.proofs.Siblings.{siblings-step, sibling_of-is, siblings-none}
+use Rattle.berge_tree.proofs.Validity.{AreLater}
 use Rattle.tree_bounds.specs.TreeBounds.{EntryBounds, child_lists, class_list, bound_of_tree}
 use Rattle.tree_bounds.specs.NodeBounds.{bound_of_nodes, child_at, list_at, list_from, node_list, node_list_within}
 
 -- ---- links lead later
-
-abbrev AreLater : List Node → Type 0
-AreLater nodes = (i : ℕ) (d : Node) → i < length nodes → LeadsLater i (length nodes) (get_or nodes i d).first_child × LeadsLater i (length nodes) (get_or nodes i d).next_sibling
 
 -- a link from nothing, and from a node
 abbrev LeadsPast : ℕ → ℕ → Option ℕ → Type 0
@@ -117,10 +115,6 @@ module _ (b : EntryBounds) (nodes : List Node) (later : AreLater nodes) where
 
 -- ---- the tree that stands in the nodes
 
-no_siblings : (most : ℕ) (nodes : List Node) → siblings most nodes None ≡ []
-no_siblings zero nodes = refl
-no_siblings (suc most) nodes = refl
-
 product_more : (s : List ℕ) (lists : List (List ℕ)) → lists ≢ [] → rank_product_of (s ∷ lists) ≡ rank_product s (rank_product_of lists)
 product_more s [] some = absurd (some refl)
 product_more s (t ∷ lists) some = refl
@@ -157,7 +151,7 @@ module _ (b : EntryBounds) (nodes : List Node) (later : AreLater nodes) where
 
   mutual
     classes_are : (entry : ℕ) (cs : Classes) (link : Option ℕ) → AreClassesAt nodes cs link → map (child_at b nodes (node_list b nodes) entry) (from_link link) ≡ child_lists b entry cs
-    classes_are entry no_class link none = rw (none, no_siblings (length nodes) nodes) refl
+    classes_are entry no_class link none = rw (none, siblings-none (length nodes) nodes) refl
     classes_are entry (and_class column members rest) link (i, n, l, is, via, within, beside) =
         let list : node_list b nodes i ≡ class_list b members = class_is link i n (class_list b members) l is (members_are members n.first_child within) in
         let others : map (child_at b nodes (node_list b nodes) entry) (from_link n.next_sibling) ≡ child_lists b entry rest = classes_are entry rest n.next_sibling beside in
@@ -167,7 +161,7 @@ module _ (b : EntryBounds) (nodes : List Node) (later : AreLater nodes) where
     members_are (one_member entry column below) link (i, n, l, is, via, under, last) =
         let own : node_list b nodes i ≡ composed (b.list entry column) (child_lists b entry below) =
         entry_is link i n entry column (child_lists b entry below) l is via (classes_are entry below n.first_child under) in
-        rw (first_then link i n l, last, no_siblings (length nodes) nodes) own
+        rw (first_then link i n l, last, siblings-none (length nodes) nodes) own
     members_are (and_member entry column below rest) link (i, n, l, is, via, under, beside) =
         let own : node_list b nodes i ≡ composed (b.list entry column) (child_lists b entry below) =
         entry_is link i n entry column (child_lists b entry below) l is via (classes_are entry below n.first_child under) in

@@ -11,10 +11,10 @@ use Rattle.berge_tree.specs.Rooted.{class_columns, member_places, member_entries
 use Rattle.berge_tree.specs.Trees.{Classes, no_class, and_class, Members, one_member, and_member, JoinTree, entries_below, entries, entries_of_all}
 use Rattle.berge_tree.specs.Walk.{is_among}
 use Rattle.berge_tree.proofs.Closed.{closed_tree}
-use Rattle.berge_tree.proofs.Forest.{among, is_in, each, IsClosed, closed_side}
+use Rattle.berge_tree.proofs.Forest.{among, is_in, IsClosed, closed_side}
 use Rattle.berge_tree.proofs.NoCycle.{has_no_cycle}
 use Rattle.berge_tree.proofs.Separate.{later_above, pairs_tail, entry_in, one_side}
-use Rattle.berge_tree.proofs.Steps.{one_in, in_rest, in_front, in_none}
+use Rattle.entry_sets.proofs.Listing.{in_rest, in_front, in_none, each, one_in}
 
 -- ---- lists that ascend and have the same members are one
 

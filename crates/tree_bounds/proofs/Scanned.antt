@@ -1,15 +1,13 @@
 -- Choices of scanned rows are choices of places among the scanned rows.
-use Rattle.std.proofs.Common.{◌≡◌, ℕ, zero, suc, ◌<◌, ◌≤◌, Bool, true, false, ◌&&◌, cond, eqb, List, [], ◌∷◌, length, get_or, map, refl, ap, sym, ◌∙◌, arith, inl, inr}
+use Rattle.std.proofs.Common.{◌≡◌, ℕ, zero, suc, ◌<◌, ◌≤◌, true, false, cond, eqb, List, [], ◌∷◌, length, get_or, map, refl, ap, sym, ◌∙◌, arith, inl, inr}
 use Rattle.std.specs.List.{AllByRecursion, Contains}
-use Rattle.std.specs.Int.{bit_at}
-use Rattle.std.proofs.lemmas.Bool.{cases_Bool, eqb-true, eq-eqb, ltb-true}
+use Rattle.std.proofs.lemmas.Bool.{cases_Bool, eqb-true, eq-eqb, and_parts}
 use Rattle.std.proofs.lemmas.List.{get_or-map, length-map}
 use Rattle.berge_tree.specs.declared.edges.Edge.{Edge}
 use Rattle.berge_tree.specs.Equalities.{AreWithin}
 use Rattle.entry_sets.specs.Sets.{entries_of_set, has_entry}
-use Rattle.berge_tree.proofs.Forest.{all_in, each}
-use Rattle.entry_sets.proofs.Listing.{set_has}
-use Rattle.berge_tree.proofs.Steps.{one_in, in_front, in_rest, in_none}
+use Rattle.berge_tree.proofs.Forest.{all_in}
+use Rattle.entry_sets.proofs.Listing.{in_rest, in_front, in_none, set_entries_only, each, one_in}
 use Rattle.join_graph.specs.Kept.{equalities_within, joins_within}
 use Rattle.tree_bounds.specs.TreeBounds.{EntryBounds}
 use Rattle.tree_bounds.specs.SetBounds.{SetHasLists, bound_of_set}
@@ -19,19 +17,12 @@ use Rattle.tree_bounds.proofs.Turns.{within_set}
 
 -- ---- the equalities of a set join its entries
 
-both_true : (a b : Bool) → (a && b) ≡ true → (a ≡ true) × (b ≡ true)
-both_true true b e = (refl, e)
-both_true false b e = absurd (cc)
-
-entry_in_set : (subset x : ℕ) → has_entry subset x ≡ true → Contains (entries_of_set subset) x
-entry_in_set subset x t = let k : (eqb (bit_at subset x) 1 ≡ true) = (both_true _ _ t).1 in set_has subset x (ltb-true x 16 (both_true _ _ t).0) k
-
 pub equalities_inside : (subset : ℕ) (es : List Edge) → AreWithin (entries_of_set subset) (equalities_within subset es)
 equalities_inside subset [] = tt
 equalities_inside subset (e ∷ es) = elim (cases_Bool (joins_within subset e)) [
   | inl t ↦ rw t (
-    let ends : (has_entry subset e.left.entry ≡ true) × (has_entry subset e.right.entry ≡ true) = both_true (has_entry subset e.left.entry) (has_entry subset e.right.entry) t in
-        (entry_in_set subset e.left.entry ends.0, entry_in_set subset e.right.entry ends.1),
+    let ends : (has_entry subset e.left.entry ≡ true) × (has_entry subset e.right.entry ≡ true) = and_parts (has_entry subset e.left.entry) (has_entry subset e.right.entry) t in
+        (set_entries_only subset e.left.entry ends.0, set_entries_only subset e.right.entry ends.1),
     equalities_inside subset es,
   )
   | inr n ↦ rw n (equalities_inside subset es)

@@ -1,16 +1,17 @@
 -- The bounds of a set without entries, and of one with a single entry.
-use Rattle.std.proofs.Common.{◌≡◌, ℕ, zero, suc, ◌+◌, ◌-◌, ◌≤◌, List, [], ◌∷◌, map, length, sum, refl, ap, sym, ◌∙◌, subst, arith, inl, inr}
+use Rattle.std.proofs.Common.{◌≡◌, ℕ, ◌-◌, ◌≤◌, List, [], ◌∷◌, map, length, sum, refl, ap, sym, ◌∙◌, subst, arith, inl, inr}
 use Rattle.std.specs.List.{Contains, range_with_len}
 use Rattle.std.proofs.Math.Nat.{mul-one}
 use Rattle.std.proofs.lemmas.List.Sums.{sum_by-cons}
+use Rattle.std.proofs.lemmas.List.FromFn.{length-range_with_len}
 use Rattle.degree_sequences.specs.Composition.{root_total, weight_by_rank}
 use Rattle.berge_tree.specs.declared.edges.Edge.{Edge}
 use Rattle.berge_tree.specs.Equalities.{AreWithin, ClosesNoCycle}
 use Rattle.entry_sets.specs.Sets.{entries_of_set}
 use Rattle.berge_tree.specs.Walk.{columns_of, forest}
-use Rattle.berge_tree.proofs.Steps.{one_in, in_none}
 use Rattle.join_graph.specs.Kept.{kept_of, turn_count}
 use Rattle.join_graph.proofs.Turning.{kept_within}
+use Rattle.entry_sets.proofs.Listing.{in_none, one_in}
 use Rattle.tree_bounds.specs.TreeBounds.{EntryBounds, bound_of_trees}
 use Rattle.tree_bounds.specs.SetBounds.{bound_of_turn, bound_of_set, least_to, trees_of}
 use Rattle.tree_bounds.proofs.Turns.{closes, least_to-some}
@@ -40,10 +41,6 @@ ones : (ts : List ℕ) → sum (map (weight_by_rank []) ts) ≡ length ts
 ones [] = refl
 ones (t ∷ ts) = omega (arith, ones ts, sum_by-cons (λ y. y) 1 (map (weight_by_rank []) ts))
 
-all_rows : (first n : ℕ) → length (range_with_len first n) ≡ n
-all_rows first zero = refl
-all_rows first (suc n) = omega (arith, all_rows (first + 1) n)
-
 pub single_is : (b : EntryBounds) (es : List Edge) (subset entry : ℕ) → entries_of_set subset ≡ entry ∷ [] → bound_of_set b es subset ≡ b.rows entry
 single_is b es subset entry one = all_turns (bound_of_turn b es subset) (turn_count subset es - 1) (b.rows entry) each_turn
   where
@@ -54,4 +51,4 @@ single_is b es subset entry one = all_turns (bound_of_turn b es subset) (turn_co
         ap (λ kept. bound_of_trees b (trees_of kept subset)) none
         ∙ ap (λ set. bound_of_trees b (forest 16 (columns_of []) [] set)) one
         ∙ mul-one (root_total [] (b.rows entry))
-        ∙ ones (range_with_len 1 (b.rows entry)) ∙ all_rows 1 (b.rows entry)
+        ∙ ones (range_with_len 1 (b.rows entry)) ∙ length-range_with_len 1 (b.rows entry)

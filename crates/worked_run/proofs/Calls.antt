@@ -11,7 +11,9 @@ use Rattle.printed_texts.specs.Faults.{error_line}
 use Rattle.safebound_top.specs.Accepted.{Accepted}
 use Rattle.safebound_top.specs.Call.{Call}
 use Rattle.safebound_top.specs.Faults.{fault_text}
-use Rattle.safebound_top.specs.Headline.{Grew, GrewWhole, Headline, status_of}
+use Rattle.safebound_top.specs.Headline.{GrewWhole, Headline, status_of}
+use Rattle.safebound_top.specs.Outcome.{Planned}
+use Rattle.safebound_top.specs.OutcomeTexts.{notes_text, out_text}
 use Rattle.safebound_top.specs.Texts.{out_text_of, plan_text}
 use Rattle.safebound_top.specs.Verdict.{verdict}
 use Rattle.worked_run.specs.Calls.{Answers, Ended, IsFaultless}
@@ -19,12 +21,12 @@ use Rattle.worked_run.specs.TwoTables.{small_files}
 
 module _ (call : Call) (head : Headline call) (told : call.store.files ≡ Some small_files) (sound : IsFaultless call) where
   -- an accepted verdict ends in Done, with its texts
-  accepted : (run : Accepted) → verdict call.words small_files ≡ Ok run
+  accepted : (run : Accepted) → verdict call.words small_files ≡ Ok (Planned run)
       → Ended call status.Done (plan_text run) (out_text_of run) ⊎ (call.status ≡ status.NoMemory)
   accepted run is = by (head.nothing_is_refused_without_cause.by_the_sinks sound.store sound.out sound.notes small_files told) where
-    grown : call.status ≡ status.Done → Grew call.notes (plan_text run) × GrewWhole call.out (out_text_of run)
+    grown : call.status ≡ status.Done → GrewWhole call.notes (Some (plan_text run)) × GrewWhole call.out (out_text_of run)
     grown done =
-        subst (λ v. IsOkAnd v (λ r. Grew call.notes (plan_text r) × GrewWhole call.out (out_text_of r))) is (head.done_is_exact done small_files told)
+        subst (λ v. IsOkAnd v (λ o. GrewWhole call.notes (notes_text o) × GrewWhole call.out (out_text o))) is (head.done_is_exact done small_files told)
 
     by : (call.status ≡ status_of (verdict call.words small_files)) ⊎ (call.status ≡ status.NoMemory)
         → Ended call status.Done (plan_text run) (out_text_of run) ⊎ (call.status ≡ status.NoMemory)
@@ -46,13 +48,13 @@ module _ (call : Call) (head : Headline call) (told : call.store.files ≡ Some 
         let grown = (says.1 small_files told).1.whole sound.notes in
         inl (record {
           status = refusing;
-          notes = subst (Grew call.notes) (ap (λ s. fault_text s call.words small_files) refusing ∙ text) grown;
+          notes = subst (λ (text : List ℕ). GrewWhole call.notes (Some text)) (ap (λ s. fault_text s call.words small_files) refusing ∙ text) grown;
           out = says.0;
         })
     by (inr memory) = inr memory
 
 -- each call with these words ends so where their verdict is accepted with these texts
-pub answers_done : (words : List (List ℕ)) (run : Accepted) (notes : List ℕ) (out : Option (List ℕ)) → verdict words small_files ≡ Ok run
+pub answers_done : (words : List (List ℕ)) (run : Accepted) (notes : List ℕ) (out : Option (List ℕ)) → verdict words small_files ≡ Ok (Planned run)
     → plan_text run ≡ notes → out_text_of run ≡ out → Answers words status.Done notes out
 answers_done words run notes out is left right call head same told sound =
     subst (λ n. Ended call status.Done n out ⊎ (call.status ≡ status.NoMemory)) left

@@ -1,4 +1,4 @@
--- The levels of the plan's order and the three texts, by computation.
+-- The levels of the plan's order, the node of its tree and their texts, by computation.
 use Rattle.std.proofs.Common.{◌≡◌, ℕ, Bool, true, not, ◌&&◌, ◌||◌, List, [], ◌∷◌, Some, length, map, refl, ap, ◌∙◌}
 use Rattle.std.specs.Fmt.{digits}
 use Rattle.std.specs.Prelude.{codes}
@@ -13,17 +13,18 @@ use Rattle.sql_meaning.specs.Levels.{all_hold, passes_own, row_in, scan}
 use Rattle.sql_meaning.specs.Tables.{Tables, row_counts}
 use Rattle.sql_meaning.proofs.ConditionFacts.{entries_compare, holds_compare}
 use Rattle.join_steps.specs.Lists.{list_at, list_levels}
+use Rattle.bushy_join.specs.Trees.{chosen_rows}
 use Rattle.query_bounds.specs.Examples.{pair}
-use Rattle.printed_texts.specs.Plans.{audit_lines}
 use Rattle.printed_texts.specs.Texts.{rows_lines}
 use Rattle.table_files.specs.EntryTables.{tables_in}
-use Rattle.safebound_top.specs.Accepted.{level_counts, level_rows}
+use Rattle.safebound_top.specs.Accepted.{part_counts}
+use Rattle.safebound_top.specs.Shapes.{shape_audits}
 use Rattle.safebound_top.specs.Sources.{sourced}
 use Rattle.safebound_top.specs.Texts.{out_text_of, plan_text}
 use Rattle.safebound_top.specs.declared.task.ListSource.TheVariants as sources
 use Rattle.safebound_top.specs.declared.task.OutText.{OutText}
 use Rattle.safebound_top.specs.declared.task.OutText.TheVariants as out_text
-use Rattle.worked_run.specs.Meaning.{small_lists, small_rows, two_tables_run}
+use Rattle.worked_run.specs.Meaning.{small_lists, small_rows, two_tables_run, two_tables_tree}
 
 abbrev T : Tables
 T = tables_in small_rows
@@ -69,10 +70,28 @@ pub rows_printed : out_text_of (two_tables_run out_text.Rows) ≡ Some (codes "X
 unfolding digits
 rows_printed = ap (λ (choices : List (List ℕ)). Some (rows_lines pair.select (map (λ choice. selected pair T (row_in (1 ∷ 0 ∷ []) choice)) choices))) second_level
 
-counts : (out : OutText) → level_counts (two_tables_run out) ≡ 5 ∷ 6 ∷ []
-counts out = ap (λ (choices : List (List ℕ)). length choices ∷ length (level_rows (two_tables_run out) 2) ∷ []) first_level
+counts : (out : OutText) → part_counts (two_tables_run out) ≡ 5 ∷ 6 ∷ []
+counts out = ap (λ (choices : List (List ℕ)). length choices ∷ length (list_levels pair T small_lists (1 ∷ 0 ∷ []) 2) ∷ []) first_level
     ∙ ap (λ (choices : List (List ℕ)). 5 ∷ length choices ∷ []) second_level
 
 pub audit_printed : out_text_of (two_tables_run out_text.Audit) ≡ Some (codes "level 1 S 5 5\nlevel 2 R 12 6\n")
 unfolding digits
-audit_printed = ap (λ (rows : List ℕ). Some (audit_lines pair.from (two_tables_run out_text.Audit).plan rows)) (counts out_text.Audit)
+audit_printed = ap (λ (rows : List ℕ). Some (shape_audits pair.from (two_tables_run out_text.Audit).plan rows)) (counts out_text.Audit)
+
+-- ---- as a tree
+
+root : chosen_rows pair T small_lists (0 ∷ 1 ∷ []) ≡ (0 ∷ 0 ∷ []) ∷ (0 ∷ 1 ∷ []) ∷ (1 ∷ 0 ∷ []) ∷ (1 ∷ 1 ∷ []) ∷ (2 ∷ 0 ∷ []) ∷ (2 ∷ 1 ∷ []) ∷ []
+root = filter_agree (λ choice. all_hold (conjuncts_of pair T) (0 ∷ 1 ∷ []) (row_in (0 ∷ 1 ∷ []) choice))
+    (λ choice. says (0 ∷ 1 ∷ []) (row_in (0 ∷ 1 ∷ []) choice))
+    (λ choice. said (0 ∷ 1 ∷ []) (row_in (0 ∷ 1 ∷ []) choice)) (choices (map (list_at small_lists) (0 ∷ 1 ∷ [])))
+
+pub tree_notes : (out : OutText) → plan_text (two_tables_tree out) ≡ codes "scan R 6\nscan S 5\nnode 2 0 1 12\n"
+unfolding digits
+tree_notes out = refl
+
+tree_counts : (out : OutText) → part_counts (two_tables_tree out) ≡ 6 ∷ []
+tree_counts out = ap (λ (choices : List (List ℕ)). length choices ∷ []) root
+
+pub tree_audit : out_text_of (two_tables_tree out_text.Audit) ≡ Some (codes "node 2 0 1 12 6\n")
+unfolding digits
+tree_audit = ap (λ (rows : List ℕ). Some (shape_audits pair.from (two_tables_tree out_text.Audit).plan rows)) (tree_counts out_text.Audit)

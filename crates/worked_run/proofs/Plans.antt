@@ -1,10 +1,17 @@
 -- The bounds and the plan of the join, by computation.
-use Rattle.std.proofs.Common.{◌≡◌, ℕ, List, [], ◌∷◌, Ok, Err, refl, ap, ◌∙◌, arith}
+use Rattle.std.proofs.Common.{◌≡◌, ℕ, List, [], ◌∷◌, Result, Ok, Err, refl, ap, ◌∙◌, arith}
 use Rattle.entry_sets.specs.Sets.{entries_of_set}
 use Rattle.plans.specs.Examples.{plan_of}
+use Rattle.plans.specs.declared.left_deep.Plan.{Plan}
+use Rattle.order_search.specs.declared.refusal.PlanError.{PlanError}
 use Rattle.order_search.specs.declared.refusal.PlanError.TheVariants as error
+use Rattle.outcomes.specs.Reads.{seen}
 use Rattle.plan_answers.specs.BestOrder.{best_order}
 use Rattle.plan_answers.specs.PlanAnswer.{plan_answer}
+use Rattle.tree_answers.specs.AllTrees.{best_tree}
+use Rattle.tree_answers.specs.TreeAnswer.{tree_answer}
+use Rattle.tree_plans.specs.Examples.{join, plan_of as tree_of}
+use Rattle.tree_plans.specs.declared.bushy.BushyPlan.{BushyPlan}
 use Rattle.query_grammar.specs.declared.tree.Op.TheVariants as op
 use Rattle.join_graph.specs.Conjuncts.{column_operand}
 use Rattle.join_graph.proofs.Comparing.{equality_two}
@@ -12,8 +19,14 @@ use Rattle.sql_meaning.proofs.ConditionFacts.{entries_compare}
 use Rattle.query_bounds.specs.Examples.{pair}
 use Rattle.planning.specs.Bounds.{scan_bounds_of, set_bounds_of}
 use Rattle.table_files.specs.EntryTables.{tables_in}
-use Rattle.safebound_top.specs.Sources.{planned_by, sourced}
+use Rattle.safebound_top.specs.Shapes.{answer_of, planned_by}
+use Rattle.safebound_top.specs.Sources.{sourced}
+use Rattle.safebound_top.specs.declared.shapes.Shaped.{Shaped}
+use Rattle.safebound_top.specs.declared.shapes.Shaped.TheVariants as shaped
 use Rattle.safebound_top.specs.declared.task.ListSource.TheVariants as sources
+use Rattle.safebound_top.specs.declared.task.Shape.{Shape}
+use Rattle.safebound_top.specs.declared.task.Shape.TheVariants as shapes
+use Rattle.planning.proofs.SmallPlans.{refused}
 use Rattle.worked_run.specs.Meaning.{small_rows}
 
 scans : scan_bounds_of pair (tables_in small_rows) 1 ≡ 6 ∷ 5 ∷ []
@@ -28,18 +41,31 @@ chosen : plan_answer (1 ∷ 6 ∷ 5 ∷ 12 ∷ []) (6 ∷ 5 ∷ []) 1000000 ≡ 
 unfolding plan_answer best_order
 chosen = refl
 
-too_dear : plan_answer (1 ∷ 6 ∷ 5 ∷ 12 ∷ []) (6 ∷ 5 ∷ []) 11 ≡ Err (error.Budget 12)
-unfolding plan_answer best_order
-too_dear = refl
+-- the one tree that there is
+tree_chosen : tree_answer (1 ∷ 6 ∷ 5 ∷ 12 ∷ []) (6 ∷ 5 ∷ []) 1000000 ≡ Ok (tree_of (join 0 1 12 ∷ []) (6 ∷ 5 ∷ []) 12)
+unfolding best_tree tree_answer
+tree_chosen = refl
 
-over_these : (budget : ℕ) → planned_by (sourced sources.Columns pair (tables_in small_rows)) pair 1 budget ≡ plan_answer (1 ∷ 6 ∷ 5 ∷ 12 ∷ []) (6 ∷ 5 ∷ []) budget
+over_these : (shape : Shape) (budget : ℕ) → planned_by shape (sourced sources.Columns pair (tables_in small_rows)) pair 1 budget
+    ≡ answer_of shape (1 ∷ 6 ∷ 5 ∷ 12 ∷ []) (6 ∷ 5 ∷ []) budget
 unfolding planned_by sourced
-over_these budget =
-    ap (λ (bounds : List ℕ). plan_answer bounds (scan_bounds_of pair (tables_in small_rows) 1) budget) sets
-    ∙ ap (λ (bounds : List ℕ). plan_answer (1 ∷ 6 ∷ 5 ∷ 12 ∷ []) bounds budget) scans
+over_these shape budget =
+    ap (λ (bounds : List ℕ). answer_of shape bounds (scan_bounds_of pair (tables_in small_rows) 1) budget) sets
+    ∙ ap (λ (bounds : List ℕ). answer_of shape (1 ∷ 6 ∷ 5 ∷ 12 ∷ []) bounds budget) scans
 
-pub plan_found : planned_by (sourced sources.Columns pair (tables_in small_rows)) pair 1 1000000 ≡ Ok (plan_of (1 ∷ 0 ∷ []) (6 ∷ 5 ∷ []) (5 ∷ 12 ∷ []))
-plan_found = over_these 1000000 ∙ chosen
+abbrev along : Result Plan PlanError → Result Shaped PlanError
+along answer = seen (λ plan. shaped.Along plan) answer
 
-pub plan_refused : planned_by (sourced sources.Columns pair (tables_in small_rows)) pair 1 11 ≡ Err (error.Budget 12)
-plan_refused = over_these 11 ∙ too_dear
+abbrev over : Result BushyPlan PlanError → Result Shaped PlanError
+over answer = seen (λ plan. shaped.Over plan) answer
+
+pub plan_found : planned_by shapes.Order (sourced sources.Columns pair (tables_in small_rows)) pair 1 1000000
+    ≡ Ok (shaped.Along (plan_of (1 ∷ 0 ∷ []) (6 ∷ 5 ∷ []) (5 ∷ 12 ∷ [])))
+plan_found = over_these shapes.Order 1000000 ∙ ap along chosen
+
+pub tree_found : planned_by shapes.Tree (sourced sources.Columns pair (tables_in small_rows)) pair 1 1000000
+    ≡ Ok (shaped.Over (tree_of (join 0 1 12 ∷ []) (6 ∷ 5 ∷ []) 12))
+tree_found = over_these shapes.Tree 1000000 ∙ ap over tree_chosen
+
+pub plan_refused : planned_by shapes.Order (sourced sources.Columns pair (tables_in small_rows)) pair 1 11 ≡ Err (error.Budget 12)
+plan_refused = over_these shapes.Order 11 ∙ ap along refused

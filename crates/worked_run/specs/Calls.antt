@@ -4,7 +4,7 @@ use Rattle.base_io.specs.Causes.{Rose}
 use Rattle.outcomes.specs.declared.status.Status.{Status}
 use Rattle.outcomes.specs.declared.status.Status.TheVariants as status
 use Rattle.safebound_top.specs.Call.{Call}
-use Rattle.safebound_top.specs.Headline.{FaultsRose, Grew, GrewWhole, Headline}
+use Rattle.safebound_top.specs.Headline.{FaultsRose, GrewWhole, Headline}
 use Rattle.worked_run.specs.TwoTables.{small_files}
 
 -- no device failed
@@ -16,7 +16,7 @@ pub record IsFaultless (call : Call) : Type 0 where
 -- its status is this one, its notes grew by exactly this text, and out by exactly that one, where there is one, and else it took nothing
 pub record Ended (call : Call) (s : Status) (note_text : List ℕ) (out_text : Option (List ℕ)) : Type 0 where
   pub status : call.status ≡ s
-  pub notes : Grew call.notes note_text
+  pub notes : GrewWhole call.notes (Some note_text)
   pub out : GrewWhole call.out out_text
 
 -- each call with these words, over a store that tells the small files, that keeps the headline and of which no device failed, ended so,

@@ -3,9 +3,11 @@ use Rattle.std.specs.Prelude.{ℕ, List, [], ◌∷◌, map, pos}
 use Rattle.csv_tables.specs.Rows.{Row}
 use Rattle.csv_tables.specs.Values.{Int}
 use Rattle.plans.specs.Examples.{plan_of}
+use Rattle.tree_plans.specs.Examples.{join, plan_of as tree_of}
 use Rattle.query_bounds.specs.Examples.{pair}
 use Rattle.planning.specs.Examples.{r_column, s_column}
 use Rattle.safebound_top.specs.Accepted.{Accepted}
+use Rattle.safebound_top.specs.declared.shapes.Shaped.TheVariants as shaped
 use Rattle.safebound_top.specs.declared.task.ListSource.TheVariants as sources
 use Rattle.safebound_top.specs.declared.task.OutText.{OutText}
 
@@ -26,7 +28,18 @@ abbrev pub two_tables_run : OutText → Accepted
 two_tables_run out = record {
   query = pair;
   rows = small_rows;
-  plan = plan_of (1 ∷ 0 ∷ []) (6 ∷ 5 ∷ []) (5 ∷ 12 ∷ []);
+  plan = shaped.Along (plan_of (1 ∷ 0 ∷ []) (6 ∷ 5 ∷ []) (5 ∷ 12 ∷ []));
+  source = sources.Columns;
+  lists = small_lists;
+  out = out;
+}
+
+-- the join of both as a tree: the node over R and S has bound 12
+abbrev pub two_tables_tree : OutText → Accepted
+two_tables_tree out = record {
+  query = pair;
+  rows = small_rows;
+  plan = shaped.Over (tree_of (join 0 1 12 ∷ []) (6 ∷ 5 ∷ []) 12);
   source = sources.Columns;
   lists = small_lists;
   out = out;

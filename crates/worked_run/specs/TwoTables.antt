@@ -1,4 +1,4 @@
--- Two tables that are joined by one column: the words of three commands, and the files.
+-- Two tables that are joined by one column: the words of four commands, and the files.
 use Rattle.std.specs.Prelude.{ℕ, List, [], ◌∷◌, codes}
 use Rattle.base_io.specs.Files.{Files}
 
@@ -25,6 +25,10 @@ run_words = codes "run" ∷ codes "schema.sql" ∷ codes "query.sql" ∷ []
 
 abbrev pub audit_words : List (List ℕ)
 audit_words = codes "audit" ∷ codes "schema.sql" ∷ codes "query.sql" ∷ []
+
+-- by a join tree
+abbrev pub tree_words : List (List ℕ)
+tree_words = codes "audit" ∷ codes "schema.sql" ∷ codes "query.sql" ∷ codes "--bushy" ∷ []
 
 -- with a budget that is one too small
 abbrev pub thrifty_words : List (List ℕ)

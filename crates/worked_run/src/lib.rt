@@ -1,5 +1,5 @@
-//! Three calls over two small tables, from the words and the bytes of the files to the bytes of both streams, as theorems by
-//! computation: `run`, `audit`, and `run` with a budget that is one too small.
+//! Four calls over two small tables, from the words and the bytes of the files to the bytes of both streams, as theorems by
+//! computation: `run`, `audit`, `audit` with a join tree, and `run` with a budget that is one too small.
 //!
 //! The files are
 //!
@@ -26,4 +26,4 @@
 
 mod examples;
 
-pub use examples::{audited, joined, refused};
+pub use examples::{audited, joined, joined_by_a_tree, refused};

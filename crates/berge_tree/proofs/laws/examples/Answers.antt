@@ -1,9 +1,9 @@
 use Rattle.std.proofs.Common.{eqb, [], ◌∷◌, refl, arith, sym}
 use Rattle.std.proofs.lemmas.Bool.{false≢true}
+use Rattle.entry_sets.proofs.Listing.{rising}
 use Rattle.berge_tree.specs.Examples.{four_entries}
 use Rattle.berge_tree.specs.Walk.{columns_of}
 use Rattle.berge_tree.proofs.Listing.{columns_are}
-use Rattle.berge_tree.proofs.Made.{rising}
 use Rattle.berge_tree.proofs.Forest.{all_trees}
 use Rattle.berge_tree.proofs.laws.examples.Goals as goal
 

@@ -1,7 +1,13 @@
-use Rattle.bushy_planning.proofs.Stages.{is_plan_of}
+use Rattle.tree_answers.proofs.OneChoice.{only}
 use Rattle.bushy_planning.proofs.plan.plan_tree_from.Goals as goal
 
-pub returns-clause-never_under : goal.returns-clause-never_under
-returns-clause-never_under c = λ query tables lists levels bound few_rows small.
-    is_plan_of query tables lists c.args.known.now.sets c.args.known.now.scans levels bound few_rows c.choose_bushy.result c.args.budget small
-    c.choose_bushy.ensures.plan c.choose_bushy.ensures.best c.choose_bushy.ensures.scans c.choose_bushy.ensures.joins
+pub returns : goal.returns
+returns c =
+    only c.args.known.now.sets c.args.known.now.scans c.args.budget c.choose_bushy.result c.requires.some c.requires.budget
+    (record {
+      plan = c.choose_bushy.ensures.plan;
+      best = c.choose_bushy.ensures.best;
+      within = c.choose_bushy.ensures.within;
+      scans_kept = c.choose_bushy.ensures.scans;
+      refused = c.choose_bushy.ensures.refused;
+    })

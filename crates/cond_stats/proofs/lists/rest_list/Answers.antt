@@ -1,7 +1,7 @@
 use Rattle.std.proofs.Common.{◌≡◌, ◌<◌, ◌≤◌, length, ◌+◌, ◌++◌, ◌∷◌, [], ℕ, List, map, take, max, get_or, sum, ap, sym, subst, ◌∙◌, arith}
 use Rattle.std.specs.List.{All}
 use Rattle.std.proofs.lemmas.List.{take_more, take_all, map_push}
-use Rattle.std.proofs.lemmas.List.Elements.{All-take, All-weaker}
+use Rattle.std.proofs.lemmas.List.Elements.{All-take, All-weaker, All-from_recursion}
 use Rattle.std.proofs.lemmas.Result.{IfOk-weaker}
 use Rattle.degree_sequences.specs.ByRank.{rank_maximum}
 use Rattle.degree_sequences.specs.Compression.{compressed}
@@ -9,12 +9,11 @@ use Rattle.degree_sequences.specs.Falling.{IsFalling}
 use Rattle.degree_sequences.specs.RunningSums.{cut_at}
 use Rattle.degree_sequences.proofs.DegreeLists.{IsFalling-degree_list}
 use Rattle.degree_sequences.proofs.Minima.{IsFalling-cut_at}
-use Rattle.degree_sequences.proofs.Rearranged.{All-from_recursion}
 use Rattle.cond_stats.specs.declared.groups.Group.{Group}
 use Rattle.cond_stats.specs.Lists.{maxima, greatest}
 use Rattle.cond_stats.specs.Sorted.{keys_at, LiesWithin, degrees_of_group}
 use Rattle.std.specs.Prelude.{slice_range}
-use Rattle.cond_stats.proofs.CutLists.{positive-cut_at}
+use Rattle.piece_math.proofs.Cutting.{positive-cut_at}
 use Rattle.cond_stats.proofs.Maxima.{IsFalling-maxima, maxima-push, greatest-push, greatest-le}
 use Rattle.cond_stats.proofs.Sums.{sum-cut_at}
 use Rattle.cond_stats.proofs.lists.rest_list.Goals as goal

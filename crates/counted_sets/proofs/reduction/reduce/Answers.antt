@@ -1,6 +1,6 @@
 use Rattle.std.proofs.Common.{arith, ap, refl, sym, subst, ◌∙◌, ◌<◌, ◌≤◌, ◌≡◌, ℕ, length, get_or}
 use Rattle.counted_sets.specs.Counts.{IsCounted, IsSafe, item_at, need_at}
-use Rattle.counted_sets.proofs.Removing.{reduced, reducing_first, reducing_next, slot_is_none, slot_within, work_left}
+use Rattle.counted_sets.proofs.Removing.{reduced, reducing_first, reducing_next, slot_is_none, slot_within}
 use Rattle.counted_sets.proofs.reduction.reduce.Goals as goal
 
 pub work-init : goal.work-init

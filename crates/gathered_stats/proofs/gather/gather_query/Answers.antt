@@ -14,7 +14,7 @@ pub returns : goal.returns
 returns c =
     let stats : QueryStats = record { entries = c.loop-entry.entries } in
     record {
-      tells = all_told c.args.query.now c.args.db.now c.args.accuracy c.requires.database c.requires.texts (their_lists c.args.db.now c.args.accuracy c.requires.database.tables c.requires.texts)
+      tells = all_told c.args.query.now c.args.db.now c.args.accuracy c.requires.database c.characters_differ.ensures (their_lists c.args.db.now c.args.accuracy c.requires.database.tables c.characters_differ.ensures)
           (λ entry column. lists_sum (tables_of c.args.db.now) c.args.accuracy entry column) stats
           (λ entry low. c.loop-entry.invariant.each entry (omega (arith, low, c.loop-entry-test.false, c.len-entry-end.ensures)))
           (omega (arith, c.loop-entry.invariant.as_many, c.loop-entry-test.false, c.loop-entry.auto.entry-end, c.len-entry-end.ensures));

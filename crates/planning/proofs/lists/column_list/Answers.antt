@@ -21,6 +21,6 @@ returns-clause-exact c =
     let degrees_are : c.as_slice-2.result.now ≡ degree_list c.as_slice.result.now = c.as_slice-2.ensures ∙ c.in_ok-degrees.ensures.counts in
     IfOk-weaker c.compress.result (λ list. list ≡ compressed c.args.accuracy c.as_slice-2.result.now)
     (λ list. list ≡ compressed_degrees c.args.accuracy (numbered (map (value_in_row (tables_of db) c.args.place.entry c.args.place.column) rows)))
-    (λ list is. list_is db c.requires.tables c.requires.texts (column_of c.args.place) c.requires.column rows c.requires.rows c.args.accuracy c.as_slice.result.now c.as_slice-2.result.now list
+    (λ list is. list_is db c.requires.tables c.characters_differ.ensures (column_of c.args.place) c.requires.column rows c.requires.rows c.args.accuracy c.as_slice.result.now c.as_slice-2.result.now list
     keys_are degrees_are is)
     c.compress.ensures.compressed

@@ -1,11 +1,12 @@
 use Rattle.std.proofs.Common.{◌≡◌, ◌-◌, ◌≤◌, ◌++◌, length, replicate, sum, ap, sym, ◌∙◌, subst, arith}
 use Rattle.std.specs.List.{All}
+use Rattle.std.proofs.lemmas.List.Elements.{All-from_recursion}
 use Rattle.degree_sequences.specs.Falling.{IsFalling}
 use Rattle.degree_sequences.specs.RunningSums.{cut_at}
-use Rattle.piece_math.proofs.Expansion.{All-from_recursion}
 use Rattle.safebound_lists.specs.Runs.{list_of}
+use Rattle.piece_math.proofs.Cutting.{positive-cut_at}
 use Rattle.safebound_bounds.specs.Meaning.{fitted}
-use Rattle.safebound_bounds.proofs.Fitting.{cut_sum, fitted_sum, made_full, made_longer, no_longer, one_or_more, positive_cut, right_falls}
+use Rattle.safebound_bounds.proofs.Fitting.{cut_sum, fitted_sum, made_full, made_longer, no_longer, one_or_more, right_falls}
 use Rattle.safebound_bounds.proofs.listing.fitted.Goals as goal
 use Rattle.safebound_bounds.proofs.listing.fitted.Goals.{then-total-rows+in_ok-push_run, else-total-rows}
 
@@ -16,7 +17,7 @@ pub push_run-requires-clause-falls : goal.push_run-requires-clause-falls
 push_run-requires-clause-falls c =
     let falls : IsFalling c.in_ok-list.list = subst IsFalling (sym c.in_ok-list.ensures.pieces) (right_falls c.args.runs.now c.requires.right) in
     subst (All (λ x. 1 ≤ x)) (sym c.in_ok-cut.ensures.value)
-    (All-from_recursion (λ x. 1 ≤ x) (cut_at c.in_ok-list.list c.args.rows) (one_or_more (cut_at c.in_ok-list.list c.args.rows) (positive_cut c.in_ok-list.list c.args.rows falls)))
+    (All-from_recursion (λ x. 1 ≤ x) (cut_at c.in_ok-list.list c.args.rows) (one_or_more (cut_at c.in_ok-list.list c.args.rows) (positive-cut_at c.in_ok-list.list c.args.rows falls)))
 
 pub push_run-requires-clause-room : goal.push_run-requires-clause-room
 push_run-requires-clause-room c =
@@ -24,7 +25,7 @@ push_run-requires-clause-room c =
     omega (
       arith,
       ap length c.in_ok-cut.ensures.value,
-      no_longer (cut_at c.in_ok-list.list c.args.rows) (positive_cut c.in_ok-list.list c.args.rows falls),
+      no_longer (cut_at c.in_ok-list.list c.args.rows) (positive-cut_at c.in_ok-list.list c.args.rows falls),
       cut_sum c.in_ok-list.list c.args.rows,
       c.requires.rows,
     )

@@ -1,4 +1,5 @@
 use Rattle.std.proofs.lemmas.Result.{err_from_is_err_and}
+use Rattle.stats_answers.proofs.ByteNames.{declared_bytes}
 use Rattle.safebound_top.proofs.Answered.{schema_read, schema_told}
 use Rattle.safebound_top.proofs.Stages.{schema_refused, schema_spelled, schema_stops}
 use Rattle.safebound_top.proofs.files.load_schema.Goals as goal
@@ -16,3 +17,6 @@ returns-in_err-schema-clause-reads g c =
 pub returns-clause-reads : goal.returns-clause-reads
 returns-clause-reads g c =
     schema_spelled c.args.name.now _ c.as_slice.result.now c.in_ok-schema.schema c.as_slice.ensures (schema_read c.as_slice.result.now c.in_ok-schema.schema c.in_ok-schema.ensures.meaning) c.in_ok-text.ensures.reads
+
+pub returns-clause-bytes : goal.returns-clause-bytes
+returns-clause-bytes g c = declared_bytes c.as_slice.result.now c.in_ok-schema.schema c.in_ok-schema.ensures.meaning

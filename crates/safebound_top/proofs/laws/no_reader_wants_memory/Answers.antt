@@ -1,6 +1,8 @@
+use Rattle.filed_plans.proofs.Answering.{wants_no_memory}
+use Rattle.stats_answers.proofs.StatsAnswers as stats
 use Rattle.text_answers.proofs.QueryAnswers as queries
 use Rattle.text_answers.proofs.SchemaAnswers as schemas
-use Rattle.safebound_top.proofs.SourceFacts.{never_wants_memory}
+use Rattle.safebound_top.proofs.ShapeFacts.{never_wants_memory}
 use Rattle.safebound_top.proofs.TableErrors as tables
 use Rattle.safebound_top.proofs.laws.no_reader_wants_memory.Goals as goal
 
@@ -15,3 +17,9 @@ returns-clause-tables c = tables.never_memory
 
 pub returns-clause-plans : goal.returns-clause-plans
 returns-clause-plans c = never_wants_memory
+
+pub returns-clause-statistics : goal.returns-clause-statistics
+returns-clause-statistics c = stats.never_memory
+
+pub returns-clause-filed_plans : goal.returns-clause-filed_plans
+returns-clause-filed_plans c = wants_no_memory

@@ -2,7 +2,7 @@ use Rattle.std.proofs.Common.{refl}
 use Rattle.std.proofs.lemmas.Result.{err_from_is_err_and}
 use Rattle.outcomes.specs.Reads.{seen}
 use Rattle.safebound_top.specs.Asks.{asked}
-use Rattle.safebound_top.specs.Prepared.{accepted_of}
+use Rattle.safebound_top.specs.Ready.{outcome_of}
 use Rattle.safebound_top.proofs.Stages.{schema_not_run, schema_ran}
 use Rattle.safebound_top.proofs.prepare.prepare.Goals as goal
 
@@ -13,5 +13,5 @@ returns-in_err-query-clause-reads g c =
 
 pub returns-clause-reads : goal.returns-clause-reads
 returns-clause-reads g c =
-    schema_ran (asked c.args.task.now) c.args.schema.now _ _ c.in_ok-query.query (seen accepted_of c.prepare_query.result) (record { files = refl; faults = refl; misses = refl })
+    schema_ran (asked c.args.task.now) c.args.schema.now _ _ c.in_ok-query.query (seen (outcome_of c.args.schema.now) c.prepare_query.result) (record { files = refl; faults = refl; misses = refl })
     c.in_ok-query.ensures.reads c.prepare_query.ensures.reads

@@ -1,17 +1,39 @@
+use Rattle.std.proofs.Common.{Ok, Err, ap}
 use Rattle.std.proofs.lemmas.Result.{err_from_is_err_and}
-use Rattle.level_bounds.proofs.CellKeys.{characters_differ}
-use Rattle.safebound_top.specs.Asks.{asked}
-use Rattle.safebound_top.proofs.Stages.{tables_ran, tables_stop}
+use Rattle.safebound_top.specs.Asks.{FileOf, PlanFrom, PlanOf, asked, work_asked}
+use Rattle.safebound_top.specs.Ready.{file_from, plan_from, planned_from}
+use Rattle.safebound_top.proofs.Stages.{work_done}
 use Rattle.safebound_top.proofs.prepare.prepare_query.Goals as goal
 
-pub returns-in_err-db-clause-reads : goal.returns-in_err-db-clause-reads
-returns-in_err-db-clause-reads g c =
+pub returns-in_err-prepared-in-Plan-clause-reads : goal.returns-in_err-prepared-in-Plan-clause-reads
+returns-in_err-prepared-in-Plan-clause-reads g c =
     let p = err_from_is_err_and c.from_residual.result c.from_residual.ensures.1 in
-    rw (p.1, p.2) (tables_stop (asked c.args.task.now) c.args.schema.now c.args.query _ c.in_err-db.field-0.0 c.in_err-db.ensures.reads)
+    rw (p.1, p.2) (work_done (asked c.args.task.now) (PlanOf c.in-Plan.plan) c.args.schema.now c.args.query (Err c.in_err-prepared-in-Plan.field-0.0) (ap work_asked c.in-Plan.is)
+    c.in_err-prepared-in-Plan.ensures.reads)
 
-pub prepare_plan-requires-clause-texts : goal.prepare_plan-requires-clause-texts
-prepare_plan-requires-clause-texts g c = characters_differ c.in_ok-db.db.pool c.in_ok-db.ensures.texts c.in_ok-db.ensures.different
+pub returns-in_ok-prepared-in-Plan-clause-reads : goal.returns-in_ok-prepared-in-Plan-clause-reads
+returns-in_ok-prepared-in-Plan-clause-reads g c =
+    work_done (asked c.args.task.now) (PlanOf c.in-Plan.plan) c.args.schema.now c.args.query (Ok (planned_from c.in_ok-prepared-in-Plan.prepared)) (ap work_asked c.in-Plan.is)
+    c.in_ok-prepared-in-Plan.ensures.reads
 
-pub returns-clause-reads : goal.returns-clause-reads
-returns-clause-reads g c =
-    tables_ran (asked c.args.task.now) c.args.schema.now c.args.query _ _ c.prepare_plan.result c.prepare_plan.ensures.run c.prepare_plan.ensures.refused c.in_ok-db.ensures.reads
+pub returns-in_err-filed-in-File-clause-reads : goal.returns-in_err-filed-in-File-clause-reads
+returns-in_err-filed-in-File-clause-reads g c =
+    let p = err_from_is_err_and c.from_residual-in_err-filed-in-File.result c.from_residual-in_err-filed-in-File.ensures.1 in
+    rw (p.1, p.2) (work_done (asked c.args.task.now) (FileOf c.in-File.accuracy) c.args.schema.now c.args.query (Err c.in_err-filed-in-File.field-0.0) (ap work_asked c.in-File.is)
+    c.in_err-filed-in-File.ensures.reads)
+
+pub returns-in_ok-filed-in-File-clause-reads : goal.returns-in_ok-filed-in-File-clause-reads
+returns-in_ok-filed-in-File-clause-reads g c =
+    work_done (asked c.args.task.now) (FileOf c.in-File.accuracy) c.args.schema.now c.args.query (Ok (file_from c.args.schema.now c.in_ok-filed-in-File.filed)) (ap work_asked c.in-File.is)
+    c.in_ok-filed-in-File.ensures.reads
+
+pub returns-in_err-made-in-PlanFrom-clause-reads : goal.returns-in_err-made-in-PlanFrom-clause-reads
+returns-in_err-made-in-PlanFrom-clause-reads g c =
+    let p = err_from_is_err_and c.from_residual-in_err-made-in-PlanFrom.result c.from_residual-in_err-made-in-PlanFrom.ensures.1 in
+    rw (p.1, p.2) (work_done (asked c.args.task.now) (PlanFrom c.in-PlanFrom.file.now c.in-PlanFrom.budget) c.args.schema.now c.args.query (Err c.in_err-made-in-PlanFrom.field-0.0) (ap work_asked c.in-PlanFrom.is)
+    c.in_err-made-in-PlanFrom.ensures.reads)
+
+pub returns-in_ok-made-in-PlanFrom-clause-reads : goal.returns-in_ok-made-in-PlanFrom-clause-reads
+returns-in_ok-made-in-PlanFrom-clause-reads g c =
+    work_done (asked c.args.task.now) (PlanFrom c.in-PlanFrom.file.now c.in-PlanFrom.budget) c.args.schema.now c.args.query (Ok (plan_from c.in_ok-made-in-PlanFrom.made)) (ap work_asked c.in-PlanFrom.is)
+    c.in_ok-made-in-PlanFrom.ensures.reads

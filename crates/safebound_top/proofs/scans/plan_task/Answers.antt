@@ -1,38 +1,45 @@
-use Rattle.std.proofs.Common.{inl, inr, refl, sym}
+use Rattle.std.proofs.Common.{◌≡◌, length, arith, sym, ◌∙◌}
 use Rattle.std.proofs.lemmas.Result.{err_from_is_err_and}
 use Rattle.sql_meaning.specs.Tables.{tables_of}
-use Rattle.planning.specs.Plans.{planned, planned_over}
-use Rattle.safebound_top.specs.Sources.{planned_by, sourced}
-use Rattle.safebound_top.proofs.Answered.{was_made}
+use Rattle.planning.proofs.Giving.{known_long, known_many}
+use Rattle.safebound_top.specs.Shapes.{answer_of}
+use Rattle.safebound_top.specs.Sources.{Sourced, sourced}
+use Rattle.safebound_top.proofs.Answered.{was_made, was_refused}
+use Rattle.safebound_top.proofs.ShapeFacts.{planned_known}
+use Rattle.safebound_top.proofs.SourceFacts.{stand}
 use Rattle.safebound_top.proofs.scans.plan_task.Goals as goal
 
-pub returns-in_err-plan-in-Columns-clause-refused : goal.returns-in_err-plan-in-Columns-clause-refused
-unfolding planned planned_by sourced
-returns-in_err-plan-in-Columns-clause-refused c =
-    let p = err_from_is_err_and c.from_residual.result c.from_residual.ensures.1 in
-    rw (p.1, p.2, c.in-Columns.is) (elim c.in_err-plan-in-Columns.ensures [ inl e ↦ inl cc | inr e ↦ inr (sym e) ])
-
-pub returns-in_err-reduced-in-Reduced-clause-refused : goal.returns-in_err-reduced-in-Reduced-clause-refused
-unfolding planned_over planned_by sourced
-returns-in_err-reduced-in-Reduced-clause-refused c =
-    let p = err_from_is_err_and c.from_residual-in_err-reduced-in-Reduced.result c.from_residual-in_err-reduced-in-Reduced.ensures.1 in
-    rw (p.1, p.2, c.in-Reduced.is) c.in_err-reduced-in-Reduced.ensures.refused
-
-pub returns-in_ok-plan-in-Columns-clause-planned : goal.returns-in_ok-plan-in-Columns-clause-planned
-unfolding planned planned_by sourced
-returns-in_ok-plan-in-Columns-clause-planned c =
+pub plan_by-requires : goal.plan_by-requires
+plan_by-requires c =
     let task = c.args.task.now in
-    rw c.in-Columns.is
-    (was_made (planned c.args.query.now (tables_of c.args.db.now) task.accuracy task.budget) c.in_ok-plan-in-Columns.plan c.in_ok-plan-in-Columns.ensures)
+    let query = c.args.query.now in
+    let tables = tables_of c.args.db.now in
+    let given : Sourced = sourced task.source query tables in
+    let known = c.in_ok-known.field-0.known in
+    let one_each = ((stand task.source query tables).of_scans task.accuracy).one_each in
+    let long : length known.scans ≡ length query.from = known_long query (given.bounds task.accuracy) (given.scans task.accuracy) known c.in_ok-known.ensures.known one_each in
+    record {
+      some = omega (arith, long, c.requires.database.some);
+      few = omega (arith, long, c.requires.database.few);
+      sets = known_many query (given.bounds task.accuracy) (given.scans task.accuracy) known c.in_ok-known.ensures.known one_each;
+      budget = c.requires.ranges.budget;
+    }
 
-pub returns-in_ok-plan-in-Columns-clause-lists : goal.returns-in_ok-plan-in-Columns-clause-lists
-unfolding sourced
-returns-in_ok-plan-in-Columns-clause-lists c = rw c.in-Columns.is refl
+pub returns-in_err-plan-clause-refused : goal.returns-in_err-plan-clause-refused
+returns-in_err-plan-clause-refused c =
+    let task = c.args.task.now in
+    let query = c.args.query.now in
+    let tables = tables_of c.args.db.now in
+    let known = c.in_ok-known.field-0.known in
+    let p = err_from_is_err_and c.from_residual-in_err-plan.result c.from_residual-in_err-plan.ensures.1 in
+    rw (p.1, p.2, ← planned_known task.shape (sourced task.source query tables) query task.accuracy task.budget known c.in_ok-known.ensures.known)
+    (was_refused (answer_of task.shape known.sets known.scans task.budget) c.in_err-plan.field-0.0 c.in_err-plan.ensures)
 
-pub returns-in_ok-reduced-in-Reduced-clause-planned : goal.returns-in_ok-reduced-in-Reduced-clause-planned
-unfolding planned_over planned_by sourced
-returns-in_ok-reduced-in-Reduced-clause-planned c = rw c.in-Reduced.is c.in_ok-reduced-in-Reduced.ensures.plan
-
-pub returns-in_ok-reduced-in-Reduced-clause-lists : goal.returns-in_ok-reduced-in-Reduced-clause-lists
-unfolding sourced
-returns-in_ok-reduced-in-Reduced-clause-lists c = rw c.in-Reduced.is c.in_ok-reduced-in-Reduced.ensures.lists
+pub returns-clause-planned : goal.returns-clause-planned
+returns-clause-planned c =
+    let task = c.args.task.now in
+    let query = c.args.query.now in
+    let tables = tables_of c.args.db.now in
+    let known = c.in_ok-known.field-0.known in
+    sym (planned_known task.shape (sourced task.source query tables) query task.accuracy task.budget known c.in_ok-known.ensures.known)
+    ∙ was_made (answer_of task.shape known.sets known.scans task.budget) c.in_ok-plan.plan c.in_ok-plan.ensures

@@ -1,7 +1,7 @@
 use Rattle.std.proofs.Common.{◌≡◌, ◌∙◌, sym, refl}
 use Rattle.outcomes.specs.declared.status.Status.TheVariants as status
 use Rattle.safebound_top.specs.Course.{Done}
-use Rattle.safebound_top.specs.Prepared.{accepted_of}
+use Rattle.safebound_top.specs.Ready.{outcome_of}
 use Rattle.safebound_top.proofs.TextSteps.{ended_cut}
 use Rattle.safebound_top.proofs.top_call.written.Goals as goal
 
@@ -12,4 +12,4 @@ pub report-requires : goal.report-requires
 report-requires g c h = let no : status.WriteFault c.in-Err.sink ≡ status.Done = sym c.from-status.ensures ∙ h in cc
 
 pub returns-in-Err : goal.returns-in-Err
-returns-in-Err g c = ended_cut c.in-Err.sink c.from-status.result _ _ _ _ _ _ _ _ _ _ (accepted_of c.args.prepared) _ c.from-status.ensures c.in-Err.ensures c.report.ensures
+returns-in-Err g c = ended_cut c.in-Err.sink c.from-status.result _ _ _ _ _ _ _ _ _ _ (outcome_of c.args.schema.now c.args.ready) _ c.from-status.ensures c.in-Err.ensures c.report.ensures

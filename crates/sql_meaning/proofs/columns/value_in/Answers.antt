@@ -1,12 +1,13 @@
 use Rattle.std.proofs.Common.{ℕ, List, length, pos, ap, sym, ◌∙◌, arith}
 use Rattle.csv_tables.specs.Values.{Int}
-use Rattle.sql_meaning.proofs.ColumnFacts.{column_count, height, read_is_cell, read_value}
+use Rattle.csv_tables.proofs.TableFacts.{columns_long}
+use Rattle.sql_meaning.proofs.ColumnFacts.{height, read_is_cell, read_value}
 use Rattle.sql_meaning.proofs.columns.value_in.Goals as goal
 
 pub bounds-as_slice-column-2 : goal.bounds-as_slice-column-2
 bounds-as_slice-column-2 c =
     let cells = c.args.cells.now in
-    omega (arith, column_count c.args.pool.now cells.rows cells.kinds cells.columns c.requires.cells, ap (λ (s : List (List ℕ)). length s) c.as_slice-2.ensures)
+    omega (arith, columns_long c.args.pool.now cells.rows cells.kinds cells.columns c.requires.cells, ap (λ (s : List (List ℕ)). length s) c.as_slice-2.ensures)
 
 pub bounds-cells-row : goal.bounds-cells-row
 bounds-cells-row c =

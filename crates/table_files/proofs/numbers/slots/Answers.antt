@@ -1,5 +1,5 @@
 use Rattle.std.proofs.Common.{arith}
-use Rattle.table_files.proofs.PlaceFacts.{place_within, slots_more}
+use Rattle.table_files.proofs.PlaceFacts.{place_within}
 use Rattle.table_files.proofs.numbers.slots.Goals as goal
 
 pub overflow_cast-place_of : goal.overflow_cast-place_of

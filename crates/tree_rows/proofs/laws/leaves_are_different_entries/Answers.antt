@@ -1,3 +1,4 @@
+use Rattle.tree_rows.proofs.AllEntries.{root_all}
 use Rattle.tree_rows.proofs.Once.{plan_once}
 use Rattle.tree_rows.proofs.laws.leaves_are_different_entries.Goals as goal
 
@@ -6,3 +7,6 @@ returns-clause-once c = λ n plan node is low. (plan_once n plan node is low).0
 
 pub returns-clause-within : goal.returns-clause-within
 returns-clause-within c = λ n plan node is low. (plan_once n plan node is low).1
+
+pub returns-clause-all : goal.returns-clause-all
+returns-clause-all c = root_all

@@ -1,8 +1,9 @@
 use Rattle.std.proofs.Common.{◌<◌, subst}
 use Rattle.std.specs.List.{All}
+use Rattle.std.proofs.lemmas.List.Elements.{All-from_recursion}
 use Rattle.degree_sequences.specs.Falling.{IsFalling}
 use Rattle.piece_math.specs.Expanded.{expanded}
-use Rattle.piece_math.proofs.Expansion.{runs-expanded, IsFalling-expanded, positive-expanded, All-from_recursion}
+use Rattle.piece_math.proofs.Expansion.{runs-expanded, IsFalling-expanded, positive-expanded}
 use Rattle.piece_math.proofs.pieces.Pieces.pieces.Goals as goal
 
 pub returns-clause-one_per_run : goal.returns-clause-one_per_run

@@ -1,7 +1,14 @@
 use Rattle.std.proofs.Common.{◌≡◌, Some, ap, sym, ◌∙◌}
 use Rattle.predicate_bounds.specs.Told.{column_steps}
-use Rattle.predicate_bounds.proofs.Telling.{found_here, list_answer, told_dominates}
+use Rattle.predicate_bounds.proofs.Telling.{found_here, list_answer, list_here, told_dominates}
 use Rattle.predicate_bounds.proofs.columns.QueryStats.bound_list.Goals as goal
+
+pub returns-then-joined-column-clause-exact : goal.returns-then-joined-column-clause-exact
+returns-then-joined-column-clause-exact c =
+    let here : column_steps c.args.self.now c.args.from c.args.column ≡ Some c.as_slice.result.now =
+    c.loop-joined.invariant ∙ found_here c.columns-joined-items.result.now c.loop-joined.joined-index c.args.column c.joined-item.result c.loop-joined-test.true c.joined-item.is c.if-joined-column.true
+    ∙ ap Some (sym c.as_slice.ensures) in
+    list_here c.args.self.now c.args.from c.args.column c.as_slice.result.now c.run.result here c.run.ensures
 
 pub returns-then-joined-column-clause-list : goal.returns-then-joined-column-clause-list
 returns-then-joined-column-clause-list c = λ query lists tells.

@@ -1,10 +1,17 @@
-use Rattle.std.proofs.Common.{◌≡◌, Some, ap, sym, ◌∙◌}
+use Rattle.std.proofs.Common.{◌≡◌, ℕ, ◌-◌, ◌^◌, min, List, Some, ap, sum, sym, ◌∙◌}
 use Rattle.std.specs.List.{list_all}
 use Rattle.predicate_bounds.specs.declared.columns.ColumnSteps.{ColumnSteps}
 use Rattle.predicate_bounds.specs.ListRuns.{is_small}
-use Rattle.predicate_bounds.specs.Told.{first_steps}
+use Rattle.predicate_bounds.specs.Told.{first_steps, list_left}
 use Rattle.predicate_bounds.proofs.Telling.{first_here, told_rows, counted_rows, enough_rows}
 use Rattle.predicate_bounds.proofs.columns.QueryStats.row_bound.Goals as goal
+
+pub returns-clause-exact : goal.returns-clause-exact
+returns-clause-exact c =
+    let these : c.as_slice.result.now ≡ c.index-columns-0.result.steps = c.as_slice.ensures ∙ ap (λ (one : ColumnSteps). one.steps) (sym c.index-columns-0.is) in
+    let here : first_steps c.args.self.now c.args.from ≡ Some c.as_slice.result.now =
+    first_here c.args.self.now c.args.from c.columns-columns.result.now c.index-columns-0.result c.as_slice.result.now c.columns-columns.ensures c.requires.known c.index-columns-0.is these in
+    c.rows_of.ensures ∙ ap (λ (list : List ℕ). min (sum list) (2 ^ 64 - 1)) (c.in_ok-list.ensures ∙ sym (ap list_left here))
 
 pub returns-clause-rows : goal.returns-clause-rows
 returns-clause-rows c = λ query lists counts tells sums.

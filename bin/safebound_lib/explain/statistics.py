@@ -1,0 +1,23 @@
+"""`error stats CAUSE AT`: a statistics file that isn't one, or that lacks what the query needs."""
+from ..spot import plain
+
+ANEW = "Make it anew: safebound stats {schema} {query} > {stats}"
+
+
+def explain(fault, run):
+    file, at = plain(run.stats_file or ""), fault["at"]
+    anew = ANEW.format(schema=plain(run.schema_file), query=plain(run.query_file), stats=file)
+    if fault["cause"] == "missing":
+        return [f"{lacking(run, at)} needs statistics that {file} doesn't have: it was made for a query that doesn't name its table, or compares or joins other columns.", anew]
+    if fault["cause"] == "syntax":
+        return [f"{file} is no statistics file from line {at} on: it is cut there, or was changed.", anew]
+    return [f"Line {at} of {file} can't follow those before it: it names what the schema doesn't have, or a number or a list is past its limit or out of order.",
+            "Was the file made over another schema?", anew]
+
+
+def lacking(run, entry):
+    """The FROM entry with this number, by its name where the query can be read."""
+    try:
+        return f"The FROM entry {plain(run.query.entries[entry].name)}"
+    except Exception:
+        return f"The FROM entry {entry}, counted from 0,"

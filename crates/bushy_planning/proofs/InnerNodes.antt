@@ -1,0 +1,97 @@
+-- The inner nodes of a best tree's plan: each has an order of a set of entries, and the bound of that set.
+use Rattle.std.proofs.Common.{◌≡◌, ℕ, zero, suc, ◌+◌, ◌-◌, ◌^◌, ◌<◌, eqb, List, [], ◌∷◌, length, map, get_or, ap, sym, ◌∙◌, subst, arith}
+use Rattle.std.specs.List.{AllByRecursion, IsDistinct}
+use Rattle.std.proofs.lemmas.List.{get_or-append-add, get_or-map, length-map}
+use Rattle.std.proofs.lemmas.Nat.{pow_pos}
+use Rattle.entry_sets.specs.Sets.{entries_of_set, set_of}
+use Rattle.level_bounds.specs.Orders.{IsOrderOfSet}
+use Rattle.level_bounds.proofs.SetNumbers.{order_of_set}
+use Rattle.join_steps.proofs.WholeScans.{weaker}
+use Rattle.tree_plans.specs.declared.bushy.BushyPlan.{BushyPlan}
+use Rattle.tree_plans.specs.declared.bushy.Join.{Join}
+use Rattle.tree_plans.specs.TreePlans.{IsTreePlan}
+use Rattle.tree_rows.specs.Rooms.{bound_at, bound_in}
+use Rattle.tree_rows.specs.Trees.{entries_at, node_entries, singles, with_joins}
+use Rattle.tree_rows.proofs.Once.{plan_once, singles_at, singles_length}
+use Rattle.bushy_plan.specs.BestTree.{all_of, IsBestPlan}
+use Rattle.bushy_plan.specs.JoinTrees.{IsTreeOver, JoinTree, leaf, entries_of}
+use Rattle.bushy_planning.proofs.Subtrees.{all_whole, bound_of, bounds_are, joins_are, leaves, set_of_leaves, subtrees, with_tree, HaveLeaves, IsWhole}
+
+all_at : (P : JoinTree → Type 0) (trees : List JoinTree) (k : ℕ) (d : JoinTree) → AllByRecursion P trees → k < length trees
+    → P (get_or trees k d)
+all_at P [] k d all low = absurd (omega arith)
+all_at P (tree ∷ trees) zero d all low = all.0
+all_at P (tree ∷ trees) (suc k) d all low = all_at P trees k d all.1 (omega arith)
+
+module _ (n : ℕ) (sets : List ℕ) (plan : BushyPlan) (is : IsTreePlan n plan) (best : IsBestPlan sets n plan) where
+  all_fits : all_of n < 2 ^ n
+  all_fits = omega (arith, pow_pos n)
+
+  is_tree : IsTreeOver (all_of n) best.tree
+  is_tree = best.is_best.is_tree
+
+  all_entries : node_entries plan ≡ with_tree (singles n) best.tree
+  all_entries =
+      ap (λ (m : ℕ). with_joins (singles m) plan.joins) is.scans
+      ∙ ap (λ (s : List Join). with_joins (singles n) s) best.are_its
+      ∙ joins_are sets n (all_of n) n (singles n) best.tree (singles_length n) have all_fits is_tree
+    where
+      have : HaveLeaves n (singles n)
+      have entry low = (omega (arith, low, singles_length n), singles_at n entry low)
+
+  all_bounds : map (λ (join : Join). join.bound) plan.joins ≡ map (bound_of sets) (subtrees best.tree)
+  all_bounds = ap (λ (s : List Join). map (λ (join : Join). join.bound) s) best.are_its ∙ bounds_are sets n best.tree
+
+  as_many : length plan.joins ≡ length (subtrees best.tree)
+  as_many =
+      sym (length-map plan.joins (λ (join : Join). join.bound)) ∙ ap (λ (s : List ℕ). length s) all_bounds
+      ∙ length-map (subtrees best.tree) (bound_of sets)
+
+  module _ (k : ℕ) (low : k < length plan.joins) where
+    subtree : JoinTree
+    subtree = get_or (subtrees best.tree) k (leaf 0)
+
+    whole : IsWhole n subtree
+    unfolding subtree
+    whole =
+        all_at (IsWhole n) (subtrees best.tree) k (leaf 0)
+        (all_whole n (all_of n) best.tree all_fits is_tree) (omega (arith, low, as_many))
+
+    its_entries : entries_at plan (n + k) ≡ leaves subtree
+    unfolding subtree
+    its_entries =
+        let place : n + k ≡ length (singles n) + k = omega (arith, singles_length n) in
+        ap (λ (s : List (List ℕ)). get_or s (n + k) []) all_entries
+        ∙ ap (λ (i : ℕ). get_or (with_tree (singles n) best.tree) i []) place
+        ∙ get_or-append-add (singles n) (map leaves (subtrees best.tree)) k []
+        ∙ get_or-map leaves (subtrees best.tree) k (leaf 0) [] (omega (arith, low, as_many))
+
+    pub join_bound : bound_at plan (n + k) ≡ bound_in [] plan.joins k
+    join_bound =
+        let place : n + k ≡ length plan.scans + k = omega (arith, is.scans) in
+        ap (bound_at plan) place ∙ get_or-append-add plan.scans (map (λ (join : Join). join.bound) plan.joins) k 0
+
+    tree_bound : bound_at plan (n + k) ≡ bound_of sets subtree
+    unfolding subtree
+    tree_bound =
+        join_bound
+        ∙ ap (λ (s : List ℕ). get_or s k 0) all_bounds
+        ∙ get_or-map (bound_of sets) (subtrees best.tree) k (leaf 0) 0 (omega (arith, low, as_many))
+
+    its_set : set_of (entries_at plan (n + k)) ≡ entries_of subtree
+    its_set = ap set_of its_entries ∙ set_of_leaves subtree
+
+    -- ---- of its entries
+
+    pub node_set_fits : set_of (entries_at plan (n + k)) < 2 ^ n
+    node_set_fits = subst (λ (s : ℕ). s < 2 ^ n) (sym its_set) whole.fits
+
+    pub node_bound : bound_at plan (n + k) ≡ get_or sets (set_of (entries_at plan (n + k))) 0
+    node_bound = tree_bound ∙ ap (λ (s : ℕ). get_or sets s 0) (sym its_set)
+
+    pub node_order : IsOrderOfSet (entries_of_set (set_of (entries_at plan (n + k)))) (entries_at plan (n + k))
+    node_order =
+        let different : IsDistinct eqb (entries_at plan (n + k)) × AllByRecursion (λ e. e < n) (entries_at plan (n + k)) =
+        plan_once n plan (n + k) is (omega (arith, low, is.scans)) in
+        order_of_set (entries_at plan (n + k))
+        (weaker (λ e. e < n) (λ e. e < 16) (λ e h. omega (arith, h, is.few)) (entries_at plan (n + k)) different.1) different.0

@@ -1,0 +1,32 @@
+-- Files of worked examples.
+use Rattle.std.specs.Prelude.{ℕ, List, [], ◌∷◌, pos}
+use Rattle.stats_file.specs.declared.types.Datum.TheVariants as datum
+use Rattle.stats_file.specs.declared.types.Pair.{Pair}
+use Rattle.stats_file.specs.declared.types.StatsFile.{StatsFile}
+use Rattle.stats_file.specs.declared.types.TableStats.{TableStats}
+
+-- the pair of the column 0 with itself, whose table has these degrees, and no ranges
+abbrev pub itself : List ℕ → Pair
+itself whole = record { filter = 0; joined = 0; whole = whole; frequent = []; rest = []; cuts = []; nodes = [] }
+
+-- four rows of the values 1, 2, 3 and 99, of which 99 isn't frequent
+abbrev pub grown : Pair
+grown = record {
+  filter = 0;
+  joined = 0;
+  whole = 2 ∷ 1 ∷ 1 ∷ [];
+  frequent = (datum.Int (pos 1), 1 ∷ []) ∷ (datum.Int (pos 2), 1 ∷ []) ∷ (datum.Int (pos 3), 1 ∷ []) ∷ [];
+  rest = 1 ∷ [];
+  cuts = [];
+  nodes = [];
+}
+
+abbrev pub section : ℕ → ℕ → Pair → TableStats
+section table rows pair = record { table = table; rows = rows; pairs = pair ∷ [] }
+
+-- a file of one table, and one of two
+abbrev pub of_one : TableStats → StatsFile
+of_one section = record { accuracy = 1; tables = section ∷ [] }
+
+abbrev pub of_two : TableStats → TableStats → StatsFile
+of_two first second = record { accuracy = 1; tables = first ∷ second ∷ [] }

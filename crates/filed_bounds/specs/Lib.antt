@@ -1,0 +1,5 @@
+pub mod Found
+pub mod Filed
+pub mod Entries
+pub mod Compared
+pub mod Examples

@@ -1,0 +1,31 @@
+//! Why a file tells nothing of a query.
+ghost use Rattle.std.specs.Prelude.{◌≡◌};
+ghost use Rattle.filed_bounds.specs.declared.errors.NeedError.TheVariants as error;
+
+use base_io::NoMemory;
+use std::alloc::AllocFailed;
+
+/// Why a file tells nothing of a query.
+#[derive(Clone, Copy, Debug, PartialEq, Eq)]
+pub enum NeedError {
+    /// This FROM entry is the first that needs a section or a pair that the file doesn't have.
+    Missing { from: u8 },
+    /// Memory was wanting.
+    NoMemory,
+}
+
+impl From<NoMemory> for NeedError {
+    ghost from_gives = { λ _ e. e ≡ error.NoMemory };
+
+    fn from(_: NoMemory) -> Self {
+        NeedError::NoMemory
+    }
+}
+
+impl<T: Drop> From<AllocFailed<T>> for NeedError {
+    ghost from_gives = { λ _ e. e ≡ error.NoMemory };
+
+    fn from(_: AllocFailed<T>) -> Self {
+        NeedError::NoMemory
+    }
+}

@@ -1,0 +1,21 @@
+//! Small queries over small files, as theorems by computation.
+ghost use Rattle.std.specs.Prelude.{◌≡◌, ◌∷◌, [], None, Some};
+ghost use Rattle.query_bounds.specs.Bounds.{scan_bounds, set_bounds};
+ghost use Rattle.query_bounds.specs.Examples.{pair};
+ghost use Rattle.needed_pairs.specs.Examples.{one_value};
+ghost use Rattle.filed_bounds.specs.Examples.{grown, itself, of_one, of_two, section};
+ghost use Rattle.filed_bounds.specs.Filed.{filed_statistics};
+ghost use Rattle.filed_bounds.specs.Found.{first_missing};
+
+/// R(X) of 1, 1, 1, 2, 2, 3 and S(X) of 1, 1, 4, 5, 6 from their lists alone; the value 99 in a file in which it isn't frequent; and files in
+/// which a section or a pair is missing.
+pub fn small_files()
+    ensures scans { scan_bounds pair (filed_statistics pair (of_two (section 0 6 (itself (3 ∷ 3 ∷ []))) (section 1 5 (itself (2 ∷ 2 ∷ 1 ∷ [])))))
+        ≡ 6 ∷ 5 ∷ [] }
+    ensures sets { set_bounds pair (filed_statistics pair (of_two (section 0 6 (itself (3 ∷ 3 ∷ []))) (section 1 5 (itself (2 ∷ 2 ∷ 1 ∷ [])))))
+        ≡ 1 ∷ 6 ∷ 5 ∷ 12 ∷ [] }
+    ensures absent { scan_bounds one_value (filed_statistics one_value (of_one (section 0 4 grown))) ≡ 1 ∷ [] }
+    ensures all { first_missing one_value (of_one (section 0 4 grown)) ≡ None }
+    ensures second { first_missing pair (of_one (section 0 6 (itself (3 ∷ 3 ∷ [])))) ≡ Some 1 }
+    ensures first { first_missing pair (of_one (section 2 0 (itself []))) ≡ Some 0 }
+{}

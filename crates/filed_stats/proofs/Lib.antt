@@ -1,0 +1,16 @@
+pub mod Read
+pub mod Walks
+pub mod Finding
+pub mod Made
+pub mod SameValues
+pub mod SameSections
+pub mod Few
+pub mod Lists
+pub mod Ascending
+pub mod PairRules
+pub mod Stands
+pub mod Standing
+pub mod Exact
+pub mod Agreeing
+pub mod Order
+pub mod Rules

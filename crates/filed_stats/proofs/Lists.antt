@@ -1,0 +1,80 @@
+-- The lists of a pair keep the rules of files.
+use Rattle.std.proofs.Common.{◌≡◌, ℕ, zero, suc, ◌+◌, ◌-◌, ◌<◌, ◌≤◌, Bool, ltb, eqb, min, List, [], ◌∷◌, length, map, sum, None, ap, sym, subst, arith}
+use Rattle.std.specs.List.{All, AllByRecursion}
+use Rattle.std.proofs.lemmas.Bool.{cond_both, ltb-true}
+use Rattle.std.proofs.lemmas.List.Elements.{All-from_recursion}
+use Rattle.cond_stats.specs.Frequency.{frequent, remaining}
+use Rattle.cond_stats.specs.Leaves.{in_node, leaf_of}
+use Rattle.cond_stats.specs.Lists.{compressed_degrees, greatest, keys_with, list_of_node, maxima, rest, whole}
+use Rattle.cond_stats.specs.Rows.{filter_values, joined_keys, keys_where}
+use Rattle.piece_math.proofs.Cutting.{positive-cut_at}
+use Rattle.cond_stats.proofs.Dominating.{rest-is, uncompressed_rest}
+use Rattle.cond_stats.proofs.Maxima.{IsFalling-maxima}
+use Rattle.cond_stats.proofs.Members.{length-keys_where}
+use Rattle.cond_stats.proofs.Sums.{IsFalling-uncompressed_rest, sum-compressed_degrees}
+use Rattle.cond_stats.proofs.ValueLists.{of_none}
+use Rattle.degree_sequences.specs.Compression.{compressed, compressed_from, slope}
+use Rattle.degree_sequences.specs.Degrees.{degree, degree_list}
+use Rattle.degree_sequences.specs.Falling.{IsFalling}
+use Rattle.degree_sequences.proofs.CompressedLists.{IsFalling-compressed}
+use Rattle.degree_sequences.proofs.DegreeLists.{IsFalling-degree_list}
+use Rattle.degree_sequences.proofs.FewRuns.{slope_pos}
+use Rattle.degree_sequences.proofs.Rearranged.{degree_list_positive}
+use Rattle.gathered_stats.proofs.Sizes.{node_within, value_within}
+use Rattle.std.proofs.lemmas.List.Sums.{count_by-le-length}
+use Rattle.std.proofs.lemmas.List.{length-map}
+use Rattle.stats_file.specs.Rules.{IsList}
+
+-- ---- compressed lists
+
+positive_from : (k : ℕ) (f : List ℕ) → IsFalling f → All (λ x. 0 < x) f → (n m : ℕ) → AllByRecursion (λ x. 0 < x) (compressed_from k f n m)
+positive_from k f falls positive zero m = tt
+positive_from k f falls positive (suc n) m =
+    let next : ℕ = min (slope k f m) (sum f - m) in
+    cond_both (ltb m (sum f)) (next ∷ compressed_from k f n (m + next)) [] (AllByRecursion (λ x. 0 < x))
+    (λ e. (omega (arith, ltb-true m (sum f) e, slope_pos k f falls positive m (ltb-true m (sum f) e)), positive_from k f falls positive n (m + next)))
+    (λ e. tt)
+
+pub is_compressed : (k : ℕ) (f : List ℕ) (rows : ℕ) → IsFalling f → All (λ x. 0 < x) f → sum (compressed k f) ≤ rows → IsList rows (compressed k f)
+is_compressed k f rows falls positive within = record {
+  falls = IsFalling-compressed k f falls;
+  positive = All-from_recursion (λ x. 0 < x) (compressed k f) (positive_from k f falls positive (length f) 0);
+  within = within;
+}
+
+pub degrees_listed : (k rows : ℕ) (keys : List ℕ) → length keys ≤ rows → IsList rows (compressed_degrees k keys)
+degrees_listed k rows keys few =
+    is_compressed k (degree_list keys) rows (IsFalling-degree_list keys) (degree_list_positive keys) (omega (arith, sum-compressed_degrees k keys, few))
+
+positive_rest : (pairs : List (ℕ × ℕ)) → AllByRecursion (λ x. 0 < x) (uncompressed_rest pairs)
+positive_rest pairs =
+    positive-cut_at (maxima (map (λ value. degree_list (keys_with value pairs)) (remaining (filter_values pairs))))
+    (greatest (map (degree (filter_values pairs)) (remaining (filter_values pairs))))
+    (IsFalling-maxima (λ value. degree_list (keys_with value pairs)) (λ w. IsFalling-degree_list (keys_with w pairs)) (remaining (filter_values pairs)))
+
+-- ---- the lists of rows of a filter value and a joined key
+
+module _ (k n : ℕ) (pairs : List (ℕ × ℕ)) (few : length pairs ≤ n) where
+  as_many : length (filter_values pairs) ≡ length pairs
+  as_many = length-map pairs (λ row. row.0)
+
+  pub where_listed : (passes : ℕ → Bool) → IsList n (compressed_degrees k (keys_where passes pairs))
+  where_listed passes =
+      degrees_listed k n (keys_where passes pairs) (omega (arith, length-keys_where passes pairs, count_by-le-length passes (filter_values pairs), as_many, few))
+
+  pub whole_listed : IsList n (whole k pairs)
+  whole_listed = degrees_listed k n (joined_keys pairs) (omega (arith, length-map pairs (λ row. row.1), few))
+
+  pub value_listed : (value : ℕ) → IsList n (compressed_degrees k (keys_with value pairs))
+  value_listed value = where_listed (λ other. eqb other value)
+
+  pub node_listed : (at_most : ℕ → ℕ → Bool) (size leaf : ℕ) → IsList n (list_of_node at_most k pairs size leaf)
+  unfolding list_of_node
+  node_listed at_most size leaf = where_listed (λ value. in_node size leaf (leaf_of at_most (filter_values pairs) value))
+
+  pub rest_listed : IsList n (rest k pairs)
+  rest_listed =
+      subst (IsList n) (sym (rest-is k pairs))
+      (is_compressed k (uncompressed_rest pairs) n (IsFalling-uncompressed_rest pairs)
+      (All-from_recursion (λ x. 0 < x) (uncompressed_rest pairs) (positive_rest pairs))
+      (omega (arith, ap sum (rest-is k pairs), ap sum (of_none k pairs), value_within k pairs None, few)))

@@ -1,0 +1,6 @@
+pub mod Data
+pub mod Pairs
+pub mod Files
+pub mod Databases
+pub mod Standing
+pub mod Examples

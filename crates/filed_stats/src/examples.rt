@@ -1,0 +1,27 @@
+//! Files of small queries, as theorems by computation.
+ghost use Rattle.std.specs.Prelude.{◌≡◌, ◌∷◌, [], None, Some, length, map, pos};
+ghost use Rattle.csv_tables.specs.Values.{Int};
+ghost use Rattle.query_bounds.specs.Examples.{pair};
+ghost use Rattle.stats_file.specs.declared.types.Datum.TheVariants as datum;
+ghost use Rattle.needed_pairs.specs.Examples.{one_value};
+ghost use Rattle.filed_stats.specs.Examples.{rows_of, schema_of_one, schema_of_pair};
+ghost use Rattle.filed_stats.specs.Files.{file_of_query};
+ghost use Rattle.filed_stats.specs.Pairs.{pair_in_table};
+ghost use Rattle.filed_stats.specs.Standing.{leaf_of_value, list_between, list_of_value};
+
+/// X of 1, 1, 1, 2, 2, 3 with itself: the lists of all rows, of the frequent values and of the rest; the leaf of 2; and what is answered for
+/// a value, for one that is nowhere, and for a range.
+pub fn small_files()
+    ensures whole { (pair_in_table (rows_of (1 ∷ 1 ∷ 1 ∷ 2 ∷ 2 ∷ 3 ∷ [])) 1 0 0 0).whole ≡ 3 ∷ 3 ∷ [] }
+    ensures frequent { (pair_in_table (rows_of (1 ∷ 1 ∷ 1 ∷ 2 ∷ 2 ∷ 3 ∷ [])) 1 0 0 0).frequent
+        ≡ (datum.Int (pos 1), 3 ∷ []) ∷ (datum.Int (pos 2), 2 ∷ []) ∷ (datum.Int (pos 3), 1 ∷ []) ∷ [] }
+    ensures rest { (pair_in_table (rows_of (1 ∷ 1 ∷ 1 ∷ 2 ∷ 2 ∷ 3 ∷ [])) 1 0 0 0).rest ≡ [] }
+    ensures leaf { leaf_of_value (pair_in_table (rows_of (1 ∷ 1 ∷ 1 ∷ 2 ∷ 2 ∷ 3 ∷ [])) 1 0 0 0) (Int (pos 2)) ≡ 26 }
+    ensures value { list_of_value (pair_in_table (rows_of (1 ∷ 1 ∷ 1 ∷ 2 ∷ 2 ∷ 3 ∷ [])) 1 0 0 0) (Int (pos 1)) ≡ 3 ∷ [] }
+    ensures absent { list_of_value (pair_in_table (rows_of (1 ∷ 1 ∷ 1 ∷ 2 ∷ 2 ∷ 3 ∷ [])) 1 0 0 0) (Int (pos 9)) ≡ [] }
+    ensures range { list_between (pair_in_table (rows_of (1 ∷ 1 ∷ 1 ∷ 2 ∷ 2 ∷ 3 ∷ [])) 1 0 0 0) (Some (Int (pos 2))) None ≡ 2 ∷ 1 ∷ [] }
+    // the file of a join has both tables, each with its pair, and that of one table has the pair of the filter column with itself
+    ensures tables { map (λ section. section.table) (file_of_query schema_of_pair pair (rows_of (1 ∷ [])) 1).tables ≡ 0 ∷ 1 ∷ [] }
+    ensures pairs { map (λ section. length section.pairs) (file_of_query schema_of_pair pair (rows_of []) 1).tables ≡ 1 ∷ 1 ∷ [] }
+    ensures one { map (λ section. section.rows) (file_of_query schema_of_one one_value (rows_of (1 ∷ 2 ∷ 3 ∷ [])) 1).tables ≡ 3 ∷ [] }
+{}

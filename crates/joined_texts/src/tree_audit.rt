@@ -1,0 +1,64 @@
+//! The audit text of a join tree.
+ghost use Rattle.std.specs.Prelude.{◌≡◌, ◌≤◌, ◌+◌, length};
+ghost use Rattle.base_io.specs.Devices.{growth};
+ghost use Rattle.base_io.specs.Writes.{Put, Wrote};
+ghost use Rattle.tree_plans.specs.TreePlans.{IsTreePlan};
+ghost use Rattle.printed_texts.specs.TreePlans.{node_audit, node_audits, tree_audits};
+ghost use Rattle.joined_texts.specs.Printed.{node_counts};
+
+use crate::audit::put_row_count;
+use base_io::{Buffer, Failed, Sink};
+use printed_texts::put_node_bound;
+use tree_plans::{BushyPlan, Join};
+use tree_rows::BushyDone;
+
+fn put_node<N: Sink>(
+    k: u64,
+    join: Join,
+    rows: u32,
+    buffer: &mut Buffer,
+    sink: &mut N,
+) -> Result<(), Failed>
+    ensures { Put (growth N.taken N.faults sink.old sink.new) buffer.old buffer.new (node_audit k join rows) result }
+{
+    put_node_bound(k, join, buffer, sink)?;
+    put_row_count(rows, buffer, sink)
+}
+
+// A line for each inner node, of which the first has this number.
+fn put_nodes<N: Sink>(
+    done: &BushyDone,
+    first: u8,
+    joins: &[Join],
+    buffer: &mut Buffer,
+    sink: &mut N,
+) -> Result<(), Failed>
+    requires nodes { length done.now ≡ first + length joins.now }
+    requires few { first + length joins.now ≤ 255 }
+    ensures { Put (growth N.taken N.faults sink.old sink.new) buffer.old buffer.new
+        (node_audits first joins.now (node_counts first done.now)) result }
+{
+    'nodes: for i in 0..joins.len() {
+        let node = first + i as u8;
+        put_node(node as u64, joins[i], done.len(node), buffer, sink)?;
+    }
+    Ok(())
+}
+
+/// Writes the audit text of a join tree: for each inner node in the order of their numbers, the nodes that it joins, its bound and the
+/// number of rows that was listed, both in rows. Of one entry it is empty. `Failed` comes where the sink failed, and then a prefix of the
+/// text stands.
+pub fn write_tree_audit<N: Sink>(
+    done: &BushyDone,
+    plan: &BushyPlan,
+    sink: &mut N,
+) -> Result<(), Failed>
+    requires plan { IsTreePlan (length plan.now.scans) plan.now }
+    requires nodes { length done.now ≡ length plan.now.scans + length plan.now.joins }
+    ensures { Wrote (growth N.taken N.faults sink.old sink.new) (tree_audits plan.now (node_counts (length plan.now.scans) done.now)) result }
+{
+    let mut buffer = Buffer::new();
+    let first = plan.scans.len() as u8;
+    put_nodes(done, first, plan.joins.as_slice(), &mut buffer, sink)?;
+    buffer.flush(sink)
+}

@@ -1,0 +1,4 @@
+pub mod Pairs
+pub mod Columns
+pub mod Needs
+pub mod Examples

@@ -1,0 +1,37 @@
+-- When the bounds that a plan prints are near those without compression.
+use Rattle.std.specs.Prelude.{◌≡◌, ℕ, ◌+◌, ◌*◌, ◌^◌, ◌<◌, ◌≤◌, List, [], length, slice_get, slice_index, take, Some}
+use Rattle.entry_sets.specs.Sets.{set_of}
+use Rattle.plans.specs.declared.left_deep.Plan.{Plan}
+use Rattle.tree_plans.specs.declared.bushy.BushyPlan.{BushyPlan}
+use Rattle.tree_plans.specs.declared.bushy.Join.{Join}
+use Rattle.tree_rows.specs.Trees.{entries_at}
+use Rattle.query_types.specs.declared.types.Query.{Query}
+use Rattle.join_graph.specs.Conjuncts.{equalities_of}
+use Rattle.tree_bounds.specs.SetBounds.{bound_of_set}
+use Rattle.sql_meaning.specs.Tables.{Tables}
+use Rattle.filtered_lists.specs.Filters.{own_conjuncts}
+use Rattle.planning.specs.Bounds.{whole_columns}
+
+-- no conjunct names one entry alone
+abbrev pub FiltersNoEntry : Query → Type 0
+FiltersNoEntry query = (entry : ℕ) → own_conjuncts entry query.conjuncts ≡ []
+
+-- the bound of these entries from the number of rows of each table and the degree list of each column, without compression
+abbrev pub uncompressed_bound : Query → Tables → List ℕ → ℕ
+uncompressed_bound query tables entries = bound_of_set (whole_columns tables) (equalities_of query) (set_of entries)
+
+-- at accuracy K, a bound of n entries: K^n times it is at most (K + 1)^n times the uncompressed one
+abbrev pub IsNear : Query → Tables → ℕ → List ℕ → ℕ → Type 0
+IsNear query tables accuracy entries bound =
+    accuracy ^ length entries * bound ≤ (accuracy + 1) ^ length entries * uncompressed_bound query tables entries
+
+-- so is the bound of each level of the plan's order, of its first entries
+abbrev pub LevelsAreNear : Query → Tables → ℕ → Plan → Type 0
+LevelsAreNear query tables accuracy plan =
+    (k : ℕ) → k < length query.from → IsNear query tables accuracy (take (k + 1) plan.order) (slice_index plan.levels k)
+
+-- so is the bound of each inner node of the plan's tree, of the entries at its leaves
+abbrev pub NodesAreNear : Query → Tables → ℕ → BushyPlan → Type 0
+NodesAreNear query tables accuracy plan =
+    (k : ℕ) (join : Join) → slice_get plan.joins k ≡ Some join
+    → IsNear query tables accuracy (entries_at plan (length query.from + k)) join.bound

@@ -1,0 +1,35 @@
+//! The laws. Each call does nothing.
+ghost use Rattle.std.specs.Prelude.{◌≡◌, ◌*◌, ◌+◌, ◌<◌, ◌≤◌, ◌^◌, ℕ, Ok, length, slice_index, take};
+ghost use Rattle.limits.specs.Profile.{most_entries, usual_accuracy};
+ghost use Rattle.plans.specs.declared.left_deep.Plan.{Plan};
+ghost use Rattle.tree_plans.specs.declared.bushy.BushyPlan.{BushyPlan};
+ghost use Rattle.tree_answers.specs.TreeAnswer.{tree_answer};
+ghost use Rattle.query_types.specs.declared.types.Query.{Query};
+ghost use Rattle.sql_meaning.specs.Tables.{Tables};
+ghost use Rattle.planning.specs.Bounds.{scan_bounds_of, set_bounds_of};
+ghost use Rattle.planning.specs.Plans.{planned};
+ghost use Rattle.plan_nearness.specs.Nearness.{FiltersNoEntry, LevelsAreNear, NodesAreNear, uncompressed_bound};
+
+/// Where no conjunct names one entry alone: the levels of a plan from statistics of whole columns have bounds near the uncompressed ones.
+pub fn levels_are_near()
+    ensures { (query : Query) (tables : Tables) (accuracy budget : ℕ) (plan : Plan)
+        → FiltersNoEntry query → length query.from ≤ most_entries
+        → planned query tables accuracy budget ≡ Ok plan → LevelsAreNear query tables accuracy plan }
+{}
+
+/// At the usual accuracy the bound of a level of n entries is at most 2^n times the uncompressed one.
+pub fn usual_levels_are_near()
+    ensures { (query : Query) (tables : Tables) (budget : ℕ) (plan : Plan) (k : ℕ)
+        → FiltersNoEntry query → length query.from ≤ most_entries
+        → planned query tables usual_accuracy budget ≡ Ok plan → k < length query.from
+        → slice_index plan.levels k ≤ 2 ^ (k + 1) * uncompressed_bound query tables (take (k + 1) plan.order) }
+{}
+
+/// Where no conjunct names one entry alone: the inner nodes of the best tree from statistics of whole columns have bounds near the
+/// uncompressed ones.
+pub fn nodes_are_near()
+    ensures { (query : Query) (tables : Tables) (accuracy budget : ℕ) (plan : BushyPlan)
+        → FiltersNoEntry query → 1 ≤ length query.from → length query.from ≤ most_entries
+        → tree_answer (set_bounds_of query tables accuracy) (scan_bounds_of query tables accuracy) budget ≡ Ok plan
+        → NodesAreNear query tables accuracy plan }
+{}

@@ -1,0 +1,38 @@
+-- The plan text of a join tree, and the audit text. A node is named by its number: the leaves by their places in FROM, from 0 on, and behind
+-- them the inner nodes.
+use Rattle.std.specs.Prelude.{ℕ, ◌+◌, List, [], ◌∷◌, ◌++◌, length, codes, decimal}
+use Rattle.query_types.specs.declared.types.Source.{Source}
+use Rattle.tree_plans.specs.declared.bushy.BushyPlan.{BushyPlan}
+use Rattle.tree_plans.specs.declared.bushy.Join.{Join}
+use Rattle.printed_texts.specs.Plans.{row_count, scan_lines}
+
+-- node K LEFT RIGHT BOUND, and the line of it
+abbrev pub node_bound : ℕ → Join → List ℕ
+node_bound k join =
+    codes "node " ++ (decimal k ++ (codes " " ++ (decimal join.left ++ (codes " " ++ (decimal join.right ++ (codes " " ++ decimal join.bound))))))
+
+abbrev pub node_line : ℕ → Join → List ℕ
+node_line k join = node_bound k join ++ codes "\n"
+
+-- a line for each inner node, of which the first has number k
+abbrev pub node_lines : ℕ → List Join → List ℕ
+node_lines k [] = []
+node_lines k (join ∷ joins) = node_line k join ++ node_lines (k + 1) joins
+
+-- a line for each FROM entry's scan, and then one for each inner node
+abbrev pub tree_lines : List Source → BushyPlan → List ℕ
+tree_lines sources plan = scan_lines sources plan.scans ++ node_lines (length plan.scans) plan.joins
+
+-- node K LEFT RIGHT BOUND ROWS
+abbrev pub node_audit : ℕ → Join → ℕ → List ℕ
+node_audit k join rows = node_bound k join ++ row_count rows
+
+-- a line for each inner node with the number of its rows, of which the first has number k
+abbrev pub node_audits : ℕ → List Join → List ℕ → List ℕ
+node_audits k [] counts = []
+node_audits k (join ∷ joins) [] = []
+node_audits k (join ∷ joins) (rows ∷ counts) = node_audit k join rows ++ node_audits (k + 1) joins counts
+
+-- a line for each inner node, where these are the numbers of their rows. Of one entry there is none
+abbrev pub tree_audits : BushyPlan → List ℕ → List ℕ
+tree_audits plan counts = node_audits (length plan.scans) plan.joins counts

@@ -1,0 +1,349 @@
+-- The headline keeps the promise of `run`.
+use Rattle.std.proofs.Common.{◌≡◌, ◌⊎◌, inl, inr, ℕ, ◌+◌, ◌<◌, ◌≤◌, Bool, true, false, List, [], map, length, get_or, Option, None, Some, Result, Ok, Err, refl, ap, sym, ◌∙◌, subst, arith}
+use Rattle.std.specs.Prelude.{if◌then◌else◌, nat_lt, slice_get, IsOkAnd, IfOk}
+use Rattle.std.proofs.lemmas.Bool.Decides.{nat_tests}
+use Rattle.std.proofs.lemmas.List.{get_or-append-add, get_or-map, length-map}
+use Rattle.std.proofs.lemmas.Option.{get_or_from_slice_get, slice_get-get_or, slice_get_within}
+use Rattle.base_io.specs.Devices.{Growth}
+use Rattle.base_io.specs.Files.{Files, file_of}
+use Rattle.schema_types.specs.Texts.{IsSchemaOf}
+use Rattle.schema_types.specs.declared.errors.LimitKind.TheVariants as limit
+use Rattle.schema_types.specs.declared.errors.SchemaError.{SchemaError}
+use Rattle.schema_types.specs.declared.errors.SchemaError.TheVariants as schema_error
+use Rattle.schema_types.specs.declared.types.Schema.{Schema}
+use Rattle.schema_types.specs.declared.types.Table.{Table}
+use Rattle.csv_tables.specs.Files.{rows_of_file}
+use Rattle.csv_tables.specs.Rows.{Row}
+use Rattle.query_names.specs.declared.errors.QueryError.{QueryError}
+use Rattle.query_names.specs.declared.errors.QueryError.TheVariants as query_error
+use Rattle.query_types.specs.Validity.{IsOf}
+use Rattle.query_types.specs.declared.types.Query.{Query}
+use Rattle.query_types.specs.declared.types.Source.{Source}
+use Rattle.sql_parse.specs.Reading.{IsAnswer}
+use Rattle.text_answers.specs.QueryTexts.{query_answer}
+use Rattle.text_answers.specs.SchemaTexts.{schema_answer}
+use Rattle.text_answers.proofs.QueryAnswers as queries
+use Rattle.text_answers.proofs.SchemaAnswers as schemas
+use Rattle.outcomes.specs.Errors.{plan_refusal, query_refusal, schema_refusal, table_refusal}
+use Rattle.outcomes.specs.Reads.{◌>>=◌, seen, told}
+use Rattle.outcomes.specs.declared.names.FileId.{FileId}
+use Rattle.outcomes.specs.declared.names.FileId.TheVariants as file
+use Rattle.outcomes.specs.declared.refusal.Refusal.{Refusal}
+use Rattle.outcomes.specs.declared.refusal.Refusal.TheVariants as refusal
+use Rattle.table_files.specs.EntryTables.{tables_in}
+use Rattle.table_files.specs.FileNames.{file_name}
+use Rattle.table_files.specs.Stage.{no_table, numbers_of, place_of, rows_by_entry, rows_of_each, table_at, table_rows, tables_of_query, tables_stage}
+use Rattle.table_files.specs.TableFile.{bytes_of, file_rows, read, rows_of_bytes}
+use Rattle.table_files.proofs.EntryLaws.{entries_have, two_steps}
+use Rattle.reduced_scans.proofs.ByRounds.{reduced_scans_by_rounds}
+use Rattle.plans.specs.declared.left_deep.Plan.{Plan}
+use Rattle.tree_plans.specs.declared.bushy.BushyPlan.{BushyPlan}
+use Rattle.tree_plans.specs.declared.bushy.Join.{Join}
+use Rattle.tree_rows.specs.Rooms.{bound_at}
+use Rattle.tree_rows.specs.Trees.{entries_at}
+use Rattle.bushy_join.specs.Trees.{is_joined_leaf}
+use Rattle.safebound_words.specs.Answer.{command_of}
+use Rattle.safebound_words.specs.Requests.{Run}
+use Rattle.safebound_words.proofs.Readings.{asked_computed}
+use Rattle.safebound_top.specs.Accepted.{BoundsHold, printed}
+use Rattle.safebound_top.specs.Asks.{Ask, PlanOf, ask_for, command_stage, plan_for, request_stage, shape_asked, source_asked}
+use Rattle.safebound_top.specs.Call.{Call}
+use Rattle.safebound_top.specs.Headline.{GrewWhole, Headline}
+use Rattle.safebound_top.specs.Promise.{AreInFile, AreScans, AsksQuery, DeclaresSchema, HoldsAlong, HoldsOver, IsTheOne, PrintsOrder, PrintsPlan, PrintsTree, Promise, RanWhole, choices_over}
+use Rattle.safebound_top.specs.Shapes.{part_rows, planned_by, shape_lines}
+use Rattle.safebound_top.specs.Sources.{sourced}
+use Rattle.safebound_top.specs.Outcome.{NoBoundIsTooLow, Outcome, Planned, PrintsTheAnswer}
+use Rattle.safebound_top.specs.OutcomeTexts.{notes_text, out_text}
+use Rattle.safebound_top.specs.Texts.{rows_text}
+use Rattle.safebound_top.specs.Verdict.{ask_run, plan_asked, plan_stage, query_of_text, query_run, query_stage, run_asked, schema_of_text, schema_run, schema_stage, verdict}
+use Rattle.safebound_top.specs.declared.shapes.Shaped.{Shaped}
+use Rattle.safebound_top.specs.declared.shapes.Shaped.TheVariants as shaped
+use Rattle.safebound_top.specs.declared.task.ListSource.{ListSource}
+use Rattle.safebound_top.specs.declared.task.OutText.TheVariants as out_texts
+use Rattle.safebound_top.specs.declared.task.PlanTask.{PlanTask}
+use Rattle.safebound_top.specs.declared.task.Shape.{Shape}
+
+-- ---- values of stages
+
+pub told_ok : {A E : Type 0} (refusal_of : E → Refusal) (r : Result A E) (x : A) → told refusal_of r ≡ Ok x → r ≡ Ok x
+told_ok refusal_of (Ok y) x e = (let same : y ≡ x = cc in ap Ok same)
+told_ok refusal_of (Err s) x e = cc
+
+limited_ok : {A : Type 0} (long : Bool) (r : Refusal) (y x : A) → (if long then Err r else Ok y) ≡ Ok x → y ≡ x
+limited_ok true r y x e = cc
+limited_ok false r y x e = cc
+
+-- what was read is the whole file
+read_ok : (id : FileId) (most : ℕ) (name : List ℕ) (files : Files) (bytes : List ℕ) → read id most name files ≡ Ok bytes → file_of files name ≡ Some bytes
+read_ok id most name files bytes e = of_bytes (file_of files name) e where
+  of_bytes : (o : Option (List ℕ)) → bytes_of id most o ≡ Ok bytes → o ≡ Some bytes
+  of_bytes None h = cc
+  of_bytes (Some all) h =
+      ap Some (limited_ok (nat_lt most (length all)) (refusal.Limit limit.FileBytes id (most + 1)) all bytes h)
+
+-- ---- the texts
+
+the_schema : (text : List ℕ) (schema : Schema) → schema_answer text ≡ Ok schema → IsTheOne (λ s. IsSchemaOf text (Ok s)) schema
+the_schema text schema answered = record {
+  is = subst (IsSchemaOf text) answered (schemas.allowed text);
+  only = λ other is. of_only other (schemas.only text (Ok other) is);
+}
+  where
+    of_only : (other : Schema) → (Ok other ≡ Err schema_error.NoMemory) ⊎ (Ok other ≡ schema_answer text) → other ≡ schema
+    of_only other (inl memory) = cc
+    of_only other (inr same) = (let both : ◌≡◌ {A = Result Schema SchemaError} (Ok other) (Ok schema) = same ∙ answered in cc)
+
+the_query : (schema : Schema) (text : List ℕ) (query : Query) → query_answer schema text ≡ Ok query → IsTheOne (λ q. IsAnswer schema text (Ok q)) query
+the_query schema text query answered = record {
+  is = subst (IsAnswer schema text) answered (queries.allowed schema text);
+  only = λ other is. of_only other (queries.only schema text (Ok other) is);
+}
+  where
+    of_only : (other : Query) → (Ok other ≡ Err query_error.NoMemory) ⊎ (Ok other ≡ query_answer schema text) → other ≡ query
+    of_only other (inl memory) = cc
+    of_only other (inr same) = (let both : ◌≡◌ {A = Result Query QueryError} (Ok other) (Ok query) = same ∙ answered in cc)
+
+pub declares : (name : List ℕ) (files : Files) (schema : Schema) → schema_stage name files ≡ Ok schema → DeclaresSchema files name schema
+unfolding schema_stage
+declares name files schema e =
+    let steps = two_steps (read file.Schema 1048576 name files) schema_of_text schema e in
+    record {
+      text = steps.0;
+      there = read_ok file.Schema 1048576 name files steps.0 steps.1;
+      declares = the_schema steps.0 schema (told_ok schema_refusal (schema_answer steps.0) schema steps.2);
+    }
+
+pub asks : (name : List ℕ) (files : Files) (schema : Schema) (query : Query) → query_stage name schema files ≡ Ok query → AsksQuery files name schema query
+unfolding query_stage
+asks name files schema query e =
+    let steps = two_steps (read file.Query 1048576 name files) (query_of_text schema) query e in
+    record {
+      text = steps.0;
+      there = read_ok file.Query 1048576 name files steps.0 steps.1;
+      asks = the_query schema steps.0 query (told_ok query_refusal (query_answer schema steps.0) query steps.2);
+    }
+
+-- ---- the rows
+
+pub query_of_schema : (name : List ℕ) (files : Files) (schema : Schema) (query : Query) → query_stage name schema files ≡ Ok query → IsOf schema query
+unfolding query_stage
+query_of_schema name files schema query e =
+    let steps = two_steps (read file.Query 1048576 name files) (query_of_text schema) query e in
+    queries.of_schema schema steps.0 query (told_ok query_refusal (query_answer schema steps.0) query steps.2)
+
+-- the rows of a table's file
+table_ok : (number : ℕ) (table : Table) (files : Files) (rows : List Row) → file_rows number table files ≡ Ok rows
+    → (bytes : List ℕ) × (file_of files (file_name table) ≡ Some bytes) × (rows_of_file table bytes ≡ Ok rows)
+unfolding file_rows
+table_ok number table files rows e =
+    let steps = two_steps (read (file.Table number) 67108864 (file_name table) files) (rows_of_bytes number table) rows e in (
+      steps.0,
+      read_ok (file.Table number) 67108864 (file_name table) files steps.0 steps.1,
+      told_ok (table_refusal number) (rows_of_file table steps.0) rows steps.2,
+    )
+
+module _ (schema : Schema) (query : Query) (files : Files) (rows : List (List Row)) (of : IsOf schema query)
+    (staged : tables_stage schema query.from files ≡ Ok rows) where
+  one_each : length rows ≡ length query.from
+  unfolding tables_stage
+  one_each =
+      let steps = two_steps (rows_of_each schema (tables_of_query query.from) files) (λ all. Ok (rows_by_entry query.from all)) rows staged in
+      let same : rows_by_entry query.from steps.0 ≡ rows = cc (steps.2) in
+      ap (λ (l : List (List Row)). length l) (sym same)
+      ∙ length-map (numbers_of query.from) (λ number. get_or steps.0 (place_of (tables_of_query query.from) number) [])
+      ∙ length-map query.from (λ (source : Source). source.table)
+
+  -- no entry is past the last one
+  tables_are : (entry : ℕ) → entry < length query.from → get_or rows entry [] ≡ tables_in rows entry
+  tables_are entry low =
+      let there : entry < length rows = omega (arith, one_each) in
+      let same : Some (get_or rows entry []) ≡ Some (tables_in rows entry) =
+      sym (slice_get-get_or rows entry [] there) ∙ slice_get-get_or rows entry (get_or rows 0 []) there in
+      cc
+
+  rows_in_files : (entry : ℕ) → entry < length query.from → AreInFile files schema query entry (tables_in rows entry)
+  rows_in_files entry low =
+      let none : Source = record { table = 0; alias = [] } in
+      let source : Source = get_or query.from entry none in
+      let number : get_or (numbers_of query.from) entry 0 ≡ source.table = get_or-map (λ (s : Source). s.table) query.from entry none 0 low in
+      let found : table_rows schema (get_or (numbers_of query.from) entry 0) files ≡ Ok (get_or rows entry []) =
+      entries_have schema query.from files rows staged entry low in
+      let here : table_rows schema source.table files ≡ Ok (tables_in rows entry) =
+      ap (λ (n : ℕ). table_rows schema n files) (sym number) ∙ found ∙ ap (λ (r : List Row). Ok r) (tables_are entry low) in
+      let read = table_ok source.table (table_at schema source.table) files (tables_in rows entry) here in
+      record {
+        source = source;
+        is_source = slice_get-get_or query.from entry none low;
+        table = table_at schema source.table;
+        is_table = slice_get-get_or schema.tables source.table no_table (of.sources entry none low);
+        bytes = read.0;
+        there = read.1;
+        read = read.2;
+      }
+
+-- ---- the plan
+
+module _ (task : PlanTask) (query : Query) (rows : List (List Row)) where
+  abbrev lists_over : ListSource → List (List ℕ)
+  lists_over source = (sourced source query (tables_in rows)).lists
+
+  scans_are : (reduce : Bool) → AreScans reduce query (tables_in rows) (sourced (source_asked reduce) query (tables_in rows)).lists
+  unfolding sourced
+  scans_are false = refl
+  scans_are true = reduced_scans_by_rounds query (tables_in rows)
+
+  along : (plan : Plan) → BoundsHold (run_asked task query rows (shaped.Along plan))
+      → HoldsAlong query (tables_in rows) (sourced task.source query (tables_in rows)).lists plan
+  along plan h = record {
+    each_entry = h.plan;
+    scans_fit = h.scans;
+    levels_fit = λ k low. h.parts k (omega (arith, h.plan.order.all));
+  }
+
+  module _ (plan : BushyPlan) (h : BoundsHold (run_asked task query rows (shaped.Over plan))) where
+    node_bound : (k : ℕ) (join : Join) → slice_get plan.joins k ≡ Some join → bound_at plan (length plan.scans + k) ≡ join.bound
+    node_bound k join is =
+        get_or-append-add plan.scans (map (λ (j : Join). j.bound) plan.joins) k 0
+        ∙ get_or-map (λ (j : Join). j.bound) plan.joins k join 0 (slice_get_within plan.joins k join is)
+        ∙ ap (λ (j : Join). j.bound) (get_or_from_slice_get plan.joins k join join is)
+
+    no_leaf : (k : ℕ) → is_joined_leaf plan (length plan.scans + k) ≡ false
+    no_leaf k = (let far : length plan.scans ≤ length plan.scans + k = omega arith in grind (arith, nat_tests))
+
+    node_fits : (k : ℕ) (join : Join) → slice_get plan.joins k ≡ Some join
+        → length (choices_over query (tables_in rows) (sourced task.source query (tables_in rows)).lists (entries_at plan (length plan.scans + k))) ≤ join.bound
+    node_fits k join is =
+        let fits : length (part_rows query (tables_in rows) (lists_over task.source) (shaped.Over plan) k) ≤ bound_at plan (length plan.scans + k) =
+        h.parts k (slice_get_within plan.joins k join is) in
+        let inner : length (choices_over query (tables_in rows) (lists_over task.source) (entries_at plan (length plan.scans + k))) ≤ bound_at plan (length plan.scans + k) =
+        rw (no_leaf k) at fits in
+        subst (λ (n : ℕ). length (choices_over query (tables_in rows) (lists_over task.source) (entries_at plan (length plan.scans + k))) ≤ n)
+        (node_bound k join is) inner
+
+    over : HoldsOver query (tables_in rows) (sourced task.source query (tables_in rows)).lists plan
+    over = record {
+      each_entry = h.plan;
+      scans_fit = h.scans;
+      nodes_fit = λ k join is.
+          subst (λ (n : ℕ). length (choices_over query (tables_in rows) (lists_over task.source) (entries_at plan (n + k))) ≤ join.bound)
+          h.plan.scans (node_fits k join is);
+    }
+
+-- a view of a value
+seen_ok : {A B E : Type 0} (view : A → B) (r : Result A E) (y : B) → seen view r ≡ Ok y → (x : A) × (view x ≡ y)
+seen_ok view (Ok x) y e = (x, cc)
+seen_ok view (Err s) y e = cc
+
+-- the text of a plan of the shape that was asked for
+prints : (bushy : Bool) (task : PlanTask) (query : Query) (rows : List (List Row)) (plan : Shaped) → task.shape ≡ shape_asked bushy
+    → plan_asked task query (tables_in rows) ≡ Ok plan → BoundsHold (run_asked task query rows plan)
+    → PrintsPlan bushy query (tables_in rows) (sourced task.source query (tables_in rows)).lists (shape_lines query.from plan)
+unfolding planned_by
+prints bushy task query rows plan shape made h =
+    by bushy (subst (λ (s : Shape). planned_by s (sourced task.source query (tables_in rows)) query task.accuracy task.budget ≡ Ok plan) shape made)
+  where
+    by : (bushy : Bool) → planned_by (shape_asked bushy) (sourced task.source query (tables_in rows)) query task.accuracy task.budget ≡ Ok plan
+        → PrintsPlan bushy query (tables_in rows) (sourced task.source query (tables_in rows)).lists (shape_lines query.from plan)
+    by false e =
+        let found = seen_ok (λ p. shaped.Along p) _ plan e in
+        subst (λ (p : Shaped). PrintsOrder query (tables_in rows) (sourced task.source query (tables_in rows)).lists (shape_lines query.from p)) found.1
+        (record {
+          plan = found.0;
+          holds = along task query rows found.0 (subst (λ (p : Shaped). BoundsHold (run_asked task query rows p)) (sym found.1) h);
+          prints = refl;
+        })
+    by true e =
+        let found = seen_ok (λ p. shaped.Over p) _ plan e in
+        subst (λ (p : Shaped). PrintsTree query (tables_in rows) (sourced task.source query (tables_in rows)).lists (shape_lines query.from p)) found.1
+        (record {
+          plan = found.0;
+          holds = over task query rows found.0 (subst (λ (p : Shaped). BoundsHold (run_asked task query rows p)) (sym found.1) h);
+          prints = refl;
+        })
+
+-- ---- the stages of a run
+
+pub record Stages (schema_file query_file : List ℕ) (task : PlanTask) (files : Files) (outcome : Outcome) : Type 0 where
+  pub schema : Schema
+  pub schema_read : schema_stage schema_file files ≡ Ok schema
+  pub query : Query
+  pub query_read : query_stage query_file schema files ≡ Ok query
+  pub rows : List (List Row)
+  pub rows_read : tables_stage schema query.from files ≡ Ok rows
+  pub plan : Shaped
+  pub planned : plan_asked task query (tables_in rows) ≡ Ok plan
+  pub is_run : Planned (run_asked task query rows plan) ≡ outcome
+
+pub stages : (schema_file query_file : List ℕ) (task : PlanTask) (files : Files) (outcome : Outcome)
+    → ask_run (ask_for schema_file query_file (PlanOf task)) files ≡ Ok outcome → Stages schema_file query_file task files outcome
+unfolding ask_run schema_run query_run plan_stage
+stages schema_file query_file task files outcome e =
+    let ask : Ask = ask_for schema_file query_file (PlanOf task) in
+    let first = two_steps (schema_stage schema_file files) (λ schema. schema_run ask schema files) outcome e in
+    let second = two_steps (query_stage query_file first.0 files) (λ query. query_run ask first.0 query files) outcome first.2 in
+    let third = two_steps (tables_stage first.0 second.0.from files) (plan_stage task second.0) outcome second.2 in
+    let last = two_steps (told plan_refusal (plan_asked task second.0 (tables_in third.0))) (λ plan. Ok (Planned (run_asked task second.0 third.0 plan))) outcome third.2 in
+    record {
+      schema = first.0;
+      schema_read = first.1;
+      query = second.0;
+      query_read = second.1;
+      rows = third.0;
+      rows_read = third.1;
+      plan = last.0;
+      planned = told_ok plan_refusal (plan_asked task second.0 (tables_in third.0)) last.0 last.1;
+      is_run = (let same : Planned (run_asked task second.0 third.0 last.0) ≡ outcome = cc (last.2) in same);
+    }
+
+-- ---- the promise
+
+ok_and : {A E : Type 0} (P : A → Type 0) (r : Result A E) → IsOkAnd r P → (x : A) × (r ≡ Ok x) × P x
+ok_and P (Ok x) h = (x, refl, h)
+ok_and P (Err e) h = absurd h
+
+if_ok : {A E : Type 0} (P : A → Type 0) (r : Result A E) (x : A) → r ≡ Ok x → IfOk r P → P x
+if_ok P r x e h = subst (λ s. IfOk s P) e h
+
+module _ (schema_file query_file : List ℕ) (budget accuracy : ℕ) (reduce bushy : Bool) (files : Files) (notes out : Growth) where
+  abbrev task : PlanTask
+  task = record { budget = budget; accuracy = accuracy; source = source_asked reduce; shape = shape_asked bushy; out = out_texts.Rows }
+
+  ran_whole : (outcome : Outcome) → ask_run (ask_for schema_file query_file (PlanOf task)) files ≡ Ok outcome
+      → GrewWhole notes (notes_text outcome) → GrewWhole out (out_text outcome) → NoBoundIsTooLow outcome → PrintsTheAnswer outcome
+      → RanWhole files schema_file query_file reduce bushy notes out
+  ran_whole outcome e noted written bounds answered =
+      let s : Stages schema_file query_file task files outcome = stages schema_file query_file task files outcome e in
+      let back : outcome ≡ Planned (run_asked task s.query s.rows s.plan) = sym s.is_run in
+      record {
+        schema = s.schema;
+        declares = declares schema_file files s.schema s.schema_read;
+        query = s.query;
+        asks = asks query_file files s.schema s.query s.query_read;
+        tables = tables_in s.rows;
+        rows = rows_in_files s.schema s.query files s.rows (query_of_schema query_file files s.schema s.query s.query_read) s.rows_read;
+        scans = (sourced (source_asked reduce) s.query (tables_in s.rows)).lists;
+        are_scans = scans_are task s.query s.rows reduce;
+        plan_text = shape_lines s.query.from s.plan;
+        plan = prints bushy task s.query s.rows s.plan refl s.planned (subst NoBoundIsTooLow back bounds);
+        plan_written = subst (λ (o : Outcome). GrewWhole notes (notes_text o)) back noted;
+        rows_text = rows_text (run_asked task s.query s.rows s.plan);
+        answer = record {
+          rows = printed (run_asked task s.query s.rows s.plan);
+          is_answer = subst PrintsTheAnswer back answered;
+          prints = refl;
+        };
+        answer_written = subst (λ (o : Outcome). GrewWhole out (out_text o)) back written;
+      }
+
+pub keeps_promise : (call : Call) → Headline call → Promise call
+unfolding verdict
+keeps_promise call h schema_file query_file budget accuracy reduce bushy files words done told =
+    let command : command_of call.words ≡ Some (Run schema_file query_file budget accuracy reduce bushy) =
+    asked_computed call.words (Run schema_file query_file budget accuracy reduce bushy) words in
+    let asked : command_stage call.words ≡ Ok (ask_for schema_file query_file (plan_for out_texts.Rows budget accuracy reduce bushy)) = ap request_stage command in
+    let ended = ok_and (λ outcome. GrewWhole call.notes (notes_text outcome) × GrewWhole call.out (out_text outcome)) (verdict call.words files) (h.done_is_exact done files told) in
+    let from_ask : ask_run (ask_for schema_file query_file (plan_for out_texts.Rows budget accuracy reduce bushy)) files ≡ Ok ended.0 =
+    sym (ap (λ (r : Result Ask Refusal). r >>= (λ ask. ask_run ask files)) asked) ∙ ended.1 in
+    ran_whole schema_file query_file budget accuracy reduce bushy files call.notes call.out ended.0 from_ask ended.2.0 ended.2.1
+    (if_ok NoBoundIsTooLow (verdict call.words files) ended.0 ended.1 (h.every_bound_holds files told))
+    (if_ok PrintsTheAnswer (verdict call.words files) ended.0 ended.1 (h.the_rows_are_the_answer files told))

@@ -1,0 +1,15 @@
+use Rattle.filed_bounds.proofs.Named.{names_own}
+use Rattle.safebound_top.proofs.FiledStages.{filed_planned, filed_told}
+use Rattle.safebound_top.proofs.filed.plan_filed.Goals as goal
+
+pub plan_from_file-requires-clause-file : goal.plan_from_file-requires-clause-file
+plan_from_file-requires-clause-file c = record { schema = c.args.schema.now; keeps = c.requires.file }
+
+pub plan_from_file-requires-clause-own : goal.plan_from_file-requires-clause-own
+plan_from_file-requires-clause-own c = names_own c.args.schema.now c.args.query c.requires.query
+
+pub returns-in-Ok-clause-planned : goal.returns-in-Ok-clause-planned
+returns-in-Ok-clause-planned c = filed_planned c.args.query c.args.file c.args.budget c.in-Ok.plan c.in-Ok.ensures.planned
+
+pub returns-in-Err-clause-refused : goal.returns-in-Err-clause-refused
+returns-in-Err-clause-refused c = rw c.ending_of.ensures (filed_told c.args.query c.args.file c.args.budget c.in-Err.error c.in-Err.ensures.refused)

@@ -1,0 +1,18 @@
+-- The texts of what a run comes to.
+use Rattle.std.specs.Prelude.{ℕ, List, Option, None, Some}
+use Rattle.printed_texts.specs.Plans.{plan_lines}
+use Rattle.stats_file.specs.FileText.{file_text}
+use Rattle.safebound_top.specs.Outcome.{Filed, Outcome, Planned, PlannedByFile}
+use Rattle.safebound_top.specs.Texts.{out_text_of, plan_text}
+
+-- the text for notes, where there is one: the plan text
+abbrev pub notes_text : Outcome → Option (List ℕ)
+notes_text (Planned run) = Some (plan_text run)
+notes_text (Filed filed) = None
+notes_text (PlannedByFile made) = Some (plan_lines made.query.from made.plan)
+
+-- the text for out, where there is one
+abbrev pub out_text : Outcome → Option (List ℕ)
+out_text (Planned run) = out_text_of run
+out_text (Filed filed) = Some (file_text filed.schema filed.file)
+out_text (PlannedByFile made) = None

@@ -1,0 +1,144 @@
+-- What `run` promises, from its words and files and SQL to the two texts, with no stage of the program between.
+--
+-- Where a call of `run` ends with Done, over files that the store tells: the schema's file declares one schema, the query's file asks one
+-- query of it, and each FROM entry has the rows in its table's file. A plan was printed of which no bound is too low, and the rows that were
+-- printed are the answer of the query, each as often as there.
+use Rattle.std.specs.Prelude.{ℕ, ◌≡◌, ◌+◌, ◌<◌, ◌≤◌, Bool, true, false, List, length, slice_get, slice_index, take, Some, Ok, IsPermutation}
+use Rattle.base_io.specs.Devices.{Growth}
+use Rattle.base_io.specs.Files.{Files, file_of}
+use Rattle.schema_types.specs.Texts.{IsSchemaOf}
+use Rattle.schema_types.specs.declared.types.Schema.{Schema}
+use Rattle.schema_types.specs.declared.types.Table.{Table}
+use Rattle.query_types.specs.declared.types.Query.{Query}
+use Rattle.query_types.specs.declared.types.Source.{Source}
+use Rattle.sql_parse.specs.Reading.{IsAnswer}
+use Rattle.csv_tables.specs.Files.{rows_of_file}
+use Rattle.csv_tables.specs.Rows.{Row}
+use Rattle.table_files.specs.FileNames.{file_name}
+use Rattle.sql_meaning.specs.Answers.{answer, conjuncts_of}
+use Rattle.sql_meaning.specs.Levels.{level_over}
+use Rattle.sql_meaning.specs.Tables.{Tables}
+use Rattle.join_steps.specs.Lists.{list_at, scans_of}
+use Rattle.reduced_scans.specs.Scans.{AreReducedScans}
+use Rattle.plans.specs.LeftDeep.{IsPlan}
+use Rattle.plans.specs.declared.left_deep.Plan.{Plan}
+use Rattle.tree_plans.specs.TreePlans.{IsTreePlan}
+use Rattle.tree_plans.specs.declared.bushy.BushyPlan.{BushyPlan}
+use Rattle.tree_plans.specs.declared.bushy.Join.{Join}
+use Rattle.tree_rows.specs.Trees.{entries_at}
+use Rattle.printed_texts.specs.Plans.{plan_lines}
+use Rattle.printed_texts.specs.Texts.{rows_lines}
+use Rattle.printed_texts.specs.TreePlans.{tree_lines}
+use Rattle.safebound_words.specs.CommandLines.{AskFor}
+use Rattle.safebound_words.specs.Requests.{Run}
+use Rattle.outcomes.specs.declared.status.Status.TheVariants as status
+use Rattle.safebound_top.specs.Call.{Call, Grew}
+
+-- ---- what the files say
+
+-- the value is such, and no other one is
+pub record IsTheOne {A : Type 0} (IsSuch : A → Type 0) (value : A) : Type 0 where
+  pub is : IsSuch value
+  pub only : (other : A) → IsSuch other → other ≡ value
+
+-- the text in the file of this name declares the schema
+pub record DeclaresSchema (files : Files) (name : List ℕ) (schema : Schema) : Type 0 where
+  pub text : List ℕ
+  pub there : file_of files name ≡ Some text
+  pub declares : IsTheOne (λ s. IsSchemaOf text (Ok s)) schema
+
+-- the text in the file of this name asks the query of a schema
+pub record AsksQuery (files : Files) (name : List ℕ) (schema : Schema) (query : Query) : Type 0 where
+  pub text : List ℕ
+  pub there : file_of files name ≡ Some text
+  pub asks : IsTheOne (λ q. IsAnswer schema text (Ok q)) query
+
+-- the rows of a FROM entry are those in the file of its table
+pub record AreInFile (files : Files) (schema : Schema) (query : Query) (entry : ℕ) (rows : List Row) : Type 0 where
+  pub source : Source
+  pub is_source : slice_get query.from entry ≡ Some source
+  pub table : Table
+  pub is_table : slice_get schema.tables source.table ≡ Some table
+  pub bytes : List ℕ
+  pub there : file_of files (file_name table) ≡ Some bytes
+  pub read : rows_of_file table bytes ≡ Ok rows
+
+-- ---- what the plan text says
+
+-- the rows that are joined: for each FROM entry those for which every conjunct holds that names just this entry; with `--reduce` the greatest
+-- lists of such rows of which each has a partner for every equality
+abbrev pub AreScans : Bool → Query → Tables → List (List ℕ) → Type 0
+AreScans false query tables scans = scans ≡ scans_of query tables
+AreScans true query tables scans = AreReducedScans query tables scans
+
+-- the choices of a row of its scan for each of these entries, for which every conjunct holds that names only these
+abbrev pub choices_over : Query → Tables → List (List ℕ) → List ℕ → List (List ℕ)
+choices_over query tables scans entries = level_over (conjuncts_of query tables) (list_at scans) entries
+
+-- no scan has more rows than its bound
+abbrev pub ScansFit : Query → List (List ℕ) → List ℕ → Type 0
+ScansFit query scans bounds = (entry : ℕ) → entry < length query.from → length (list_at scans entry) ≤ slice_index bounds entry
+
+-- an order of all entries. No scan has more rows than its bound, and no level, of the first k + 1 entries
+pub record HoldsAlong (query : Query) (tables : Tables) (scans : List (List ℕ)) (plan : Plan) : Type 0 where
+  pub each_entry : IsPlan (length query.from) plan
+  pub scans_fit : ScansFit query scans plan.scans
+  pub levels_fit : (k : ℕ) → k < length query.from
+      → length (choices_over query tables scans (take (k + 1) plan.order)) ≤ slice_index plan.levels k
+
+-- a join tree of all entries. No scan has more rows than its bound, and no inner node, of the entries at its leaves
+pub record HoldsOver (query : Query) (tables : Tables) (scans : List (List ℕ)) (plan : BushyPlan) : Type 0 where
+  pub each_entry : IsTreePlan (length query.from) plan
+  pub scans_fit : ScansFit query scans plan.scans
+  pub nodes_fit : (k : ℕ) (join : Join) → slice_get plan.joins k ≡ Some join
+      → length (choices_over query tables scans (entries_at plan (length query.from + k))) ≤ join.bound
+
+-- a plan with its text: an order, or with `--bushy` a join tree
+pub record PrintsOrder (query : Query) (tables : Tables) (scans : List (List ℕ)) (text : List ℕ) : Type 0 where
+  pub plan : Plan
+  pub holds : HoldsAlong query tables scans plan
+  pub prints : text ≡ plan_lines query.from plan
+
+pub record PrintsTree (query : Query) (tables : Tables) (scans : List (List ℕ)) (text : List ℕ) : Type 0 where
+  pub plan : BushyPlan
+  pub holds : HoldsOver query tables scans plan
+  pub prints : text ≡ tree_lines query.from plan
+
+abbrev pub PrintsPlan : Bool → Query → Tables → List (List ℕ) → List ℕ → Type 0
+PrintsPlan false query tables scans text = PrintsOrder query tables scans text
+PrintsPlan true query tables scans text = PrintsTree query tables scans text
+
+-- ---- what the rows text says
+
+-- a header, and then the rows of the answer, each as often as there
+pub record PrintsAnswer (query : Query) (tables : Tables) (text : List ℕ) : Type 0 where
+  pub rows : List Row
+  pub is_answer : IsPermutation rows (answer query tables)
+  pub prints : text ≡ rows_lines query.select rows
+
+-- ---- the promise
+
+-- a run of the query in the one file, over the schema in the other and the tables' files: notes grew by the text of its plan, and out by its
+-- answer
+pub record RanWhole (files : Files) (schema_file query_file : List ℕ) (reduce bushy : Bool) (notes out : Growth) : Type 0 where
+  pub schema : Schema
+  pub declares : DeclaresSchema files schema_file schema
+  pub query : Query
+  pub asks : AsksQuery files query_file schema query
+  pub tables : Tables
+  pub rows : (entry : ℕ) → entry < length query.from → AreInFile files schema query entry (tables entry)
+  pub scans : List (List ℕ)
+  pub are_scans : AreScans reduce query tables scans
+  pub plan_text : List ℕ
+  pub plan : PrintsPlan bushy query tables scans plan_text
+  pub plan_written : Grew notes plan_text
+  pub rows_text : List ℕ
+  pub answer : PrintsAnswer query tables rows_text
+  pub answer_written : Grew out rows_text
+
+-- each call of `run` that ends with Done, whatever its budget and its accuracy
+abbrev pub Promise : Call → Type 0
+Promise call = (schema_file query_file : List ℕ) (budget accuracy : ℕ) (reduce bushy : Bool) (files : Files)
+    → AskFor call.words (Run schema_file query_file budget accuracy reduce bushy)
+    → call.status ≡ status.Done → call.store.files ≡ Some files
+    → RanWhole files schema_file query_file reduce bushy call.notes call.out

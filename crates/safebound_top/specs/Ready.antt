@@ -1,0 +1,34 @@
+-- What was read and planned, as what the run comes to.
+use Rattle.std.specs.Prelude.{length}
+use Rattle.plans.specs.LeftDeep.{IsPlan}
+use Rattle.schema_types.specs.declared.types.Schema.{Schema}
+use Rattle.stats_file.specs.Rules.{KeepsRules}
+use Rattle.table_files.specs.EntryTables.{entry_rows}
+use Rattle.safebound_top.specs.declared.filed.PreparedPlan.{PreparedPlan}
+use Rattle.safebound_top.specs.declared.filed.PreparedFile.{PreparedFile}
+use Rattle.safebound_top.specs.declared.prepare.Prepared.{Prepared}
+use Rattle.safebound_top.specs.declared.prepare.Ready.{Ready}
+use Rattle.safebound_top.specs.declared.prepare.Ready.TheVariants as ready
+use Rattle.safebound_top.specs.Outcome.{Filed, Outcome, Planned, PlannedByFile}
+use Rattle.safebound_top.specs.Prepared.{IsReady, accepted_of}
+
+abbrev pub planned_from : Prepared → Outcome
+planned_from prepared = Planned (accepted_of prepared)
+
+abbrev pub file_from : Schema → PreparedFile → Outcome
+file_from schema filed = Filed (record { schema = schema; query = filed.query; rows = entry_rows filed.db; file = filed.file })
+
+abbrev pub plan_from : PreparedPlan → Outcome
+plan_from made = PlannedByFile (record { query = made.query; file = made.file; plan = made.plan })
+
+abbrev pub outcome_of : Schema → Ready → Outcome
+outcome_of schema (ready.Planned prepared) = planned_from prepared
+outcome_of schema (ready.Filed filed) = file_from schema filed
+outcome_of schema (ready.PlannedByFile made) = plan_from made
+
+-- all that is left to write can be written without memory: a query, the database of its tables, a plan for its entries, and the room for
+-- what is left to do; a file that keeps the rules; or a plan for the query's entries
+abbrev pub CanBeWritten : Schema → Ready → Type 0
+CanBeWritten schema (ready.Planned prepared) = IsReady prepared
+CanBeWritten schema (ready.Filed filed) = KeepsRules schema filed.file
+CanBeWritten schema (ready.PlannedByFile made) = IsPlan (length made.query.from) made.plan

@@ -1,0 +1,102 @@
+-- The columns of a schema that a text declares have names of bytes, since the text is UTF-8.
+use Rattle.std.proofs.Common.{◌≡◌, ℕ, zero, suc, ◌-◌, ◌<◌, ◌==◌, if◌then◌else◌, List, [], ◌∷◌, length, map, take, drop, Option, Some, None, Result, Ok, subst, arith}
+use Rattle.std.specs.Prelude.{All}
+use Rattle.std.specs.Char.{to_ascii_uppercase}
+use Rattle.std.specs.List.{flat_map}
+use Rattle.std.proofs.lemmas.Bool.{cond_both}
+use Rattle.std.proofs.lemmas.Bool.Decides.{nat_tests}
+use Rattle.ll_grammars.specs.declared.lexeme.Lexeme.{Lexeme}
+use Rattle.schema_grammar.specs.declared.tree.Element.{Element}
+use Rattle.schema_grammar.specs.declared.tree.Element.TheVariants as element
+use Rattle.schema_grammar.specs.declared.tree.TableText.{TableText}
+use Rattle.sql_tokens.specs.Words.{folded, name_of, name_of_bytes, single, slice}
+use Rattle.schema_types.specs.declared.errors.SchemaError.{SchemaError}
+use Rattle.schema_types.specs.declared.types.Column.{Column}
+use Rattle.schema_types.specs.declared.types.Schema.{Schema}
+use Rattle.schema_types.specs.declared.types.Table.{Table}
+use Rattle.schema_types.specs.Meaning.{bound, element_column, schema_of, table_of, unless_found, within_limits}
+use Rattle.schema_types.specs.Names.{first}
+use Rattle.schema_types.specs.Offences.{offences}
+use Rattle.schema_types.specs.Refusals.{above, column_counts, nullable_places, text_lengths}
+use Rattle.schema_types.specs.Texts.{Declares}
+use Rattle.stats_file.specs.Bytes.{AreBytes}
+use Rattle.stats_words.proofs.TextFacts.{utf8_bytes}
+use Rattle.stats_reading.specs.Names.{HasByteColumns}
+
+-- ---- names
+
+front_bytes : (k : ℕ) (bytes : List ℕ) → AreBytes bytes → AreBytes (take k bytes)
+front_bytes zero bytes are = tt
+front_bytes (suc k) [] are = tt
+front_bytes (suc k) (b ∷ bytes) are = (are.0, front_bytes k bytes are.1)
+
+rest_bytes : (k : ℕ) (bytes : List ℕ) → AreBytes bytes → AreBytes (drop k bytes)
+rest_bytes zero bytes are = are
+rest_bytes (suc k) [] are = tt
+rest_bytes (suc k) (b ∷ bytes) are = rest_bytes k bytes are.1
+
+single_bytes : (quote : ℕ) (bytes : List ℕ) → AreBytes bytes → AreBytes (single quote bytes)
+single_bytes quote [] are = tt
+single_bytes quote (b ∷ []) are = cond_both (b == quote) [] (b ∷ []) AreBytes (λ e. tt) (λ e. are)
+single_bytes quote (b ∷ c ∷ rest) are =
+    cond_both (b == quote) (if c == quote then quote ∷ single quote rest else []) (b ∷ single quote (c ∷ rest)) AreBytes
+    (λ e. cond_both (c == quote) (quote ∷ single quote rest) [] AreBytes (λ f. (grind (arith, nat_tests), single_bytes quote rest are.1.1)) (λ f. tt))
+    (λ e. (are.0, single_bytes quote (c ∷ rest) are.1))
+
+upper_byte : (c : ℕ) → c < 256 → to_ascii_uppercase c < 256
+upper_byte c small = grind (arith, nat_tests)
+
+folded_bytes : (bytes : List ℕ) → AreBytes bytes → AreBytes (folded bytes)
+folded_bytes [] are = tt
+folded_bytes (b ∷ bytes) are = (upper_byte b are.0, folded_bytes bytes are.1)
+
+named_bytes : (bytes : List ℕ) → AreBytes bytes → AreBytes (name_of_bytes bytes)
+named_bytes [] are = tt
+named_bytes (b ∷ rest) are =
+    cond_both (b == 34) (single 34 rest) (folded (b ∷ rest)) AreBytes (λ e. single_bytes 34 rest are.1) (λ e. folded_bytes (b ∷ rest) are)
+
+name_bytes : (text : List ℕ) (lexeme : Lexeme) → AreBytes text → AreBytes (name_of text lexeme)
+unfolding name_of
+name_bytes text lexeme are =
+    named_bytes (slice text lexeme.start lexeme.end) (front_bytes (lexeme.end - lexeme.start) (drop lexeme.start text) (rest_bytes lexeme.start text are))
+
+-- ---- schemas
+
+abbrev HasByteName : Column → Type 0
+HasByteName column = AreBytes column.name
+
+abbrev HasByteNames : Table → Type 0
+HasByteNames table = All HasByteName table.columns
+
+columns_bytes : (text : List ℕ) (elements : List Element) → AreBytes text → All HasByteName (flat_map (element_column text) elements)
+columns_bytes text [] are k d lt = absurd (omega arith)
+columns_bytes text (element.Column column ∷ elements) are zero d lt = name_bytes text column.name are
+columns_bytes text (element.Column column ∷ elements) are (suc k) d lt = columns_bytes text elements are k d (omega arith)
+columns_bytes text (element.Rule rule ∷ elements) are k d lt = columns_bytes text elements are k d lt
+
+tables_bytes : (text : List ℕ) (tables some : List TableText) → AreBytes text → All HasByteNames (map (table_of text tables) some)
+unfolding table_of
+tables_bytes text tables [] are k d lt = absurd (omega arith)
+tables_bytes text tables (table ∷ some) are zero d lt = columns_bytes text table.elements are
+tables_bytes text tables (table ∷ some) are (suc k) d lt = tables_bytes text tables some are k d (omega arith)
+
+schema_bytes : (text : List ℕ) (tables : List TableText) → AreBytes text → HasByteColumns (schema_of text tables)
+unfolding schema_of
+schema_bytes text tables are = tables_bytes text tables tables are
+
+passed : (found : Option ℕ) (cause : ℕ → SchemaError) (rest : Result Schema SchemaError) (schema : Schema) → unless_found found cause rest ≡ Ok schema → rest ≡ Ok schema
+passed None cause rest schema e = e
+passed (Some n) cause rest schema e = absurd (cc)
+
+same_schema : (a b : Schema) → ◌≡◌ {A = Result Schema SchemaError} (Ok a) (Ok b) → a ≡ b
+same_schema a b e = cc
+
+pub declared_bytes : (text : List ℕ) (schema : Schema) → Declares text (Ok schema) → HasByteColumns schema
+unfolding bound within_limits
+declared_bytes text schema d =
+    let named = passed (first (offences text d.tables)) _ _ schema d.answers in
+    let full = passed (first (nullable_places text d.tables)) _ _ schema named in
+    let few = passed (first (above 64 (length d.tables ∷ []))) _ _ schema full in
+    let counts = passed (first (above 64 (column_counts d.tables))) _ _ schema few in
+    let short = passed (first (above 1000000 (text_lengths text d.tables))) _ _ schema counts in
+    subst HasByteColumns (same_schema (schema_of text d.tables) schema short) (schema_bytes text d.tables (utf8_bytes text d.spells.lexed.utf8))

@@ -1,0 +1,4 @@
+pub mod ByteNames
+pub mod OneAnswer
+pub mod StatsAnswers
+pub mod SmallTexts

@@ -1,0 +1,11 @@
+-- The one answer of the text of a statistics file over a schema. It goes from line to line, and asks at each line whether
+-- some value that may be next has its words.
+use Rattle.std.specs.Prelude.{ℕ, List, Result}
+use Rattle.schema_types.specs.declared.types.Schema.{Schema}
+use Rattle.stats_file.specs.declared.types.StatsError.{StatsError}
+use Rattle.stats_file.specs.declared.types.StatsFile.{StatsFile}
+use Rattle.stats_lines.proofs.Telling.{told}
+
+-- the file of a text, or its first refusal: Syntax or Rule with the line, counted from 1
+unfoldable pub stats_answer : Schema → List ℕ → Result StatsFile StatsError
+stats_answer schema text = (told schema text).answer

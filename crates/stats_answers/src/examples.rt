@@ -1,0 +1,12 @@
+//! The answers of small texts.
+ghost use Rattle.std.specs.Prelude.{◌≡◌, Ok, Err, codes};
+ghost use Rattle.stats_file.specs.declared.types.StatsError.TheVariants as error;
+ghost use Rattle.stats_file.specs.Cases.{empty_file, schema_of_e};
+ghost use Rattle.stats_answers.specs.StatsTexts.{stats_answer};
+
+/// What two texts answer: the file of a table without rows that is joined with itself, and the same text cut before its last
+/// line.
+pub fn small_texts()
+    ensures whole { stats_answer schema_of_e (codes "safebound-stats 1 1\ntable x45 0\npair x58 x58\nwhole -\nrest -\nend\n") ≡ Ok empty_file }
+    ensures cut { stats_answer schema_of_e (codes "safebound-stats 1 1\ntable x45 0\npair x58 x58\nwhole -\nrest -\n") ≡ Err (error.Syntax 6) }
+{}

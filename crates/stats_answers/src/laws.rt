@@ -1,0 +1,33 @@
+//! Laws of the answers of texts. None of them does anything when it runs.
+ghost use Rattle.std.specs.Prelude.{◌≡◌, ◌≢◌, ◌⊎◌, ℕ, List, Result, Ok, Err};
+ghost use Rattle.schema_types.specs.declared.types.Schema.{Schema};
+ghost use Rattle.schema_types.specs.Texts.{IsSchemaOf};
+ghost use Rattle.schema_types.specs.Validity.{IsValid};
+ghost use Rattle.stats_file.specs.declared.types.StatsError.{StatsError};
+ghost use Rattle.stats_file.specs.declared.types.StatsError.TheVariants as error;
+ghost use Rattle.stats_file.specs.declared.types.StatsFile.{StatsFile};
+ghost use Rattle.stats_file.specs.Answers.{Answers};
+ghost use Rattle.stats_file.specs.FileText.{file_text};
+ghost use Rattle.stats_file.specs.Rules.{KeepsRules};
+ghost use Rattle.stats_reading.specs.Names.{HasByteColumns};
+ghost use Rattle.stats_answers.specs.StatsTexts.{stats_answer};
+
+/// The text of a statistics file has one answer over a valid schema whose columns have names of bytes, `stats_answer`,
+/// besides that memory is wanting; a file that is answered keeps the rules and has this text; and a file that keeps the
+/// rules is what its own text answers.
+pub fn stats_texts()
+    ensures allowed { (schema : Schema) (text : List ℕ) → IsValid schema → Answers schema text (stats_answer schema text) }
+    ensures only { (schema : Schema) (text : List ℕ) (answer : Result StatsFile StatsError)
+        → IsValid schema → HasByteColumns schema → Answers schema text answer
+        → (answer ≡ Err error.NoMemory) ⊎ (answer ≡ stats_answer schema text) }
+    ensures never_memory { (schema : Schema) (text : List ℕ) → stats_answer schema text ≢ Err error.NoMemory }
+    ensures keeps { (schema : Schema) (text : List ℕ) (file : StatsFile) → IsValid schema → stats_answer schema text ≡ Ok file
+        → KeepsRules schema file × (text ≡ file_text schema file) }
+    ensures written { (schema : Schema) (file : StatsFile) → IsValid schema → HasByteColumns schema → KeepsRules schema file
+        → stats_answer schema (file_text schema file) ≡ Ok file }
+{}
+
+/// The columns of a schema that a text declares have names of bytes.
+pub fn schemas_have_byte_columns()
+    ensures { (text : List ℕ) (schema : Schema) → IsSchemaOf text (Ok schema) → HasByteColumns schema }
+{}

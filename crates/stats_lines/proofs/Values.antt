@@ -1,0 +1,137 @@
+-- Values of the rules, decided, and the value that a word spells.
+use Rattle.std.proofs.Common.{◌≡◌, inl, inr, ℕ, zero, suc, ◌^◌, ◌<◌, ◌≤◌, List, [], ◌∷◌, length, ap, arith}
+use Rattle.std.specs.Prelude.{All, sum, ℤ, pos, negsuc, FitsSigned, IsUtf8, decimal}
+use Rattle.std.specs.Int.{w64}
+use Rattle.std.specs.List.{flat_map}
+use Rattle.std.specs.Str.{is_utf8}
+use Rattle.std.proofs.lemmas.List.Sums.{sum_by-cons}
+use Rattle.std.proofs.lemmas.Str.{IsUtf8-from_is_utf8, is_utf8-from_IsUtf8}
+use Rattle.degree_sequences.specs.Falling.{IsFalling}
+use Rattle.schema_types.specs.declared.types.Kind.{Kind}
+use Rattle.schema_types.specs.declared.types.Kind.TheVariants as kinds
+use Rattle.stats_file.specs.declared.types.Datum.{Datum}
+use Rattle.stats_file.specs.declared.types.Datum.TheVariants as datum
+use Rattle.stats_file.specs.Lines.{datum_text, hex_byte, hex_text}
+use Rattle.stats_file.specs.Rules.{IsList, IsOfKind}
+use Rattle.stats_words.specs.Runs.{list_text}
+use Rattle.stats_words.proofs.TextFacts.{utf8_bytes}
+use Rattle.stats_lines.proofs.Deciding.{alike, at_most, below, both, for_all, is_true, less, same_number, same_numbers, some_list, Decided, Within}
+
+-- a value that may stand here and has this word
+pub record Spelled {X W : Type 0} (text : X → W) (MayStand : X → Type 0) (word : W) : Type 0 where
+  pub value : X
+  pub may : MayStand value
+  pub spells : text value ≡ word
+
+-- ---- numbers
+
+pub number : (most : ℕ) (word : List ℕ) → Decided (Spelled decimal (λ n. n ≤ most) word)
+number most word =
+    alike (λ h. let lt = h.1 in record { value = h.0; may = omega arith; spells = h.2 }) (λ h. let le : h.value ≤ most = h.may in (h.value, omega arith, h.spells))
+    (below {P = λ n. decimal n ≡ word} (λ n. same_numbers (decimal n) word) (suc most))
+
+-- ---- lists
+
+falls : (list : List ℕ) → Decided (IsFalling list)
+falls [] = inl (λ r. omega arith)
+falls (x ∷ []) = inl at
+  where
+    at : IsFalling (x ∷ [])
+    at zero = omega arith
+    at (suc r) = omega arith
+falls (x ∷ y ∷ list) = alike to from (both (at_most y x) (falls (y ∷ list)))
+  where
+    to : (y ≤ x) × IsFalling (y ∷ list) → IsFalling (x ∷ y ∷ list)
+    to h zero = h.0
+    to h (suc r) = h.1 r
+
+    from : IsFalling (x ∷ y ∷ list) → (y ≤ x) × IsFalling (y ∷ list)
+    from h = (h 0, λ r. h (suc r))
+
+pub is_list : (rows : ℕ) (list : List ℕ) → Decided (IsList rows list)
+is_list rows list =
+    alike (λ h. record { falls = h.0; positive = h.1.0; within = h.1.1 }) (λ h. (h.falls, (h.positive, h.within)))
+    (both (falls list) (both (for_all {P = λ x. 0 < x} (λ x. less 0 x) list) (at_most (sum list) rows)))
+
+-- positive numbers with a small total are few and small
+few_and_small : (rows most : ℕ) (list : List ℕ) → rows < most → All (λ x. 0 < x) list → sum list ≤ rows → Within rows most list
+few_and_small rows most [] lt positive within = record { few = omega arith; small = tt }
+few_and_small rows most (x ∷ list) lt positive within =
+    let first : 0 < x = positive 0 0 (omega arith) in
+    let total = sum_by-cons (λ (y : ℕ). y) x list in
+    let rest = few_and_small (sum list) most list (omega arith) (λ k d h. positive (suc k) d (omega arith)) (omega arith) in
+    let few : length list ≤ sum list = rest.few in
+    record { few = omega arith; small = (omega arith, rest.small) }
+
+pub list : {F : List ℕ → Type 0} → ((l : List ℕ) → Decided (F l)) → (rows : ℕ) (word : List ℕ) → Decided (Spelled list_text (λ l. IsList rows l × F l) word)
+list {F = F} follows rows word =
+    alike (λ h. record { value = h.0; may = h.2.0; spells = h.2.1 })
+    (λ h. (h.value, few_and_small rows (suc rows) h.value (omega arith) h.may.0.positive h.may.0.within, (h.may, h.spells)))
+    (some_list {P = λ l. (IsList rows l × F l) × (list_text l ≡ word)} (λ l. both (both (is_list rows l) (follows l)) (same_numbers (list_text l) word)) rows (suc rows))
+
+-- ---- values of columns
+
+pub is_text : (bytes : List ℕ) → Decided (IsUtf8 bytes)
+is_text bytes = alike (IsUtf8-from_is_utf8 bytes) (is_utf8-from_IsUtf8 bytes) (is_true (is_utf8 bytes))
+
+fits : (z : ℤ) → Decided (FitsSigned w64 z)
+fits (pos n) = alike (λ h. record { sfits = h }) (λ h. h.sfits) (less n (2 ^ 63))
+fits (negsuc n) = alike (λ h. record { sfits = h }) (λ h. h.sfits) (less n (2 ^ 63))
+
+pub is_of_kind : (kind : Kind) (v : Datum) → Decided (IsOfKind kind v)
+is_of_kind kinds.Int (datum.Int z) = fits z
+is_of_kind kinds.Int (datum.Text bytes) = inr (λ h. h)
+is_of_kind (kinds.Text most) (datum.Int z) = inr (λ h. h)
+is_of_kind (kinds.Text most) (datum.Text bytes) = is_text bytes
+
+pub same_value : (a b : Datum) → Decided (a ≡ b)
+same_value (datum.Int (pos a)) (datum.Int (pos b)) = alike (λ e. ap (λ n. datum.Int (pos n)) e) (λ e. cc) (same_number a b)
+same_value (datum.Int (pos a)) (datum.Int (negsuc b)) = inr (λ e. cc)
+same_value (datum.Int (negsuc a)) (datum.Int (pos b)) = inr (λ e. cc)
+same_value (datum.Int (negsuc a)) (datum.Int (negsuc b)) = alike (λ e. ap (λ n. datum.Int (negsuc n)) e) (λ e. cc) (same_number a b)
+same_value (datum.Int a) (datum.Text b) = inr (λ e. cc)
+same_value (datum.Text a) (datum.Int b) = inr (λ e. cc)
+same_value (datum.Text a) (datum.Text b) = alike (λ e. ap datum.Text e) (λ e. cc) (same_numbers a b)
+
+module _ {F : Datum → Type 0} (follows : (v : Datum) → Decided (F v)) (word : List ℕ) where
+  abbrev MayBe : Kind → Datum → Type 0
+  MayBe kind v = IsOfKind kind v × F v
+
+  abbrev IsWord : Datum → Type 0
+  IsWord v = F v × (datum_text v ≡ word)
+
+  one_of : (number : ℕ → ℤ) → Decided ((n : ℕ) × (n < 2 ^ 63) × IsWord (datum.Int (number n)))
+  one_of number = below {P = λ n. IsWord (datum.Int (number n))} (λ n. both (follows (datum.Int (number n))) (same_numbers (datum_text (datum.Int (number n))) word)) (2 ^ 63)
+
+  number_value : Decided (Spelled datum_text (MayBe kinds.Int) word)
+  number_value = by (one_of pos) (one_of negsuc)
+    where
+      by : Decided ((n : ℕ) × (n < 2 ^ 63) × IsWord (datum.Int (pos n))) → Decided ((n : ℕ) × (n < 2 ^ 63) × IsWord (datum.Int (negsuc n))) → Decided (Spelled datum_text (MayBe kinds.Int) word)
+      by (inl h) other = inl (record { value = datum.Int (pos h.0); may = (record { sfits = h.1 }, h.2.0); spells = h.2.1 })
+      by (inr none) (inl h) = inl (record { value = datum.Int (negsuc h.0); may = (record { sfits = h.1 }, h.2.0); spells = h.2.1 })
+      by (inr none) (inr never) = inr (λ h. at h.value h.may.0 h.may.1 h.spells)
+        where
+          at : (v : Datum) → IsOfKind kinds.Int v → F v → datum_text v ≡ word → ⊥
+          at (datum.Int (pos n)) is f e = none (n, is.sfits, (f, e))
+          at (datum.Int (negsuc n)) is f e = never (n, is.sfits, (f, e))
+          at (datum.Text bytes) is f e = is
+
+hex_len : (bytes : List ℕ) → length bytes ≤ length (flat_map hex_byte bytes)
+hex_len [] = omega arith
+hex_len (b ∷ bytes) = let rest = hex_len bytes in omega arith
+
+text_value : {F : Datum → Type 0} → ((v : Datum) → Decided (F v)) → (most : ℕ) (word : List ℕ) → Decided (Spelled datum_text (λ v. IsOfKind (kinds.Text most) v × F v) word)
+text_value {F = F} follows most word =
+    alike (λ h. record { value = datum.Text h.0; may = h.2.0; spells = h.2.1 }) (λ h. back h.value h.may h.spells)
+    (some_list {P = λ l. (IsUtf8 l × F (datum.Text l)) × (hex_text l ≡ word)} (λ l. both (both (is_text l) (follows (datum.Text l))) (same_numbers (hex_text l) word)) (length word) 256)
+  where
+    back : (v : Datum) → IsOfKind (kinds.Text most) v × F v → datum_text v ≡ word → (l : List ℕ) × Within (length word) 256 l × ((IsUtf8 l × F (datum.Text l)) × (hex_text l ≡ word))
+    back (datum.Int z) is e = absurd is.0
+    back (datum.Text bytes) is e =
+        let len = hex_len bytes in
+        let whole : suc (length (flat_map hex_byte bytes)) ≡ length word = ap length e in
+        (bytes, record { few = omega arith; small = utf8_bytes bytes is.0 }, (is, e))
+
+pub value : {F : Datum → Type 0} → ((v : Datum) → Decided (F v)) → (kind : Kind) (word : List ℕ) → Decided (Spelled datum_text (λ v. IsOfKind kind v × F v) word)
+value {F = F} follows kinds.Int word = number_value {F = F} follows word
+value {F = F} follows (kinds.Text most) word = text_value {F = F} follows most word

@@ -1,0 +1,14 @@
+//! What holds of every text.
+ghost use Rattle.std.specs.Prelude.{◌≢◌, ℕ, List, Result, Err};
+ghost use Rattle.schema_types.specs.declared.types.Schema.{Schema};
+ghost use Rattle.schema_types.specs.Validity.{IsValid};
+ghost use Rattle.stats_file.specs.declared.types.StatsError.{StatsError};
+ghost use Rattle.stats_file.specs.declared.types.StatsError.TheVariants as error;
+ghost use Rattle.stats_file.specs.declared.types.StatsFile.{StatsFile};
+ghost use Rattle.stats_file.specs.Answers.{Answers};
+
+/// Every text has an answer over a valid schema besides that memory is wanting.
+pub fn texts_are_answered()
+    ensures { (schema : Schema) (text : List ℕ) → IsValid schema
+        → (answer : Result StatsFile StatsError) × Answers schema text answer × (answer ≢ Err error.NoMemory) }
+{}

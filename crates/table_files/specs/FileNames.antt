@@ -1,0 +1,8 @@
+-- The names of the tables' files.
+use Rattle.std.specs.Prelude.{ℕ, List, ◌++◌, map, codes}
+use Rattle.std.specs.Char.{to_ascii_lowercase}
+use Rattle.schema_types.specs.declared.types.Table.{Table}
+
+-- the table's name in lower case, and `.csv`
+abbrev pub file_name : Table → List ℕ
+file_name table = map to_ascii_lowercase table.name ++ codes ".csv"

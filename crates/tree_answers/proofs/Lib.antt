@@ -1,0 +1,4 @@
+pub mod BestComputed
+pub mod Listed
+pub mod OneChoice
+pub mod SmallChoices

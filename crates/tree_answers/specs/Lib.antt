@@ -1,0 +1,3 @@
+pub mod AllTrees
+pub mod Promised
+pub mod TreeAnswer

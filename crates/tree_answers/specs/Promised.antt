@@ -1,0 +1,15 @@
+-- What `choose_bushy` promises of its answer, clause by clause. That no order costs less, and that the bound of each join is within the
+-- budget, is left out: it follows.
+use Rattle.std.specs.Prelude.{◌≡◌, ℕ, ◌≤◌, List, length, IfOk, IfErr, Result}
+use Rattle.order_search.specs.declared.refusal.PlanError.{PlanError}
+use Rattle.tree_plans.specs.TreePlans.{IsTreePlan}
+use Rattle.tree_plans.specs.declared.bushy.BushyPlan.{BushyPlan}
+use Rattle.bushy_plan.specs.BestTree.{IsBestPlan}
+use Rattle.bushy_plan.specs.Causes.{IsCause}
+
+pub record IsPromised (bounds scans : List ℕ) (budget : ℕ) (answer : Result BushyPlan PlanError) : Type 0 where
+  pub plan : IfOk answer (IsTreePlan (length scans))
+  pub best : IfOk answer (IsBestPlan bounds (length scans))
+  pub within : IfOk answer (λ plan. plan.cost ≤ budget)
+  pub scans_kept : IfOk answer (λ plan. plan.scans ≡ scans)
+  pub refused : IfErr answer (IsCause bounds (length scans) budget)

@@ -1,0 +1,20 @@
+//! The answers of small choices.
+ghost use Rattle.std.specs.Prelude.{◌≡◌, ◌-◌, ◌^◌, true, [], ◌∷◌, Ok, Err};
+ghost use Rattle.order_search.specs.declared.refusal.PlanError.TheVariants as error;
+ghost use Rattle.tree_plans.specs.Examples.{join, plan_of};
+ghost use Rattle.bushy_plan.specs.Examples.{one_pair, triangle};
+ghost use Rattle.bushy_plan.specs.JoinTrees.{leaf, node};
+ghost use Rattle.tree_answers.specs.AllTrees.{all_trees, best_tree, is_before};
+ghost use Rattle.tree_answers.specs.TreeAnswer.{tree_answer};
+
+/// What choices among one, two and three entries answer. Where three trees cost and sum the same, the one whose left set has the least
+/// number is best.
+pub fn small_choices()
+    ensures trees { all_trees 3 ≡ node (node (leaf 0) (leaf 1)) (leaf 2) ∷ node (node (leaf 0) (leaf 2)) (leaf 1) ∷ node (leaf 0) (node (leaf 1) (leaf 2)) ∷ [] }
+    ensures by_left { is_before (node (leaf 0) (node (leaf 1) (leaf 2))) (node (node (leaf 0) (leaf 1)) (leaf 2)) ≡ true }
+    ensures best { best_tree triangle 3 ≡ node (leaf 0) (node (leaf 1) (leaf 2)) }
+    ensures plan { tree_answer triangle (3 ∷ 3 ∷ 3 ∷ []) 9 ≡ Ok (plan_of (join 1 2 5 ∷ join 0 3 9 ∷ []) (3 ∷ 3 ∷ 3 ∷ []) 9) }
+    ensures budget { tree_answer one_pair (6 ∷ 5 ∷ []) 11 ≡ Err (error.Budget 12) }
+    ensures past_bits { tree_answer (1 ∷ (2 ^ 128 - 1) ∷ []) (2 ∷ []) 6 ≡ Err error.PastBits }
+    ensures greatest_told { tree_answer (1 ∷ (2 ^ 128 - 2) ∷ []) (2 ∷ []) 6 ≡ Err (error.Budget (2 ^ 128 - 2)) }
+{}

@@ -1,0 +1,33 @@
+//! Laws of the answers of choices among join trees. None of them does anything when it runs.
+ghost use Rattle.std.specs.Prelude.{◌≡◌, ◌≢◌, ◌≤◌, ◌⊎◌, ℕ, List, length, Result, Ok, Err};
+ghost use Rattle.limits.specs.Profile.{greatest_budget, most_entries};
+ghost use Rattle.order_search.specs.declared.refusal.PlanError.{PlanError};
+ghost use Rattle.order_search.specs.declared.refusal.PlanError.TheVariants as error;
+ghost use Rattle.tree_plans.specs.declared.bushy.BushyPlan.{BushyPlan};
+ghost use Rattle.bushy_plan.specs.BestTree.{IsBest, IsBestPlan};
+ghost use Rattle.bushy_plan.specs.Causes.{IsCause};
+ghost use Rattle.bushy_plan.specs.JoinTrees.{JoinTree};
+ghost use Rattle.tree_answers.specs.AllTrees.{best_tree};
+ghost use Rattle.tree_answers.specs.Promised.{IsPromised};
+ghost use Rattle.tree_answers.specs.TreeAnswer.{tree_answer};
+
+/// The tree that is computed is the best one.
+pub fn best_trees()
+    ensures best { (bounds : List ℕ) (n : ℕ) → 1 ≤ n → IsBest bounds n (best_tree bounds n) }
+    ensures only { (bounds : List ℕ) (n : ℕ) (tree : JoinTree) → 1 ≤ n → IsBest bounds n tree → tree ≡ best_tree bounds n }
+{}
+
+/// What `choose_bushy` promises is true of one answer, `tree_answer`, besides that memory is wanting. At each of
+/// its exits: a best plan within the budget is the plan, and a refusal with a cause is the refusal.
+pub fn tree_choices()
+    ensures allowed { (bounds scans : List ℕ) (budget : ℕ) → 1 ≤ length scans → length scans ≤ most_entries
+        → IsPromised bounds scans budget (tree_answer bounds scans budget) }
+    ensures only { (bounds scans : List ℕ) (budget : ℕ) (answer : Result BushyPlan PlanError) → 1 ≤ length scans → budget ≤ greatest_budget
+        → IsPromised bounds scans budget answer → (answer ≡ Err error.NoMemory) ⊎ (answer ≡ tree_answer bounds scans budget) }
+    ensures never_memory { (bounds scans : List ℕ) (budget : ℕ) → tree_answer bounds scans budget ≢ Err error.NoMemory }
+    ensures chosen { (bounds scans : List ℕ) (budget : ℕ) (plan : BushyPlan) → 1 ≤ length scans → budget ≤ greatest_budget
+        → IsBestPlan bounds (length scans) plan → plan.cost ≤ budget → plan.scans ≡ scans
+        → tree_answer bounds scans budget ≡ Ok plan }
+    ensures refused { (bounds scans : List ℕ) (budget : ℕ) (e : PlanError) → 1 ≤ length scans → e ≢ error.NoMemory
+        → IsCause bounds (length scans) budget e → tree_answer bounds scans budget ≡ Err e }
+{}
