@@ -98,10 +98,12 @@ bench: build library
 	bench/shop
 	bench/library
 
-# Runs over memory, with each request for memory refused in turn. It takes minutes.
+# Runs over memory, with each request for memory refused in turn, and what a reservation asks for, in bytes. It takes minutes.
 memory:
 	@cd crates/memory_runs && rt run > build.log 2>&1 || { cat build.log; exit 1; }
 	tools/memory
+	@cd crates/memory_counts && rt run > build.log 2>&1 || { cat build.log; exit 1; }
+	tools/memory-bytes
 
 # Runs at the limits of tables, texts and the budget, with their times and their peaks of memory. It takes minutes.
 limits: build

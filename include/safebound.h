@@ -13,11 +13,11 @@
      meanwhile, and what it writes overlaps nothing else that it gets.
    - Each call checks every value that it gets. It answers a status and writes a number behind `detail`, by the status:
 
-     SAFEBOUND_OK           `detail` is how many elements were written.
+     SAFEBOUND_OK           `detail` is how many elements were written, or the number that the call is asked for.
      SAFEBOUND_ROOM         The room is too small. `detail` is the room that is needed.
      SAFEBOUND_NO_MEMORY    Memory was wanting. `detail` is as it was.
      SAFEBOUND_BUDGET       The best plan passes the budget. `detail` is the least budget that would do.
-     SAFEBOUND_PAST_BITS    Each plan has a part without a bound. `detail` is as it was.
+     SAFEBOUND_PAST_BITS    Each plan has a part without a bound, or 64 bits don't tell the number. `detail` is as it was.
      the others             A value is wrong. `detail` says where: which element, from 0, of the array that is named
                             with the status below, or the number itself.
 
@@ -67,7 +67,11 @@ enum {
     SAFEBOUND_BAD_LIST = 25,       /* an element of `lists` */
     SAFEBOUND_MISSING_LIST = 26,   /* an element of `equalities`, of which a column has no list */
     SAFEBOUND_BAD_BOUNDS = 27,     /* the number of bounds */
-    SAFEBOUND_BAD_BUDGET = 28      /* the budget */
+    SAFEBOUND_BAD_BUDGET = 28,     /* the budget */
+    SAFEBOUND_BAD_LEVELS = 29,     /* the number of levels */
+    SAFEBOUND_BAD_LEVEL = 30,      /* an element of `levels` */
+    SAFEBOUND_BAD_JOINS = 31,      /* the number of joins */
+    SAFEBOUND_BAD_JOIN = 32        /* an element of `joins` */
 };
 
 /* So many keys stand in `degree` rows each.
@@ -250,6 +254,44 @@ safebound_status safebound_order(const uint64_t *bounds, size_t bounds_length, u
        safebound_status status = safebound_tree(bounds, 8, 1000000, joins, 2, &detail); */
 safebound_status safebound_tree(const uint64_t *bounds, size_t bounds_length, uint64_t budget, safebound_join *into,
                                 size_t room, uint64_t *detail);
+
+/* How many bytes the buffers of SafeBound's own engine take for an order: a list of row numbers for each entry, linked rows for
+   each level, chains of the rows of each entry but the first, and the keys of the longest list. Each buffer counts with its
+   capacity times the size of an element, and each list of buffers with its own.
+
+   `rows` has for each entry a number that it has at most of rows, as for safebound_bounds; `levels` is what safebound_order
+   wrote. It is the same number on every machine. At SAFEBOUND_OK `detail` is that number.
+
+   SAFEBOUND_BAD_ENTRIES    not from 1 to 12; `detail` is their number
+   SAFEBOUND_BAD_LEVELS     not as many as entries; `detail` is their number
+   SAFEBOUND_BAD_LEVEL      an entry that isn't there; `detail` is the element of `levels`
+   SAFEBOUND_PAST_BITS      2^64 bytes or more
+   SAFEBOUND_OK
+
+   Example: entries of 6 and 5 rows, in the order 1, 0 with the levels 5 and 12, take 556 bytes.
+
+       uint64_t rows[] = {6, 5}, detail;
+       safebound_level levels[] = {{1, 5}, {0, 12}};
+       safebound_status status = safebound_memory(rows, 2, levels, 2, &detail); */
+safebound_status safebound_memory(const uint64_t *rows, size_t entries, const safebound_level *levels,
+                                  size_t levels_length, uint64_t *detail);
+
+/* The same for a join tree: for each join pairs of rows and chains of its right node's rows, and the entries below each node.
+   `joins` is what safebound_tree wrote.
+
+   SAFEBOUND_BAD_ENTRIES    not from 1 to 12; `detail` is their number
+   SAFEBOUND_BAD_JOINS      not one fewer than entries; `detail` is their number
+   SAFEBOUND_BAD_JOIN       of a node that doesn't stand before it; `detail` is the element of `joins`
+   SAFEBOUND_PAST_BITS      2^64 bytes or more
+   SAFEBOUND_OK
+
+   Example: entries of 6 and 5 rows, joined to at most 12 rows with 5 rows on the right, take 507 bytes.
+
+       uint64_t rows[] = {6, 5}, detail;
+       safebound_join joins[] = {{0, 1, 12}};
+       safebound_status status = safebound_tree_memory(rows, 2, joins, 1, &detail); */
+safebound_status safebound_tree_memory(const uint64_t *rows, size_t entries, const safebound_join *joins,
+                                       size_t joins_length, uint64_t *detail);
 
 /* The library's version as text, such as 0.1.0, with a 0 at its end, which counts for the room.
 

@@ -278,7 +278,7 @@ NO_COMMAND = [
 OPTIONS = [
     usage("run schema.sql query.sql --budjet 5", "no option --budjet", "Did you mean --budget?"),
     usage("run schema.sql query.sql --dta x", "no option --dta", "Did you mean --data?"),
-    usage("run schema.sql query.sql -b 5", "no option -b", "--budget N, --accuracy K, --reduce"),
+    usage("run schema.sql query.sql -b 5", "no option -b", "--budget N, --accuracy K, --memory N"),
     usage("run schema.sql query.sql --budget 1e6", "has the value 1e6", "from 1 to 20,000,000", "Write 1000000"),
     usage("run schema.sql query.sql --budget=1,000,000", "has the value 1,000,000", "digits alone", "Write 1000000"),
     usage("run schema.sql query.sql --budget 0", "has the value 0", "from 1 to 20,000,000"),
@@ -320,6 +320,16 @@ LIMITS = [
     Mistake("error limit text-length 1000001", ("at most 1,000,000", "1,000,001"), {"schema.sql": b"CREATE TABLE AUTHOR (NAME VARCHAR(1000001) NOT NULL)"}),
     Mistake("error limit file-bytes query.sql 1048577", ("longer than 1 MiB", "query.sql"), {"query.sql": b" " * 1_048_577}),
 ]
+SMALL = {
+    "schema.sql": b"CREATE TABLE R (X INTEGER NOT NULL); CREATE TABLE S (X INTEGER NOT NULL)", "query.sql": b"SELECT R.X FROM R, S WHERE R.X = S.X",
+    "r.csv": b"X\r\n1\r\n1\r\n1\r\n2\r\n2\r\n3\r\n", "s.csv": b"X\r\n1\r\n1\r\n4\r\n5\r\n6\r\n",
+}
+BUFFERS = (
+    Mistake("error memory-limit 556", ("take 556 bytes", "the limit is 555", "--memory 556"), SMALL, ("run", "schema.sql", "query.sql", "--memory", "555")),
+    Mistake("error memory-limit 556", ("the limit is 1", "So may --reduce or --bushy"), SMALL, ("audit", "schema.sql", "query.sql", "--memory=1")),
+)
+
+
 def stats(line, text, *says):
     return Mistake(line, says, {"old.stats": text} if text else {}, ("plan", "schema.sql", "query.sql", "--stats", "old.stats"))
 
@@ -342,5 +352,5 @@ KINDS = [
     ("a column without NOT NULL", NULLABLE), ("names of a schema", LISTS), ("schema and query swapped", SWAPPED), ("a field that is no number", CELLS),
     ("a number out of range", RANGES), ("a key that repeats", KEYS), ("a field too many or too few", WIDTHS), ("headers", HEADERS), ("bytes that are no UTF-8", BYTES),
     ("a file that is missing", FILES), ("outside of the data's folder", ELSEWHERE), ("no command", NO_COMMAND), ("options", OPTIONS), ("place words", PLACES),
-    ("past the budget", BUDGETS), ("limits", LIMITS), ("statistics files", STATISTICS),
+    ("past the budget", BUDGETS), ("past the limit of memory", BUFFERS), ("limits", LIMITS), ("statistics files", STATISTICS),
 ]

@@ -11,7 +11,7 @@ FORMS = [re.compile(form, re.DOTALL) for form in (
     r"error (?P<kind>table) (?P<file>\S+) (?P<cause>key) (?P<record>\d+) (?P<earlier>\d+)",
     r"error (?P<kind>limit) (?P<cause>file-bytes|rows) (?P<file>.*) (?P<found>\d+)", r"error (?P<kind>limit) (?P<cause>[\w-]+) (?P<found>\d+)",
     r"error (?P<kind>budget) (?P<least>\d+)", r"error (?P<kind>past-bits)", r"error (?P<kind>write) (?P<cause>out|notes)",
-    r"error (?P<kind>memory)")]
+    r"error (?P<kind>memory)", r"error (?P<kind>memory-limit) (?P<found>\d+)")]
 NUMBERS = {"at", "record", "found", "earlier", "least"}
 
 

@@ -11,7 +11,7 @@ ABOUT = ("A schema text, a query text (select-project-join SQL-92) and one CSV f
          "intermediate join, picks the best order, refuses a query whose bound passes the budget, and then lists every row. No bound is too low; that is proved.")
 OWN_OPTIONS = ("Options of this command stand before `--`; all other words go to the proved program as they are, and its streams and exit status come "
                "back as they are. Where standard error is a terminal, a fault is explained below its line.")
-STATUSES = "0 done; 2 the words; 3 a file; 4 the schema; 5 the query; 6 a table; 7 a limit; 8 the budget; 9 past every budget; 10 a stream; 11 memory; 14 a statistics file. `safebound help errors` lists each line."
+STATUSES = "0 done; 2 the words; 3 a file; 4 the schema; 5 the query; 6 a table; 7 a limit; 8 the budget; 9 past every budget; 10 a stream; 11 memory; 14 a statistics file; 16 a limit of memory. `safebound help errors` lists each line."
 LIMITS = "One to 12 entries in FROM; 64 MiB and 4,000,000 rows for each table; budgets up to 20,000,000."
 
 

@@ -46,6 +46,9 @@ class NoPlan(Exception):
 
 def read_plan(text):
     lines = text.split("\n")[:-1]
+    if lines and re.fullmatch("memory [0-9]+", lines[-1]):
+        # With --memory the bytes of the plan's buffers stand last.
+        lines.pop()
     scans = [re.fullmatch(r"scan (.*) ([0-9]+)", line) for line in lines if line.startswith("scan ")]
     levels = [re.fullmatch(r"level [0-9]+ (.*) ([0-9]+)", line) for line in lines if line.startswith("level ")]
     nodes = [re.fullmatch(r"node ([0-9]+) ([0-9]+) ([0-9]+) ([0-9]+)", line) for line in lines if line.startswith("node ")]

@@ -40,9 +40,10 @@ class Command:
 BUDGET = Option("--budget", "N", "the most rows that the bound of any level may say; 1,000,000 without it", 1, MOST_BUDGET)
 ACCURACY = Option("--accuracy", "K", "how closely lists of degrees are kept: more takes longer and mostly lowers bounds; 1 without it", 1, 64)
 REDUCE = Option("--reduce", None, "puts rows aside that lack a partner, and makes bounds over those that are left")
-BUSHY = Option("--bushy", None, "joins by the best tree of any shape and not along an order; N is then at most 4,000,000")
-OF_PLANS = (BUDGET, ACCURACY, REDUCE, BUSHY)
-STATS = Option("--stats", "FILE", "plans from this statistics file, which `stats` wrote, and reads no table; beside it only --budget may stand")
+BUSHY = Option("--bushy", None, "joins by the best tree of any shape and not along an order; a budget is then at most 4,000,000")
+MEMORY = Option("--memory", "N", "the most bytes that the buffers of the plan may take; the plan then ends with a line of its bytes", 1, 2**40)
+OF_PLANS = (BUDGET, ACCURACY, MEMORY, REDUCE, BUSHY)
+STATS = Option("--stats", "FILE", "plans from this statistics file, which `stats` wrote, and reads no table; beside it only --budget and --memory may stand")
 
 DATA = Option("--data", "DIR", "runs in the folder DIR, where the tables are; SCHEMA and QUERY are looked up there too", is_own=True)
 EXPLAIN = Option("--explain", None, "explains a fault also where standard error is no terminal", is_own=True)

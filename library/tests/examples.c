@@ -80,6 +80,23 @@ static void best_tree(void) {
     CHECK(memcmp(joins, expected, sizeof expected) == 0);
 }
 
+static void bytes_of_plans(void) {
+    uint64_t rows[] = {6, 5}, detail;
+    safebound_level levels[] = {{1, 5}, {0, 12}};
+    safebound_join joins[] = {{0, 1, 12}};
+    CHECK(safebound_memory(rows, 2, levels, 2, &detail) == SAFEBOUND_OK);
+    CHECK(detail == 556);
+    CHECK(safebound_tree_memory(rows, 2, joins, 1, &detail) == SAFEBOUND_OK);
+    CHECK(detail == 507);
+    CHECK(safebound_memory(rows, 2, levels, 1, &detail) == SAFEBOUND_BAD_LEVELS);
+    CHECK(detail == 1);
+    joins[0].right = 2;
+    CHECK(safebound_tree_memory(rows, 2, joins, 1, &detail) == SAFEBOUND_BAD_JOIN);
+    CHECK(detail == 0);
+    levels[1].bound = UINT64_MAX;
+    CHECK(safebound_memory(rows, 2, levels, 2, &detail) == SAFEBOUND_PAST_BITS);
+}
+
 static void version(void) {
     char text[64];
     uint64_t detail;
@@ -96,6 +113,7 @@ static void *all(void *times) {
         bounds_of_two_entries();
         best_order();
         best_tree();
+        bytes_of_plans();
         version();
     }
     return NULL;

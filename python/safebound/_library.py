@@ -45,7 +45,7 @@ class Status:
 
     OK, ROOM, NO_MEMORY, BUDGET, PAST_BITS = range(5)
     (BAD_KEYS, BAD_ACCURACY, BAD_RUN, BAD_OTHER_RUN, BAD_SUM, BAD_ENTRIES, BAD_ROWS, BAD_EQUALITIES, BAD_EQUALITY, BAD_LIST,
-     MISSING_LIST, BAD_BOUNDS, BAD_BUDGET) = range(16, 29)
+     MISSING_LIST, BAD_BOUNDS, BAD_BUDGET, BAD_LEVELS, BAD_LEVEL, BAD_JOINS, BAD_JOIN) = range(16, 33)
 
 
 WRONG = {
@@ -62,6 +62,10 @@ WRONG = {
     Status.MISSING_LIST: (errors.MissingList, "a column of equality {} has no list"),
     Status.BAD_BOUNDS: (errors.BadBounds, "there are 2**n bounds, n from 1 to 12, not {}"),
     Status.BAD_BUDGET: (errors.BadBudget, "a budget is from 0 to 2**59, not {}"),
+    Status.BAD_LEVELS: (errors.BadPlan, "an order has a level for each entry, not {}"),
+    Status.BAD_LEVEL: (errors.BadPlan, "level {} is of an entry that isn't there"),
+    Status.BAD_JOINS: (errors.BadPlan, "a tree has one join fewer than entries, not {}"),
+    Status.BAD_JOIN: (errors.BadPlan, "join {} is of a node that doesn't stand before it"),
 }
 
 
@@ -113,6 +117,8 @@ def _library() -> ctypes.CDLL:
         "bounds": [numbers, size, ctypes.POINTER(Equality), size, ctypes.POINTER(List), size, runs, size, numbers, size, detail],
         "order": [numbers, size, _Number, ctypes.POINTER(Level), size, detail],
         "tree": [numbers, size, _Number, ctypes.POINTER(Join), size, detail],
+        "memory": [numbers, size, ctypes.POINTER(Level), size, detail],
+        "tree_memory": [numbers, size, ctypes.POINTER(Join), size, detail],
         "version": [ctypes.c_char_p, size, detail],
     }
     for name, form in forms.items():
@@ -140,6 +146,13 @@ def call(name: str, given: list, element: type, room: int) -> tuple[int, int, ct
         if status != Status.ROOM:
             return status, detail.value, into
         room = detail.value
+
+
+def ask(name: str, given: list) -> tuple[int, int]:
+    """Calls what answers a number. Its status and the number."""
+    detail = _Number()
+    status = getattr(_library(), "safebound_" + name)(*given, ctypes.byref(detail))
+    return status, detail.value
 
 
 def raise_for(status: int, detail: int) -> None:

@@ -98,6 +98,10 @@ class BadBounds(WrongValue):
     """There aren't 2**n bounds for an n from 1 to 12. `place` is their number."""
 
 
+class BadPlan(WrongValue):
+    """The order or the tree isn't one of this query. `place` is the number of its parts, or of the wrong one."""
+
+
 class BadBudget(WrongValue):
     """The budget isn't from 0 to 2**59. `place` is the budget."""
 

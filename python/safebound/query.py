@@ -9,7 +9,7 @@ from typing import Dict, FrozenSet, Hashable, Iterable, Iterator, NamedTuple, No
 
 from . import _library
 from ._library import NO_BOUND, Status
-from .errors import BadBudget, BadEntries, BadEquality, BadList, BadRows, BadRun, MissingList
+from .errors import BadBudget, BadEntries, BadEquality, BadList, BadPlan, BadRows, BadRun, MissingList, PastBits
 from .lists import Runs, encoded
 
 __all__ = ["Bounds", "Column", "Join", "Order", "Query", "Tree"]
@@ -221,6 +221,40 @@ class Query:
         """
         joins = self._best("tree", budget, _library.Join, len(self.entries) - 1)
         return Tree(self.entries, tuple(Join(join.left, join.right, join.bound) for join in joins))
+
+    def memory(self, plan: Union[Order, Tree]) -> int:
+        """How many bytes the buffers of SafeBound's own engine take for a plan of this query.
+
+        Each buffer counts with its capacity times the size of an element, and each list of buffers with its own. It is the
+        same number on every machine.
+
+        Args:
+            plan: what `best_order` or `best_tree` gave.
+
+        Raises:
+            BadPlan: the plan isn't one of this query.
+            PastBits: 64 bits don't tell the number.
+
+        >>> query = Query(["r", "s"], [(("r", "x"), ("s", "x"))], {"r": 6, "s": 5},
+        ...               {("r", "x"): [(3, 2)], ("s", "x"): [(2, 2), (1, 1)]})
+        >>> query.memory(query.best_order(budget=12))
+        556
+        """
+        rows = [self._bounds[1 << place] for place in range(len(self.entries))]
+        if isinstance(plan, Order):
+            if any(entry not in self._entry for entry in plan.entries):
+                raise BadPlan(f"the order has other entries: {plan.entries}", len(plan.entries))
+            name, element = "memory", _library.Level
+            parts = [(self._entry[entry], bound) for entry, bound in zip(plan.entries, plan.levels)]
+        else:
+            name, element = "tree_memory", _library.Join
+            parts = [(join.left, join.right, join.bound) for join in plan.joins]
+        given = [(ctypes.c_uint64 * len(rows))(*rows), len(rows), (element * len(parts))(*parts), len(parts)]
+        status, detail = _library.ask(name, given)
+        if status == Status.PAST_BITS:
+            raise PastBits("the plan takes more bytes than 64 bits tell")
+        _library.raise_for(status, detail)
+        return detail
 
     def _best(self, name: str, budget: int, element: type, room: int) -> list:
         number = _library.whole(budget)

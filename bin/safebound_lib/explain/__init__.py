@@ -8,7 +8,7 @@ from ..table import STATS
 from ..words import places
 
 PARTS = {"usage": "usage", "read": "reads", "schema": "schemas", "query": "queries", "table": "tables", "limit": "limits",
-         "stats": "statistics", "budget": "budgets", "past-bits": "budgets", "write": "streams", "memory": "streams"}
+         "stats": "statistics", "budget": "budgets", "past-bits": "budgets", "write": "streams", "memory": "streams", "memory-limit": "buffers"}
 
 
 class Run:

@@ -25,8 +25,7 @@ fn reserved_rows_are_pushed(rt: HostRuntime) -> Result<(), Fail> {
 
 // The first place of 7, and those behind it, among 7, 9, 7, 7, and among 8, 7, which are loaded in their place.
 fn places_of_seven(alloc: Global) -> Result<[Option<u32>; 4], NoMemory> {
-    let mut chains = Chains::new(alloc);
-    chains.reserve(4, 3)?;
+    let mut chains = Chains::with_room(alloc, 4, 3)?;
     chains.load(&[7, 9, 7, 7]);
     let (first, next) = (chains.first(7), chains.after(0, 7));
     chains.load(&[8, 7]);

@@ -105,8 +105,7 @@ fn measure(rt: &impl Clock, alloc: Global, count: u64, step: u64) -> io::Result<
 {
     let keys = multiples(alloc, count, step)?;
     let keys = keys.as_slice();
-    let mut chains = Chains::new(alloc);
-    chains.reserve(count, count).map_err(out_of_memory)?;
+    let mut chains = Chains::with_room(alloc, count, count).map_err(out_of_memory)?;
     let mut least = timed_round(rt, &mut chains, keys)?;
     for _ in 1..ROUNDS {
         least = least.least(timed_round(rt, &mut chains, keys)?);

@@ -1,6 +1,6 @@
 -- A plan from the file of a query's tables, and one over these tables.
-use Rattle.std.proofs.Common.{◌≡◌, ℕ, ◌<◌, ◌≤◌, List, Some, Result, Ok, Err, refl, ap, sym, ◌∙◌, subst}
-use Rattle.std.specs.Prelude.{length, false}
+use Rattle.std.proofs.Common.{◌≡◌, ℕ, ◌<◌, ◌≤◌, List, Bool, true, false, Option, None, Some, Result, Ok, Err, refl, ap, sym, ◌∙◌, subst}
+use Rattle.std.specs.Prelude.{length, nat_le, if◌then◌else◌}
 use Rattle.limits.specs.Profile.{most_accuracy, most_file, most_text}
 use Rattle.base_io.specs.Files.{Files}
 use Rattle.csv_tables.specs.Rows.{Row}
@@ -18,10 +18,12 @@ use Rattle.outcomes.specs.Errors.{plan_refusal, schema_refusal, stats_refusal}
 use Rattle.outcomes.specs.Reads.{◌>>=◌, seen, told}
 use Rattle.outcomes.specs.declared.names.FileId.TheVariants as file
 use Rattle.outcomes.specs.declared.refusal.Refusal.{Refusal}
+use Rattle.outcomes.specs.declared.refusal.Refusal.TheVariants as refusal
 use Rattle.planning.specs.Plans.{planned, planned_from}
 use Rattle.plans.specs.declared.left_deep.Plan.{Plan}
 use Rattle.query_bounds.specs.Bounds.{entry_bounds, scan_bounds}
 use Rattle.query_types.specs.declared.types.Query.{Query}
+use Rattle.reserve_plan.specs.Memory.{plan_bytes}
 use Rattle.safebound_words.specs.Requests.{Plan as PlanWords, PlanStats, Stats}
 use Rattle.schema_types.specs.Texts.{IsSchemaOf}
 use Rattle.schema_types.specs.declared.errors.SchemaError.{SchemaError}
@@ -39,10 +41,11 @@ use Rattle.table_files.specs.TableFile.{read}
 use Rattle.text_answers.proofs.SchemaAnswers.{allowed}
 use Rattle.text_answers.specs.SchemaTexts.{schema_answer}
 use Rattle.safebound_top.specs.Asks.{FileOf, PlanFrom, PlanOf, WorkAsk, ask_for, asks}
-use Rattle.safebound_top.specs.Filed.{filed_plan_stage, filed_refusal, stats_of_text, stats_stage, tables_filed}
+use Rattle.safebound_top.specs.Filed.{filed_plan_stage, filed_refusal, filed_within, stats_of_text, stats_stage, tables_filed}
+use Rattle.safebound_top.specs.Limits.{within_limit}
 use Rattle.safebound_top.specs.Outcome.{Outcome, Planned, PlannedByFile}
 use Rattle.safebound_top.specs.OutcomeTexts.{out_text}
-use Rattle.safebound_top.specs.Shapes.{planned_by}
+use Rattle.safebound_top.specs.Shapes.{planned_by, shape_bytes}
 use Rattle.safebound_top.specs.Sources.{sourced}
 use Rattle.safebound_top.specs.Verdict.{ask_run, plan_asked, plan_stage, query_run, query_stage, run_asked, schema_of_text, schema_run, schema_stage, work_run}
 use Rattle.safebound_top.specs.declared.shapes.Shaped.TheVariants as shaped
@@ -53,27 +56,43 @@ use Rattle.safebound_top.specs.declared.task.Shape.TheVariants as shapes
 use Rattle.filed_verdicts.specs.Printed.{printed}
 
 -- what `plan` asks
-abbrev task : ℕ → ℕ → PlanTask
-task budget accuracy = record { budget = budget; accuracy = accuracy; source = sources.Columns; shape = shapes.Order; out = out.Nothing }
+abbrev task : ℕ → ℕ → Option ℕ → PlanTask
+task budget accuracy memory = record { budget = budget; accuracy = accuracy; source = sources.Columns; shape = shapes.Order; memory = memory; out = out.Nothing }
+
+-- ---- a limit of memory
+
+test_alike : (test : Bool) (r : Refusal) (x y : Outcome) → printed x ≡ printed y
+    → seen printed (if test then Ok x else Err r) ≡ seen printed (if test then Ok y else Err r)
+test_alike true r x y same = ap (λ (p : Option (List ℕ) × Option (List ℕ)). Ok p) same
+test_alike false r x y same = refl
+
+-- values that print alike, behind the same limit
+limits_alike : (memory : Option ℕ) (bytes : ℕ) (x y : Outcome) → printed x ≡ printed y
+    → seen printed (within_limit memory bytes x) ≡ seen printed (within_limit memory bytes y)
+limits_alike None bytes x y same = ap (λ (p : Option (List ℕ) × Option (List ℕ)). Ok p) same
+limits_alike (Some limit) bytes x y same = test_alike (nat_le bytes limit) (refusal.MemoryLimit bytes) x y same
 
 -- ---- from the query on
 
-module _ (query : Query) (file : StatsFile) (rows : List (List Row)) (budget accuracy : ℕ) where
+module _ (query : Query) (file : StatsFile) (rows : List (List Row)) (budget accuracy : ℕ) (memory : Option ℕ) where
   -- from a plan that is made by a file, and by tables
   by_file : Result Plan PlanError → Result Outcome Refusal
-  by_file answer = told filed_refusal (where_told answer) >>= λ plan. Ok (PlannedByFile (record { query = query; file = file; plan = plan }))
+  by_file answer = told filed_refusal (where_told answer) >>= λ plan. filed_within query file plan memory
 
   by_tables : Result Plan PlanError → Result Outcome Refusal
   by_tables answer = told plan_refusal (seen (λ plan. shaped.Along plan) answer)
-      >>= λ plan. Ok (Planned (run_asked (task budget accuracy) query rows plan))
+      >>= λ plan. within_limit memory (shape_bytes plan) (Planned (run_asked (task budget accuracy memory) query rows plan))
 
   print_alike : (answer : Result Plan PlanError) → seen printed (by_file answer) ≡ seen printed (by_tables answer)
   unfolding by_file by_tables
-  print_alike (Ok plan) = refl
+  print_alike (Ok plan) =
+      limits_alike memory (plan_bytes plan.order plan.scans plan.levels)
+      (PlannedByFile (record { query = query; file = file; plan = plan; memory = memory }))
+      (Planned (run_asked (task budget accuracy memory) query rows (shaped.Along plan))) refl
   print_alike (Err e) = refl
 
 module _ (schema : Schema) (query : Query) (db : Database) (over : IsOverSchema schema query db) (accuracy : ℕ) (least : 0 < accuracy)
-    (most : accuracy ≤ most_accuracy) (budget : ℕ) where
+    (most : accuracy ≤ most_accuracy) (budget : ℕ) (memory : Option ℕ) where
   abbrev file_of : StatsFile
   file_of = file_of_query schema query (tables_of db) accuracy
 
@@ -91,20 +110,20 @@ module _ (schema : Schema) (query : Query) (db : Database) (over : IsOverSchema 
       ap (λ missing. unless_missing missing (planned_by_file query file_of budget)) (none_missing schema query db over accuracy least most)
       ∙ ap where_told same_plan
 
-  from_file : filed_plan_stage query file_of budget ≡ by_file query file_of (entry_rows db) budget accuracy (planned query (tables_of db) accuracy budget)
+  from_file : filed_plan_stage query file_of budget memory ≡ by_file query file_of (entry_rows db) budget accuracy memory (planned query (tables_of db) accuracy budget)
   unfolding filed_plan_stage by_file
   from_file = rw filed_same refl
 
-  asked_same : plan_asked (task budget accuracy) query (tables_of db) ≡ seen (λ plan. shaped.Along plan) (planned query (tables_of db) accuracy budget)
+  asked_same : plan_asked (task budget accuracy memory) query (tables_of db) ≡ seen (λ plan. shaped.Along plan) (planned query (tables_of db) accuracy budget)
   unfolding planned planned_by sourced
   asked_same = refl
 
   from_tables : tables_in (entry_rows db) ≡ tables_of db
-      → plan_stage (task budget accuracy) query (entry_rows db) ≡ by_tables query file_of (entry_rows db) budget accuracy (planned query (tables_of db) accuracy budget)
+      → plan_stage (task budget accuracy memory) query (entry_rows db) ≡ by_tables query file_of (entry_rows db) budget accuracy memory (planned query (tables_of db) accuracy budget)
   unfolding plan_stage by_tables
   from_tables tables =
-      ap (λ answer. told plan_refusal answer >>= λ plan. Ok (Planned (run_asked (task budget accuracy) query (entry_rows db) plan)))
-      (ap (plan_asked (task budget accuracy) query) tables ∙ asked_same)
+      ap (λ answer. told plan_refusal answer >>= λ plan. within_limit memory (shape_bytes plan) (Planned (run_asked (task budget accuracy memory) query (entry_rows db) plan)))
+      (ap (plan_asked (task budget accuracy memory) query) tables ∙ asked_same)
 
   read_back : (name : List ℕ) (files : Files) → HasByteColumns schema → read file.Stats most_file name files ≡ Ok (file_text schema file_of)
       → stats_stage name schema files ≡ Ok file_of
@@ -115,13 +134,13 @@ module _ (schema : Schema) (query : Query) (db : Database) (over : IsOverSchema 
 
   pub works_alike : (name : List ℕ) (files : Files) → HasByteColumns schema → tables_in (entry_rows db) ≡ tables_of db
       → tables_stage schema query.from files ≡ Ok (entry_rows db) → read file.Stats most_file name files ≡ Ok (file_text schema file_of)
-      → seen printed (work_run (PlanFrom name budget) schema query files) ≡ seen printed (work_run (PlanOf (task budget accuracy)) schema query files)
+      → seen printed (work_run (PlanFrom name budget memory) schema query files) ≡ seen printed (work_run (PlanOf (task budget accuracy memory)) schema query files)
   works_alike name files columns tables rows there =
-      ap (λ stats. seen printed (stats >>= λ stats. filed_plan_stage query stats budget)) (read_back name files columns there)
+      ap (λ stats. seen printed (stats >>= λ stats. filed_plan_stage query stats budget memory)) (read_back name files columns there)
       ∙ ap (seen printed) from_file
-      ∙ print_alike query file_of (entry_rows db) budget accuracy (planned query (tables_of db) accuracy budget)
+      ∙ print_alike query file_of (entry_rows db) budget accuracy memory (planned query (tables_of db) accuracy budget)
       ∙ sym (ap (seen printed) (from_tables tables))
-      ∙ sym (ap (λ rows. seen printed (rows >>= plan_stage (task budget accuracy) query)) rows)
+      ∙ sym (ap (λ rows. seen printed (rows >>= plan_stage (task budget accuracy memory) query)) rows)
 
 -- ---- from the words' request on
 
@@ -164,21 +183,21 @@ has_bytes name files schema is = read_bytes schema (read file.Schema most_text n
 
 -- ---- both commands
 
-pub files_alike : (schema_file query_file stats_file : List ℕ) (accuracy budget : ℕ) (files : Files) (schema : Schema) (query : Query) (db : Database)
+pub files_alike : (schema_file query_file stats_file : List ℕ) (accuracy budget : ℕ) (memory : Option ℕ) (files : Files) (schema : Schema) (query : Query) (db : Database)
     (written : Outcome) (text : List ℕ)
     → schema_stage schema_file files ≡ Ok schema → query_stage query_file schema files ≡ Ok query
     → tables_stage schema query.from files ≡ Ok (entry_rows db) → tables_in (entry_rows db) ≡ tables_of db → IsOverSchema schema query db
     → 0 < accuracy → accuracy ≤ most_accuracy
     → ask_run (asks (Stats schema_file query_file accuracy)) files ≡ Ok written → out_text written ≡ Some text
     → read file.Stats most_file stats_file files ≡ Ok text
-    → seen printed (ask_run (asks (PlanStats schema_file query_file stats_file budget)) files)
-    ≡ seen printed (ask_run (asks (PlanWords schema_file query_file budget accuracy false false)) files)
-files_alike schema_file query_file stats_file accuracy budget files schema query db outcome text schema_is query_is rows tables over least most ran wrote there =
+    → seen printed (ask_run (asks (PlanStats schema_file query_file stats_file budget memory)) files)
+    ≡ seen printed (ask_run (asks (PlanWords schema_file query_file budget accuracy false false memory)) files)
+files_alike schema_file query_file stats_file accuracy budget memory files schema query db outcome text schema_is query_is rows tables over least most ran wrote there =
     let columns : HasByteColumns schema = has_bytes schema_file files schema schema_is in
     let is : text ≡ file_text schema (file_of_query schema query (tables_of db) accuracy)
     = text_written schema_file query_file files schema query schema_is query_is db accuracy outcome text tables rows ran wrote in
     let its : read file.Stats most_file stats_file files ≡ Ok (file_text schema (file_of_query schema query (tables_of db) accuracy))
     = there ∙ ap (λ text. Ok text) is in
-    ap (seen printed) (asked_work schema_file query_file files schema query schema_is query_is (PlanFrom stats_file budget))
-    ∙ works_alike schema query db over accuracy least most budget stats_file files columns tables rows its
-    ∙ sym (ap (seen printed) (asked_work schema_file query_file files schema query schema_is query_is (PlanOf (task budget accuracy))))
+    ap (seen printed) (asked_work schema_file query_file files schema query schema_is query_is (PlanFrom stats_file budget memory))
+    ∙ works_alike schema query db over accuracy least most budget memory stats_file files columns tables rows its
+    ∙ sym (ap (seen printed) (asked_work schema_file query_file files schema query schema_is query_is (PlanOf (task budget accuracy memory))))

@@ -1,5 +1,5 @@
 -- Which ending a status tells.
-use Rattle.std.proofs.Common.{◌≡◌, ◌≢◌, ◌⊎◌, inl, inr, Option, None, Some, refl, ap, sym, ◌∙◌}
+use Rattle.std.proofs.Common.{◌≡◌, ◌≢◌, ◌⊎◌, inl, inr, Option, None, Some, refl, ap, ◌∙◌}
 use Rattle.outcomes.specs.Reads.{IsOfWhatIsThere}
 use Rattle.outcomes.specs.Statuses.{ended, refused}
 use Rattle.outcomes.specs.declared.ending.Ending.{Ending}
@@ -19,6 +19,7 @@ refusal_in (status.Table number cause) = Some (refusal.Table number cause)
 refusal_in (status.Stats cause at) = Some (refusal.Stats cause at)
 refusal_in (status.Limit which file found) = Some (refusal.Limit which file found)
 refusal_in (status.Budget least) = Some (refusal.Budget least)
+refusal_in (status.MemoryLimit bytes) = Some (refusal.MemoryLimit bytes)
 refusal_in status.PastBits = Some refusal.PastBits
 refusal_in (status.ReadFault file) = None
 refusal_in (status.WriteFault sink) = None
@@ -34,6 +35,7 @@ back (refusal.Table number cause) h = refl
 back (refusal.Stats cause at) h = refl
 back (refusal.Limit which file found) h = refl
 back (refusal.Budget least) h = refl
+back (refusal.MemoryLimit bytes) h = refl
 back refusal.PastBits h = refl
 
 only_one : (e : Ending) (r : Refusal) → refusal_in (ended e) ≡ Some r → e ≡ ending.Refused r
@@ -45,6 +47,7 @@ only_one (ending.Refused (refusal.Table number cause)) r h = cc
 only_one (ending.Refused (refusal.Stats cause at)) r h = cc
 only_one (ending.Refused (refusal.Limit which file found)) r h = cc
 only_one (ending.Refused (refusal.Budget least)) r h = cc
+only_one (ending.Refused (refusal.MemoryLimit bytes)) r h = cc
 only_one (ending.Refused refusal.PastBits) r h = cc
 only_one (ending.Fault file) r h = cc
 only_one ending.NoMemory r h = cc
@@ -63,6 +66,7 @@ ended_fault (ending.Refused (refusal.Table number cause)) file h = cc
 ended_fault (ending.Refused (refusal.Stats cause at)) file h = cc
 ended_fault (ending.Refused (refusal.Limit which f found)) file h = cc
 ended_fault (ending.Refused (refusal.Budget least)) file h = cc
+ended_fault (ending.Refused (refusal.MemoryLimit bytes)) file h = cc
 ended_fault (ending.Refused refusal.PastBits) file h = cc
 ended_fault (ending.Fault f) file h = inr (cc)
 ended_fault ending.NoMemory file h = cc
@@ -77,6 +81,7 @@ ended_not_done (ending.Refused (refusal.Table number cause)) h = cc
 ended_not_done (ending.Refused (refusal.Stats cause at)) h = cc
 ended_not_done (ending.Refused (refusal.Limit which f found)) h = cc
 ended_not_done (ending.Refused (refusal.Budget least)) h = cc
+ended_not_done (ending.Refused (refusal.MemoryLimit bytes)) h = cc
 ended_not_done (ending.Refused refusal.PastBits) h = cc
 ended_not_done (ending.Fault f) h = cc
 ended_not_done ending.NoMemory h = cc
@@ -90,6 +95,7 @@ ended_not_cut (ending.Refused (refusal.Table number cause)) sink h = cc
 ended_not_cut (ending.Refused (refusal.Stats cause at)) sink h = cc
 ended_not_cut (ending.Refused (refusal.Limit which f found)) sink h = cc
 ended_not_cut (ending.Refused (refusal.Budget least)) sink h = cc
+ended_not_cut (ending.Refused (refusal.MemoryLimit bytes)) sink h = cc
 ended_not_cut (ending.Refused refusal.PastBits) sink h = cc
 ended_not_cut (ending.Fault f) sink h = cc
 ended_not_cut ending.NoMemory sink h = cc

@@ -17,6 +17,7 @@ refused (refusal.Table table cause) = status.Table table cause
 refused (refusal.Stats cause at) = status.Stats cause at
 refused (refusal.Limit which file found) = status.Limit which file found
 refused (refusal.Budget least) = status.Budget least
+refused (refusal.MemoryLimit bytes) = status.MemoryLimit bytes
 refused refusal.PastBits = status.PastBits
 
 -- the status of an ending: an absent file and a failed read are told alike
@@ -38,3 +39,4 @@ code_of status.PastBits = 9
 code_of (status.WriteFault sink) = 10
 code_of status.NoMemory = 11
 code_of (status.Stats cause at) = 14
+code_of (status.MemoryLimit bytes) = 16

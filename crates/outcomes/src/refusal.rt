@@ -77,6 +77,10 @@ pub enum Refusal {
     Budget {
         least: u128,
     },
+    /// The plan's buffers take so many bytes, more than the limit of memory.
+    MemoryLimit {
+        bytes: u128,
+    },
     /// The least cost of an order is 2^128 - 1, the top bound, which stands for all from there on.
     PastBits,
 }

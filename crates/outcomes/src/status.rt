@@ -53,6 +53,10 @@ pub enum Status {
     Budget {
         least: u128,
     },
+    /// The plan's buffers take so many bytes, more than the limit of memory.
+    MemoryLimit {
+        bytes: u128,
+    },
     /// The least cost of an order is 2^128 - 1, the top bound, which stands for all from there on.
     PastBits,
     /// A write failed.
@@ -81,6 +85,7 @@ impl Status {
             Status::WriteFault { .. } => 10,
             Status::NoMemory => NO_MEMORY,
             Status::Stats { .. } => 14,
+            Status::MemoryLimit { .. } => 16,
         }
     }
 }
@@ -98,6 +103,7 @@ impl From<Refusal> for Status {
             Refusal::Stats { cause, at } => Status::Stats { cause, at },
             Refusal::Limit { which, file, found } => Status::Limit { which, file, found },
             Refusal::Budget { least } => Status::Budget { least },
+            Refusal::MemoryLimit { bytes } => Status::MemoryLimit { bytes },
             Refusal::PastBits => Status::PastBits,
         }
     }

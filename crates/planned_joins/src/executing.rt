@@ -1,7 +1,7 @@
 //! The execution of a plan.
 ghost use Rattle.std.specs.Prelude.{◌≡◌, ℕ, ◌+◌, ◌<◌, ◌≤◌, length};
 ghost use Rattle.limits.specs.Profile.{most_conjuncts};
-ghost use Rattle.link_index.specs.Forest.{rows_at};
+ghost use Rattle.link_index.specs.Forest.{capacities, rows_at};
 ghost use Rattle.sql_meaning.specs.Databases.{IsDatabaseOf};
 ghost use Rattle.sql_meaning.specs.Tables.{tables_of};
 ghost use Rattle.join_steps.specs.Lists.{list_levels, lists_of, AreOfScans};
@@ -17,7 +17,7 @@ use row_buf::RowBuf;
 
 /// Lists every level of a plan over lists of scanned rows, one list for each FROM entry: level k has exactly the choices of one row of
 /// each list, for the first k + 1 entries of its order, for which every conjunct holds that names only these entries, in lexicographic
-/// order of row numbers. It takes no memory and can't fail.
+/// order of row numbers. It takes no memory and can't fail, and each level keeps the memory that was taken for it.
 pub fn execute_plan(
     reserved: Reserved,
     plan: &Plan,
@@ -33,6 +33,7 @@ pub fn execute_plan(
     ensures levels { (k : ℕ) → k < length plan.now.order
         → rows_at result k ≡ list_levels query.now (tables_of db.now) (lists_of lists.now) plan.now.order (k + 1) }
     ensures count { length result ≡ length plan.now.order }
+    ensures capacities { capacities result ≡ capacities reserved.levels }
 {
     execute(reserved, lists, plan.order.as_slice(), query, db)
 }

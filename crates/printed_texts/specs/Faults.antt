@@ -127,6 +127,7 @@ fault (status.Table number cause) names = table_words (table_in names.schema num
 fault (status.Stats cause at) names = codes "stats" ∷ (stats_cause cause ∷ (decimal at ∷ []))
 fault (status.Limit which id found) names = limit_words which (file_name id names) found
 fault (status.Budget least) names = codes "budget" ∷ (decimal least ∷ [])
+fault (status.MemoryLimit bytes) names = codes "memory-limit" ∷ (decimal bytes ∷ [])
 fault status.PastBits names = codes "past-bits" ∷ []
 fault (status.WriteFault cut) names = codes "write" ∷ (sink_name cut ∷ [])
 fault status.NoMemory names = codes "memory" ∷ []

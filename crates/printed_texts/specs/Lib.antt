@@ -4,3 +4,4 @@ pub mod Plans
 pub mod Texts
 pub mod TreePlans
 pub mod Words
+pub mod Memory

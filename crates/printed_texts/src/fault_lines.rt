@@ -152,6 +152,8 @@ const WRITE: &[u8] = b"write";
 
 const MEMORY: &[u8] = b"memory";
 
+const MEMORY_LIMIT: &[u8] = b"memory-limit";
+
 const UTF8: &[u8] = b"utf8";
 
 const HEADER: &[u8] = b"header";
@@ -239,6 +241,13 @@ fn write_budget<N: Sink>(least: u128, sink: &mut N) -> Result<(), Failed>
     write_words(&[BUDGET, digits.format(least).as_bytes()], sink)
 }
 
+fn write_memory_limit<N: Sink>(bytes: u128, sink: &mut N) -> Result<(), Failed>
+    ensures { Wrote (growth N.taken N.faults sink.old sink.new) (error_line (codes "memory-limit" ∷ (decimal bytes ∷ []))) result }
+{
+    let mut digits = itoa::Buffer::new();
+    write_words(&[MEMORY_LIMIT, digits.format(bytes).as_bytes()], sink)
+}
+
 /// Writes the line of a status that is not `Done`. A table is named by its file, a column by its name.
 pub fn write_line<N: Sink>(status: Status, names: Named, sink: &mut N) -> Result<(), Failed>
     requires { status ≢ Status.Done }
@@ -260,6 +269,7 @@ pub fn write_line<N: Sink>(status: Status, names: Named, sink: &mut N) -> Result
             write_limit(which, file_word(file, names), found, sink)
         }
         Status::Budget { least } => write_budget(least, sink),
+        Status::MemoryLimit { bytes } => write_memory_limit(bytes, sink),
         Status::PastBits => write_words(&[PAST_BITS], sink),
         Status::WriteFault { sink: cut } => write_words(&[WRITE, sink_word(cut)], sink),
         Status::NoMemory => write_words(&[MEMORY], sink),

@@ -4,18 +4,20 @@
 //! In come a plan, along an order or over a join tree, the entries of a query, a database and the rows of a choice; or a
 //! status, and what its line may name. Callers cite `plan_lines` and `audit_lines` (in `specs/Plans.antt`), `tree_lines`
 //! and `tree_audits` (in `specs/TreePlans.antt`), `rows_lines` and `choice_text` (in `specs/Texts.antt` and
-//! `specs/Lines.antt`) and `fault_line` (in `specs/Faults.antt`). Each writing call has one clause, `Wrote`: it leaves a
+//! `specs/Lines.antt`), `memory_text` (in `specs/Memory.antt`) and `fault_line` (in `specs/Faults.antt`). Each writing call has one clause, `Wrote`: it leaves a
 //! prefix of its text where the sink fails, as `write_line(status, names, notes)` does. `put_line`, `alias_at`,
 //! `put_level_bound` and `put_node_bound` are parts of which joined_texts makes the rows and audit texts.
 #![tactic(auto)]
 
 mod fault_lines;
 mod lines;
+mod memory;
 mod plan;
 mod rows;
 mod tree;
 
 pub use fault_lines::{Named, write_line};
+pub use memory::write_memory;
 pub use plan::{alias_at, put_level_bound, write_plan};
 pub use rows::{Line, put_line};
 pub use tree::{put_node_bound, write_tree};

@@ -5,3 +5,4 @@
 -- in goals, so one `take_all` stands in the last answer.
 
 pub mod Roomy
+pub mod Few

@@ -1,8 +1,17 @@
--- The rooms of a small plan.
-use Rattle.std.specs.Prelude.{[], ◌∷◌}
+-- The rooms and the bytes of small plans.
+use Rattle.std.specs.Prelude.{ℕ, [], ◌∷◌}
+use Rattle.reserve_plan.specs.Memory.{plan_bytes}
 use Rattle.reserve_plan.specs.Rooms.{Rooms, rooms}
 
 -- entry 1 and then entry 0, with at most 6 rows in the list of entry 0 and none in that of entry 1, and none on the
 -- first level and 12 on the second
 abbrev pub two_entries : Rooms
 two_entries = rooms (1 ∷ 0 ∷ []) (6 ∷ 0 ∷ []) (0 ∷ 12 ∷ [])
+
+-- entry 1 with 5 rows and then entry 0 with 6: levels of 5 and 12 rows
+abbrev pub six_and_five_bytes : ℕ
+six_and_five_bytes = plan_bytes (1 ∷ 0 ∷ []) (6 ∷ 5 ∷ []) (5 ∷ 12 ∷ [])
+
+-- one entry of no rows
+abbrev pub least_bytes : ℕ
+least_bytes = plan_bytes (0 ∷ []) (0 ∷ []) (0 ∷ [])

@@ -35,6 +35,14 @@ pub record IsRoomFor {T : Type 0} (count : ℕ) (buffer : Rows T) : Type 0 where
   pub empty : buffer.items ≡ []
   pub room : count ≤ buffer.spare
 
+-- an empty buffer with memory for exactly so many row numbers
+abbrev pub buffer_for : ℕ → Rows ℕ
+buffer_for size = record { items = []; spare = size }
+
+-- empty chains of so many rows, with as many buckets, and at least one
+abbrev pub chains_for : ℕ → Loaded
+chains_for rows = record { keys = []; room = rows; buckets = max rows 1 }
+
 -- empty chains that take at least so many rows and have as many buckets, and at least one
 pub record IsRoomForKeys (count : ℕ) (chains : Loaded) : Type 0 where
   pub empty : chains.keys ≡ []

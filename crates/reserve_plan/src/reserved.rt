@@ -1,7 +1,11 @@
 use link_index::{Chains, RowForest};
 use row_buf::RowBuf;
+use std::mem::size_of;
 
-/// The buffers of a plan.
+/// The bytes of chains in a list of them, without what they hold.
+pub const CHAINS_BYTES: usize = size_of::<Chains>();
+
+/// The buffers of a plan. How many bytes they hold `reserved_bytes` says.
 #[derive(Drop)]
 pub struct Reserved {
     /// For each level after the first, the chains of its entry's rows.

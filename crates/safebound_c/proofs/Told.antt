@@ -1,6 +1,6 @@
 -- A status of 0 tells that all was done.
 use Rattle.std.proofs.Common.{◌≡◌, ℕ, sym, ◌∙◌, arith}
-use Rattle.std.specs.Prelude.{Result, Ok, Err, OnOk}
+use Rattle.std.specs.Prelude.{Result, Ok, Err, OnErr, OnOk}
 use Rattle.safebound_lists.specs.declared.refusal.Refusal.{Refusal}
 use Rattle.safebound_lists.specs.declared.refusal.Refusal.TheVariants as refusal
 use Rattle.safebound_c.specs.Status.{status_of, status_of_refusal}
@@ -23,7 +23,16 @@ refused_so (refusal.List place) h = omega arith
 refused_so (refusal.MissingList place) h = omega arith
 refused_so (refusal.Bounds count) h = omega arith
 refused_so (refusal.GivenBudget given) h = omega arith
+refused_so (refusal.Levels count) h = omega arith
+refused_so (refusal.Level place) h = omega arith
+refused_so (refusal.Joins count) h = omega arith
+refused_so (refusal.Join place) h = omega arith
 
 pub done_so : (P : Type 0) (answer : Result ℕ Refusal) (status : ℕ) → status ≡ status_of answer → status ≡ 0 → OnOk answer P → P
 done_so P (Ok count) status is zero h = h
 done_so P (Err why) status is zero h = absurd (refused_so why (sym is ∙ zero))
+
+-- where a call writes no room, nothing changes
+pub kept_always : (P : Type 0) (answer : Result ℕ Refusal) → P → OnErr answer P
+kept_always P (Ok count) held = tt
+kept_always P (Err why) held = held

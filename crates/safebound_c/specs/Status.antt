@@ -25,6 +25,10 @@ status_of_refusal (refusal.List place) = 25
 status_of_refusal (refusal.MissingList place) = 26
 status_of_refusal (refusal.Bounds count) = 27
 status_of_refusal (refusal.GivenBudget given) = 28
+status_of_refusal (refusal.Levels count) = 29
+status_of_refusal (refusal.Level place) = 30
+status_of_refusal (refusal.Joins count) = 31
+status_of_refusal (refusal.Join place) = 32
 
 -- the number that goes with it, or the old one where none does
 abbrev pub detail_of_refusal : Refusal → ℕ → ℕ
@@ -45,8 +49,12 @@ detail_of_refusal (refusal.List place) old = place
 detail_of_refusal (refusal.MissingList place) old = place
 detail_of_refusal (refusal.Bounds count) old = count
 detail_of_refusal (refusal.GivenBudget given) old = given
+detail_of_refusal (refusal.Levels count) old = count
+detail_of_refusal (refusal.Level place) old = place
+detail_of_refusal (refusal.Joins count) old = count
+detail_of_refusal (refusal.Join place) old = place
 
--- an answer is how many elements were written, or a refusal
+-- an answer is how many elements were written, or the number that was asked for, or a refusal
 abbrev pub status_of : Result ℕ Refusal → ℕ
 status_of (Ok count) = done
 status_of (Err why) = status_of_refusal why

@@ -12,5 +12,5 @@ mod version;
 
 pub use bounding::safebound_bounds;
 pub use listing::{safebound_append, safebound_compress, safebound_degrees};
-pub use planning::{safebound_order, safebound_tree};
+pub use planning::{safebound_memory, safebound_order, safebound_tree, safebound_tree_memory};
 pub use version::safebound_version;

@@ -1,12 +1,13 @@
 //! Calls for plans.
 ghost use Rattle.std.specs.Prelude.{length};
 ghost use Rattle.safebound_plans.specs.Causes.{IsOrderCause, IsTreeCause};
+ghost use Rattle.safebound_plans.specs.Memory.{IsOrderMemory, IsOrderMemoryCause, IsTreeMemory, IsTreeMemoryCause};
 ghost use Rattle.safebound_plans.specs.Orders.{IsBestOrder};
 ghost use Rattle.safebound_plans.specs.Trees.{IsBestTree};
 ghost use Rattle.safebound_c.specs.Status.{Tells};
 
 use crate::status::told;
-use safebound_plans::{JoinNode, Level, order, tree};
+use safebound_plans::{JoinNode, Level, order, order_memory, tree, tree_memory};
 use std::alloc::Global;
 
 /// Writes the levels of the best left-deep order over bounds of all sets.
@@ -37,4 +38,22 @@ pub extern "C" fn safebound_tree(
         into.old into.new detail.old result detail.new }
 {
     told(tree(alloc, bounds, budget, into), detail)
+}
+
+/// The bytes that an engine's buffers take for an order: of its lists of so many rows of each entry, its levels and its chains.
+#[unsafe(no_mangle)]
+pub extern "C" fn safebound_memory(rows: &[u64], levels: &[Level], detail: &mut u64) -> u32
+    ensures exact { Tells (IsOrderMemory rows.now levels.now) (IsOrderMemoryCause rows.now levels.now)
+        levels.now levels.now detail.old result detail.new }
+{
+    told(order_memory(rows, levels), detail)
+}
+
+/// The same for a join tree.
+#[unsafe(no_mangle)]
+pub extern "C" fn safebound_tree_memory(rows: &[u64], joins: &[JoinNode], detail: &mut u64) -> u32
+    ensures exact { Tells (IsTreeMemory rows.now joins.now) (IsTreeMemoryCause rows.now joins.now)
+        joins.now joins.now detail.old result detail.new }
+{
+    told(tree_memory(rows, joins), detail)
 }

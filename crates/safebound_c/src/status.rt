@@ -40,6 +40,14 @@ const BAD_BOUNDS: u32 = 27;
 
 const BAD_BUDGET: u32 = 28;
 
+const BAD_LEVELS: u32 = 29;
+
+const BAD_LEVEL: u32 = 30;
+
+const BAD_JOINS: u32 = 31;
+
+const BAD_JOIN: u32 = 32;
+
 fn status(refusal: Refusal) -> u32
     ensures { result ≡ status_of_refusal refusal }
 {
@@ -61,6 +69,10 @@ fn status(refusal: Refusal) -> u32
         Refusal::MissingList { place: _ } => MISSING_LIST,
         Refusal::Bounds { count: _ } => BAD_BOUNDS,
         Refusal::GivenBudget { given: _ } => BAD_BUDGET,
+        Refusal::Levels { count: _ } => BAD_LEVELS,
+        Refusal::Level { place: _ } => BAD_LEVEL,
+        Refusal::Joins { count: _ } => BAD_JOINS,
+        Refusal::Join { place: _ } => BAD_JOIN,
     }
 }
 
@@ -85,6 +97,10 @@ fn detail_with(refusal: Refusal, old: u64) -> u64
         Refusal::MissingList { place } => place,
         Refusal::Bounds { count } => count,
         Refusal::GivenBudget { given } => given,
+        Refusal::Levels { count } => count,
+        Refusal::Level { place } => place,
+        Refusal::Joins { count } => count,
+        Refusal::Join { place } => place,
     }
 }
 

@@ -215,4 +215,5 @@ module _ (words : List (List ℕ)) (status : Status) (store : Reading)
         by_the_store = h.nothing_is_refused_without_cause.by_the_store;
         by_the_sinks = h.nothing_is_refused_without_cause.by_the_sinks;
       };
+      every_limit_is_kept = h.every_limit_is_kept;
     }

@@ -111,6 +111,7 @@ module _ (words : List (List ℕ)) (store : Reading) (files : Files) (tells : st
   same_names (status.Stats cause at) h = refused_names (refusal.Stats cause at) (status.Stats cause at) (λ file e. cc) refl h
   same_names (status.Limit which file found) h = refused_names (refusal.Limit which file found) (status.Limit which file found) (λ other e. cc) refl h
   same_names (status.Budget least) h = refused_names (refusal.Budget least) (status.Budget least) (λ file e. cc) refl h
+  same_names (status.MemoryLimit bytes) h = refused_names (refusal.MemoryLimit bytes) (status.MemoryLimit bytes) (λ file e. cc) refl h
   same_names status.PastBits h = refused_names refusal.PastBits status.PastBits (λ file e. cc) refl h
   same_names (status.WriteFault sink.Out) h =
       from_ok (LeftByCutOut (call_with (status.WriteFault sink.Out)).out (call_with (status.WriteFault sink.Out)).notes (fault_text (status.WriteFault sink.Out) words files))

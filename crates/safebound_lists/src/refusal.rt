@@ -38,9 +38,17 @@ pub enum Refusal {
     Bounds { count: u64 },
     /// The budget is too large.
     GivenBudget { given: u64 },
+    /// There are not as many levels as entries.
+    Levels { count: u64 },
+    /// The entry of the level at this place isn't there.
+    Level { place: u64 },
+    /// There are not as many joins as entries but one.
+    Joins { count: u64 },
+    /// The join at this place isn't of two nodes before it.
+    Join { place: u64 },
     /// The best plan passes the budget: the least that would do.
     Budget { least: u64 },
-    /// Each plan has a part without a bound.
+    /// Each plan has a part without a bound, or what was asked for has more than 64 bits.
     PastBits,
 }
 

@@ -1,3 +1,4 @@
 pub mod Filling
 pub mod Costs
 pub mod Best
+pub mod Numbered

@@ -17,13 +17,17 @@ use Rattle.order_search.specs.declared.refusal.PlanError.{PlanError}
 use Rattle.order_search.specs.declared.refusal.PlanError.TheVariants as plan
 use Rattle.outcomes.specs.Errors.{plan_ending, plan_refusal, query_ending, query_refusal, schema_ending, schema_refusal}
 use Rattle.outcomes.specs.Reads.{◌>>=◌, Tells, told}
+use Rattle.outcomes.specs.declared.ending.Ending.TheVariants as ending
 use Rattle.outcomes.specs.declared.refusal.Refusal.{Refusal}
 use Rattle.sql_meaning.specs.Tables.{Tables}
 use Rattle.table_files.specs.EntryTables.{tables_in}
+use Rattle.safebound_top.specs.Limits.{limit_test, within_limit}
 use Rattle.safebound_top.specs.Outcome.{Outcome, Planned}
+use Rattle.safebound_top.specs.Shapes.{shape_bytes}
 use Rattle.safebound_top.specs.Verdict.{plan_asked, plan_stage, run_asked}
 use Rattle.safebound_top.specs.declared.shapes.Shaped.{Shaped}
 use Rattle.safebound_top.specs.declared.task.PlanTask.{PlanTask}
+use Rattle.safebound_top.proofs.LimitFacts.{kept, stops}
 
 -- a value that is read is the answer's
 pub same_value : {A E : Type 0} (memory : E) (answer : Result A E) (x : A) → (Ok x ≡ Err memory) ⊎ (Ok x ≡ answer) → answer ≡ Ok x
@@ -89,12 +93,25 @@ module _ (task : PlanTask) (query : Query) (rows : List (List Row)) (t : Tables)
   over_rows : plan_asked task query (tables_in rows) ≡ plan_asked task query t
   over_rows = ap (plan_asked task query) same
 
-  pub plan_stage_ok : (p : Shaped) → plan_asked task query t ≡ Ok p → plan_stage task query rows ≡ Ok (Planned (run_asked task query rows p))
+  abbrev limited : Shaped → Result Outcome Refusal
+  limited p = within_limit task.memory (shape_bytes p) (Planned (run_asked task query rows p))
+
+  plan_stage_at : (p : Shaped) → plan_asked task query t ≡ Ok p → plan_stage task query rows ≡ within_limit task.memory (shape_bytes p) (Planned (run_asked task query rows p))
   unfolding plan_stage
-  plan_stage_ok p is = ap (λ (r : Result Shaped PlanError). told plan_refusal r >>= λ p. Ok (Planned (run_asked task query rows p))) (over_rows ∙ is)
+  plan_stage_at p is = ap (λ (r : Result Shaped PlanError). told plan_refusal r >>= limited) (over_rows ∙ is)
+
+  pub plan_stage_ok : (p : Shaped) → plan_asked task query t ≡ Ok p → limit_test task.memory (shape_bytes p) ≡ Ok tt
+      → plan_stage task query rows ≡ Ok (Planned (run_asked task query rows p))
+  plan_stage_ok p is fits = plan_stage_at p is ∙ kept task.memory (shape_bytes p) (Planned (run_asked task query rows p)) fits
+
+  pub limit_told : (p : Shaped) → plan_asked task query t ≡ Ok p → (r : Refusal) → limit_test task.memory (shape_bytes p) ≡ Err r
+      → Tells (plan_stage task query rows) (ending.Refused r)
+  limit_told p is r above =
+      subst (λ (s : Result Outcome Refusal). Tells s (ending.Refused r)) (sym (plan_stage_at p is))
+      (stops task.memory (shape_bytes p) (Planned (run_asked task query rows p)) r above)
 
   pub plan_told : (e : PlanError) → (e ≡ plan.NoMemory) ⊎ (plan_asked task query t ≡ Err e) → Tells (plan_stage task query rows) (plan_ending e)
   unfolding plan_stage
   plan_told e h =
-      plan_tells (λ p. Ok (Planned (run_asked task query rows p))) (plan_asked task query (tables_in rows)) e
+      plan_tells limited (plan_asked task query (tables_in rows)) e
       (subst (λ (r : Result Shaped PlanError). (e ≡ plan.NoMemory) ⊎ (r ≡ Err e)) (sym over_rows) h)

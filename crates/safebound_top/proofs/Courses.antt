@@ -22,7 +22,7 @@ use Rattle.safebound_top.specs.Headline as say
 use Rattle.safebound_top.specs.Outcome.{Outcome}
 use Rattle.safebound_top.specs.OutcomeTexts.{notes_text, out_text}
 use Rattle.safebound_top.specs.Verdict.{IsReached, verdict}
-use Rattle.safebound_top.proofs.Runs.{bounds_hold, rows_are_the_answer}
+use Rattle.safebound_top.proofs.Runs.{bounds_hold, limits_hold, rows_are_the_answer}
 
 -- words that are no command are refused at once
 unasked_verdict : (words : List (List ℕ)) (files : Files) → command_stage words ≡ Err refusal.Usage → verdict words files ≡ Err refusal.Usage
@@ -273,4 +273,5 @@ module _ (call : Call) (course : Course call) where
     refusals_are_the_verdict = refusals course.how;
     read_faults_have_their_cause = faults course.how;
     nothing_is_refused_without_cause = causes course.how;
+    every_limit_is_kept = λ files told. limits_hold call.words files;
   }

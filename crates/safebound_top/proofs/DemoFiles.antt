@@ -25,17 +25,20 @@ use Rattle.outcomes.specs.declared.refusal.Refusal.{Refusal}
 use Rattle.outcomes.specs.declared.status.Status.TheVariants as status
 use Rattle.table_files.specs.EntryTables.{tables_in}
 use Rattle.table_files.specs.Stage.{tables_stage}
-use Rattle.demo_tables.proofs.Absences.{ok_misses, query_there, schema_there, tables_miss, then_misses}
+use Rattle.demo_tables.proofs.Absences.{query_there, schema_there, tables_miss, then_misses}
 use Rattle.safebound_words.specs.Answer.{command_of}
 use Rattle.safebound_words.specs.Requests.{Request, Run, Plan, Audit, Stats, PlanStats, Demo}
 use Rattle.safebound_top.specs.Asks.{Ask, PlanOf, ask_for, command_stage, plan_for, request_stage}
 use Rattle.safebound_top.specs.Call.{Call}
 use Rattle.safebound_top.specs.Headline.{Headline}
+use Rattle.safebound_top.specs.Limits.{within_limit}
 use Rattle.safebound_top.specs.Outcome.{Planned}
+use Rattle.safebound_top.specs.Shapes.{shape_bytes}
 use Rattle.safebound_top.specs.Shops.{request_shop, shop_of, shop_store}
 use Rattle.safebound_top.specs.Verdict.{ask_run, plan_asked, plan_stage, query_of_text, query_run, query_stage, run_asked, schema_of_text, schema_run, schema_stage, verdict}
 use Rattle.safebound_top.specs.declared.task.OutText.TheVariants as out_text
 use Rattle.safebound_top.specs.declared.task.PlanTask.{PlanTask}
+use Rattle.safebound_top.proofs.LimitFacts.{within_misses}
 use Rattle.safebound_top.proofs.Promises.{query_of_schema, told_ok}
 
 -- ---- no reader tells of an absent file
@@ -83,8 +86,9 @@ module _ (number : ℕ) where
     plan_misses : (query : Query) (rows : List (List Row)) → MissesNothing (plan_stage task query rows)
     unfolding plan_stage
     plan_misses query rows =
-        then_misses (told plan_refusal (plan_asked task query (tables_in rows))) (λ plan. Ok (Planned (run_asked task query rows plan)))
-        (plans_miss (plan_asked task query (tables_in rows))) (λ plan _. ok_misses (Planned (run_asked task query rows plan)))
+        then_misses (told plan_refusal (plan_asked task query (tables_in rows))) (λ plan. within_limit task.memory (shape_bytes plan) (Planned (run_asked task query rows plan)))
+        (plans_miss (plan_asked task query (tables_in rows)))
+        (λ plan _. within_misses task.memory (shape_bytes plan) (Planned (run_asked task query rows plan)))
 
     query_misses : (schema : Schema) (query : Query) → schema_answer schema_text ≡ Ok schema → IsOf schema query
         → MissesNothing (query_run ask schema query (demo_files number))
@@ -111,17 +115,17 @@ module _ (number : ℕ) where
 
 demo_asked : (number : ℕ) (request : Option Request) → request_shop request ≡ Some number → request ≡ Some (Demo number)
 demo_asked number None e = cc
-demo_asked number (Some (Run schema query budget accuracy reduce bushy)) e = cc
-demo_asked number (Some (Plan schema query budget accuracy reduce bushy)) e = cc
-demo_asked number (Some (Audit schema query budget accuracy reduce bushy)) e = cc
+demo_asked number (Some (Run schema query budget accuracy reduce bushy memory)) e = cc
+demo_asked number (Some (Plan schema query budget accuracy reduce bushy memory)) e = cc
+demo_asked number (Some (Audit schema query budget accuracy reduce bushy memory)) e = cc
 demo_asked number (Some (Stats schema query accuracy)) e = cc
-demo_asked number (Some (PlanStats schema query file budget)) e = cc
+demo_asked number (Some (PlanStats schema query file budget memory)) e = cc
 demo_asked number (Some (Demo other)) e = (let same : other ≡ number = cc in ap (λ (n : ℕ). Some (Demo n)) same)
 
 pub demo_misses : (number : ℕ) (words : List (List ℕ)) → shop_of words ≡ Some number → MissesNothing (verdict words (demo_files number))
 unfolding verdict
 demo_misses number words is =
-    let asked : command_stage words ≡ Ok (ask_for (codes "schema.sql") (codes "query.sql") (plan_for out_text.Audit 1000000 1 false false)) =
+    let asked : command_stage words ≡ Ok (ask_for (codes "schema.sql") (codes "query.sql") (plan_for out_text.Audit 1000000 1 false false None)) =
     ap request_stage (demo_asked number (command_of words) is) in
     subst (λ (r : Result Ask Refusal). MissesNothing (r >>= (λ ask. ask_run ask (demo_files number)))) (sym asked) (ask_misses number _)
 

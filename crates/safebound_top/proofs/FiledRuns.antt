@@ -1,5 +1,5 @@
 -- What holds of a statistics file that the verdict makes, and of a plan that it makes from one.
-use Rattle.std.proofs.Common.{◌≡◌, ℕ, ◌<◌, ◌≤◌, List, [], Result, Ok, Err, length, get_or, refl, ap, sym, ◌∙◌, subst}
+use Rattle.std.proofs.Common.{◌≡◌, ℕ, ◌<◌, ◌≤◌, List, [], Option, Result, Ok, Err, length, get_or, refl, ap, sym, ◌∙◌, subst}
 use Rattle.std.specs.Prelude.{IfOk}
 use Rattle.std.proofs.lemmas.List.{get_or-map, length-map}
 use Rattle.base_io.specs.Files.{Files}
@@ -18,6 +18,7 @@ use Rattle.plans.specs.declared.left_deep.Plan.{Plan}
 use Rattle.query_types.specs.Validity.{IsOf}
 use Rattle.query_types.specs.declared.types.Query.{Query}
 use Rattle.query_types.specs.declared.types.Source.{Source}
+use Rattle.reserve_plan.specs.Memory.{plan_bytes}
 use Rattle.schema_types.specs.Validity.{IsValid}
 use Rattle.schema_types.specs.declared.types.Schema.{Schema}
 use Rattle.stats_answers.specs.StatsTexts.{stats_answer}
@@ -28,8 +29,10 @@ use Rattle.stats_file.specs.declared.types.StatsFile.{StatsFile}
 use Rattle.table_files.specs.EntryTables.{tables_in}
 use Rattle.table_files.specs.Stage.{numbers_of, place_of, rows_by_entry, rows_of_each, tables_of_query, tables_stage}
 use Rattle.table_files.specs.TableFile.{read}
-use Rattle.safebound_top.specs.Filed.{filed_plan_stage, filed_refusal, stats_of_text, stats_stage, tables_filed}
+use Rattle.safebound_top.specs.Filed.{filed_plan_stage, filed_refusal, filed_within, stats_of_text, stats_stage, tables_filed}
+use Rattle.safebound_top.specs.Limits.{AreWithin}
 use Rattle.safebound_top.specs.Outcome.{FiledPlan, HoldsWhereItStands, NoBoundIsTooLow, Outcome, PlannedByFile}
+use Rattle.safebound_top.proofs.LimitFacts.{within_so}
 
 -- ---- a file of tables
 
@@ -73,17 +76,21 @@ stats_keep name schema files valid = keeps_read schema valid (read file.Stats 67
 
 -- ---- a plan from it
 
-module _ (schema : Schema) (query : Query) (of : IsOf schema query) (stats : StatsFile) (keeps : KeepsRules schema stats) (budget : ℕ) (small : budget ≤ 20000000) where
+module _ (schema : Schema) (query : Query) (of : IsOf schema query) (stats : StatsFile) (keeps : KeepsRules schema stats) (budget : ℕ) (small : budget ≤ 20000000)
+    (memory : Option ℕ) where
   abbrev made_of : Plan → FiledPlan
-  made_of plan = record { query = query; file = stats; plan = plan }
+  made_of plan = record { query = query; file = stats; plan = plan; memory = memory }
 
-  module _ (Q : Outcome → Type 0) (so : (plan : Plan) → HoldsWhereItStands (made_of plan) → Q (PlannedByFile (made_of plan))) where
-    planned_so : (answer : Result Plan FiledPlanError) → filed_plan query stats budget ≡ answer → IfOk (told filed_refusal answer >>= λ plan. Ok (PlannedByFile (made_of plan))) Q
-    planned_so (Ok plan) made = so plan (λ tables stands.
-        never_under query stats tables budget plan (names_own schema query of) of.few small (record { schema = schema; keeps = keeps }) stands made)
+  abbrev bytes_of : Plan → ℕ
+  bytes_of plan = plan_bytes plan.order plan.scans plan.levels
+
+  module _ (Q : Outcome → Type 0) (so : (plan : Plan) → HoldsWhereItStands (made_of plan) → AreWithin memory (bytes_of plan) → Q (PlannedByFile (made_of plan))) where
+    planned_so : (answer : Result Plan FiledPlanError) → filed_plan query stats budget ≡ answer → IfOk (told filed_refusal answer >>= λ plan. filed_within query stats plan memory) Q
+    planned_so (Ok plan) made = within_so Q memory (bytes_of plan) (PlannedByFile (made_of plan)) (so plan (λ tables stands.
+        never_under query stats tables budget plan (names_own schema query of) of.few small (record { schema = schema; keeps = keeps }) stands made))
     planned_so (Err e) made = tt
 
-    -- what follows from that no bound of it is too low
-    pub filed_plan_holds : IfOk (filed_plan_stage query stats budget) Q
+    -- what follows from that no bound of it is too low, and that it is within its limit
+    pub filed_plan_holds : IfOk (filed_plan_stage query stats budget memory) Q
     unfolding filed_plan_stage
     filed_plan_holds = planned_so (filed_plan query stats budget) refl

@@ -1,5 +1,5 @@
 -- The stages of statistics files, step by step.
-use Rattle.std.proofs.Common.{◌≡◌, ◌⊎◌, ℕ, inl, inr, List, Result, Ok, Err, ap, sym, ◌∙◌, subst}
+use Rattle.std.proofs.Common.{◌≡◌, ◌⊎◌, ℕ, inl, inr, List, Option, Result, Ok, Err, ap, sym, ◌∙◌, subst}
 use Rattle.std.specs.Prelude.{IfErr, IfOk}
 use Rattle.base_io.specs.Files.{Files}
 use Rattle.csv_tables.specs.Rows.{Row}
@@ -15,8 +15,10 @@ use Rattle.outcomes.specs.declared.ending.Ending.TheVariants as ending
 use Rattle.outcomes.specs.declared.names.FileId.{FileId}
 use Rattle.outcomes.specs.declared.names.FileId.TheVariants as file
 use Rattle.outcomes.proofs.ReadFacts.{then_gives, then_stops, then_tells}
+use Rattle.outcomes.specs.declared.refusal.Refusal.{Refusal}
 use Rattle.plans.specs.declared.left_deep.Plan.{Plan}
 use Rattle.query_types.specs.declared.types.Query.{Query}
+use Rattle.reserve_plan.specs.Memory.{plan_bytes}
 use Rattle.schema_types.specs.Validity.{IsValid}
 use Rattle.schema_types.specs.declared.types.Schema.{Schema}
 use Rattle.stats_answers.specs.StatsTexts.{stats_answer}
@@ -29,12 +31,14 @@ use Rattle.stats_reading.specs.Names.{HasByteColumns}
 use Rattle.table_files.specs.Stage.{tables_stage}
 use Rattle.table_files.specs.TableFile.{read}
 use Rattle.safebound_top.specs.Asks.{FileOf, PlanFrom}
-use Rattle.safebound_top.specs.Filed.{filed_ending, filed_plan_stage, filed_refusal, stats_of_text, stats_stage, tables_filed}
+use Rattle.safebound_top.specs.Filed.{filed_ending, filed_plan_stage, filed_refusal, filed_within, stats_of_text, stats_stage, tables_filed}
+use Rattle.safebound_top.specs.Limits.{limit_test}
 use Rattle.safebound_top.specs.Outcome.{Outcome, PlannedByFile}
 use Rattle.safebound_top.specs.Ready.{plan_from}
 use Rattle.safebound_top.specs.Verdict.{work_run}
 use Rattle.safebound_top.specs.declared.filed.PreparedPlan.{PreparedPlan}
 use Rattle.safebound_top.proofs.Answered.{same_value}
+use Rattle.safebound_top.proofs.LimitFacts.{kept, stops}
 
 -- ---- the file, from its bytes
 
@@ -76,28 +80,41 @@ module _ (schema : Schema) (text : List ℕ) (is : IsValid schema) (bytes : HasB
 
 -- ---- the plan from a file
 
-module _ (query : Query) (stats : StatsFile) (budget : ℕ) where
-  abbrev made_of : Plan → Outcome
-  made_of plan = PlannedByFile (record { query = query; file = stats; plan = plan })
+-- a plan that is made is refused for its bytes alone
+module _ (query : Query) (stats : StatsFile) (plan : Plan) (memory : Option ℕ) where
+  abbrev made_of : Outcome
+  made_of = PlannedByFile (record { query = query; file = stats; plan = plan; memory = memory })
 
-  pub filed_planned : (plan : Plan) → filed_plan query stats budget ≡ Ok plan → filed_plan_stage query stats budget ≡ Ok (PlannedByFile (record { query = query; file = stats; plan = plan }))
+  pub filed_kept : limit_test memory (plan_bytes plan.order plan.scans plan.levels) ≡ Ok tt
+      → filed_within query stats plan memory ≡ Ok (PlannedByFile (record { query = query; file = stats; plan = plan; memory = memory }))
+  filed_kept fits = kept memory (plan_bytes plan.order plan.scans plan.levels) made_of fits
+
+  pub filed_stops : (r : Refusal) → limit_test memory (plan_bytes plan.order plan.scans plan.levels) ≡ Err r
+      → Tells (filed_within query stats plan memory) (ending.Refused r)
+  filed_stops r above = stops memory (plan_bytes plan.order plan.scans plan.levels) made_of r above
+
+module _ (query : Query) (stats : StatsFile) (budget : ℕ) (memory : Option ℕ) where
+  abbrev within_of : Plan → Result Outcome Refusal
+  within_of plan = filed_within query stats plan memory
+
+  pub filed_planned : (plan : Plan) → filed_plan query stats budget ≡ Ok plan → filed_plan_stage query stats budget memory ≡ filed_within query stats plan memory
   unfolding filed_plan_stage
-  filed_planned plan is = ap (λ (r : Result Plan FiledPlanError). told filed_refusal r >>= λ p. Ok (made_of p)) is
+  filed_planned plan is = ap (λ (r : Result Plan FiledPlanError). told filed_refusal r >>= within_of) is
 
   filed_tells : (answer : Result Plan FiledPlanError) (e : FiledPlanError) → (e ≡ error.Plan plan_error.NoMemory) ⊎ (answer ≡ Err e)
-      → Tells (told filed_refusal answer >>= λ p. Ok (made_of p)) (filed_ending e)
+      → Tells (told filed_refusal answer >>= within_of) (filed_ending e)
   filed_tells answer (error.Plan plan_error.NoMemory) h = tt
   filed_tells answer (error.Plan (plan_error.Budget least)) (inl e) = absurd (cc)
   filed_tells answer (error.Plan (plan_error.Budget least)) (inr e) =
-      (ap (λ (r : Result Plan FiledPlanError). told filed_refusal r >>= λ p. Ok (made_of p)) e, (λ file h. cc), (λ h. cc))
+      (ap (λ (r : Result Plan FiledPlanError). told filed_refusal r >>= within_of) e, (λ file h. cc), (λ h. cc))
   filed_tells answer (error.Plan plan_error.PastBits) (inl e) = absurd (cc)
   filed_tells answer (error.Plan plan_error.PastBits) (inr e) =
-      (ap (λ (r : Result Plan FiledPlanError). told filed_refusal r >>= λ p. Ok (made_of p)) e, (λ file h. cc), (λ h. cc))
+      (ap (λ (r : Result Plan FiledPlanError). told filed_refusal r >>= within_of) e, (λ file h. cc), (λ h. cc))
   filed_tells answer (error.Missing from) (inl e) = absurd (cc)
   filed_tells answer (error.Missing from) (inr e) =
-      (ap (λ (r : Result Plan FiledPlanError). told filed_refusal r >>= λ p. Ok (made_of p)) e, (λ file h. cc), (λ h. cc))
+      (ap (λ (r : Result Plan FiledPlanError). told filed_refusal r >>= within_of) e, (λ file h. cc), (λ h. cc))
 
-  pub filed_told : (e : FiledPlanError) → (e ≡ error.Plan plan_error.NoMemory) ⊎ (filed_plan query stats budget ≡ Err e) → Tells (filed_plan_stage query stats budget) (filed_ending e)
+  pub filed_told : (e : FiledPlanError) → (e ≡ error.Plan plan_error.NoMemory) ⊎ (filed_plan query stats budget ≡ Err e) → Tells (filed_plan_stage query stats budget memory) (filed_ending e)
   unfolding filed_plan_stage
   filed_told e h = filed_tells (filed_plan query stats budget) e h
 
@@ -117,12 +134,12 @@ module _ {store : Reading} (accuracy : ℕ) (schema : Schema) (query : Query) (C
 
 -- ---- a plan from a statistics file
 
-module _ {store : Reading} (name : List ℕ) (budget : ℕ) (schema : Schema) (query : Query) (C : Files → FileId → Type 0) where
-  pub plan_stops : (e : Ending) → Reads store (stats_stage name schema) C (Err e) → Reads store (work_run (PlanFrom name budget) schema query) C (Err e)
-  plan_stops e h = then_stops (stats_stage name schema) (λ stats files. filed_plan_stage query stats budget) store C C e (λ files id at. at) h
+module _ {store : Reading} (name : List ℕ) (budget : ℕ) (memory : Option ℕ) (schema : Schema) (query : Query) (C : Files → FileId → Type 0) where
+  pub plan_stops : (e : Ending) → Reads store (stats_stage name schema) C (Err e) → Reads store (work_run (PlanFrom name budget memory) schema query) C (Err e)
+  plan_stops e h = then_stops (stats_stage name schema) (λ stats files. filed_plan_stage query stats budget memory) store C C e (λ files id at. at) h
 
-  pub plan_ran : (stats : StatsFile) (result : Result PreparedPlan Ending) → IfOk result (λ made. filed_plan_stage query stats budget ≡ Ok (plan_from made))
-      → IfErr result (Tells (filed_plan_stage query stats budget)) → Reads store (stats_stage name schema) C (Ok stats)
-      → Reads store (work_run (PlanFrom name budget) schema query) C (seen plan_from result)
-  plan_ran stats (Ok made) is tells h = then_gives store (stats_stage name schema) (λ stats. filed_plan_stage query stats budget) C C stats (plan_from made) is h
-  plan_ran stats (Err e) is tells h = then_tells store (stats_stage name schema) (λ stats. filed_plan_stage query stats budget) C C stats e tells h
+  pub plan_ran : (stats : StatsFile) (result : Result PreparedPlan Ending) → IfOk result (λ made. filed_plan_stage query stats budget memory ≡ Ok (plan_from made))
+      → IfErr result (Tells (filed_plan_stage query stats budget memory)) → Reads store (stats_stage name schema) C (Ok stats)
+      → Reads store (work_run (PlanFrom name budget memory) schema query) C (seen plan_from result)
+  plan_ran stats (Ok made) is tells h = then_gives store (stats_stage name schema) (λ stats. filed_plan_stage query stats budget memory) C C stats (plan_from made) is h
+  plan_ran stats (Err e) is tells h = then_tells store (stats_stage name schema) (λ stats. filed_plan_stage query stats budget memory) C C stats e tells h

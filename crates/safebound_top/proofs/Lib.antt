@@ -66,6 +66,7 @@ pub mod DemoFiles
 pub mod DemoWords
 pub mod FiledRuns
 pub mod FiledStages
+pub mod LimitFacts
 pub mod NearRuns
 pub mod Promises
 pub mod Ranges

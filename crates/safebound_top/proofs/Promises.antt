@@ -49,12 +49,13 @@ use Rattle.safebound_top.specs.Accepted.{BoundsHold, printed}
 use Rattle.safebound_top.specs.Asks.{Ask, PlanOf, ask_for, command_stage, plan_for, request_stage, shape_asked, source_asked}
 use Rattle.safebound_top.specs.Call.{Call}
 use Rattle.safebound_top.specs.Headline.{GrewWhole, Headline}
+use Rattle.safebound_top.specs.Limits.{AreWithin, within_limit}
 use Rattle.safebound_top.specs.Promise.{AreInFile, AreScans, AsksQuery, DeclaresSchema, HoldsAlong, HoldsOver, IsTheOne, PrintsOrder, PrintsPlan, PrintsTree, Promise, RanWhole, choices_over}
-use Rattle.safebound_top.specs.Shapes.{part_rows, planned_by, shape_lines}
+use Rattle.safebound_top.specs.Shapes.{part_rows, planned_by, shape_bytes}
 use Rattle.safebound_top.specs.Sources.{sourced}
 use Rattle.safebound_top.specs.Outcome.{NoBoundIsTooLow, Outcome, Planned, PrintsTheAnswer}
 use Rattle.safebound_top.specs.OutcomeTexts.{notes_text, out_text}
-use Rattle.safebound_top.specs.Texts.{rows_text}
+use Rattle.safebound_top.specs.Texts.{plan_text, rows_text}
 use Rattle.safebound_top.specs.Verdict.{ask_run, plan_asked, plan_stage, query_of_text, query_run, query_stage, run_asked, schema_of_text, schema_run, schema_stage, verdict}
 use Rattle.safebound_top.specs.declared.shapes.Shaped.{Shaped}
 use Rattle.safebound_top.specs.declared.shapes.Shaped.TheVariants as shaped
@@ -62,6 +63,7 @@ use Rattle.safebound_top.specs.declared.task.ListSource.{ListSource}
 use Rattle.safebound_top.specs.declared.task.OutText.TheVariants as out_texts
 use Rattle.safebound_top.specs.declared.task.PlanTask.{PlanTask}
 use Rattle.safebound_top.specs.declared.task.Shape.{Shape}
+use Rattle.safebound_top.proofs.LimitFacts.{within_ok}
 
 -- ---- values of stages
 
@@ -236,28 +238,30 @@ seen_ok view (Err s) y e = cc
 
 -- the text of a plan of the shape that was asked for
 prints : (bushy : Bool) (task : PlanTask) (query : Query) (rows : List (List Row)) (plan : Shaped) → task.shape ≡ shape_asked bushy
-    → plan_asked task query (tables_in rows) ≡ Ok plan → BoundsHold (run_asked task query rows plan)
-    → PrintsPlan bushy query (tables_in rows) (sourced task.source query (tables_in rows)).lists (shape_lines query.from plan)
+    → plan_asked task query (tables_in rows) ≡ Ok plan → BoundsHold (run_asked task query rows plan) → AreWithin task.memory (shape_bytes plan)
+    → PrintsPlan bushy task.memory query (tables_in rows) (sourced task.source query (tables_in rows)).lists (plan_text (run_asked task query rows plan))
 unfolding planned_by
-prints bushy task query rows plan shape made h =
+prints bushy task query rows plan shape made h within =
     by bushy (subst (λ (s : Shape). planned_by s (sourced task.source query (tables_in rows)) query task.accuracy task.budget ≡ Ok plan) shape made)
   where
     by : (bushy : Bool) → planned_by (shape_asked bushy) (sourced task.source query (tables_in rows)) query task.accuracy task.budget ≡ Ok plan
-        → PrintsPlan bushy query (tables_in rows) (sourced task.source query (tables_in rows)).lists (shape_lines query.from plan)
+        → PrintsPlan bushy task.memory query (tables_in rows) (sourced task.source query (tables_in rows)).lists (plan_text (run_asked task query rows plan))
     by false e =
         let found = seen_ok (λ p. shaped.Along p) _ plan e in
-        subst (λ (p : Shaped). PrintsOrder query (tables_in rows) (sourced task.source query (tables_in rows)).lists (shape_lines query.from p)) found.1
+        subst (λ (p : Shaped). PrintsOrder task.memory query (tables_in rows) (sourced task.source query (tables_in rows)).lists (plan_text (run_asked task query rows p))) found.1
         (record {
           plan = found.0;
           holds = along task query rows found.0 (subst (λ (p : Shaped). BoundsHold (run_asked task query rows p)) (sym found.1) h);
+          within = subst (λ (p : Shaped). AreWithin task.memory (shape_bytes p)) (sym found.1) within;
           prints = refl;
         })
     by true e =
         let found = seen_ok (λ p. shaped.Over p) _ plan e in
-        subst (λ (p : Shaped). PrintsTree query (tables_in rows) (sourced task.source query (tables_in rows)).lists (shape_lines query.from p)) found.1
+        subst (λ (p : Shaped). PrintsTree task.memory query (tables_in rows) (sourced task.source query (tables_in rows)).lists (plan_text (run_asked task query rows p))) found.1
         (record {
           plan = found.0;
           holds = over task query rows found.0 (subst (λ (p : Shaped). BoundsHold (run_asked task query rows p)) (sym found.1) h);
+          within = subst (λ (p : Shaped). AreWithin task.memory (shape_bytes p)) (sym found.1) within;
           prints = refl;
         })
 
@@ -272,6 +276,7 @@ pub record Stages (schema_file query_file : List ℕ) (task : PlanTask) (files :
   pub rows_read : tables_stage schema query.from files ≡ Ok rows
   pub plan : Shaped
   pub planned : plan_asked task query (tables_in rows) ≡ Ok plan
+  pub within : AreWithin task.memory (shape_bytes plan)
   pub is_run : Planned (run_asked task query rows plan) ≡ outcome
 
 pub stages : (schema_file query_file : List ℕ) (task : PlanTask) (files : Files) (outcome : Outcome)
@@ -282,7 +287,8 @@ stages schema_file query_file task files outcome e =
     let first = two_steps (schema_stage schema_file files) (λ schema. schema_run ask schema files) outcome e in
     let second = two_steps (query_stage query_file first.0 files) (λ query. query_run ask first.0 query files) outcome first.2 in
     let third = two_steps (tables_stage first.0 second.0.from files) (plan_stage task second.0) outcome second.2 in
-    let last = two_steps (told plan_refusal (plan_asked task second.0 (tables_in third.0))) (λ plan. Ok (Planned (run_asked task second.0 third.0 plan))) outcome third.2 in
+    let last = two_steps (told plan_refusal (plan_asked task second.0 (tables_in third.0))) (λ plan. within_limit task.memory (shape_bytes plan) (Planned (run_asked task second.0 third.0 plan))) outcome third.2 in
+    let kept = within_ok task.memory (shape_bytes last.0) (Planned (run_asked task second.0 third.0 last.0)) outcome last.2 in
     record {
       schema = first.0;
       schema_read = first.1;
@@ -292,7 +298,8 @@ stages schema_file query_file task files outcome e =
       rows_read = third.1;
       plan = last.0;
       planned = told_ok plan_refusal (plan_asked task second.0 (tables_in third.0)) last.0 last.1;
-      is_run = (let same : Planned (run_asked task second.0 third.0 last.0) ≡ outcome = cc (last.2) in same);
+      within = kept.1;
+      is_run = kept.0;
     }
 
 -- ---- the promise
@@ -304,13 +311,13 @@ ok_and P (Err e) h = absurd h
 if_ok : {A E : Type 0} (P : A → Type 0) (r : Result A E) (x : A) → r ≡ Ok x → IfOk r P → P x
 if_ok P r x e h = subst (λ s. IfOk s P) e h
 
-module _ (schema_file query_file : List ℕ) (budget accuracy : ℕ) (reduce bushy : Bool) (files : Files) (notes out : Growth) where
+module _ (schema_file query_file : List ℕ) (budget accuracy : ℕ) (reduce bushy : Bool) (memory : Option ℕ) (files : Files) (notes out : Growth) where
   abbrev task : PlanTask
-  task = record { budget = budget; accuracy = accuracy; source = source_asked reduce; shape = shape_asked bushy; out = out_texts.Rows }
+  task = record { budget = budget; accuracy = accuracy; source = source_asked reduce; shape = shape_asked bushy; memory = memory; out = out_texts.Rows }
 
   ran_whole : (outcome : Outcome) → ask_run (ask_for schema_file query_file (PlanOf task)) files ≡ Ok outcome
       → GrewWhole notes (notes_text outcome) → GrewWhole out (out_text outcome) → NoBoundIsTooLow outcome → PrintsTheAnswer outcome
-      → RanWhole files schema_file query_file reduce bushy notes out
+      → RanWhole files schema_file query_file reduce bushy memory notes out
   ran_whole outcome e noted written bounds answered =
       let s : Stages schema_file query_file task files outcome = stages schema_file query_file task files outcome e in
       let back : outcome ≡ Planned (run_asked task s.query s.rows s.plan) = sym s.is_run in
@@ -323,8 +330,8 @@ module _ (schema_file query_file : List ℕ) (budget accuracy : ℕ) (reduce bus
         rows = rows_in_files s.schema s.query files s.rows (query_of_schema query_file files s.schema s.query s.query_read) s.rows_read;
         scans = (sourced (source_asked reduce) s.query (tables_in s.rows)).lists;
         are_scans = scans_are task s.query s.rows reduce;
-        plan_text = shape_lines s.query.from s.plan;
-        plan = prints bushy task s.query s.rows s.plan refl s.planned (subst NoBoundIsTooLow back bounds);
+        plan_text = plan_text (run_asked task s.query s.rows s.plan);
+        plan = prints bushy task s.query s.rows s.plan refl s.planned (subst NoBoundIsTooLow back bounds) s.within;
         plan_written = subst (λ (o : Outcome). GrewWhole notes (notes_text o)) back noted;
         rows_text = rows_text (run_asked task s.query s.rows s.plan);
         answer = record {
@@ -337,13 +344,13 @@ module _ (schema_file query_file : List ℕ) (budget accuracy : ℕ) (reduce bus
 
 pub keeps_promise : (call : Call) → Headline call → Promise call
 unfolding verdict
-keeps_promise call h schema_file query_file budget accuracy reduce bushy files words done told =
-    let command : command_of call.words ≡ Some (Run schema_file query_file budget accuracy reduce bushy) =
-    asked_computed call.words (Run schema_file query_file budget accuracy reduce bushy) words in
-    let asked : command_stage call.words ≡ Ok (ask_for schema_file query_file (plan_for out_texts.Rows budget accuracy reduce bushy)) = ap request_stage command in
+keeps_promise call h schema_file query_file budget accuracy reduce bushy memory files words done told =
+    let command : command_of call.words ≡ Some (Run schema_file query_file budget accuracy reduce bushy memory) =
+    asked_computed call.words (Run schema_file query_file budget accuracy reduce bushy memory) words in
+    let asked : command_stage call.words ≡ Ok (ask_for schema_file query_file (plan_for out_texts.Rows budget accuracy reduce bushy memory)) = ap request_stage command in
     let ended = ok_and (λ outcome. GrewWhole call.notes (notes_text outcome) × GrewWhole call.out (out_text outcome)) (verdict call.words files) (h.done_is_exact done files told) in
-    let from_ask : ask_run (ask_for schema_file query_file (plan_for out_texts.Rows budget accuracy reduce bushy)) files ≡ Ok ended.0 =
+    let from_ask : ask_run (ask_for schema_file query_file (plan_for out_texts.Rows budget accuracy reduce bushy memory)) files ≡ Ok ended.0 =
     sym (ap (λ (r : Result Ask Refusal). r >>= (λ ask. ask_run ask files)) asked) ∙ ended.1 in
-    ran_whole schema_file query_file budget accuracy reduce bushy files call.notes call.out ended.0 from_ask ended.2.0 ended.2.1
+    ran_whole schema_file query_file budget accuracy reduce bushy memory files call.notes call.out ended.0 from_ask ended.2.0 ended.2.1
     (if_ok NoBoundIsTooLow (verdict call.words files) ended.0 ended.1 (h.every_bound_holds files told))
     (if_ok PrintsTheAnswer (verdict call.words files) ended.0 ended.1 (h.the_rows_are_the_answer files told))

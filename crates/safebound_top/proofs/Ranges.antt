@@ -7,7 +7,7 @@ use Rattle.safebound_words.specs.Answer.{command_of, reading_of}
 use Rattle.safebound_words.specs.CommandLines.{Reading, requested}
 use Rattle.safebound_words.specs.Numbers.{is_number, number_of, number_within}
 use Rattle.safebound_words.specs.Requests.{Request, Run, Plan, Audit, Stats, PlanStats, Demo}
-use Rattle.safebound_words.specs.Table.{Given, command_row, file_of, is_set, most_budget_of, of_number, of_stats, over_files, planned_from, stands_alone, value_of, within, ◌>>=◌}
+use Rattle.safebound_words.specs.Table.{Given, command_row, file_of, from_file, is_set, limit_of, most_budget_of, of_number, of_stats, over_files, over_two, planned_from, stands_alone, value_of, within, ◌>>=◌}
 use Rattle.safebound_words.specs.Words.{Word}
 use Rattle.safebound_words.specs.declared.table.CommandName.{CommandName}
 use Rattle.safebound_words.specs.declared.table.CommandName.TheVariants as command
@@ -25,11 +25,11 @@ pub record InRange (most budget accuracy : ℕ) : Type 0 where
   pub accuracy_most : accuracy ≤ 64
 
 abbrev AreInRange : Request → Type 0
-AreInRange (Run schema query budget accuracy reduce bushy) = InRange (most_budget_of bushy) budget accuracy
-AreInRange (Plan schema query budget accuracy reduce bushy) = InRange (most_budget_of bushy) budget accuracy
-AreInRange (Audit schema query budget accuracy reduce bushy) = InRange (most_budget_of bushy) budget accuracy
+AreInRange (Run schema query budget accuracy reduce bushy memory) = InRange (most_budget_of bushy) budget accuracy
+AreInRange (Plan schema query budget accuracy reduce bushy memory) = InRange (most_budget_of bushy) budget accuracy
+AreInRange (Audit schema query budget accuracy reduce bushy memory) = InRange (most_budget_of bushy) budget accuracy
 AreInRange (Stats schema query accuracy) = (1 ≤ accuracy) × (accuracy ≤ 64)
-AreInRange (PlanStats schema query file budget) = budget ≤ 20000000
+AreInRange (PlanStats schema query file budget memory) = budget ≤ 20000000
 AreInRange (Demo number) = ⊤
 
 -- ---- one value
@@ -71,44 +71,64 @@ request_if false made r is = absurd (cc)
 most_if : (most n : ℕ) → nat_le n most ≡ true → n ≤ most
 most_if most n is = grind (arith, nat_tests)
 
-module _ (request : Word → Word → ℕ → ℕ → Bool → Bool → Request)
-    (ranges : (schema query : Word) (budget accuracy : ℕ) (reduce bushy : Bool) → InRange (most_budget_of bushy) budget accuracy → AreInRange (request schema query budget accuracy reduce bushy)) where
-  values_in : (budget accuracy : Option ℕ) (reduce bushy : Option Bool) (schema query : Word) (r : Request) → ((n : ℕ) → accuracy ≡ Some n → (1 ≤ n) × (n ≤ 64))
-      → (budget >>= λ b. accuracy >>= λ a. reduce >>= λ s. bushy >>= λ t. within (most_budget_of t) b (request schema query b a s t)) ≡ Some r → AreInRange r
-  values_in None accuracy reduce bushy schema query r close is = absurd (cc)
-  values_in (Some b) None reduce bushy schema query r close is = absurd (cc)
-  values_in (Some b) (Some a) None bushy schema query r close is = absurd (cc)
-  values_in (Some b) (Some a) (Some s) None schema query r close is = absurd (cc)
-  values_in (Some b) (Some a) (Some s) (Some t) schema query r close is =
-      let made = request_if (nat_le b (most_budget_of t)) (request schema query b a s t) r is in
-      subst AreInRange made.1 (ranges schema query b a s t (record {
+-- an option's value, and then what is asked by it
+by_value : (value : Option ℕ) (next : ℕ → Option Request) (r : Request) → ((n : ℕ) → next n ≡ Some r → AreInRange r) → (value >>= next) ≡ Some r → AreInRange r
+by_value None next r h is = absurd (cc)
+by_value (Some n) next r h is = h n is
+
+module _ (request : Word → Word → ℕ → ℕ → Bool → Bool → Option ℕ → Request)
+    (ranges : (schema query : Word) (budget accuracy : ℕ) (reduce bushy : Bool) (memory : Option ℕ) → InRange (most_budget_of bushy) budget accuracy
+    → AreInRange (request schema query budget accuracy reduce bushy memory)) where
+  values_in : (memory budget accuracy : Option ℕ) (reduce bushy : Option Bool) (schema query : Word) (r : Request) → ((n : ℕ) → accuracy ≡ Some n → (1 ≤ n) × (n ≤ 64))
+      → (budget >>= λ b. accuracy >>= λ a. reduce >>= λ s. bushy >>= λ t. within (most_budget_of t) b (request schema query b a s t memory)) ≡ Some r → AreInRange r
+  values_in memory None accuracy reduce bushy schema query r close is = absurd (cc)
+  values_in memory (Some b) None reduce bushy schema query r close is = absurd (cc)
+  values_in memory (Some b) (Some a) None bushy schema query r close is = absurd (cc)
+  values_in memory (Some b) (Some a) (Some s) None schema query r close is = absurd (cc)
+  values_in memory (Some b) (Some a) (Some s) (Some t) schema query r close is =
+      let made = request_if (nat_le b (most_budget_of t)) (request schema query b a s t memory) r is in
+      subst AreInRange made.1 (ranges schema query b a s t memory (record {
         budget_most = most_if (most_budget_of t) b made.0;
         accuracy_least = omega (arith, (close a refl).0);
         accuracy_most = (close a refl).1;
       }))
 
-  files_in : (places : List Word) (given : Given) (r : Request) → over_files request places given ≡ Some r → AreInRange r
-  files_in [] given r is = absurd (cc)
-  files_in (schema ∷ []) given r is = absurd (cc)
-  files_in (schema ∷ query ∷ []) given r is =
-      values_in (value_of option.Budget (given.values option.Budget)) (value_of option.Accuracy (given.values option.Accuracy))
+  abbrev limited : Option ℕ → Word → Word → ℕ → ℕ → Bool → Bool → Request
+  limited memory schema query budget accuracy reduce bushy = request schema query budget accuracy reduce bushy memory
+
+  two_in : (memory : Option ℕ) (places : List Word) (given : Given) (r : Request) → over_two (limited memory) places given ≡ Some r → AreInRange r
+  two_in memory [] given r is = absurd (cc)
+  two_in memory (schema ∷ []) given r is = absurd (cc)
+  two_in memory (schema ∷ query ∷ []) given r is =
+      values_in memory (value_of option.Budget (given.values option.Budget)) (value_of option.Accuracy (given.values option.Accuracy))
       (is_set (given.times flag.Reduce)) (is_set (given.times flag.Bushy)) schema query r (accuracy_in (given.values option.Accuracy)) is
-  files_in (schema ∷ query ∷ more ∷ places) given r is = absurd (cc)
+  two_in memory (schema ∷ query ∷ more ∷ places) given r is = absurd (cc)
+
+  files_in : (places : List Word) (given : Given) (r : Request) → over_files request places given ≡ Some r → AreInRange r
+  unfolding over_files
+  files_in places given r is =
+      by_value (value_of option.Memory (given.values option.Memory)) (λ bytes. over_two (limited (limit_of bytes)) places given) r
+      (λ bytes h. two_in (limit_of bytes) places given r h) is
 
 -- from a statistics file
-filed_in : (budget : Option ℕ) (alone : Bool) (schema query file : Word) (r : Request) → ((n : ℕ) → budget ≡ Some n → n ≤ 20000000)
-    → (budget >>= λ b. if alone then Some (PlanStats schema query file b) else None) ≡ Some r → AreInRange r
-filed_in None alone schema query file r few is = absurd (cc)
-filed_in (Some b) alone schema query file r few is =
-    let made = request_if alone (PlanStats schema query file b) r is in subst AreInRange made.1 (few b refl)
+filed_in : (budget memory : Option ℕ) (alone : Bool) (schema query file : Word) (r : Request) → ((n : ℕ) → budget ≡ Some n → n ≤ 20000000)
+    → (budget >>= λ b. if alone then Some (PlanStats schema query file b memory) else None) ≡ Some r → AreInRange r
+filed_in None memory alone schema query file r few is = absurd (cc)
+filed_in (Some b) memory alone schema query file r few is =
+    let made = request_if alone (PlanStats schema query file b memory) r is in subst AreInRange made.1 (few b refl)
+
+file_in : (file : Word) (memory : Option ℕ) (places : List Word) (given : Given) (r : Request) → from_file file memory places given ≡ Some r → AreInRange r
+file_in file memory [] given r is = absurd (cc)
+file_in file memory (schema ∷ []) given r is = absurd (cc)
+file_in file memory (schema ∷ query ∷ []) given r is =
+    filed_in (value_of option.Budget (given.values option.Budget)) memory (stands_alone given) schema query file r (budget_in (given.values option.Budget)) is
+file_in file memory (schema ∷ query ∷ more ∷ places) given r is = absurd (cc)
 
 planned_in : (file : Option Word) (places : List Word) (given : Given) (r : Request) → planned_from file places given ≡ Some r → AreInRange r
-planned_in None places given r is = files_in Plan (λ schema query budget accuracy reduce bushy h. h) places given r is
-planned_in (Some file) [] given r is = absurd (cc)
-planned_in (Some file) (schema ∷ []) given r is = absurd (cc)
-planned_in (Some file) (schema ∷ query ∷ []) given r is =
-    filed_in (value_of option.Budget (given.values option.Budget)) (stands_alone given) schema query file r (budget_in (given.values option.Budget)) is
-planned_in (Some file) (schema ∷ query ∷ more ∷ places) given r is = absurd (cc)
+planned_in None places given r is = files_in Plan (λ schema query budget accuracy reduce bushy memory h. h) places given r is
+planned_in (Some file) places given r is =
+    by_value (value_of option.Memory (given.values option.Memory)) (λ bytes. from_file file (limit_of bytes) places given) r
+    (λ bytes h. file_in file (limit_of bytes) places given r h) is
 
 plan_in : (file : Option (Option Word)) (places : List Word) (given : Given) (r : Request) → (file >>= λ f. planned_from f places given) ≡ Some r → AreInRange r
 plan_in None places given r is = absurd (cc)
@@ -137,9 +157,9 @@ demo_in (number ∷ []) given r is = number_has (number_within 0 4294967295 numb
 demo_in (number ∷ more ∷ places) given r is = absurd (cc)
 
 asks_in : (name : CommandName) (places : List Word) (given : Given) (r : Request) → (command_row name).asks places given ≡ Some r → AreInRange r
-asks_in command.Run places given r is = files_in Run (λ schema query budget accuracy reduce bushy h. h) places given r is
+asks_in command.Run places given r is = files_in Run (λ schema query budget accuracy reduce bushy memory h. h) places given r is
 asks_in command.Plan places given r is = plan_in (file_of (given.values option.Stats)) places given r is
-asks_in command.Audit places given r is = files_in Audit (λ schema query budget accuracy reduce bushy h. h) places given r is
+asks_in command.Audit places given r is = files_in Audit (λ schema query budget accuracy reduce bushy memory h. h) places given r is
 asks_in command.Stats places given r is = stats_in places given r is
 asks_in command.Demo places given r is = demo_in places given r is
 
@@ -157,19 +177,20 @@ shape_in : (bushy : Bool) (budget : ℕ) → budget ≤ most_budget_of bushy →
 shape_in false budget h = h
 shape_in true budget h = h
 
-plan_within : (out : OutText) (budget accuracy : ℕ) (reduce bushy : Bool) → InRange (most_budget_of bushy) budget accuracy → HasRanges (plan_for out budget accuracy reduce bushy)
-plan_within out budget accuracy reduce bushy h = record {
+plan_within : (out : OutText) (budget accuracy : ℕ) (reduce bushy : Bool) (memory : Option ℕ) → InRange (most_budget_of bushy) budget accuracy
+    → HasRanges (plan_for out budget accuracy reduce bushy memory)
+plan_within out budget accuracy reduce bushy memory h = record {
   accuracy_least = h.accuracy_least;
   accuracy_most = h.accuracy_most;
   budget = shape_in bushy budget h.budget_most;
 }
 
 asks_within : (r : Request) → AreInRange r → HasRanges (asks r).work
-asks_within (Run schema query budget accuracy reduce bushy) h = plan_within out_text.Rows budget accuracy reduce bushy h
-asks_within (Plan schema query budget accuracy reduce bushy) h = plan_within out_text.Nothing budget accuracy reduce bushy h
-asks_within (Audit schema query budget accuracy reduce bushy) h = plan_within out_text.Audit budget accuracy reduce bushy h
+asks_within (Run schema query budget accuracy reduce bushy memory) h = plan_within out_text.Rows budget accuracy reduce bushy memory h
+asks_within (Plan schema query budget accuracy reduce bushy memory) h = plan_within out_text.Nothing budget accuracy reduce bushy memory h
+asks_within (Audit schema query budget accuracy reduce bushy memory) h = plan_within out_text.Audit budget accuracy reduce bushy memory h
 asks_within (Stats schema query accuracy) h = (omega (arith, h.0), h.1)
-asks_within (PlanStats schema query file budget) h = h
+asks_within (PlanStats schema query file budget memory) h = h
 asks_within (Demo number) h = record { accuracy_least = omega arith; accuracy_most = omega arith; budget = omega arith }
 
 stage_in : (request : Option Request) (ask : Ask) → ((r : Request) → request ≡ Some r → AreInRange r) → request_stage request ≡ Ok ask → HasRanges ask.work

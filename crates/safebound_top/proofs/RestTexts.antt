@@ -1,6 +1,6 @@
 -- What is left to write is the text that the run has for out.
 use Rattle.std.proofs.Common.{◌≡◌, ℕ, List, length, map, refl, ap, sym, ◌∙◌}
-use Rattle.std.specs.Prelude.{Some}
+use Rattle.std.specs.Prelude.{Option, Some}
 use Rattle.csv_tables.specs.declared.types.Database.{Database}
 use Rattle.query_types.specs.Named.{NamesItsEntries}
 use Rattle.query_types.specs.declared.types.Query.{Query}
@@ -18,16 +18,16 @@ use Rattle.safebound_top.specs.declared.prepare.Rest.TheVariants as rest
 use Rattle.safebound_top.specs.declared.task.ListSource.{ListSource}
 use Rattle.safebound_top.proofs.ShapeFacts.{order_is}
 
-pub rest_is : (query : Query) (db : Database) (source : ListSource) (lists : List (List ℕ)) (left : Rest) → NamesItsEntries query → IsShapedPlan (length query.from) (plan_left left)
+pub rest_is : (query : Query) (db : Database) (source : ListSource) (lists : List (List ℕ)) (memory : Option ℕ) (left : Rest) → NamesItsEntries query → IsShapedPlan (length query.from) (plan_left left)
     → tables_in (entry_rows db) ≡ tables_of db → HasRoom query db left → AreListed lists left
-    → out_text_of (record { query = query; rows = entry_rows db; plan = plan_left left; source = source; lists = lists; out = text_left left }) ≡ text_from left query db
-rest_is query db source lists (rest.Rows joins) own is same room are =
+    → out_text_of (record { query = query; rows = entry_rows db; plan = plan_left left; source = source; lists = lists; memory = memory; out = text_left left }) ≡ text_from left query db
+rest_is query db source lists memory (rest.Rows joins) own is same room are =
     let order : List ℕ = joined_entries (plan_in joins.room) in
     ap (λ (t : Tables). Some (rows_lines query.select (map (λ choice. selected query t (row_in order choice)) (list_levels query t lists order (length order))))) same
     ∙ ap (λ (last : List (List ℕ)). Some (rows_lines query.select (map (λ choice. selected query (tables_of db) (row_in order choice)) last)))
     (ap (λ (l : List (List ℕ)). list_levels query (tables_of db) l order (length order)) (sym are)
     ∙ room.rows.last own order (order_is query (plan_in joins.room) is))
-rest_is query db source lists (rest.Audit joins) own is same room are =
+rest_is query db source lists memory (rest.Audit joins) own is same room are =
     ap (λ (t : Tables). Some (shape_audits query.from (plan_in joins.room) (part_sizes query t lists (plan_in joins.room)))) same
     ∙ ap (λ (l : List (List ℕ)). Some (shape_audits query.from (plan_in joins.room) (part_sizes query (tables_of db) l (plan_in joins.room)))) (sym are)
-rest_is query db source lists (rest.Nothing plan) own is same room are = refl
+rest_is query db source lists memory (rest.Nothing plan) own is same room are = refl

@@ -77,12 +77,12 @@ module _ (ask : Ask) (words : List (List ℕ)) (command : command_stage words �
   no_schema : (work : WorkAsk) (schema : Schema) (query : Query) (files : Files) → IsWorkFile work schema query files file.Schema → ⊥
   no_schema (PlanOf task) schema query files h = let no : file.Schema ≡ file.Table h.number = h.file in cc
   no_schema (FileOf accuracy) schema query files h = let no : file.Schema ≡ file.Table h.number = h.file in cc
-  no_schema (PlanFrom name budget) schema query files h = cc
+  no_schema (PlanFrom name budget memory) schema query files h = cc
 
   no_query : (work : WorkAsk) (schema : Schema) (query : Query) (files : Files) → IsWorkFile work schema query files file.Query → ⊥
   no_query (PlanOf task) schema query files h = let no : file.Query ≡ file.Table h.number = h.file in cc
   no_query (FileOf accuracy) schema query files h = let no : file.Query ≡ file.Table h.number = h.file in cc
-  no_query (PlanFrom name budget) schema query files h = cc
+  no_query (PlanFrom name budget memory) schema query files h = cc
 
   reached_file : (files : Files) (r : Result AskedFor Refusal) (id : FileId) → query_read words files ≡ r → IsFileOf r files id → IsReached words files id
   reached_file files (Ok asked) (file.Table number) is h = subst (λ (v : Result AskedFor Refusal). IsFileOf v files (file.Table number)) (sym is) h

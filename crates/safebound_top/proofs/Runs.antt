@@ -32,8 +32,9 @@ use Rattle.reduced_scans.specs.Rounds.{reduced_of}
 use Rattle.safebound_top.specs.Accepted.{Accepted, BoundsHold, IsOverReducedScans, IsOverWholeScans, RowsAreTheAnswer, tables}
 use Rattle.safebound_top.specs.Asks.{Ask, FileOf, HasRanges, IsInRange, PlanFrom, PlanOf, WorkAsk, command_stage}
 use Rattle.safebound_top.specs.Filed.{stats_stage}
-use Rattle.safebound_top.specs.Outcome.{Filed, NoBoundIsTooLow, Outcome, Planned, PlannedByFile, PrintsTheAnswer}
-use Rattle.safebound_top.specs.Shapes.{joined_entries, part_rows, scan_bounds}
+use Rattle.safebound_top.specs.Limits.{AreWithin}
+use Rattle.safebound_top.specs.Outcome.{Filed, KeepsItsLimit, NoBoundIsTooLow, Outcome, Planned, PlannedByFile, PrintsTheAnswer}
+use Rattle.safebound_top.specs.Shapes.{joined_entries, part_rows, scan_bounds, shape_bytes}
 use Rattle.safebound_top.specs.Sources.{Sourced, sourced}
 use Rattle.safebound_top.specs.Standing.{IsSource, LoseNoRow}
 use Rattle.safebound_top.specs.declared.task.ListSource.{ListSource}
@@ -43,6 +44,7 @@ use Rattle.filed_bounds.proofs.Named.{names_own}
 use Rattle.safebound_top.proofs.FiledRuns.{filed_plan_holds, filed_stands, stats_keep}
 use Rattle.safebound_top.specs.declared.shapes.Shaped.{Shaped}
 use Rattle.safebound_top.specs.declared.task.PlanTask.{PlanTask}
+use Rattle.safebound_top.proofs.LimitFacts.{within_so}
 use Rattle.safebound_top.proofs.Ranges.{in_range}
 use Rattle.safebound_top.proofs.ShapeFacts.{Fits, order_is, plan_fits, scan_is_given, whole_part}
 use Rattle.safebound_top.proofs.SourceFacts.{stand}
@@ -83,28 +85,34 @@ pub record IsRun (run : Accepted) : Type 0 where
   pub lists : run.lists ≡ (sourced run.source run.query (tables run)).lists
   pub rows : LoseNoRow run.query (tables run) run.lists
   pub bounds : Fits run.query (tables run) run.lists run.plan
+  pub limit : AreWithin run.memory (shape_bytes run.plan)
   pub scans : (accuracy : ℕ) × ((entry : ℕ) → get_or (scan_bounds run.plan) entry 0 ≡ get_or ((sourced run.source run.query (tables run)).scans accuracy) entry 0)
 
 -- a plan over tables is such a run, and else what is promised of it holds
 abbrev IsSound : Outcome → Type 0
 IsSound (Planned run) = IsRun run
 IsSound (Filed filed) = NoBoundIsTooLow (Filed filed)
-IsSound (PlannedByFile made) = NoBoundIsTooLow (PlannedByFile made)
+IsSound (PlannedByFile made) = NoBoundIsTooLow (PlannedByFile made) × KeepsItsLimit (PlannedByFile made)
 
 plan_ok : (task : PlanTask) (query : Query) (rows : List (List Row)) → IsInRange task → 1 ≤ length query.from → length query.from ≤ 12 → NamesItsEntries query → IfOk (plan_stage task query rows) IsSound
 unfolding plan_stage
 plan_ok task query rows range some few own =
-    then_ok (λ plan. IsRun (run_asked task query rows plan)) IsSound (told plan_refusal (plan_asked task query (tables_in rows))) _
-    (ok_so (λ plan. IsRun (run_asked task query rows plan)) plan_refusal (plan_asked task query (tables_in rows)) made_ok) (λ plan is. is)
+    then_ok IsMade IsSound (told plan_refusal (plan_asked task query (tables_in rows))) _
+    (ok_so IsMade plan_refusal (plan_asked task query (tables_in rows)) made_ok)
+    (λ plan is. within_so IsSound task.memory (shape_bytes plan) (Planned (run_asked task query rows plan)) is)
   where
-    made_ok : (plan : Shaped) → plan_asked task query (tables_in rows) ≡ Ok plan → IsRun (run_asked task query rows plan)
-    made_ok plan made =
+    IsMade : Shaped → Type 0
+    IsMade plan = AreWithin task.memory (shape_bytes plan) → IsRun (run_asked task query rows plan)
+
+    made_ok : (plan : Shaped) → plan_asked task query (tables_in rows) ≡ Ok plan → IsMade plan
+    made_ok plan made within =
         let given : Sourced = sourced task.source query (tables_in rows) in
         let is : IsSource query (tables_in rows) given = stand task.source query (tables_in rows) in
         record {
           own = own;
           lists = refl;
           rows = is.rows;
+          limit = within;
           bounds = plan_fits query (tables_in rows) given is task.accuracy task.budget some few task.shape plan made range.budget;
           scans = (task.accuracy, scan_is_given query (tables_in rows) given is task.accuracy task.budget some few task.shape plan made);
         }
@@ -116,9 +124,9 @@ work_ok (PlanOf task) schema query files range valid of =
 work_ok (FileOf accuracy) schema query files range valid of =
     then_ok (λ rows. tables_stage schema query.from files ≡ Ok rows) IsSound (tables_stage schema query.from files) _ (is_ok (tables_stage schema query.from files))
     (λ rows is. filed_stands schema query files accuracy rows is)
-work_ok (PlanFrom name budget) schema query files range valid of =
+work_ok (PlanFrom name budget memory) schema query files range valid of =
     then_ok (KeepsRules schema) IsSound (stats_stage name schema files) _ (stats_keep name schema files valid)
-    (λ stats keeps. filed_plan_holds schema query of stats keeps budget range IsSound (λ plan holds. holds))
+    (λ stats keeps. filed_plan_holds schema query of stats keeps budget range memory IsSound (λ plan holds within. (holds, within)))
 
 query_run_ok : (ask : Ask) (schema : Schema) (query : Query) (files : Files) → HasRanges ask.work → IsValid schema → IsOf schema query → IfOk (query_run ask schema query files) IsSound
 unfolding query_run
@@ -189,12 +197,17 @@ module _ (run : Accepted) (is : IsRun run) where
 no_bound : (outcome : Outcome) → IsSound outcome → NoBoundIsTooLow outcome
 no_bound (Planned run) is = run_bounds run is
 no_bound (Filed filed) is = is
-no_bound (PlannedByFile made) is = is
+no_bound (PlannedByFile made) is = is.0
 
 prints : (outcome : Outcome) → IsSound outcome → PrintsTheAnswer outcome
 prints (Planned run) is = run_rows run is
 prints (Filed filed) is = tt
 prints (PlannedByFile made) is = tt
+
+keeps : (outcome : Outcome) → IsSound outcome → KeepsItsLimit outcome
+keeps (Planned run) is = is.limit
+keeps (Filed filed) is = tt
+keeps (PlannedByFile made) is = is.1
 
 so : (P : Outcome → Type 0) → ((outcome : Outcome) → IsSound outcome → P outcome) → (r : Result Outcome Refusal) → IfOk r IsSound → IfOk r P
 so P holds (Ok outcome) is = holds outcome is
@@ -205,3 +218,6 @@ bounds_hold words files = so NoBoundIsTooLow no_bound (verdict words files) (ver
 
 pub rows_are_the_answer : (words : List (List ℕ)) (files : Files) → IfOk (verdict words files) PrintsTheAnswer
 rows_are_the_answer words files = so PrintsTheAnswer prints (verdict words files) (verdict_ok words files)
+
+pub limits_hold : (words : List (List ℕ)) (files : Files) → IfOk (verdict words files) KeepsItsLimit
+limits_hold words files = so KeepsItsLimit keeps (verdict words files) (verdict_ok words files)

@@ -1,13 +1,13 @@
 -- The texts, one after the other, and what is told of a failed write.
-use Rattle.std.proofs.Common.{◌≡◌, ℕ, List, Option, None, Some, Result, Ok, Err, refl, ap, sym, ◌∙◌, subst, arith}
+use Rattle.std.proofs.Common.{◌≡◌, ℕ, List, ◌++◌, Option, None, Some, Result, Ok, Err, refl, ap, sym, ◌∙◌, subst, arith}
 use Rattle.base_io.specs.Devices.{Growth}
 use Rattle.base_io.specs.Sinks.{GrewByPrefix, appended}
 use Rattle.base_io.specs.Writes.{Wrote}
 use Rattle.base_io.specs.declared.errors.Failed.{Failed}
 use Rattle.base_io.proofs.CountFacts.{later_then_rose, rose_then_later}
+use Rattle.base_io.proofs.SinkFacts.{prefix_of_first}
 use Rattle.base_io.proofs.WriteFacts.{between}
 use Rattle.stats_file.specs.FileText.{file_text}
-use Rattle.printed_texts.specs.Plans.{plan_lines}
 use Rattle.outcomes.specs.declared.names.SinkId.{SinkId}
 use Rattle.outcomes.specs.declared.names.SinkId.TheVariants as sink
 use Rattle.outcomes.specs.declared.status.Status.{Status}
@@ -16,13 +16,17 @@ use Rattle.safebound_top.specs.Accepted.{Accepted}
 use Rattle.safebound_top.specs.Course.{CutInNotes, CutInOut, Ended, Told, Written, WroteIfAny}
 use Rattle.safebound_top.specs.Headline.{DidNotGrow, GrewWhole, WasCut, WasCutAndTold, grown}
 use Rattle.safebound_top.specs.Outcome.{Filed, FiledPlan, FiledTables, Outcome, Planned, PlannedByFile}
-use Rattle.safebound_top.specs.OutcomeTexts.{notes_text}
+use Rattle.safebound_top.specs.OutcomeTexts.{filed_plan_text, notes_text}
 use Rattle.safebound_top.specs.Texts.{out_text_of, plan_text}
 
 -- a line that was written, whole or cut, was told
 pub told_of : (g : Growth) (line : List ℕ) (r : Result (Unit {0}) Failed) → Wrote g line r → Told g line
 told_of g line (Ok u) h = record { tells = record { prefix = h.prefix; whole = λ calm. h.ok }; later = h.later }
 told_of g line (Err e) h = record { tells = record { prefix = h.prefix; whole = λ calm. absurd (calm h.failed) }; later = h.later }
+
+-- a text that was cut is also one with what follows it
+pub cut_first : {t0 t1 : Option (List ℕ)} {f0 f1 : ℕ} {a : List ℕ} {e : Failed} (b : List ℕ) → Wrote (between t0 t1 f0 f1) a (Err e) → Wrote (between t0 t1 f0 f1) (a ++ b) (Err e)
+cut_first {t0} {t1} {f0} {f1} {a} {e} b h = record { ok = tt; prefix = prefix_of_first t0 t1 a b h.prefix; later = h.later; failed = h.failed }
 
 -- ---- the plan text, and then the other text, if any
 
@@ -66,10 +70,10 @@ module _ (out notes : Growth) (filed : FiledTables) (still : DidNotGrow notes) w
   file_cut e h = record { texts = (h.failed, still, h.prefix); later_out = h.later; later_notes = omega (arith, still.1) }
 
 module _ (out notes : Growth) (made : FiledPlan) (still : DidNotGrow out) where
-  pub plan_wrote : (u : Unit {0}) → Wrote notes (plan_lines made.query.from made.plan) (Ok u) → Written out notes (PlannedByFile made) (Ok tt)
+  pub plan_wrote : (u : Unit {0}) → Wrote notes (filed_plan_text made) (Ok u) → Written out notes (PlannedByFile made) (Ok tt)
   plan_wrote u h = record { texts = (h.ok, still); later_out = omega (arith, still.1); later_notes = h.later }
 
-  pub plan_cut : (e : Failed) → Wrote notes (plan_lines made.query.from made.plan) (Err e) → Written out notes (PlannedByFile made) (Err sink.Notes)
+  pub plan_cut : (e : Failed) → Wrote notes (filed_plan_text made) (Err e) → Written out notes (PlannedByFile made) (Err sink.Notes)
   plan_cut e h = record { texts = (h.failed, still, h.prefix); later_out = omega (arith, still.1); later_notes = h.later }
 
 -- ---- a failed write, and its line

@@ -1,5 +1,5 @@
 -- What a run is over, and what it means.
-use Rattle.std.specs.Prelude.{ℕ, ◌≡◌, ◌<◌, ◌≤◌, List, map, length, slice_index, IsPermutation}
+use Rattle.std.specs.Prelude.{ℕ, ◌≡◌, ◌<◌, ◌≤◌, List, map, length, slice_index, IsPermutation, Option}
 use Rattle.csv_tables.specs.Rows.{Row}
 use Rattle.query_types.specs.declared.types.Query.{Query}
 use Rattle.sql_meaning.specs.Answers.{answer, conjuncts_of, selected}
@@ -15,13 +15,14 @@ use Rattle.safebound_top.specs.declared.task.ListSource.TheVariants as sources
 use Rattle.safebound_top.specs.declared.task.OutText.{OutText}
 
 -- a query, for each of its FROM entries the rows of its table, its plan, what this is made from, for each entry the numbers of the rows that
--- are joined, and which text goes to out
+-- are joined, the limit of memory, where there is one, and which text goes to out
 pub record Accepted : Type 0 where
   pub query : Query
   pub rows : List (List Row)
   pub plan : Shaped
   pub source : ListSource
   pub lists : List (List ℕ)
+  pub memory : Option ℕ
   pub out : OutText
 
 abbrev pub tables : Accepted → Tables

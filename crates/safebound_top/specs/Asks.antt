@@ -21,11 +21,11 @@ use Rattle.safebound_top.specs.declared.task.Work.{Work}
 use Rattle.safebound_top.specs.declared.task.Work.TheVariants as works
 
 -- what is asked of a query: that it is planned over its tables, by these values; that the statistics file of its tables is written, at an
--- accuracy; or that it is planned from the statistics file of this name, within a budget
+-- accuracy; or that it is planned from the statistics file of this name, within a budget and a limit of memory, where there is one
 pub data WorkAsk : Type 0 where
   PlanOf : PlanTask → WorkAsk
   FileOf : ℕ → WorkAsk
-  PlanFrom : List ℕ → ℕ → WorkAsk
+  PlanFrom : List ℕ → ℕ → Option ℕ → WorkAsk
 
 -- the names of two files, and what is asked of the query
 pub record Ask : Type 0 where
@@ -46,25 +46,26 @@ abbrev pub shape_asked : Bool → Shape
 shape_asked false = shapes.Order
 shape_asked true = shapes.Tree
 
--- a text for out, a budget, an accuracy, whether scans are reduced, and whether the plan is a tree
-abbrev pub plan_for : OutText → ℕ → ℕ → Bool → Bool → WorkAsk
-plan_for out budget accuracy reduce bushy = PlanOf (record {
+-- a text for out, a budget, an accuracy, whether scans are reduced, whether the plan is a tree, and a limit of memory, where there is one
+abbrev pub plan_for : OutText → ℕ → ℕ → Bool → Bool → Option ℕ → WorkAsk
+plan_for out budget accuracy reduce bushy memory = PlanOf (record {
   budget = budget;
   accuracy = accuracy;
   source = source_asked reduce;
   shape = shape_asked bushy;
+  memory = memory;
   out = out;
 })
 
 -- one line for each command: `demo` asks what `audit schema.sql query.sql` asks, of other files
 abbrev pub asks : Request → Ask
-asks (Run schema query budget accuracy reduce bushy) = ask_for schema query (plan_for out_text.Rows budget accuracy reduce bushy)
-asks (Plan schema query budget accuracy reduce bushy) = ask_for schema query (plan_for out_text.Nothing budget accuracy reduce bushy)
-asks (Audit schema query budget accuracy reduce bushy) = ask_for schema query (plan_for out_text.Audit budget accuracy reduce bushy)
+asks (Run schema query budget accuracy reduce bushy memory) = ask_for schema query (plan_for out_text.Rows budget accuracy reduce bushy memory)
+asks (Plan schema query budget accuracy reduce bushy memory) = ask_for schema query (plan_for out_text.Nothing budget accuracy reduce bushy memory)
+asks (Audit schema query budget accuracy reduce bushy memory) = ask_for schema query (plan_for out_text.Audit budget accuracy reduce bushy memory)
 asks (Stats schema query accuracy) = ask_for schema query (FileOf accuracy)
-asks (PlanStats schema query file budget) = ask_for schema query (PlanFrom file budget)
+asks (PlanStats schema query file budget memory) = ask_for schema query (PlanFrom file budget memory)
 asks (Demo number) = ask_for (codes "schema.sql") (codes "query.sql")
-    (plan_for out_text.Audit (option_row option.Budget).otherwise (option_row option.Accuracy).otherwise false false)
+    (plan_for out_text.Audit (option_row option.Budget).otherwise (option_row option.Accuracy).otherwise false false None)
 
 abbrev pub request_stage : Option Request → Result Ask Refusal
 request_stage None = Err refusal.Usage
@@ -78,7 +79,7 @@ command_stage words = request_stage (command_of words)
 abbrev pub work_asked : Work → WorkAsk
 work_asked (works.Plan plan) = PlanOf plan
 work_asked (works.File accuracy) = FileOf accuracy
-work_asked (works.PlanFrom file budget) = PlanFrom file.now budget
+work_asked (works.PlanFrom file budget memory) = PlanFrom file.now budget memory
 
 abbrev pub asked : Task → Ask
 asked task = ask_for task.schema_file.now task.query_file.now (work_asked task.work)
@@ -95,4 +96,4 @@ pub record IsInRange (plan : PlanTask) : Type 0 where
 abbrev pub HasRanges : WorkAsk → Type 0
 HasRanges (PlanOf plan) = IsInRange plan
 HasRanges (FileOf accuracy) = (0 < accuracy) × (accuracy ≤ most_accuracy)
-HasRanges (PlanFrom file budget) = budget ≤ most_budget
+HasRanges (PlanFrom file budget memory) = budget ≤ most_budget

@@ -11,7 +11,7 @@ use Rattle.safebound_top.specs.Verdict.{schema_read}
 abbrev pub stats_file_of : WorkAsk → List ℕ
 stats_file_of (PlanOf task) = []
 stats_file_of (FileOf accuracy) = []
-stats_file_of (PlanFrom file budget) = file
+stats_file_of (PlanFrom file budget memory) = file
 
 -- what a line names, where there is a command and a schema: the files of the command, and the schema's tables
 abbrev pub names_of : Option Ask → Option Schema → Names

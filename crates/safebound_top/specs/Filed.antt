@@ -1,5 +1,5 @@
 -- Statistics files as stages of the verdict: one that is read, a plan from it, and one that is made of tables.
-use Rattle.std.specs.Prelude.{ℕ, List, Result, Ok}
+use Rattle.std.specs.Prelude.{ℕ, List, Option, Result, Ok}
 use Rattle.limits.specs.Profile.{most_file}
 use Rattle.base_io.specs.Files.{Files}
 use Rattle.csv_tables.specs.Rows.{Row}
@@ -15,12 +15,15 @@ use Rattle.outcomes.specs.declared.names.FileId.TheVariants as file
 use Rattle.outcomes.specs.declared.refusal.Refusal.{Refusal}
 use Rattle.outcomes.specs.declared.refusal.Refusal.TheVariants as refusal
 use Rattle.outcomes.specs.declared.refusal.StatsCause.TheVariants as cause
+use Rattle.plans.specs.declared.left_deep.Plan.{Plan}
 use Rattle.query_types.specs.declared.types.Query.{Query}
+use Rattle.reserve_plan.specs.Memory.{plan_bytes}
 use Rattle.schema_types.specs.declared.types.Schema.{Schema}
 use Rattle.stats_answers.specs.StatsTexts.{stats_answer}
 use Rattle.stats_file.specs.declared.types.StatsFile.{StatsFile}
 use Rattle.table_files.specs.EntryTables.{tables_in}
 use Rattle.table_files.specs.TableFile.{read}
+use Rattle.safebound_top.specs.Limits.{within_limit}
 use Rattle.safebound_top.specs.Outcome.{Filed, Outcome, PlannedByFile}
 
 -- the statistics file of this name, over a schema
@@ -41,12 +44,17 @@ abbrev pub filed_ending : FiledPlanError → Ending
 filed_ending (error.Missing from) = ending.Refused (refusal.Stats cause.Missing from)
 filed_ending (error.Plan e) = plan_ending e
 
+-- a plan that is made from a file, or MemoryLimit with its bytes
+abbrev pub filed_within : Query → StatsFile → Plan → Option ℕ → Result Outcome Refusal
+filed_within query stats plan memory = within_limit memory (plan_bytes plan.order plan.scans plan.levels)
+    (PlannedByFile (record { query = query; file = stats; plan = plan; memory = memory }))
+
 -- the plan of a query by what a file tells of it: the best order with its bounds, or the first entry of which something is missing, or
--- PastBits, or Budget with the least cost
-unfoldable pub filed_plan_stage : Query → StatsFile → ℕ → Result Outcome Refusal
-filed_plan_stage query stats budget = do
+-- PastBits, or Budget with the least cost, or MemoryLimit with the bytes of the plan
+unfoldable pub filed_plan_stage : Query → StatsFile → ℕ → Option ℕ → Result Outcome Refusal
+filed_plan_stage query stats budget memory = do
   plan ← told filed_refusal (filed_plan query stats budget)
-  Ok (PlannedByFile (record { query = query; file = stats; plan = plan }))
+  filed_within query stats plan memory
 
 -- the file of a query over its entries' rows, at an accuracy
 abbrev pub tables_filed : Schema → Query → List (List Row) → ℕ → Outcome

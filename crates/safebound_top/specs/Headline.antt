@@ -1,4 +1,4 @@
--- What a call of the program answers, and why: eight sentences about the words, the files and the two streams.
+-- What a call of the program answers, and why: nine sentences about the words, the files and the two streams.
 --
 -- Where a sentence speaks of the verdict, the store tells its files: of a store that tells none it says nothing. Where one speaks of
 -- what a stream took, the stream tells that.
@@ -19,7 +19,7 @@ use Rattle.outcomes.specs.declared.status.Status.TheVariants as status
 use Rattle.safebound_top.specs.Asks.{command_stage}
 use Rattle.safebound_top.specs.Call.{Call, CutThenTold, Grew, Tells}
 use Rattle.safebound_top.specs.Faults.{fault_text}
-use Rattle.safebound_top.specs.Outcome.{NoBoundIsTooLow, Outcome, PrintsTheAnswer}
+use Rattle.safebound_top.specs.Outcome.{KeepsItsLimit, NoBoundIsTooLow, Outcome, PrintsTheAnswer}
 use Rattle.safebound_top.specs.OutcomeTexts.{notes_text, out_text}
 use Rattle.safebound_top.specs.Verdict.{IsReached, verdict}
 
@@ -94,7 +94,7 @@ pub record WriteFaultsHaveTheirCause (call : Call) : Type 0 where
       × Tells (grown call.notes.taken_before (notes_text outcome)) call.notes.taken_after call.notes.faults_before call.notes.faults_after
       (fault_text call.status call.words files)))
 
--- 6. Usage, Schema, Query, Table, Stats, Limit, Budget and PastBits come only where the verdict is that status with these fields. The notes
+-- 6. Usage, Schema, Query, Table, Stats, Limit, Budget, MemoryLimit and PastBits come only where the verdict is that status with these fields. The notes
 --    grew by its line, and out didn't grow. Usage is a matter of the words alone.
 pub record RefusalsAreTheVerdict (call : Call) : Type 0 where
   pub usage : (call.status ≡ status.Usage) ↔ (command_stage call.words ≡ Err refusal.Usage)
@@ -127,6 +127,11 @@ pub record NothingIsRefusedWithoutCause (call : Call) : Type 0 where
   pub by_the_sinks : (Rose call.store.faults_before call.store.faults_after → ⊥) → (FaultsRose call.out → ⊥) → (FaultsRose call.notes → ⊥)
       → OverFiles call (λ files v. (call.status ≡ status_of v) ⊎ (call.status ≡ status.NoMemory))
 
+-- 9. Where the verdict is accepted and `--memory N` stands, the bytes that the plan text of 1 prints are those of the plan's buffers, and they
+--    are at most N. A plan that takes more is refused as MemoryLimit, behind Budget and PastBits, and before any of it is taken.
+abbrev pub EveryLimitIsKept : Call → Type 0
+EveryLimitIsKept call = OverFiles call (λ files v. IfOk v KeepsItsLimit)
+
 -- what a call answers, and why
 pub record Headline (call : Call) : Type 0 where
   pub done_is_exact : DoneIsExact call
@@ -137,3 +142,4 @@ pub record Headline (call : Call) : Type 0 where
   pub refusals_are_the_verdict : RefusalsAreTheVerdict call
   pub read_faults_have_their_cause : ReadFaultsHaveTheirCause call
   pub nothing_is_refused_without_cause : NothingIsRefusedWithoutCause call
+  pub every_limit_is_kept : EveryLimitIsKept call

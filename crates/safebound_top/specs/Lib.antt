@@ -5,6 +5,7 @@ pub mod Course
 pub mod Faults
 pub mod Filed
 pub mod Headline
+pub mod Limits
 pub mod Outcome
 pub mod OutcomeTexts
 pub mod Prepared

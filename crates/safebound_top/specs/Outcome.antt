@@ -1,16 +1,19 @@
 -- What the words and the files come to, where nothing is refused; and what holds of it.
-use Rattle.std.specs.Prelude.{List, ⊤}
+use Rattle.std.specs.Prelude.{ℕ, List, Option, ⊤}
 use Rattle.csv_tables.specs.Rows.{Row}
 use Rattle.filed_stats.specs.Standing.{StandsFor}
 use Rattle.join_steps.specs.Lists.{scans_of}
 use Rattle.join_steps.specs.Plans.{IsPlanOf}
 use Rattle.plans.specs.declared.left_deep.Plan.{Plan}
 use Rattle.query_types.specs.declared.types.Query.{Query}
+use Rattle.reserve_plan.specs.Memory.{plan_bytes}
 use Rattle.schema_types.specs.declared.types.Schema.{Schema}
 use Rattle.sql_meaning.specs.Tables.{Tables}
 use Rattle.stats_file.specs.declared.types.StatsFile.{StatsFile}
 use Rattle.table_files.specs.EntryTables.{tables_in}
 use Rattle.safebound_top.specs.Accepted.{Accepted, BoundsHold, RowsAreTheAnswer}
+use Rattle.safebound_top.specs.Limits.{AreWithin}
+use Rattle.safebound_top.specs.Shapes.{shape_bytes}
 
 -- a statistics file of a query of a schema, and for each FROM entry the rows of its table, of which it is made
 pub record FiledTables : Type 0 where
@@ -19,11 +22,12 @@ pub record FiledTables : Type 0 where
   pub rows : List (List Row)
   pub file : StatsFile
 
--- a plan of a query, and the statistics file of which it is made
+-- a plan of a query, the statistics file of which it is made, and the limit of memory, where there is one
 pub record FiledPlan : Type 0 where
   pub query : Query
   pub file : StatsFile
   pub plan : Plan
+  pub memory : Option ℕ
 
 -- a plan over tables, with what is joined; a statistics file of tables; or a plan from a statistics file
 pub data Outcome : Type 0 where
@@ -48,3 +52,9 @@ abbrev pub PrintsTheAnswer : Outcome → Type 0
 PrintsTheAnswer (Planned run) = RowsAreTheAnswer run
 PrintsTheAnswer (Filed filed) = ⊤
 PrintsTheAnswer (PlannedByFile made) = ⊤
+
+-- a plan takes no more bytes than its limit of memory, where there is one
+abbrev pub KeepsItsLimit : Outcome → Type 0
+KeepsItsLimit (Planned run) = AreWithin run.memory (shape_bytes run.plan)
+KeepsItsLimit (Filed filed) = ⊤
+KeepsItsLimit (PlannedByFile made) = AreWithin made.memory (plan_bytes made.plan.order made.plan.scans made.plan.levels)

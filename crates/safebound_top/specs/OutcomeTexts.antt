@@ -1,15 +1,22 @@
 -- The texts of what a run comes to.
-use Rattle.std.specs.Prelude.{ℕ, List, Option, None, Some}
+use Rattle.std.specs.Prelude.{ℕ, List, ◌++◌, Option, None, Some}
+use Rattle.printed_texts.specs.Memory.{memory_text}
 use Rattle.printed_texts.specs.Plans.{plan_lines}
+use Rattle.reserve_plan.specs.Memory.{plan_bytes}
 use Rattle.stats_file.specs.FileText.{file_text}
-use Rattle.safebound_top.specs.Outcome.{Filed, Outcome, Planned, PlannedByFile}
+use Rattle.safebound_top.specs.Outcome.{Filed, FiledPlan, Outcome, Planned, PlannedByFile}
 use Rattle.safebound_top.specs.Texts.{out_text_of, plan_text}
+
+-- the plan text of a plan from a file, and behind it the line of its bytes, where there is a limit of memory
+abbrev pub filed_plan_text : FiledPlan → List ℕ
+filed_plan_text made =
+    plan_lines made.query.from made.plan ++ memory_text made.memory (plan_bytes made.plan.order made.plan.scans made.plan.levels)
 
 -- the text for notes, where there is one: the plan text
 abbrev pub notes_text : Outcome → Option (List ℕ)
 notes_text (Planned run) = Some (plan_text run)
 notes_text (Filed filed) = None
-notes_text (PlannedByFile made) = Some (plan_lines made.query.from made.plan)
+notes_text (PlannedByFile made) = Some (filed_plan_text made)
 
 -- the text for out, where there is one
 abbrev pub out_text : Outcome → Option (List ℕ)

@@ -14,7 +14,7 @@ use Rattle.sql_meaning.specs.Databases.{IsDatabaseOf}
 use Rattle.sql_meaning.specs.Tables.{Tables, tables_of}
 use Rattle.table_files.specs.EntryTables.{entry_rows, tables_in}
 use Rattle.safebound_top.specs.Accepted.{Accepted}
-use Rattle.safebound_top.specs.Shapes.{IsShapedPlan, joined_entries, part_sizes, shape_audits}
+use Rattle.safebound_top.specs.Shapes.{IsShapedPlan, joined_entries, part_sizes, shape_audits, shape_bytes}
 use Rattle.safebound_top.specs.Sources.{sourced}
 use Rattle.safebound_top.specs.Standing.{LoseNoRow}
 use Rattle.safebound_top.specs.declared.prepare.Prepared.{Prepared}
@@ -95,14 +95,16 @@ accepted_of prepared = record {
   plan = plan_left prepared.rest;
   source = prepared.source;
   lists = (sourced prepared.source prepared.query (tables_in (entry_rows prepared.db))).lists;
+  memory = prepared.memory;
   out = text_left prepared.rest;
 }
 
--- a query, the database of its tables, a plan for its entries, and the room for what is left to do
+-- a query, the database of its tables, a plan for its entries with its bytes, and the room for what is left to do
 pub record IsReady (prepared : Prepared) : Type 0 where
   pub database : IsDatabaseOf prepared.query prepared.db
   pub few : length prepared.query.conjuncts ≤ most_conjuncts
   pub plan : IsShapedPlan (length prepared.query.from) (plan_left prepared.rest)
+  pub bytes : prepared.bytes ≡ shape_bytes (plan_left prepared.rest)
   pub tables : tables_in (entry_rows prepared.db) ≡ tables_of prepared.db
   pub room : HasRoom prepared.query prepared.db prepared.rest
   pub lists : AreListed (accepted_of prepared).lists prepared.rest

@@ -3,7 +3,7 @@
 -- Where a call of `run` ends with Done, over files that the store tells: the schema's file declares one schema, the query's file asks one
 -- query of it, and each FROM entry has the rows in its table's file. A plan was printed of which no bound is too low, and the rows that were
 -- printed are the answer of the query, each as often as there.
-use Rattle.std.specs.Prelude.{ℕ, ◌≡◌, ◌+◌, ◌<◌, ◌≤◌, Bool, true, false, List, length, slice_get, slice_index, take, Some, Ok, IsPermutation}
+use Rattle.std.specs.Prelude.{ℕ, ◌≡◌, ◌+◌, ◌<◌, ◌≤◌, ◌++◌, Bool, true, false, List, length, slice_get, slice_index, take, Option, Some, Ok, IsPermutation}
 use Rattle.base_io.specs.Devices.{Growth}
 use Rattle.base_io.specs.Files.{Files, file_of}
 use Rattle.schema_types.specs.Texts.{IsSchemaOf}
@@ -22,10 +22,13 @@ use Rattle.join_steps.specs.Lists.{list_at, scans_of}
 use Rattle.reduced_scans.specs.Scans.{AreReducedScans}
 use Rattle.plans.specs.LeftDeep.{IsPlan}
 use Rattle.plans.specs.declared.left_deep.Plan.{Plan}
+use Rattle.reserve_plan.specs.Memory.{plan_bytes}
 use Rattle.tree_plans.specs.TreePlans.{IsTreePlan}
 use Rattle.tree_plans.specs.declared.bushy.BushyPlan.{BushyPlan}
 use Rattle.tree_plans.specs.declared.bushy.Join.{Join}
+use Rattle.tree_rows.specs.Memory.{tree_bytes}
 use Rattle.tree_rows.specs.Trees.{entries_at}
+use Rattle.printed_texts.specs.Memory.{memory_text}
 use Rattle.printed_texts.specs.Plans.{plan_lines}
 use Rattle.printed_texts.specs.Texts.{rows_lines}
 use Rattle.printed_texts.specs.TreePlans.{tree_lines}
@@ -33,6 +36,7 @@ use Rattle.safebound_words.specs.CommandLines.{AskFor}
 use Rattle.safebound_words.specs.Requests.{Run}
 use Rattle.outcomes.specs.declared.status.Status.TheVariants as status
 use Rattle.safebound_top.specs.Call.{Call, Grew}
+use Rattle.safebound_top.specs.Limits.{AreWithin}
 
 -- ---- what the files say
 
@@ -93,20 +97,23 @@ pub record HoldsOver (query : Query) (tables : Tables) (scans : List (List ℕ))
   pub nodes_fit : (k : ℕ) (join : Join) → slice_get plan.joins k ≡ Some join
       → length (choices_over query tables scans (entries_at plan (length query.from + k))) ≤ join.bound
 
--- a plan with its text: an order, or with `--bushy` a join tree
-pub record PrintsOrder (query : Query) (tables : Tables) (scans : List (List ℕ)) (text : List ℕ) : Type 0 where
+-- a plan with its text: an order, or with `--bushy` a join tree. With `--memory` the text has a last line of the bytes that its buffers take, and
+-- these are within the limit
+pub record PrintsOrder (limit : Option ℕ) (query : Query) (tables : Tables) (scans : List (List ℕ)) (text : List ℕ) : Type 0 where
   pub plan : Plan
   pub holds : HoldsAlong query tables scans plan
-  pub prints : text ≡ plan_lines query.from plan
+  pub within : AreWithin limit (plan_bytes plan.order plan.scans plan.levels)
+  pub prints : text ≡ plan_lines query.from plan ++ memory_text limit (plan_bytes plan.order plan.scans plan.levels)
 
-pub record PrintsTree (query : Query) (tables : Tables) (scans : List (List ℕ)) (text : List ℕ) : Type 0 where
+pub record PrintsTree (limit : Option ℕ) (query : Query) (tables : Tables) (scans : List (List ℕ)) (text : List ℕ) : Type 0 where
   pub plan : BushyPlan
   pub holds : HoldsOver query tables scans plan
-  pub prints : text ≡ tree_lines query.from plan
+  pub within : AreWithin limit (tree_bytes plan)
+  pub prints : text ≡ tree_lines query.from plan ++ memory_text limit (tree_bytes plan)
 
-abbrev pub PrintsPlan : Bool → Query → Tables → List (List ℕ) → List ℕ → Type 0
-PrintsPlan false query tables scans text = PrintsOrder query tables scans text
-PrintsPlan true query tables scans text = PrintsTree query tables scans text
+abbrev pub PrintsPlan : Bool → Option ℕ → Query → Tables → List (List ℕ) → List ℕ → Type 0
+PrintsPlan false limit query tables scans text = PrintsOrder limit query tables scans text
+PrintsPlan true limit query tables scans text = PrintsTree limit query tables scans text
 
 -- ---- what the rows text says
 
@@ -120,7 +127,7 @@ pub record PrintsAnswer (query : Query) (tables : Tables) (text : List ℕ) : Ty
 
 -- a run of the query in the one file, over the schema in the other and the tables' files: notes grew by the text of its plan, and out by its
 -- answer
-pub record RanWhole (files : Files) (schema_file query_file : List ℕ) (reduce bushy : Bool) (notes out : Growth) : Type 0 where
+pub record RanWhole (files : Files) (schema_file query_file : List ℕ) (reduce bushy : Bool) (limit : Option ℕ) (notes out : Growth) : Type 0 where
   pub schema : Schema
   pub declares : DeclaresSchema files schema_file schema
   pub query : Query
@@ -130,7 +137,7 @@ pub record RanWhole (files : Files) (schema_file query_file : List ℕ) (reduce 
   pub scans : List (List ℕ)
   pub are_scans : AreScans reduce query tables scans
   pub plan_text : List ℕ
-  pub plan : PrintsPlan bushy query tables scans plan_text
+  pub plan : PrintsPlan bushy limit query tables scans plan_text
   pub plan_written : Grew notes plan_text
   pub rows_text : List ℕ
   pub answer : PrintsAnswer query tables rows_text
@@ -138,7 +145,7 @@ pub record RanWhole (files : Files) (schema_file query_file : List ℕ) (reduce 
 
 -- each call of `run` that ends with Done, whatever its budget and its accuracy
 abbrev pub Promise : Call → Type 0
-Promise call = (schema_file query_file : List ℕ) (budget accuracy : ℕ) (reduce bushy : Bool) (files : Files)
-    → AskFor call.words (Run schema_file query_file budget accuracy reduce bushy)
+Promise call = (schema_file query_file : List ℕ) (budget accuracy : ℕ) (reduce bushy : Bool) (limit : Option ℕ) (files : Files)
+    → AskFor call.words (Run schema_file query_file budget accuracy reduce bushy limit)
     → call.status ≡ status.Done → call.store.files ≡ Some files
-    → RanWhole files schema_file query_file reduce bushy call.notes call.out
+    → RanWhole files schema_file query_file reduce bushy limit call.notes call.out

@@ -1,6 +1,7 @@
 -- What was read and planned, as what the run comes to.
-use Rattle.std.specs.Prelude.{length}
+use Rattle.std.specs.Prelude.{◌≡◌, length}
 use Rattle.plans.specs.LeftDeep.{IsPlan}
+use Rattle.reserve_plan.specs.Memory.{plan_bytes}
 use Rattle.schema_types.specs.declared.types.Schema.{Schema}
 use Rattle.stats_file.specs.Rules.{KeepsRules}
 use Rattle.table_files.specs.EntryTables.{entry_rows}
@@ -19,16 +20,21 @@ abbrev pub file_from : Schema → PreparedFile → Outcome
 file_from schema filed = Filed (record { schema = schema; query = filed.query; rows = entry_rows filed.db; file = filed.file })
 
 abbrev pub plan_from : PreparedPlan → Outcome
-plan_from made = PlannedByFile (record { query = made.query; file = made.file; plan = made.plan })
+plan_from made = PlannedByFile (record { query = made.query; file = made.file; plan = made.plan; memory = made.memory })
 
 abbrev pub outcome_of : Schema → Ready → Outcome
 outcome_of schema (ready.Planned prepared) = planned_from prepared
 outcome_of schema (ready.Filed filed) = file_from schema filed
 outcome_of schema (ready.PlannedByFile made) = plan_from made
 
+-- a plan for the query's entries, with its bytes
+pub record IsPlanned (made : PreparedPlan) : Type 0 where
+  pub plan : IsPlan (length made.query.from) made.plan
+  pub bytes : made.bytes ≡ plan_bytes made.plan.order made.plan.scans made.plan.levels
+
 -- all that is left to write can be written without memory: a query, the database of its tables, a plan for its entries, and the room for
 -- what is left to do; a file that keeps the rules; or a plan for the query's entries
 abbrev pub CanBeWritten : Schema → Ready → Type 0
 CanBeWritten schema (ready.Planned prepared) = IsReady prepared
 CanBeWritten schema (ready.Filed filed) = KeepsRules schema filed.file
-CanBeWritten schema (ready.PlannedByFile made) = IsPlan (length made.query.from) made.plan
+CanBeWritten schema (ready.PlannedByFile made) = IsPlanned made

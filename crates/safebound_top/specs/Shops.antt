@@ -7,11 +7,11 @@ use Rattle.safebound_words.specs.Requests.{Request, Run, Plan, Audit, Stats, Pla
 
 -- one line for each command: `demo` alone makes files, those of the shop with its number
 abbrev pub shop_asked : Request → Option ℕ
-shop_asked (Run schema query budget accuracy reduce bushy) = None
-shop_asked (Plan schema query budget accuracy reduce bushy) = None
-shop_asked (Audit schema query budget accuracy reduce bushy) = None
+shop_asked (Run schema query budget accuracy reduce bushy memory) = None
+shop_asked (Plan schema query budget accuracy reduce bushy memory) = None
+shop_asked (Audit schema query budget accuracy reduce bushy memory) = None
 shop_asked (Stats schema query accuracy) = None
-shop_asked (PlanStats schema query file budget) = None
+shop_asked (PlanStats schema query file budget memory) = None
 shop_asked (Demo number) = Some number
 
 abbrev pub request_shop : Option Request → Option ℕ

@@ -1,14 +1,16 @@
 -- The texts of an accepted run.
-use Rattle.std.specs.Prelude.{ℕ, List, Option, None, Some}
+use Rattle.std.specs.Prelude.{ℕ, List, ◌++◌, Option, None, Some}
+use Rattle.printed_texts.specs.Memory.{memory_text}
 use Rattle.printed_texts.specs.Texts.{rows_lines}
 use Rattle.safebound_top.specs.Accepted.{Accepted, part_counts, printed}
-use Rattle.safebound_top.specs.Shapes.{shape_audits, shape_lines}
+use Rattle.safebound_top.specs.Shapes.{shape_audits, shape_bytes, shape_lines}
 use Rattle.safebound_top.specs.declared.task.OutText.{OutText}
 use Rattle.safebound_top.specs.declared.task.OutText.TheVariants as out_text
 
--- for notes: a line for each scan, and then one for each level of the plan's order, or inner node of its tree, with their bounds
+-- for notes: a line for each scan, and then one for each level of the plan's order, or inner node of its tree, with their bounds; behind them
+-- the line of the plan's bytes, where there is a limit of memory
 abbrev pub plan_text : Accepted → List ℕ
-plan_text run = shape_lines run.query.from run.plan
+plan_text run = shape_lines run.query.from run.plan ++ memory_text run.memory (shape_bytes run.plan)
 
 -- the header, and then a record for each row that is printed
 abbrev pub rows_text : Accepted → List ℕ

@@ -21,8 +21,9 @@ use Rattle.table_files.specs.TableFile.{read}
 use Rattle.safebound_top.specs.Accepted.{Accepted}
 use Rattle.safebound_top.specs.Asks.{Ask, FileOf, PlanFrom, PlanOf, WorkAsk, command_stage}
 use Rattle.safebound_top.specs.Filed.{filed_plan_stage, stats_stage, tables_filed}
+use Rattle.safebound_top.specs.Limits.{within_limit}
 use Rattle.safebound_top.specs.Outcome.{Outcome, Planned}
-use Rattle.safebound_top.specs.Shapes.{planned_by}
+use Rattle.safebound_top.specs.Shapes.{planned_by, shape_bytes}
 use Rattle.safebound_top.specs.Sources.{sourced}
 use Rattle.safebound_top.specs.declared.shapes.Shaped.{Shaped}
 use Rattle.safebound_top.specs.declared.task.PlanTask.{PlanTask}
@@ -57,14 +58,16 @@ run_asked task query rows plan = record {
   plan = plan;
   source = task.source;
   lists = (sourced task.source query (tables_in rows)).lists;
+  memory = task.memory;
   out = task.out;
 }
 
--- the plan of a query over its entries' rows: the best order or tree with its bounds, or PastBits, or Budget with the least cost
+-- the plan of a query over its entries' rows: the best order or tree with its bounds, or PastBits, or Budget with the least cost, or
+-- MemoryLimit with the bytes of the plan
 unfoldable pub plan_stage : PlanTask → Query → List (List Row) → Result Outcome Refusal
 plan_stage task query rows = do
   plan ← told plan_refusal (plan_asked task query (tables_in rows))
-  Ok (Planned (run_asked task query rows plan))
+  within_limit task.memory (shape_bytes plan) (Planned (run_asked task query rows plan))
 
 -- what is done with a query: here alone one work is told from another
 abbrev pub work_run : WorkAsk → Schema → Query → Files → Result Outcome Refusal
@@ -74,9 +77,9 @@ work_run (PlanOf task) schema query files = do
 work_run (FileOf accuracy) schema query files = do
   rows ← tables_stage schema query.from files
   Ok (tables_filed schema query rows accuracy)
-work_run (PlanFrom name budget) schema query files = do
+work_run (PlanFrom name budget memory) schema query files = do
   stats ← stats_stage name schema files
-  filed_plan_stage query stats budget
+  filed_plan_stage query stats budget memory
 
 -- what a run is over, or the first refusal that applies: from the tables on, from the query on, from the schema on, and from the words on
 unfoldable pub query_run : Ask → Schema → Query → Files → Result Outcome Refusal
@@ -126,7 +129,7 @@ query_read words files = do
 abbrev pub IsWorkFile : WorkAsk → Schema → Query → Files → FileId → Type 0
 IsWorkFile (PlanOf task) schema query files id = IsTableReached schema (tables_of_query query.from) files id
 IsWorkFile (FileOf accuracy) schema query files id = IsTableReached schema (tables_of_query query.from) files id
-IsWorkFile (PlanFrom name budget) schema query files id = id ≡ file.Stats
+IsWorkFile (PlanFrom name budget memory) schema query files id = id ≡ file.Stats
 
 abbrev pub IsFileOf : Result Asked Refusal → Files → FileId → Type 0
 IsFileOf (Ok asked) files id = IsWorkFile asked.work asked.schema asked.query files id

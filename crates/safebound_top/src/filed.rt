@@ -1,6 +1,6 @@
 //! Statistics files: one that is read, a plan from it, and one that is made of a query's tables.
 ghost use Rattle.std.specs.Prelude.{◌≡◌, ◌<◌, ◌≤◌, IfErr, IfOk, Ok, length};
-ghost use Rattle.limits.specs.Profile.{most_accuracy, most_budget, most_conjuncts};
+ghost use Rattle.limits.specs.Profile.{most_accuracy, most_budget, most_conjuncts, most_entries};
 ghost use Rattle.base_io.specs.Devices.{reading};
 ghost use Rattle.filed_stats.specs.Databases.{IsReadOver};
 ghost use Rattle.outcomes.specs.Reads.{AtFile, Reads, Tells, seen};
@@ -13,10 +13,11 @@ ghost use Rattle.sql_meaning.specs.Tables.{tables_of};
 ghost use Rattle.table_files.specs.EntryTables.{entry_rows, tables_in};
 ghost use Rattle.table_files.specs.Stage.{IsReached, tables_of_query};
 ghost use Rattle.safebound_top.specs.Asks.{FileOf, PlanFrom};
-ghost use Rattle.safebound_top.specs.Filed.{filed_ending, filed_plan_stage, stats_stage, tables_filed};
-ghost use Rattle.safebound_top.specs.Ready.{file_from, plan_from};
+ghost use Rattle.safebound_top.specs.Filed.{filed_ending, filed_plan_stage, filed_within, stats_stage, tables_filed};
+ghost use Rattle.safebound_top.specs.Ready.{IsPlanned, file_from, plan_from};
 ghost use Rattle.safebound_top.specs.Verdict.{work_run};
 
+use crate::limit::{keep_limit, order_memory};
 use base_io::{NoMemory, Store};
 use csv_tables::Database;
 use filed_plans::{FiledPlanError, plan_from_file};
@@ -39,12 +40,14 @@ pub struct PreparedFile {
     pub file: StatsFile,
 }
 
-/// A plan of a query, and the statistics file of which it is made.
+/// A plan of a query, the statistics file of which it is made, the limit of memory, where there is one, and the bytes of the plan.
 #[derive(Drop)]
 pub struct PreparedPlan {
     pub query: Query,
     pub file: StatsFile,
     pub plan: Plan,
+    pub memory: Option<u64>,
+    pub bytes: u128,
 }
 
 // Reads the statistics file of this name over a schema.
@@ -78,24 +81,50 @@ fn ending_of(error: FiledPlanError) -> Ending
     }
 }
 
-// Plans a query from a statistics file, within a budget. No table is read.
+// Gives a plan that is made, unless it is above the limit of memory.
+fn limited(
+    query: Query,
+    file: StatsFile,
+    plan: Plan,
+    memory: Option<u64>,
+) -> Result<PreparedPlan, Ending>
+    requires some { 1 ≤ length query.from }
+    requires few { length query.from ≤ most_entries }
+    requires plan { IsPlan (length query.from) plan }
+    ensures plan { IfOk result IsPlanned }
+    ensures within { IfOk result (λ made. filed_within query file plan memory ≡ Ok (plan_from made)) }
+    ensures refused { IfErr result (Tells (filed_within query file plan memory)) }
+{
+    let bytes = order_memory(&plan);
+    keep_limit(memory, bytes)?;
+    Ok(PreparedPlan {
+        query,
+        file,
+        plan,
+        memory,
+        bytes,
+    })
+}
+
+// Plans a query from a statistics file, within a budget and a limit of memory. No table is read.
 fn plan_filed(
     alloc: Global,
     schema: &Schema,
     query: Query,
     file: StatsFile,
     budget: u64,
+    memory: Option<u64>,
 ) -> Result<PreparedPlan, Ending>
     requires query { IsOf schema.now query }
     requires few { length query.conjuncts ≤ most_conjuncts }
     requires file { KeepsRules schema.now file }
     requires budget { budget ≤ most_budget }
-    ensures plan { IfOk result (λ made. IsPlan (length made.query.from) made.plan) }
-    ensures planned { IfOk result (λ made. filed_plan_stage query file budget ≡ Ok (plan_from made)) }
-    ensures refused { IfErr result (Tells (filed_plan_stage query file budget)) }
+    ensures plan { IfOk result IsPlanned }
+    ensures planned { IfOk result (λ made. filed_plan_stage query file budget memory ≡ Ok (plan_from made)) }
+    ensures refused { IfErr result (Tells (filed_plan_stage query file budget memory)) }
 {
     match plan_from_file(alloc, &query, &file, budget) {
-        Ok(plan) => Ok(PreparedPlan { query, file, plan }),
+        Ok(plan) => limited(query, file, plan, memory),
         Err(error) => Err(ending_of(error)),
     }
 }
@@ -138,7 +167,7 @@ pub fn prepare_file<S: Store>(
     Ok(filed)
 }
 
-/// Reads a statistics file, and plans a query from it.
+/// Reads a statistics file, and plans a query from it, within a budget and a limit of memory.
 pub fn prepare_filed<S: Store>(
     alloc: Global,
     store: &mut S,
@@ -146,16 +175,17 @@ pub fn prepare_filed<S: Store>(
     query: Query,
     file: &str,
     budget: u64,
+    memory: Option<u64>,
 ) -> Result<PreparedPlan, Ending>
     requires schema { IsValid schema.now }
     requires bytes { HasByteColumns schema.now }
     requires query { IsOf schema.now query }
     requires few { length query.conjuncts ≤ most_conjuncts }
     requires budget { budget ≤ most_budget }
-    ensures plan { IfOk result (λ made. IsPlan (length made.query.from) made.plan) }
-    ensures reads { Reads (reading S.files S.faults S.misses store.old store.new) (work_run (PlanFrom file.now budget) schema.now query)
+    ensures plan { IfOk result IsPlanned }
+    ensures reads { Reads (reading S.files S.faults S.misses store.old store.new) (work_run (PlanFrom file.now budget memory) schema.now query)
         (AtFile FileId.Stats) (seen plan_from result) }
 {
     let stats = load_stats(alloc, store, file, schema)?;
-    plan_filed(alloc, schema, query, stats, budget)
+    plan_filed(alloc, schema, query, stats, budget, memory)
 }

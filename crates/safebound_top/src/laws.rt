@@ -19,7 +19,7 @@ ghost use Rattle.text_answers.specs.QueryTexts.{query_answer};
 ghost use Rattle.text_answers.specs.SchemaTexts.{schema_answer};
 ghost use Rattle.safebound_words.specs.Answer.{command_of};
 ghost use Rattle.safebound_words.specs.Requests.{Demo};
-ghost use Rattle.safebound_top.specs.Outcome.{NoBoundIsTooLow, PrintsTheAnswer};
+ghost use Rattle.safebound_top.specs.Outcome.{KeepsItsLimit, NoBoundIsTooLow, PrintsTheAnswer};
 ghost use Rattle.safebound_top.specs.Shapes.{planned_by};
 ghost use Rattle.safebound_top.specs.Sources.{Sourced, sourced};
 ghost use Rattle.safebound_top.specs.Standing.{IsSource};
@@ -29,10 +29,11 @@ ghost use Rattle.safebound_top.specs.declared.task.Shape.{Shape};
 
 /// What the words and the files come to has no bound that is too low, and its printed rows, if any, are the answer of the
 /// query. Of a plan from a statistics file this holds over all tables for which the file stands; a statistics file that is
-/// made stands for its tables. It does nothing.
+/// made stands for its tables. A plan takes no more bytes than its limit of memory, where there is one. It does nothing.
 pub fn run_law()
     ensures bounds { (words : List (List ℕ)) (files : Files) → IfOk (verdict words files) NoBoundIsTooLow }
     ensures rows { (words : List (List ℕ)) (files : Files) → IfOk (verdict words files) PrintsTheAnswer }
+    ensures limits { (words : List (List ℕ)) (files : Files) → IfOk (verdict words files) KeepsItsLimit }
 {}
 
 /// What `demo NUMBER` answers over any files is what `audit schema.sql query.sql` answers over them. It does nothing.

@@ -16,6 +16,7 @@ mod corollaries;
 mod filed;
 mod files;
 mod laws;
+mod limit;
 mod prepare;
 mod report;
 mod scans;

@@ -20,6 +20,7 @@ ghost use Rattle.safebound_top.specs.Verdict.{IsFileOf, IsWorkFile, plan_stage, 
 
 use crate::filed::{PreparedFile, PreparedPlan, prepare_file, prepare_filed};
 use crate::files::load_query;
+use crate::limit::{keep_limit, memory_of};
 use crate::scans::{Joins, Planned, plan_task, prepare_joins};
 use crate::shapes::Shaped;
 use crate::task::{ListSource, OutText, PlanTask, Task, Work};
@@ -42,12 +43,15 @@ pub enum Rest {
     Nothing(Shaped),
 }
 
-/// A query, the database of its tables, what its plan is made from, and what is left to do, with the plan.
+/// A query, the database of its tables, what its plan is made from, the limit of memory, where there is one, the bytes of the plan, and
+/// what is left to do, with the plan.
 #[derive(Drop)]
 pub struct Prepared {
     pub query: Query,
     pub db: Database,
     pub source: ListSource,
+    pub memory: Option<u64>,
+    pub bytes: u128,
     pub rest: Rest,
 }
 
@@ -87,7 +91,7 @@ pub enum Ready {
     PlannedByFile(PreparedPlan),
 }
 
-// Plans a query over its database, and takes the memory for what is left to do.
+// Plans a query over its database, and takes the memory for what is left to do, unless it is above the limit.
 fn prepare_plan(
     alloc: Global,
     task: &PlanTask,
@@ -104,11 +108,15 @@ fn prepare_plan(
     ensures refused { IfErr result (Tells (plan_stage task.now query (entry_rows db))) }
 {
     let planned = plan_task(alloc, task, &query, &db)?;
+    let bytes = memory_of(&planned.plan);
+    keep_limit(task.memory, bytes)?;
     let rest = make_room(alloc, task.out, planned, &query, &db)?;
     Ok(Prepared {
         query,
         db,
         source: task.source,
+        memory: task.memory,
+        bytes,
         rest,
     })
 }
@@ -159,8 +167,12 @@ fn prepare_query<S: Store>(
             let filed = prepare_file(alloc, store, schema, query, *accuracy)?;
             Ok(Ready::Filed(filed))
         }
-        Work::PlanFrom { file, budget } => {
-            let made = prepare_filed(alloc, store, schema, query, file, *budget)?;
+        Work::PlanFrom {
+            file,
+            budget,
+            memory,
+        } => {
+            let made = prepare_filed(alloc, store, schema, query, file, *budget, *memory)?;
             Ok(Ready::PlannedByFile(made))
         }
     }

@@ -38,13 +38,15 @@ pub enum Shape {
 }
 
 /// How a query is planned over its tables: the most rows that a plan may cost, how closely lists of degrees are compressed,
-/// what bounds are made from, the shape of the plan, and which text goes to `out`.
+/// what bounds are made from, the shape of the plan, the most bytes that its buffers may take, where there is such a limit,
+/// and which text goes to `out`.
 #[derive(Clone, Copy, Debug)]
 pub struct PlanTask {
     pub budget: u64,
     pub accuracy: u8,
     pub source: ListSource,
     pub shape: Shape,
+    pub memory: Option<u64>,
     pub out: OutText,
 }
 
@@ -54,9 +56,16 @@ pub enum Work<'a> {
     /// It is planned over its tables, and joined where `out` takes a text.
     Plan(PlanTask),
     /// The statistics file of its tables is written, at an accuracy of compression from 1 to 64.
-    File { accuracy: u8 },
-    /// It is planned from the statistics file of this name. The most rows that a plan may cost are the budget.
-    PlanFrom { file: &'a str, budget: u64 },
+    File {
+        accuracy: u8,
+    },
+    /// It is planned from the statistics file of this name. The most rows that a plan may cost are the budget, and the most bytes
+    /// that its buffers may take the limit of memory, where there is one.
+    PlanFrom {
+        file: &'a str,
+        budget: u64,
+        memory: Option<u64>,
+    },
 }
 
 /// The names of two files, what is done with the query, and the number of the shop whose files are made and read, if one is.
@@ -87,14 +96,22 @@ fn shape_of(bushy: bool) -> Shape
 }
 
 // The work of planning by these values.
-fn plan_of<'a>(out: OutText, budget: u64, accuracy: u8, reduce: bool, bushy: bool) -> Work<'a>
-    ensures { work_asked result ≡ plan_for out budget accuracy reduce bushy }
+fn plan_of<'a>(
+    out: OutText,
+    budget: u64,
+    accuracy: u8,
+    reduce: bool,
+    bushy: bool,
+    memory: Option<u64>,
+) -> Work<'a>
+    ensures { work_asked result ≡ plan_for out budget accuracy reduce bushy memory }
 {
     Work::Plan(PlanTask {
         budget,
         accuracy,
         source: source_of(reduce),
         shape: shape_of(bushy),
+        memory,
         out,
     })
 }
@@ -125,10 +142,11 @@ fn task_of<'a>(command: Command<'a>) -> Task<'a>
             accuracy,
             reduce,
             bushy,
+            memory,
         } => over(
             schema,
             query,
-            plan_of(OutText::Rows, budget, accuracy, reduce, bushy),
+            plan_of(OutText::Rows, budget, accuracy, reduce, bushy, memory),
         ),
         Command::Plan {
             schema,
@@ -137,10 +155,11 @@ fn task_of<'a>(command: Command<'a>) -> Task<'a>
             accuracy,
             reduce,
             bushy,
+            memory,
         } => over(
             schema,
             query,
-            plan_of(OutText::Nothing, budget, accuracy, reduce, bushy),
+            plan_of(OutText::Nothing, budget, accuracy, reduce, bushy, memory),
         ),
         Command::Audit {
             schema,
@@ -149,10 +168,11 @@ fn task_of<'a>(command: Command<'a>) -> Task<'a>
             accuracy,
             reduce,
             bushy,
+            memory,
         } => over(
             schema,
             query,
-            plan_of(OutText::Audit, budget, accuracy, reduce, bushy),
+            plan_of(OutText::Audit, budget, accuracy, reduce, bushy, memory),
         ),
         Command::Stats {
             schema,
@@ -164,12 +184,14 @@ fn task_of<'a>(command: Command<'a>) -> Task<'a>
             query,
             stats,
             budget,
+            memory,
         } => over(
             schema,
             query,
             Work::PlanFrom {
                 file: stats,
                 budget,
+                memory,
             },
         ),
         Command::Demo { number } => Task {
@@ -177,7 +199,14 @@ fn task_of<'a>(command: Command<'a>) -> Task<'a>
             ..over(
                 "schema.sql",
                 "query.sql",
-                plan_of(OutText::Audit, USUAL_BUDGET, USUAL_ACCURACY, false, false),
+                plan_of(
+                    OutText::Audit,
+                    USUAL_BUDGET,
+                    USUAL_ACCURACY,
+                    false,
+                    false,
+                    None,
+                ),
             )
         },
     }

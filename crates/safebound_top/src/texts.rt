@@ -1,9 +1,10 @@
 //! The texts that a run leaves in its two streams. Nothing here takes memory.
-ghost use Rattle.std.specs.Prelude.{◌≤◌, length};
+ghost use Rattle.std.specs.Prelude.{◌≤◌, ◌++◌, length};
 ghost use Rattle.limits.specs.Profile.{most_conjuncts};
 ghost use Rattle.base_io.specs.Devices.{Growth, growth};
 ghost use Rattle.base_io.specs.Writes.{Wrote};
-ghost use Rattle.printed_texts.specs.Plans.{audit_lines};
+ghost use Rattle.printed_texts.specs.Memory.{memory_text};
+ghost use Rattle.printed_texts.specs.Plans.{audit_lines, plan_lines};
 ghost use Rattle.printed_texts.specs.Texts.{rows_lines};
 ghost use Rattle.printed_texts.specs.TreePlans.{tree_audits};
 ghost use Rattle.sql_meaning.specs.Databases.{IsDatabaseOf};
@@ -20,7 +21,7 @@ ghost use Rattle.stats_file.specs.Rules.{KeepsRules};
 ghost use Rattle.safebound_top.specs.Course.{Written, WroteIfAny};
 ghost use Rattle.safebound_top.specs.Headline.{DidNotGrow};
 ghost use Rattle.safebound_top.specs.Prepared.{CanJoin, HasRoom, IsReady, audit_from, plan_in, plan_left, rows_from, text_from};
-ghost use Rattle.safebound_top.specs.Ready.{CanBeWritten, file_from, outcome_of, plan_from, planned_from};
+ghost use Rattle.safebound_top.specs.Ready.{CanBeWritten, IsPlanned, file_from, outcome_of, plan_from, planned_from};
 ghost use Rattle.safebound_top.specs.Shapes.{IsShapedPlan, joined_entries, part_sizes, shape_lines};
 ghost use Rattle.safebound_top.specs.Standing.{LoseNoRow};
 ghost use Rattle.safebound_top.specs.declared.shapes.Shaped.TheVariants as shaped;
@@ -36,7 +37,7 @@ use joined_texts::{write_audit, write_rows, write_tree_audit, write_tree_rows};
 use outcomes::SinkId;
 use planned_joins::execute_plan;
 use plans::Plan;
-use printed_texts::{write_plan, write_tree};
+use printed_texts::{write_memory, write_plan, write_tree};
 use query_types::{Query, Source};
 use reserve_plan::Reserved;
 use row_buf::RowBuf;
@@ -219,6 +220,22 @@ fn write_bounds<N: Sink>(rest: &Rest, sources: &[Source], notes: &mut N) -> Resu
     }
 }
 
+// Writes the plan text of what is left to do, and behind it the line of its bytes, where there is a limit of memory.
+fn write_plan_text<N: Sink>(
+    rest: &Rest,
+    memory: Option<u64>,
+    bytes: u128,
+    sources: &[Source],
+    notes: &mut N,
+) -> Result<(), Failed>
+    requires { IsShapedPlan (length sources.now) (plan_left rest.now) }
+    ensures { Wrote (growth N.taken N.faults notes.old notes.new)
+        (shape_lines sources.now (plan_left rest.now) ++ memory_text memory bytes) result }
+{
+    write_bounds(rest, sources, notes)?;
+    write_memory(memory, bytes, notes)
+}
+
 // Writes the plan text to `notes`, and then what is left to do to `out`.
 fn write_texts<O: Sink, N: Sink>(
     prepared: Prepared,
@@ -233,9 +250,11 @@ fn write_texts<O: Sink, N: Sink>(
         query,
         db,
         source: _,
+        memory,
+        bytes,
         rest,
     } = prepared;
-    match write_bounds(&rest, query.from.as_slice(), notes) {
+    match write_plan_text(&rest, memory, bytes, query.from.as_slice(), notes) {
         Ok(()) => {}
         Err(Failed) => return Err(SinkId::Notes),
     }
@@ -257,12 +276,22 @@ fn write_file<O: Sink>(filed: PreparedFile, schema: &Schema, out: &mut O) -> Res
     }
 }
 
+// Writes the plan text of a plan from a statistics file, and behind it the line of its bytes, where there is a limit of memory.
+fn write_filed_text<N: Sink>(made: &PreparedPlan, notes: &mut N) -> Result<(), Failed>
+    requires { IsPlan (length made.now.query.from) made.now.plan }
+    ensures { Wrote (growth N.taken N.faults notes.old notes.new)
+        (plan_lines made.now.query.from made.now.plan ++ memory_text made.now.memory made.now.bytes) result }
+{
+    write_plan(&made.plan, made.query.from.as_slice(), notes)?;
+    write_memory(made.memory, made.bytes, notes)
+}
+
 // Writes the plan text of a plan from a statistics file to `notes`. `out` isn't touched.
 fn write_filed_plan<N: Sink>(made: PreparedPlan, notes: &mut N) -> Result<(), SinkId>
-    requires { IsPlan (length made.query.from) made.plan }
+    requires { IsPlanned made }
     ensures { (out : Growth) → DidNotGrow out → Written out (growth N.taken N.faults notes.old notes.new) (plan_from made) result }
 {
-    match write_plan(&made.plan, made.query.from.as_slice(), notes) {
+    match write_filed_text(&made, notes) {
         Ok(()) => Ok(()),
         Err(Failed) => Err(SinkId::Notes),
     }

@@ -11,8 +11,8 @@ use Rattle.std.specs.Result.{OnErr}
 use Rattle.safebound_words.specs.Answer.{Kind, Ends, IsPlace, Sets, Wants, Gives, Unknown, Parts, in_front, kind_of, parts_from, read_by}
 use Rattle.safebound_words.specs.Collected.{asked_by, asked_from, asked_with, collected, given_of, given_to, given_with, times_of, words_of}
 use Rattle.safebound_words.specs.CommandLines.{Alone, Beside, Item, Joined, Place, given_by, given_in, has_flag, has_option, place_words, same_flag, same_option, set_by}
-use Rattle.safebound_words.specs.Requests.{Request, Plan, PlanStats, Stats}
-use Rattle.safebound_words.specs.Table.{Given, command_row, file_of, flag_word, is_set, most_budget_of, of_number, of_stats, option_row, over_files, planned_from, stands_alone, value_of, within, ◌>>=◌}
+use Rattle.safebound_words.specs.Requests.{Request, Audit, Plan, PlanStats, Run, Stats}
+use Rattle.safebound_words.specs.Table.{Given, command_row, file_of, flag_word, from_file, is_set, limit_of, most_budget_of, of_number, of_stats, option_row, over_files, over_two, planned_from, stands_alone, value_of, with_limit, within, ◌>>=◌}
 use Rattle.safebound_words.specs.Words.{Word}
 use Rattle.safebound_words.specs.declared.table.CommandName.{CommandName}
 use Rattle.safebound_words.specs.declared.table.CommandName.TheVariants as command
@@ -122,23 +122,47 @@ none_behind (Some a) rest all = all a
 
 -- Where too much is collected, nothing is asked for.
 
-two_at_most : (request : Word → Word → ℕ → ℕ → Bool → Bool → Request) (places : List Word) (given : Given) → 2 < length places → over_files request places given ≡ None
+two_at_most : (request : Word → Word → ℕ → ℕ → Bool → Bool → Request) (places : List Word) (given : Given) → 2 < length places → over_two request places given ≡ None
 two_at_most request [] given many = absurd (omega arith)
 two_at_most request (a ∷ []) given many = absurd (omega arith)
 two_at_most request (a ∷ b ∷ []) given many = absurd (omega arith)
 two_at_most request (a ∷ b ∷ d ∷ rest) given many = refl
+
+-- what is refused with each limit of memory is refused
+whatever_limit : (asks : Option ℕ → List Word → Given → Option Request) (places : List Word) (given : Given) → ((limit : Option ℕ) → asks limit places given ≡ None) → with_limit asks places given ≡ None
+whatever_limit asks places given each =
+    none_behind (value_of option.Memory (given.values option.Memory)) (λ bytes. asks (limit_of bytes) places given) (λ bytes. each (limit_of bytes))
+
+-- and so is what has two limits
+two_limits : (asks : Option ℕ → List Word → Given → Option Request) (places : List Word) (given : Given) → value_of option.Memory (given.values option.Memory) ≡ None → with_limit asks places given ≡ None
+two_limits asks places given none = none_first (value_of option.Memory (given.values option.Memory)) (λ bytes. asks (limit_of bytes) places given) none
+
+-- a request, and its limit
+abbrev With : Type 0
+With = Word → Word → ℕ → ℕ → Bool → Bool → Option ℕ → Request
+
+abbrev limited : With → Option ℕ → Word → Word → ℕ → ℕ → Bool → Bool → Request
+limited request limit schema query budget accuracy reduce bushy = request schema query budget accuracy reduce bushy limit
+
+files_of_two : (request : With) (places : List Word) (given : Given) → 2 < length places → over_files request places given ≡ None
+unfolding over_files
+files_of_two request places given many =
+    whatever_limit (λ limit. over_two (limited request limit)) places given (λ limit. two_at_most (limited request limit) places given many)
 
 one_at_most : (request : ℕ → Request) (places : List Word) (given : Given) → 2 < length places → of_number request places given ≡ None
 one_at_most request [] given many = absurd (omega arith)
 one_at_most request (a ∷ []) given many = absurd (omega arith)
 one_at_most request (a ∷ b ∷ rest) given many = refl
 
+file_of_two : (file : Word) (limit : Option ℕ) (places : List Word) (given : Given) → 2 < length places → from_file file limit places given ≡ None
+file_of_two file limit [] given many = absurd (omega arith)
+file_of_two file limit (a ∷ []) given many = absurd (omega arith)
+file_of_two file limit (a ∷ b ∷ []) given many = absurd (omega arith)
+file_of_two file limit (a ∷ b ∷ d ∷ rest) given many = refl
+
 plan_of_two : (file : Option Word) (places : List Word) (given : Given) → 2 < length places → planned_from file places given ≡ None
-plan_of_two None places given many = two_at_most Plan places given many
-plan_of_two (Some file) [] given many = absurd (omega arith)
-plan_of_two (Some file) (a ∷ []) given many = absurd (omega arith)
-plan_of_two (Some file) (a ∷ b ∷ []) given many = absurd (omega arith)
-plan_of_two (Some file) (a ∷ b ∷ d ∷ rest) given many = refl
+plan_of_two None places given many = files_of_two Plan places given many
+plan_of_two (Some file) places given many = whatever_limit (from_file file) places given (λ limit. file_of_two file limit places given many)
 
 stats_of_two : (places : List Word) (given : Given) → 2 < length places → of_stats places given ≡ None
 stats_of_two [] given many = absurd (omega arith)
@@ -147,9 +171,9 @@ stats_of_two (a ∷ b ∷ []) given many = absurd (omega arith)
 stats_of_two (a ∷ b ∷ d ∷ rest) given many = refl
 
 too_many : (name : CommandName) (places : List Word) (given : Given) → 2 < length places → (command_row name).asks places given ≡ None
-too_many command.Run = two_at_most _
+too_many command.Run = files_of_two Run
 too_many command.Plan = λ places given many. none_behind (file_of (given.values option.Stats)) (λ file. planned_from file places given) (λ file. plan_of_two file places given many)
-too_many command.Audit = two_at_most _
+too_many command.Audit = files_of_two Audit
 too_many command.Stats = stats_of_two
 too_many command.Demo = one_at_most _
 
@@ -159,20 +183,34 @@ too_often o [] many = absurd (omega arith)
 too_often o (a ∷ []) many = absurd (omega arith)
 too_often o (a ∷ b ∷ rest) many = refl
 
--- the options with numbers
+-- the options with numbers that each command over files has a value of
 abbrev HasNumbers : OptionName → Type 0
 HasNumbers option.Budget = Unit {0}
 HasNumbers option.Accuracy = Unit {0}
+HasNumbers option.Memory = ⊥
 HasNumbers option.Stats = ⊥
 
 no_value : (request : Word → Word → ℕ → ℕ → Bool → Bool → Request) (places : List Word) (given : Given) (o : OptionName) → HasNumbers o
-    → 1 < length (given.values o) → over_files request places given ≡ None
+    → 1 < length (given.values o) → over_two request places given ≡ None
 no_value request [] given o has many = refl
 no_value request (a ∷ []) given o has many = refl
 no_value request (a ∷ b ∷ []) given option.Budget has many = none_first _ _ (too_often option.Budget _ many)
 no_value request (a ∷ b ∷ []) given option.Accuracy has many = none_behind _ _ (λ budget. none_first _ _ (too_often option.Accuracy _ many))
+no_value request (a ∷ b ∷ []) given option.Memory has many = absurd has
 no_value request (a ∷ b ∷ []) given option.Stats has many = absurd has
 no_value request (a ∷ b ∷ d ∷ rest) given o has many = refl
+
+no_file_value : (request : With) (places : List Word) (given : Given) (o : OptionName) → HasNumbers o → 1 < length (given.values o) → over_files request places given ≡ None
+unfolding over_files
+no_file_value request places given o has many =
+    whatever_limit (λ limit. over_two (limited request limit)) places given (λ limit. no_value (limited request limit) places given o has many)
+
+no_limit : (asks : Option ℕ → List Word → Given → Option Request) (places : List Word) (given : Given) → 1 < length (given.values option.Memory) → with_limit asks places given ≡ None
+no_limit asks places given many = two_limits asks places given (too_often option.Memory (given.values option.Memory) many)
+
+no_file_limit : (request : With) (places : List Word) (given : Given) → 1 < length (given.values option.Memory) → over_files request places given ≡ None
+unfolding over_files
+no_file_limit request places given many = no_limit (λ limit. over_two (limited request limit)) places given many
 
 -- nothing comes of a flag that stands twice
 set_once : (n : ℕ) → 1 < n → is_set n ≡ None
@@ -200,17 +238,22 @@ module _ (request : Word → Word → ℕ → ℕ → Bool → Bool → Request)
       none_behind (is_set (given.times flag.Reduce)) (λ reduce. by_reduce budget accuracy reduce)
       (λ reduce. none_first (is_set (given.times flag.Bushy)) (λ bushy. by_bushy budget accuracy reduce bushy) (set_once (given.times flag.Bushy) many))
 
-  no_flag_of_two : (f : FlagName) → 1 < given.times f → over_files request (a ∷ b ∷ []) given ≡ None
+  no_flag_of_two : (f : FlagName) → 1 < given.times f → over_two request (a ∷ b ∷ []) given ≡ None
   no_flag_of_two f many =
       none_behind (value_of option.Budget (given.values option.Budget)) (λ budget. by_budget budget)
       (λ budget. none_behind (value_of option.Accuracy (given.values option.Accuracy)) (λ accuracy. by_accuracy budget accuracy) (λ accuracy. many_flags budget accuracy f many))
 
 no_flag : (request : Word → Word → ℕ → ℕ → Bool → Bool → Request) (places : List Word) (given : Given) (f : FlagName)
-    → 1 < given.times f → over_files request places given ≡ None
+    → 1 < given.times f → over_two request places given ≡ None
 no_flag request [] given f many = refl
 no_flag request (a ∷ []) given f many = refl
 no_flag request (a ∷ b ∷ []) given f many = no_flag_of_two request a b given f many
 no_flag request (a ∷ b ∷ d ∷ rest) given f many = refl
+
+no_file_flag : (request : With) (places : List Word) (given : Given) (f : FlagName) → 1 < given.times f → over_files request places given ≡ None
+unfolding over_files
+no_file_flag request places given f many =
+    whatever_limit (λ limit. over_two (limited request limit)) places given (λ limit. no_flag (limited request limit) places given f many)
 
 -- the same of a plan, which may be from a statistics file
 
@@ -229,37 +272,50 @@ words_twice : (words : List Word) (b : Bool) → 1 < length words → (length wo
 words_twice words b many = let some : (length words == 0) ≡ false = ne_eqb (length words) 0 (λ e. absurd (omega (arith, e, many))) in rw some refl
 
 -- not alone beside a statistics file
-not_alone : (file schema query : Word) (given : Given) → stands_alone given ≡ false → planned_from (Some file) (schema ∷ query ∷ []) given ≡ None
-not_alone file schema query given beside =
+not_alone : (file : Word) (limit : Option ℕ) (schema query : Word) (given : Given) → stands_alone given ≡ false → from_file file limit (schema ∷ query ∷ []) given ≡ None
+not_alone file limit schema query given beside =
     none_behind (value_of option.Budget (given.values option.Budget))
-    (λ budget. if stands_alone given then Some (PlanStats schema query file budget) else None) (λ budget. rw beside refl)
+    (λ budget. if stands_alone given then Some (PlanStats schema query file budget limit) else None) (λ budget. rw beside refl)
+
+file_without_flag : (file : Word) (limit : Option ℕ) (places : List Word) (given : Given) (f : FlagName) → 1 < given.times f → from_file file limit places given ≡ None
+file_without_flag file limit [] given f many = refl
+file_without_flag file limit (a ∷ []) given f many = refl
+file_without_flag file limit (a ∷ b ∷ []) given flag.Reduce many =
+    not_alone file limit a b given (times_twice (length (given.values option.Accuracy) == 0) (given.times flag.Bushy == 0) (given.times flag.Reduce) many)
+file_without_flag file limit (a ∷ b ∷ []) given flag.Bushy many =
+    not_alone file limit a b given (times_twice_behind (length (given.values option.Accuracy) == 0) (given.times flag.Reduce == 0) (given.times flag.Bushy) many)
+file_without_flag file limit (a ∷ b ∷ d ∷ rest) given f many = refl
 
 plan_without_flag : (file : Option Word) (places : List Word) (given : Given) (f : FlagName) → 1 < given.times f → planned_from file places given ≡ None
-plan_without_flag None places given f many = no_flag Plan places given f many
-plan_without_flag (Some file) [] given f many = refl
-plan_without_flag (Some file) (a ∷ []) given f many = refl
-plan_without_flag (Some file) (a ∷ b ∷ []) given flag.Reduce many =
-    not_alone file a b given (times_twice (length (given.values option.Accuracy) == 0) (given.times flag.Bushy == 0) (given.times flag.Reduce) many)
-plan_without_flag (Some file) (a ∷ b ∷ []) given flag.Bushy many =
-    not_alone file a b given (times_twice_behind (length (given.values option.Accuracy) == 0) (given.times flag.Reduce == 0) (given.times flag.Bushy) many)
-plan_without_flag (Some file) (a ∷ b ∷ d ∷ rest) given f many = refl
+plan_without_flag None places given f many = no_file_flag Plan places given f many
+plan_without_flag (Some file) places given f many = whatever_limit (from_file file) places given (λ limit. file_without_flag file limit places given f many)
+
+file_without_budget : (file : Word) (limit : Option ℕ) (places : List Word) (given : Given) → 1 < length (given.values option.Budget) → from_file file limit places given ≡ None
+file_without_budget file limit [] given many = refl
+file_without_budget file limit (a ∷ []) given many = refl
+file_without_budget file limit (a ∷ b ∷ []) given many =
+    none_first (value_of option.Budget (given.values option.Budget)) (λ budget. if stands_alone given then Some (PlanStats a b file budget limit) else None)
+    (too_often option.Budget (given.values option.Budget) many)
+file_without_budget file limit (a ∷ b ∷ d ∷ rest) given many = refl
 
 plan_without_budget : (file : Option Word) (places : List Word) (given : Given) → 1 < length (given.values option.Budget) → planned_from file places given ≡ None
-plan_without_budget None places given many = no_value Plan places given option.Budget tt many
-plan_without_budget (Some file) [] given many = refl
-plan_without_budget (Some file) (a ∷ []) given many = refl
-plan_without_budget (Some file) (a ∷ b ∷ []) given many =
-    none_first (value_of option.Budget (given.values option.Budget)) (λ budget. if stands_alone given then Some (PlanStats a b file budget) else None)
-    (too_often option.Budget (given.values option.Budget) many)
-plan_without_budget (Some file) (a ∷ b ∷ d ∷ rest) given many = refl
+plan_without_budget None places given many = no_file_value Plan places given option.Budget tt many
+plan_without_budget (Some file) places given many = whatever_limit (from_file file) places given (λ limit. file_without_budget file limit places given many)
+
+file_without_accuracy : (file : Word) (limit : Option ℕ) (places : List Word) (given : Given) → 1 < length (given.values option.Accuracy) → from_file file limit places given ≡ None
+file_without_accuracy file limit [] given many = refl
+file_without_accuracy file limit (a ∷ []) given many = refl
+file_without_accuracy file limit (a ∷ b ∷ []) given many =
+    not_alone file limit a b given (words_twice (given.values option.Accuracy) (given.times flag.Reduce == 0 && given.times flag.Bushy == 0) many)
+file_without_accuracy file limit (a ∷ b ∷ d ∷ rest) given many = refl
 
 plan_without_accuracy : (file : Option Word) (places : List Word) (given : Given) → 1 < length (given.values option.Accuracy) → planned_from file places given ≡ None
-plan_without_accuracy None places given many = no_value Plan places given option.Accuracy tt many
-plan_without_accuracy (Some file) [] given many = refl
-plan_without_accuracy (Some file) (a ∷ []) given many = refl
-plan_without_accuracy (Some file) (a ∷ b ∷ []) given many =
-    not_alone file a b given (words_twice (given.values option.Accuracy) (given.times flag.Reduce == 0 && given.times flag.Bushy == 0) many)
-plan_without_accuracy (Some file) (a ∷ b ∷ d ∷ rest) given many = refl
+plan_without_accuracy None places given many = no_file_value Plan places given option.Accuracy tt many
+plan_without_accuracy (Some file) places given many = whatever_limit (from_file file) places given (λ limit. file_without_accuracy file limit places given many)
+
+plan_without_limit : (file : Option Word) (places : List Word) (given : Given) → 1 < length (given.values option.Memory) → planned_from file places given ≡ None
+plan_without_limit None places given many = no_file_limit Plan places given many
+plan_without_limit (Some file) places given many = no_limit (from_file file) places given many
 
 no_file : (words : List Word) → 1 < length words → file_of words ≡ None
 no_file [] many = absurd (omega arith)
@@ -274,28 +330,33 @@ no_accuracy (a ∷ b ∷ d ∷ rest) given many = refl
 
 flag_refused : (name : CommandName) (f : FlagName) (places : List Word) (given : Given) → IsTrue (has_flag name f) → 1 < given.times f
     → (command_row name).asks places given ≡ None
-flag_refused command.Run f places given has many = no_flag _ places given f many
+flag_refused command.Run f places given has many = no_file_flag Run places given f many
 flag_refused command.Plan f places given has many =
     none_behind (file_of (given.values option.Stats)) (λ file. planned_from file places given) (λ file. plan_without_flag file places given f many)
-flag_refused command.Audit f places given has many = no_flag _ places given f many
+flag_refused command.Audit f places given has many = no_file_flag Audit places given f many
 flag_refused command.Stats f places given has many = absurd (false≢true has)
 flag_refused command.Demo f places given has many = absurd (false≢true has)
 
 refused : (name : CommandName) (o : OptionName) (places : List Word) (given : Given) → IsTrue (has_option name o) → 1 < length (given.values o)
     → (command_row name).asks places given ≡ None
-refused command.Run option.Budget places given has many = no_value _ places given option.Budget tt many
-refused command.Run option.Accuracy places given has many = no_value _ places given option.Accuracy tt many
+refused command.Run option.Budget places given has many = no_file_value Run places given option.Budget tt many
+refused command.Run option.Accuracy places given has many = no_file_value Run places given option.Accuracy tt many
+refused command.Run option.Memory places given has many = no_file_limit Run places given many
 refused command.Run option.Stats places given has many = absurd (false≢true has)
 refused command.Plan option.Budget places given has many =
     none_behind (file_of (given.values option.Stats)) (λ file. planned_from file places given) (λ file. plan_without_budget file places given many)
 refused command.Plan option.Accuracy places given has many =
     none_behind (file_of (given.values option.Stats)) (λ file. planned_from file places given) (λ file. plan_without_accuracy file places given many)
+refused command.Plan option.Memory places given has many =
+    none_behind (file_of (given.values option.Stats)) (λ file. planned_from file places given) (λ file. plan_without_limit file places given many)
 refused command.Plan option.Stats places given has many = none_first (file_of (given.values option.Stats)) (λ file. planned_from file places given) (no_file (given.values option.Stats) many)
-refused command.Audit option.Budget places given has many = no_value _ places given option.Budget tt many
-refused command.Audit option.Accuracy places given has many = no_value _ places given option.Accuracy tt many
+refused command.Audit option.Budget places given has many = no_file_value Audit places given option.Budget tt many
+refused command.Audit option.Accuracy places given has many = no_file_value Audit places given option.Accuracy tt many
+refused command.Audit option.Memory places given has many = no_file_limit Audit places given many
 refused command.Audit option.Stats places given has many = absurd (false≢true has)
 refused command.Stats option.Budget places given has many = absurd (false≢true has)
 refused command.Stats option.Accuracy places given has many = no_accuracy places given many
+refused command.Stats option.Memory places given has many = absurd (false≢true has)
 refused command.Stats option.Stats places given has many = absurd (false≢true has)
 refused command.Demo o places given has many = absurd (false≢true has)
 
@@ -461,10 +522,11 @@ anyway (Err error) holds = holds
 
 -- The loop.
 
-pub nothing_given : (line : Line) → line.budget ≡ None → line.accuracy ≡ None → line.stats ≡ None → (o : OptionName) → given_to line o ≡ []
-nothing_given line budget accuracy stats option.Budget = rw budget refl
-nothing_given line budget accuracy stats option.Accuracy = rw accuracy refl
-nothing_given line budget accuracy stats option.Stats = rw stats refl
+pub nothing_given : (line : Line) → line.budget ≡ None → line.accuracy ≡ None → line.memory ≡ None → line.stats ≡ None → (o : OptionName) → given_to line o ≡ []
+nothing_given line budget accuracy memory stats option.Budget = rw budget refl
+nothing_given line budget accuracy memory stats option.Accuracy = rw accuracy refl
+nothing_given line budget accuracy memory stats option.Memory = rw memory refl
+nothing_given line budget accuracy memory stats option.Stats = rw stats refl
 
 -- nothing collected yet
 pub start_asked : (name : CommandName) (line : Line) (words : List Word) → words_of line.places ≡ [] → ((o : OptionName) → given_to line o ≡ [])
@@ -483,14 +545,14 @@ start_asked name line words places given times =
 
 -- the line before any word
 abbrev no_words : Line
-no_words = record { places = places.Nothing; budget = None; accuracy = None; stats = None; reduce = false; bushy = false }
+no_words = record { places = places.Nothing; budget = None; accuracy = None; memory = None; stats = None; reduce = false; bushy = false }
 
 never_set : (f : FlagName) → times_of no_words f ≡ 0
 never_set flag.Reduce = refl
 never_set flag.Bushy = refl
 
 pub first_asked : (name : CommandName) (words : List Word) → asked_from name no_words next.Item words ≡ asked_by name words
-first_asked name words = start_asked name no_words words refl (nothing_given no_words refl refl refl) never_set
+first_asked name words = start_asked name no_words words refl (nothing_given no_words refl refl refl refl) never_set
 
 -- no word is left
 none_left : (words : List (Bor (List ℕ))) (i : ℕ) → length words ≤ i → map (λ w. w.now) (drop i words) ≡ []

@@ -45,18 +45,23 @@ pub kind-wants : (name : CommandName) (o : OptionName) → IsTrue (has_option na
 unfolding kind_of
 kind-wants command.Run option.Budget has = refl
 kind-wants command.Run option.Accuracy has = refl
+kind-wants command.Run option.Memory has = refl
 kind-wants command.Run option.Stats has = absurd (false≢true has)
 kind-wants command.Plan option.Budget has = refl
 kind-wants command.Plan option.Accuracy has = refl
+kind-wants command.Plan option.Memory has = refl
 kind-wants command.Plan option.Stats has = refl
 kind-wants command.Audit option.Budget has = refl
 kind-wants command.Audit option.Accuracy has = refl
+kind-wants command.Audit option.Memory has = refl
 kind-wants command.Audit option.Stats has = absurd (false≢true has)
 kind-wants command.Stats option.Budget has = absurd (false≢true has)
 kind-wants command.Stats option.Accuracy has = refl
+kind-wants command.Stats option.Memory has = absurd (false≢true has)
 kind-wants command.Stats option.Stats has = absurd (false≢true has)
 kind-wants command.Demo option.Budget has = absurd (false≢true has)
 kind-wants command.Demo option.Accuracy has = absurd (false≢true has)
+kind-wants command.Demo option.Memory has = absurd (false≢true has)
 kind-wants command.Demo option.Stats has = absurd (false≢true has)
 
 -- an option's word, `=` and a value gives the value
@@ -65,18 +70,23 @@ pub kind-gives : (name : CommandName) (o : OptionName) (value : Word) → IsTrue
 unfolding kind_of
 kind-gives command.Run option.Budget value has = refl
 kind-gives command.Run option.Accuracy value has = refl
+kind-gives command.Run option.Memory value has = refl
 kind-gives command.Run option.Stats value has = absurd (false≢true has)
 kind-gives command.Plan option.Budget value has = refl
 kind-gives command.Plan option.Accuracy value has = refl
+kind-gives command.Plan option.Memory value has = refl
 kind-gives command.Plan option.Stats value has = refl
 kind-gives command.Audit option.Budget value has = refl
 kind-gives command.Audit option.Accuracy value has = refl
+kind-gives command.Audit option.Memory value has = refl
 kind-gives command.Audit option.Stats value has = absurd (false≢true has)
 kind-gives command.Stats option.Budget value has = absurd (false≢true has)
 kind-gives command.Stats option.Accuracy value has = refl
+kind-gives command.Stats option.Memory value has = absurd (false≢true has)
 kind-gives command.Stats option.Stats value has = absurd (false≢true has)
 kind-gives command.Demo option.Budget value has = absurd (false≢true has)
 kind-gives command.Demo option.Accuracy value has = absurd (false≢true has)
+kind-gives command.Demo option.Memory value has = absurd (false≢true has)
 kind-gives command.Demo option.Stats value has = absurd (false≢true has)
 
 pub kind-ends : (name : CommandName) → kind_of name (codes "--") ≡ Ends

@@ -32,6 +32,7 @@ option_words given = option_to_list (option_map (λ word. word.now) given)
 abbrev pub given_to : Line → OptionName → List Word
 given_to line option.Budget = option_words line.budget
 given_to line option.Accuracy = option_words line.accuracy
+given_to line option.Memory = option_words line.memory
 given_to line option.Stats = option_words line.stats
 
 -- how often a flag was there

@@ -26,10 +26,18 @@ number_option word least most otherwise = record { word = word; least = least; m
 abbrev pub file_option : Word → OptionRow
 file_option word = number_option word 0 0 0
 
+-- a limit of memory, in bytes
+abbrev pub least_memory : ℕ
+least_memory = 1
+
+abbrev pub most_memory : ℕ
+most_memory = 2 ^ 40
+
 -- one line for each option
 abbrev pub option_row : OptionName → OptionRow
 option_row option.Budget = number_option (codes "--budget") least_budget most_budget usual_budget
 option_row option.Accuracy = number_option (codes "--accuracy") least_accuracy most_accuracy usual_accuracy
+option_row option.Memory = number_option (codes "--memory") least_memory most_memory 0
 option_row option.Stats = file_option (codes "--stats")
 
 -- one line for each flag: its word
@@ -47,6 +55,10 @@ abbrev pub value_of : OptionName → List Word → Option ℕ
 value_of option [] = Some (option_row option).otherwise
 value_of option (word ∷ []) = number_within (option_row option).least (option_row option).most word
 value_of option (word ∷ another ∷ words) = None
+
+-- the limit of memory: 0, which no word gives, is none
+abbrev pub limit_of : ℕ → Option ℕ
+limit_of bytes = if bytes == 0 then None else Some bytes
 
 -- a file's name as a value is not empty, and begins with no dash
 abbrev pub is_file : Word → Bool
@@ -90,26 +102,38 @@ abbrev pub within : ℕ → ℕ → Request → Option Request
 within most number request = if nat_le number most then Some request else None
 
 -- exactly two place words, SCHEMA and QUERY
-abbrev pub over_files : (Word → Word → ℕ → ℕ → Bool → Bool → Request) → List Word → Given → Option Request
-over_files request (schema ∷ query ∷ []) given = do
+abbrev pub over_two : (Word → Word → ℕ → ℕ → Bool → Bool → Request) → List Word → Given → Option Request
+over_two request (schema ∷ query ∷ []) given = do
   budget ← value_of option.Budget (given.values option.Budget)
   accuracy ← value_of option.Accuracy (given.values option.Accuracy)
   reduce ← is_set (given.times flag.Reduce)
   bushy ← is_set (given.times flag.Bushy)
   within (most_budget_of bushy) budget (request schema query budget accuracy reduce bushy)
-over_files request places given = None
+over_two request places given = None
 
--- beside a statistics file stands no accuracy, which is the file's, and no flag
+-- the same with a limit of memory, where one stands
+abbrev pub with_limit : (Option ℕ → List Word → Given → Option Request) → List Word → Given → Option Request
+with_limit asks places given = value_of option.Memory (given.values option.Memory) >>= λ bytes. asks (limit_of bytes) places given
+
+unfoldable pub over_files : (Word → Word → ℕ → ℕ → Bool → Bool → Option ℕ → Request) → List Word → Given → Option Request
+over_files request places given =
+    with_limit (λ limit. over_two (λ schema query budget accuracy reduce bushy. request schema query budget accuracy reduce bushy limit)) places given
+
+-- beside a statistics file stands no accuracy, which is the file's, and no flag; the budget and a limit of memory may
 abbrev pub stands_alone : Given → Bool
 stands_alone given = length (given.values option.Accuracy) == 0 && (given.times flag.Reduce == 0 && given.times flag.Bushy == 0)
+
+-- a plan from a statistics file: SCHEMA and QUERY, and the budget
+abbrev pub from_file : Word → Option ℕ → List Word → Given → Option Request
+from_file file limit (schema ∷ query ∷ []) given = do
+  budget ← value_of option.Budget (given.values option.Budget)
+  if stands_alone given then Some (PlanStats schema query file budget limit) else None
+from_file file limit places given = None
 
 -- a plan from a statistics file, where there is one, or from the tables
 abbrev pub planned_from : Option Word → List Word → Given → Option Request
 planned_from None places given = over_files Plan places given
-planned_from (Some file) (schema ∷ query ∷ []) given = do
-  budget ← value_of option.Budget (given.values option.Budget)
-  if stands_alone given then Some (PlanStats schema query file budget) else None
-planned_from (Some file) places given = None
+planned_from (Some file) places given = with_limit (from_file file) places given
 
 abbrev pub of_plan : List Word → Given → Option Request
 of_plan places given = file_of (given.values option.Stats) >>= λ file. planned_from file places given
@@ -126,8 +150,8 @@ of_number request places given = None
 
 -- one line for each command
 abbrev pub command_row : CommandName → CommandRow
-command_row command.Run = named (codes "run") (option.Budget ∷ option.Accuracy ∷ []) (flag.Reduce ∷ flag.Bushy ∷ []) (over_files Run)
-command_row command.Plan = named (codes "plan") (option.Budget ∷ option.Accuracy ∷ option.Stats ∷ []) (flag.Reduce ∷ flag.Bushy ∷ []) of_plan
-command_row command.Audit = named (codes "audit") (option.Budget ∷ option.Accuracy ∷ []) (flag.Reduce ∷ flag.Bushy ∷ []) (over_files Audit)
+command_row command.Run = named (codes "run") (option.Budget ∷ option.Accuracy ∷ option.Memory ∷ []) (flag.Reduce ∷ flag.Bushy ∷ []) (over_files Run)
+command_row command.Plan = named (codes "plan") (option.Budget ∷ option.Accuracy ∷ option.Memory ∷ option.Stats ∷ []) (flag.Reduce ∷ flag.Bushy ∷ []) of_plan
+command_row command.Audit = named (codes "audit") (option.Budget ∷ option.Accuracy ∷ option.Memory ∷ []) (flag.Reduce ∷ flag.Bushy ∷ []) (over_files Audit)
 command_row command.Stats = named (codes "stats") (option.Accuracy ∷ []) [] of_stats
 command_row command.Demo = named (codes "demo") [] [] (of_number Demo)

@@ -5,31 +5,31 @@ ghost use Rattle.safebound_words.specs.Requests.{Run, Plan, Audit, Stats, PlanSt
 
 /// Commands and their place words. It does nothing.
 pub fn small_commands()
-    ensures run { command_of (codes "run" ∷ codes "s" ∷ codes "q" ∷ []) ≡ Some (Run (codes "s") (codes "q") 1000000 1 false false) }
-    ensures audit { command_of (codes "audit" ∷ codes "s" ∷ codes "q" ∷ []) ≡ Some (Audit (codes "s") (codes "q") 1000000 1 false false) }
-    ensures dash { command_of (codes "plan" ∷ codes "-" ∷ codes "q" ∷ []) ≡ Some (Plan (codes "-") (codes "q") 1000000 1 false false) }
-    ensures empty { command_of (codes "plan" ∷ [] ∷ codes "q" ∷ []) ≡ Some (Plan [] (codes "q") 1000000 1 false false) }
+    ensures run { command_of (codes "run" ∷ codes "s" ∷ codes "q" ∷ []) ≡ Some (Run (codes "s") (codes "q") 1000000 1 false false None) }
+    ensures audit { command_of (codes "audit" ∷ codes "s" ∷ codes "q" ∷ []) ≡ Some (Audit (codes "s") (codes "q") 1000000 1 false false None) }
+    ensures dash { command_of (codes "plan" ∷ codes "-" ∷ codes "q" ∷ []) ≡ Some (Plan (codes "-") (codes "q") 1000000 1 false false None) }
+    ensures empty { command_of (codes "plan" ∷ [] ∷ codes "q" ∷ []) ≡ Some (Plan [] (codes "q") 1000000 1 false false None) }
     ensures number { command_of (codes "demo" ∷ codes "7" ∷ []) ≡ Some (Demo 7) }
     ensures zeros { command_of (codes "demo" ∷ codes "007" ∷ []) ≡ Some (Demo 7) }
     ensures last_number { command_of (codes "demo" ∷ codes "4294967295" ∷ []) ≡ Some (Demo 4294967295) }
 
     // Behind `--` every word is a place word, a second `--` too.
     ensures behind { command_of (codes "run" ∷ codes "--" ∷ codes "--budget" ∷ codes "--" ∷ [])
-        ≡ Some (Run (codes "--budget") (codes "--") 1000000 1 false false) }
+        ≡ Some (Run (codes "--budget") (codes "--") 1000000 1 false false None) }
     ensures value_behind { command_of (codes "run" ∷ codes "--budget" ∷ codes "5" ∷ codes "--" ∷ codes "--budget" ∷ codes "6" ∷ [])
-        ≡ Some (Run (codes "--budget") (codes "6") 5 1 false false) }
+        ≡ Some (Run (codes "--budget") (codes "6") 5 1 false false None) }
     ensures number_behind { command_of (codes "demo" ∷ codes "--" ∷ codes "7" ∷ []) ≡ Some (Demo 7) }
 {}
 
 /// Options and their values. It does nothing.
 pub fn small_options()
     ensures joined { command_of (codes "run" ∷ codes "--budget=12" ∷ codes "--" ∷ codes "s" ∷ codes "q" ∷ [])
-        ≡ Some (Run (codes "s") (codes "q") 12 1 false false) }
+        ≡ Some (Run (codes "s") (codes "q") 12 1 false false None) }
     ensures beside { command_of (codes "plan" ∷ codes "s" ∷ codes "--accuracy" ∷ codes "64" ∷ codes "q" ∷ codes "--budget" ∷ codes "007"
         ∷ [])
-        ≡ Some (Plan (codes "s") (codes "q") 7 64 false false) }
+        ≡ Some (Plan (codes "s") (codes "q") 7 64 false false None) }
     ensures most { command_of (codes "audit" ∷ codes "s" ∷ codes "q" ∷ codes "--budget" ∷ codes "20000000" ∷ [])
-        ≡ Some (Audit (codes "s") (codes "q") 20000000 1 false false) }
+        ≡ Some (Audit (codes "s") (codes "q") 20000000 1 false false None) }
     ensures past_most { command_of (codes "audit" ∷ codes "s" ∷ codes "q" ∷ codes "--budget" ∷ codes "20000001" ∷ []) ≡ None }
     ensures no_rows { command_of (codes "run" ∷ codes "s" ∷ codes "q" ∷ codes "--budget" ∷ codes "0" ∷ []) ≡ None }
     ensures least { command_of (codes "run" ∷ codes "s" ∷ codes "q" ∷ codes "--accuracy=0" ∷ []) ≡ None }
@@ -64,13 +64,13 @@ pub fn small_refusals()
 /// Words with `--reduce`. It does nothing.
 pub fn small_flags()
     ensures behind { command_of (codes "run" ∷ codes "s" ∷ codes "q" ∷ codes "--reduce" ∷ [])
-        ≡ Some (Run (codes "s") (codes "q") 1000000 1 true false) }
+        ≡ Some (Run (codes "s") (codes "q") 1000000 1 true false None) }
     ensures in_front { command_of (codes "plan" ∷ codes "--reduce" ∷ codes "s" ∷ codes "q" ∷ codes "--budget" ∷ codes "5" ∷ [])
-        ≡ Some (Plan (codes "s") (codes "q") 5 1 true false) }
+        ≡ Some (Plan (codes "s") (codes "q") 5 1 true false None) }
     ensures between { command_of (codes "audit" ∷ codes "s" ∷ codes "--accuracy=8" ∷ codes "--reduce" ∷ codes "q" ∷ [])
-        ≡ Some (Audit (codes "s") (codes "q") 1000000 8 true false) }
+        ≡ Some (Audit (codes "s") (codes "q") 1000000 8 true false None) }
     ensures a_place_word { command_of (codes "run" ∷ codes "--" ∷ codes "--reduce" ∷ codes "q" ∷ [])
-        ≡ Some (Run (codes "--reduce") (codes "q") 1000000 1 false false) }
+        ≡ Some (Run (codes "--reduce") (codes "q") 1000000 1 false false None) }
     ensures twice { command_of (codes "run" ∷ codes "--reduce" ∷ codes "s" ∷ codes "q" ∷ codes "--reduce" ∷ []) ≡ None }
     ensures value { command_of (codes "run" ∷ codes "s" ∷ codes "q" ∷ codes "--reduce=1" ∷ []) ≡ None }
     ensures value_behind { command_of (codes "run" ∷ codes "s" ∷ codes "q" ∷ codes "--reduce" ∷ codes "1" ∷ []) ≡ None }
@@ -82,14 +82,14 @@ pub fn small_flags()
 /// Words with `--bushy`. It does nothing.
 pub fn small_trees()
     ensures behind { command_of (codes "run" ∷ codes "s" ∷ codes "q" ∷ codes "--bushy" ∷ [])
-        ≡ Some (Run (codes "s") (codes "q") 1000000 1 false true) }
+        ≡ Some (Run (codes "s") (codes "q") 1000000 1 false true None) }
     ensures reduced { command_of (codes "audit" ∷ codes "--bushy" ∷ codes "s" ∷ codes "--reduce" ∷ codes "q" ∷ [])
-        ≡ Some (Audit (codes "s") (codes "q") 1000000 1 true true) }
+        ≡ Some (Audit (codes "s") (codes "q") 1000000 1 true true None) }
     ensures most { command_of (codes "plan" ∷ codes "--bushy" ∷ codes "s" ∷ codes "q" ∷ codes "--budget=4000000" ∷ [])
-        ≡ Some (Plan (codes "s") (codes "q") 4000000 1 false true) }
+        ≡ Some (Plan (codes "s") (codes "q") 4000000 1 false true None) }
     ensures past_most { command_of (codes "plan" ∷ codes "--budget=4000001" ∷ codes "s" ∷ codes "q" ∷ codes "--bushy" ∷ []) ≡ None }
     ensures of_orders { command_of (codes "plan" ∷ codes "--budget=4000001" ∷ codes "s" ∷ codes "q" ∷ [])
-        ≡ Some (Plan (codes "s") (codes "q") 4000001 1 false false) }
+        ≡ Some (Plan (codes "s") (codes "q") 4000001 1 false false None) }
     ensures twice { command_of (codes "run" ∷ codes "--bushy" ∷ codes "s" ∷ codes "q" ∷ codes "--bushy" ∷ []) ≡ None }
     ensures value { command_of (codes "run" ∷ codes "s" ∷ codes "q" ∷ codes "--bushy=1" ∷ []) ≡ None }
     ensures of_demo { command_of (codes "demo" ∷ codes "7" ∷ codes "--bushy" ∷ []) ≡ None }
@@ -100,9 +100,9 @@ pub fn small_statistics()
     ensures stats { command_of (codes "stats" ∷ codes "s" ∷ codes "q" ∷ codes "--accuracy" ∷ codes "8" ∷ []) ≡ Some (Stats (codes "s") (codes "q") 8) }
     ensures usual { command_of (codes "stats" ∷ codes "s" ∷ codes "q" ∷ []) ≡ Some (Stats (codes "s") (codes "q") 1) }
     ensures plan { command_of (codes "plan" ∷ codes "s" ∷ codes "q" ∷ codes "--stats" ∷ codes "f" ∷ codes "--budget=5" ∷ [])
-        ≡ Some (PlanStats (codes "s") (codes "q") (codes "f") 5) }
+        ≡ Some (PlanStats (codes "s") (codes "q") (codes "f") 5 None) }
     ensures joined { command_of (codes "plan" ∷ codes "--stats=a=b" ∷ codes "s" ∷ codes "q" ∷ [])
-        ≡ Some (PlanStats (codes "s") (codes "q") (codes "a=b") 1000000) }
+        ≡ Some (PlanStats (codes "s") (codes "q") (codes "a=b") 1000000 None) }
 
     // The file is named, and its name is no option's word.
     ensures no_name { command_of (codes "plan" ∷ codes "s" ∷ codes "q" ∷ codes "--stats=" ∷ []) ≡ None }
@@ -118,4 +118,24 @@ pub fn small_statistics()
     ensures budget { command_of (codes "stats" ∷ codes "s" ∷ codes "q" ∷ codes "--budget=5" ∷ []) ≡ None }
     ensures flag { command_of (codes "stats" ∷ codes "s" ∷ codes "q" ∷ codes "--reduce" ∷ []) ≡ None }
     ensures a_third { command_of (codes "stats" ∷ codes "s" ∷ codes "q" ∷ codes "f" ∷ []) ≡ None }
+{}
+
+/// `--memory`. It does nothing.
+pub fn small_limits()
+    ensures run { command_of (codes "run" ∷ codes "s" ∷ codes "q" ∷ codes "--memory" ∷ codes "556" ∷ [])
+        ≡ Some (Run (codes "s") (codes "q") 1000000 1 false false (Some 556)) }
+    ensures joined { command_of (codes "plan" ∷ codes "--memory=0556" ∷ codes "s" ∷ codes "q" ∷ codes "--bushy" ∷ [])
+        ≡ Some (Plan (codes "s") (codes "q") 1000000 1 false true (Some 556)) }
+    ensures least { command_of (codes "audit" ∷ codes "s" ∷ codes "q" ∷ codes "--memory" ∷ codes "1" ∷ codes "--reduce" ∷ [])
+        ≡ Some (Audit (codes "s") (codes "q") 1000000 1 true false (Some 1)) }
+    ensures most { command_of (codes "run" ∷ codes "s" ∷ codes "q" ∷ codes "--memory" ∷ codes "1099511627776" ∷ [])
+        ≡ Some (Run (codes "s") (codes "q") 1000000 1 false false (Some 1099511627776)) }
+    ensures past_most { command_of (codes "run" ∷ codes "s" ∷ codes "q" ∷ codes "--memory" ∷ codes "1099511627777" ∷ []) ≡ None }
+    ensures no_byte { command_of (codes "run" ∷ codes "s" ∷ codes "q" ∷ codes "--memory" ∷ codes "0" ∷ []) ≡ None }
+    ensures twice { command_of (codes "run" ∷ codes "--memory=5" ∷ codes "s" ∷ codes "q" ∷ codes "--memory=5" ∷ []) ≡ None }
+    ensures no_number { command_of (codes "run" ∷ codes "s" ∷ codes "q" ∷ codes "--memory=5k" ∷ []) ≡ None }
+    ensures of_a_file { command_of (codes "plan" ∷ codes "s" ∷ codes "q" ∷ codes "--stats=f" ∷ codes "--memory=5" ∷ [])
+        ≡ Some (PlanStats (codes "s") (codes "q") (codes "f") 1000000 (Some 5)) }
+    ensures of_stats { command_of (codes "stats" ∷ codes "s" ∷ codes "q" ∷ codes "--memory=5" ∷ []) ≡ None }
+    ensures of_demo { command_of (codes "demo" ∷ codes "7" ∷ codes "--memory=5" ∷ []) ≡ None }
 {}

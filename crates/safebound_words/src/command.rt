@@ -1,6 +1,6 @@
 //! What the words of a command line ask for.
 
-/// A command, with its words as they were given.
+/// A command, with its words as they were given. `memory` is the limit in bytes of what the joins of a plan take, where there is one.
 #[derive(Clone, Copy, Debug, PartialEq, Eq)]
 pub enum Command<'a> {
     /// Lists the rows of a query over a schema.
@@ -11,6 +11,7 @@ pub enum Command<'a> {
         accuracy: u8,
         reduce: bool,
         bushy: bool,
+        memory: Option<u64>,
     },
     /// Prints the plan of a query alone.
     Plan {
@@ -20,6 +21,7 @@ pub enum Command<'a> {
         accuracy: u8,
         reduce: bool,
         bushy: bool,
+        memory: Option<u64>,
     },
     /// Lists the rows, and prints beside each level's bound how many it has, in the place of the rows.
     Audit {
@@ -29,6 +31,7 @@ pub enum Command<'a> {
         accuracy: u8,
         reduce: bool,
         bushy: bool,
+        memory: Option<u64>,
     },
     /// Writes the statistics of a query's tables.
     Stats {
@@ -42,6 +45,7 @@ pub enum Command<'a> {
         query: &'a str,
         stats: &'a str,
         budget: u64,
+        memory: Option<u64>,
     },
     /// Audits the query of a shop that is made from a number.
     Demo {

@@ -30,6 +30,7 @@ pub(crate) struct Line<'a> {
     pub places: Places<'a>,
     pub budget: Option<&'a str>,
     pub accuracy: Option<&'a str>,
+    pub memory: Option<&'a str>,
     pub stats: Option<&'a str>,
     pub reduce: bool,
     pub bushy: bool,
@@ -86,6 +87,7 @@ impl<'a> Line<'a> {
         match option {
             OptionName::Budget => put(&mut self.budget, word),
             OptionName::Accuracy => put(&mut self.accuracy, word),
+            OptionName::Memory => put(&mut self.memory, word),
             OptionName::Stats => put(&mut self.stats, word),
         }
     }
@@ -161,6 +163,7 @@ pub(crate) fn read_line<'a>(name: CommandName, words: &[&'a str]) -> Result<Line
         places: Places::Nothing,
         budget: None,
         accuracy: None,
+        memory: None,
         stats: None,
         reduce: false,
         bushy: false,

@@ -1,10 +1,11 @@
 //! What a whole line asks for.
-ghost use Rattle.std.specs.Prelude.{◌≡◌, ◌≤◌, ℕ, Bool, IfSome, Some};
+ghost use Rattle.std.specs.Prelude.{◌≡◌, ◌≤◌, ℕ, Bool, IfSome, Option, Some};
 ghost use Rattle.std.specs.Option.{option_map};
 ghost use Rattle.safebound_words.specs.Collected.{collected, given_of, option_words, words_of};
-ghost use Rattle.safebound_words.specs.Requests.{Request, request_of};
-ghost use Rattle.safebound_words.specs.Table.{is_file, most_budget_of, of_number as asked_of_number, of_plan, of_stats, option_row, over_files as asked_over_files, planned_from, value_of as option_value};
+ghost use Rattle.safebound_words.specs.Requests.{Audit, Request, Run, request_of};
+ghost use Rattle.safebound_words.specs.Table.{is_file, limit_of, most_budget_of, of_number as asked_of_number, of_plan, of_stats, option_row, over_files as asked_over_files, planned_from, value_of as option_value};
 ghost use Rattle.safebound_words.specs.Words.{Word};
+ghost use Rattle.safebound_words.specs.declared.table.OptionName.TheVariants as option;
 
 use crate::command::Command;
 use crate::line::{Line, Places};
@@ -21,6 +22,7 @@ struct OverFiles<'a> {
     accuracy: u8,
     reduce: bool,
     bushy: bool,
+    memory: Option<u64>,
 }
 
 // The value of an option that was given this word, or none.
@@ -35,6 +37,18 @@ fn value_of(option: OptionName, given: Option<&str>) -> Option<u64>
     }
 }
 
+// The limit of memory that a line names: no limit where the option doesn't stand.
+fn limit_in(line: &Line) -> Option<Option<u64>>
+    ensures { result ≡ option_map limit_of (option_value option.Memory (option_words line.now.memory)) }
+{
+    let bytes = value_of(OptionName::Memory, line.memory)?;
+    if bytes == 0 {
+        Some(None)
+    } else {
+        Some(Some(bytes))
+    }
+}
+
 // The greatest budget: of a join tree no node may have more rows than a table.
 fn most_budget(bushy: bool) -> u64
     ensures { result ≡ most_budget_of bushy }
@@ -43,11 +57,13 @@ fn most_budget(bushy: bool) -> u64
 }
 
 // SCHEMA and QUERY, where these are the place words, and where each option has a value.
+#[tactic(auto, unfolding(crate::specs::Table::over_files))]
 fn over_files<'a>(line: &Line<'a>) -> Option<OverFiles<'a>>
-    ensures { (request : Word → Word → ℕ → ℕ → Bool → Bool → Request) →
-        option_map (λ files. request files.schema.now files.query.now files.budget files.accuracy files.reduce files.bushy) result
+    ensures { (request : Word → Word → ℕ → ℕ → Bool → Bool → Option ℕ → Request) →
+        option_map (λ files. request files.schema.now files.query.now files.budget files.accuracy files.reduce files.bushy files.memory) result
         ≡ asked_over_files request (words_of line.now.places) (given_of line.now) }
 {
+    let memory = limit_in(line)?;
     let Places::Two(schema, query) = line.places else {
         return None;
     };
@@ -63,6 +79,7 @@ fn over_files<'a>(line: &Line<'a>) -> Option<OverFiles<'a>>
         accuracy: accuracy as u8,
         reduce: line.reduce,
         bushy: line.bushy,
+        memory,
     })
 }
 
@@ -76,10 +93,11 @@ fn is_file(word: &str) -> bool
     }
 }
 
-// A plan from a statistics file: SCHEMA and QUERY, and only the budget beside the file.
+// A plan from a statistics file: SCHEMA and QUERY, and only the budget and a limit of memory beside the file.
 fn plan_from<'a>(line: &Line<'a>, stats: &'a str) -> Option<Command<'a>>
     ensures { option_map request_of result ≡ planned_from (Some stats.now) (words_of line.now.places) (given_of line.now) }
 {
+    let memory = limit_in(line)?;
     let Places::Two(schema, query) = line.places else {
         return None;
     };
@@ -92,6 +110,7 @@ fn plan_from<'a>(line: &Line<'a>, stats: &'a str) -> Option<Command<'a>>
         query,
         stats,
         budget,
+        memory,
     })
 }
 
@@ -108,6 +127,7 @@ fn plan_of<'a>(line: &Line<'a>) -> Option<Command<'a>>
             accuracy: files.accuracy,
             reduce: files.reduce,
             bushy: files.bushy,
+            memory: files.memory,
         });
     };
     if is_file(stats) {
@@ -143,35 +163,47 @@ fn of_number(line: &Line) -> Option<u32>
     Some(number as u32)
 }
 
+// A run over files.
+fn run_of<'a>(line: &Line<'a>) -> Option<Command<'a>>
+    ensures { option_map request_of result ≡ asked_over_files Run (words_of line.now.places) (given_of line.now) }
+{
+    let files = over_files(line)?;
+    Some(Command::Run {
+        schema: files.schema,
+        query: files.query,
+        budget: files.budget,
+        accuracy: files.accuracy,
+        reduce: files.reduce,
+        bushy: files.bushy,
+        memory: files.memory,
+    })
+}
+
+// An audit over files.
+fn audit_of<'a>(line: &Line<'a>) -> Option<Command<'a>>
+    ensures { option_map request_of result ≡ asked_over_files Audit (words_of line.now.places) (given_of line.now) }
+{
+    let files = over_files(line)?;
+    Some(Command::Audit {
+        schema: files.schema,
+        query: files.query,
+        budget: files.budget,
+        accuracy: files.accuracy,
+        reduce: files.reduce,
+        bushy: files.bushy,
+        memory: files.memory,
+    })
+}
+
 /// The command of this name over a line, if it is one.
 pub(crate) fn command_of<'a>(name: CommandName, line: &Line<'a>) -> Option<Command<'a>>
     ensures { option_map request_of result ≡ collected name line.now }
 {
     match name {
-        CommandName::Run => {
-            let files = over_files(line)?;
-            Some(Command::Run {
-                schema: files.schema,
-                query: files.query,
-                budget: files.budget,
-                accuracy: files.accuracy,
-                reduce: files.reduce,
-                bushy: files.bushy,
-            })
-        }
+        CommandName::Run => run_of(line),
         CommandName::Plan => plan_of(line),
         CommandName::Stats => stats_of(line),
-        CommandName::Audit => {
-            let files = over_files(line)?;
-            Some(Command::Audit {
-                schema: files.schema,
-                query: files.query,
-                budget: files.budget,
-                accuracy: files.accuracy,
-                reduce: files.reduce,
-                bushy: files.bushy,
-            })
-        }
+        CommandName::Audit => audit_of(line),
         CommandName::Demo => {
             let number = of_number(line)?;
             Some(Command::Demo { number })

@@ -7,6 +7,11 @@ use limits::{
     LEAST_ACCURACY, LEAST_BUDGET, MOST_ACCURACY, MOST_BUDGET, USUAL_ACCURACY, USUAL_BUDGET,
 };
 
+// The least and the greatest limit of memory, in bytes.
+const LEAST_MEMORY: u64 = 1;
+
+const MOST_MEMORY: u64 = 1 << 40;
+
 /// The name of a command.
 #[derive(Clone, Copy, Debug, PartialEq, Eq)]
 pub enum CommandName {
@@ -22,6 +27,7 @@ pub enum CommandName {
 pub enum OptionName {
     Budget,
     Accuracy,
+    Memory,
     Stats,
 }
 
@@ -57,6 +63,11 @@ impl OptionName {
                 least: LEAST_ACCURACY as u64,
                 most: MOST_ACCURACY as u64,
                 otherwise: USUAL_ACCURACY as u64,
+            },
+            OptionName::Memory => Range {
+                least: LEAST_MEMORY,
+                most: MOST_MEMORY,
+                otherwise: 0,
             },
             OptionName::Stats => Range {
                 least: 0,
@@ -105,6 +116,8 @@ fn number_named(word: &str) -> Option<OptionName>
         Some(OptionName::Budget)
     } else if word == "--accuracy" {
         Some(OptionName::Accuracy)
+    } else if word == "--memory" {
+        Some(OptionName::Memory)
     } else {
         None
     }
@@ -118,6 +131,8 @@ fn any_option_named(word: &str) -> Option<OptionName>
         Some(OptionName::Budget)
     } else if word == "--accuracy" {
         Some(OptionName::Accuracy)
+    } else if word == "--memory" {
+        Some(OptionName::Memory)
     } else if word == "--stats" {
         Some(OptionName::Stats)
     } else {

@@ -4,6 +4,7 @@
 -- `Once`: no two leaves below a node are of one entry
 -- `AllEntries`: the root has all: a join's node has as many entries as both its nodes, and each node is joined once
 -- `RoomFacts`: bounds of nodes
+-- `FewLeaves`: no node has more than 12 entries; `Bytes`: the bytes of a tree's buffers
 --
 -- - Nodes by one fold over the list of inner nodes (`with_inners`): what a node reads comes before it, so later nodes change nothing
 --   (`with_front`), and no definition recurses over a tree. The entries of a plan's nodes are the same fold (`with_joins`).
@@ -13,6 +14,9 @@
 --   pair is `put_append`.
 
 pub mod AllEntries
+pub mod Bytes
+pub mod FewBytes
+pub mod FewLeaves
 pub mod NodeFacts
 pub mod Once
 pub mod RoomFacts

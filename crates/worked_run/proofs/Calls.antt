@@ -74,3 +74,17 @@ pub answers_budget : (words : List (List ℕ)) → verdict words small_files ≡
 answers_budget words is call head same told sound =
     turned_away call head told sound (refusal.Budget 12) (codes "error budget 12\n") (budget_there 12)
     (ap (λ w. verdict w small_files) same ∙ is) (budget_line call.words)
+
+limit_there : (bytes : ℕ) → IsOfWhatIsThere (refusal.MemoryLimit bytes)
+limit_there bytes file e = cc
+
+limit_line : (words : List (List ℕ)) → fault_text (status.MemoryLimit 556) words small_files ≡ codes "error memory-limit 556\n"
+unfolding error_line digits
+limit_line words = refl
+
+-- and where it is refused for its bytes
+pub answers_limit : (words : List (List ℕ)) → verdict words small_files ≡ Err (refusal.MemoryLimit 556)
+    → Answers words (status.MemoryLimit 556) (codes "error memory-limit 556\n") None
+answers_limit words is call head same told sound =
+    turned_away call head told sound (refusal.MemoryLimit 556) (codes "error memory-limit 556\n") (limit_there 556)
+    (ap (λ w. verdict w small_files) same ∙ is) (limit_line call.words)

@@ -1,5 +1,5 @@
 -- The levels of the plan's order, the node of its tree and their texts, by computation.
-use Rattle.std.proofs.Common.{◌≡◌, ℕ, Bool, true, not, ◌&&◌, ◌||◌, List, [], ◌∷◌, Some, length, map, refl, ap, ◌∙◌}
+use Rattle.std.proofs.Common.{◌≡◌, ℕ, Bool, true, not, ◌&&◌, ◌||◌, List, [], ◌∷◌, None, Some, length, map, refl, ap, ◌∙◌}
 use Rattle.std.specs.Fmt.{digits}
 use Rattle.std.specs.Prelude.{codes}
 use Rattle.std.proofs.lemmas.List.Elements.{filter_agree}
@@ -62,21 +62,25 @@ second_level = filter_agree (λ choice. all_hold (conjuncts_of pair T) (1 ∷ 0 
     (λ choice. says (1 ∷ 0 ∷ []) (row_in (1 ∷ 0 ∷ []) choice))
     (λ choice. said (1 ∷ 0 ∷ []) (row_in (1 ∷ 0 ∷ []) choice)) (choices (map (list_at small_lists) (1 ∷ 0 ∷ [])))
 
-pub notes_text : (out : OutText) → plan_text (two_tables_run out) ≡ codes "scan R 6\nscan S 5\nlevel 1 S 5\nlevel 2 R 12\n"
+pub notes_text : (out : OutText) → plan_text (two_tables_run out None) ≡ codes "scan R 6\nscan S 5\nlevel 1 S 5\nlevel 2 R 12\n"
 unfolding digits
 notes_text out = refl
 
-pub rows_printed : out_text_of (two_tables_run out_text.Rows) ≡ Some (codes "X\r\n1\r\n1\r\n1\r\n1\r\n1\r\n1\r\n")
+pub limited_notes : plan_text (two_tables_run out_text.Rows (Some 556)) ≡ codes "scan R 6\nscan S 5\nlevel 1 S 5\nlevel 2 R 12\nmemory 556\n"
+unfolding digits
+limited_notes = refl
+
+pub rows_printed : out_text_of (two_tables_run out_text.Rows None) ≡ Some (codes "X\r\n1\r\n1\r\n1\r\n1\r\n1\r\n1\r\n")
 unfolding digits
 rows_printed = ap (λ (choices : List (List ℕ)). Some (rows_lines pair.select (map (λ choice. selected pair T (row_in (1 ∷ 0 ∷ []) choice)) choices))) second_level
 
-counts : (out : OutText) → part_counts (two_tables_run out) ≡ 5 ∷ 6 ∷ []
+counts : (out : OutText) → part_counts (two_tables_run out None) ≡ 5 ∷ 6 ∷ []
 counts out = ap (λ (choices : List (List ℕ)). length choices ∷ length (list_levels pair T small_lists (1 ∷ 0 ∷ []) 2) ∷ []) first_level
     ∙ ap (λ (choices : List (List ℕ)). 5 ∷ length choices ∷ []) second_level
 
-pub audit_printed : out_text_of (two_tables_run out_text.Audit) ≡ Some (codes "level 1 S 5 5\nlevel 2 R 12 6\n")
+pub audit_printed : out_text_of (two_tables_run out_text.Audit None) ≡ Some (codes "level 1 S 5 5\nlevel 2 R 12 6\n")
 unfolding digits
-audit_printed = ap (λ (rows : List ℕ). Some (shape_audits pair.from (two_tables_run out_text.Audit).plan rows)) (counts out_text.Audit)
+audit_printed = ap (λ (rows : List ℕ). Some (shape_audits pair.from (two_tables_run out_text.Audit None).plan rows)) (counts out_text.Audit)
 
 -- ---- as a tree
 
@@ -85,13 +89,13 @@ root = filter_agree (λ choice. all_hold (conjuncts_of pair T) (0 ∷ 1 ∷ []) 
     (λ choice. says (0 ∷ 1 ∷ []) (row_in (0 ∷ 1 ∷ []) choice))
     (λ choice. said (0 ∷ 1 ∷ []) (row_in (0 ∷ 1 ∷ []) choice)) (choices (map (list_at small_lists) (0 ∷ 1 ∷ [])))
 
-pub tree_notes : (out : OutText) → plan_text (two_tables_tree out) ≡ codes "scan R 6\nscan S 5\nnode 2 0 1 12\n"
+pub tree_notes : (out : OutText) → plan_text (two_tables_tree out None) ≡ codes "scan R 6\nscan S 5\nnode 2 0 1 12\n"
 unfolding digits
 tree_notes out = refl
 
-tree_counts : (out : OutText) → part_counts (two_tables_tree out) ≡ 6 ∷ []
+tree_counts : (out : OutText) → part_counts (two_tables_tree out None) ≡ 6 ∷ []
 tree_counts out = ap (λ (choices : List (List ℕ)). length choices ∷ []) root
 
-pub tree_audit : out_text_of (two_tables_tree out_text.Audit) ≡ Some (codes "node 2 0 1 12 6\n")
+pub tree_audit : out_text_of (two_tables_tree out_text.Audit None) ≡ Some (codes "node 2 0 1 12 6\n")
 unfolding digits
-tree_audit = ap (λ (rows : List ℕ). Some (shape_audits pair.from (two_tables_tree out_text.Audit).plan rows)) (tree_counts out_text.Audit)
+tree_audit = ap (λ (rows : List ℕ). Some (shape_audits pair.from (two_tables_tree out_text.Audit None).plan rows)) (tree_counts out_text.Audit)

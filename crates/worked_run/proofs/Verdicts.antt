@@ -1,5 +1,5 @@
 -- What the words and the small files give, stage by stage.
-use Rattle.std.proofs.Common.{◌≡◌, ℕ, List, [], ◌∷◌, Result, Ok, Err, refl, ap, ◌∙◌}
+use Rattle.std.proofs.Common.{◌≡◌, ℕ, List, [], ◌∷◌, Option, None, Some, Result, Ok, Err, refl, ap, ◌∙◌}
 use Rattle.std.specs.Prelude.{codes}
 use Rattle.csv_tables.specs.Rows.{Row}
 use Rattle.order_search.specs.declared.refusal.PlanError.{PlanError}
@@ -13,13 +13,16 @@ use Rattle.schema_types.specs.declared.types.Schema.{Schema}
 use Rattle.planning.specs.Examples.{r_column, s_column}
 use Rattle.safebound_words.specs.Answer.{command_of, kind_of, parts_from, reading_of}
 use Rattle.safebound_words.specs.Numbers.{number_of}
+use Rattle.safebound_words.specs.Table.{over_files}
 use Rattle.table_files.specs.Examples.{numbers_table, two_tables}
 use Rattle.table_files.specs.EntryTables.{tables_in}
 use Rattle.table_files.specs.Stage.{tables_stage}
 use Rattle.table_files.specs.TableFile.{file_rows}
 use Rattle.safebound_top.specs.Accepted.{Accepted}
 use Rattle.safebound_top.specs.Asks.{Ask, PlanOf, ask_for, command_stage}
+use Rattle.safebound_top.specs.Limits.{within_limit}
 use Rattle.safebound_top.specs.Outcome.{Planned}
+use Rattle.safebound_top.specs.Shapes.{shape_bytes}
 use Rattle.safebound_top.specs.Verdict.{ask_run, plan_asked, plan_stage, query_run, query_stage, run_asked, schema_run, schema_stage, verdict}
 use Rattle.safebound_top.specs.declared.shapes.Shaped.{Shaped}
 use Rattle.safebound_top.specs.declared.task.ListSource.TheVariants as sources
@@ -29,37 +32,45 @@ use Rattle.safebound_top.specs.declared.task.PlanTask.{PlanTask}
 use Rattle.safebound_top.specs.declared.task.Shape.{Shape}
 use Rattle.safebound_top.specs.declared.task.Shape.TheVariants as shapes
 use Rattle.worked_run.specs.Meaning.{rows_of, small_lists, small_rows, two_tables_run, two_tables_tree}
-use Rattle.worked_run.specs.TwoTables.{audit_words, query_text, r_text, run_words, s_text, schema_text, small_files, thrifty_words, tree_words}
+use Rattle.worked_run.specs.TwoTables.{audit_words, limited_words, narrow_words, query_text, r_text, run_words, s_text, schema_text, small_files, thrifty_words, tree_words}
 use Rattle.worked_run.proofs.Levels.{lists_found}
 use Rattle.worked_run.proofs.Plans.{plan_found, plan_refused, tree_found}
 use Rattle.worked_run.proofs.Queries.{query_read}
 use Rattle.worked_run.proofs.Rows.{r_read, s_read}
 use Rattle.worked_run.proofs.Schemas.{schema_read}
 
--- for a text for out, along an order or by a tree, within a budget
-abbrev task : OutText → Shape → ℕ → PlanTask
-task out shape budget = record { budget = budget; accuracy = 1; source = sources.Columns; shape = shape; out = out }
+-- for a text for out, along an order or by a tree, within a budget, and with a limit of memory, where there is one
+abbrev task : OutText → Shape → ℕ → Option ℕ → PlanTask
+task out shape budget memory = record { budget = budget; accuracy = 1; source = sources.Columns; shape = shape; memory = memory; out = out }
 
-abbrev ask : OutText → Shape → ℕ → Ask
-ask out shape budget = ask_for (codes "schema.sql") (codes "query.sql") (PlanOf (task out shape budget))
+abbrev ask : OutText → Shape → ℕ → Option ℕ → Ask
+ask out shape budget memory = ask_for (codes "schema.sql") (codes "query.sql") (PlanOf (task out shape budget memory))
 
 -- ---- the words
 
-run_is_asked : command_stage run_words ≡ Ok (ask out_text.Rows shapes.Order 1000000)
-unfolding command_of reading_of parts_from kind_of number_of
+run_is_asked : command_stage run_words ≡ Ok (ask out_text.Rows shapes.Order 1000000 None)
+unfolding command_of reading_of over_files parts_from kind_of number_of
 run_is_asked = refl
 
-audit_asked : command_stage audit_words ≡ Ok (ask out_text.Audit shapes.Order 1000000)
-unfolding command_of reading_of parts_from kind_of number_of
+audit_asked : command_stage audit_words ≡ Ok (ask out_text.Audit shapes.Order 1000000 None)
+unfolding command_of reading_of over_files parts_from kind_of number_of
 audit_asked = refl
 
-tree_asked : command_stage tree_words ≡ Ok (ask out_text.Audit shapes.Tree 1000000)
-unfolding command_of reading_of parts_from kind_of number_of
+tree_asked : command_stage tree_words ≡ Ok (ask out_text.Audit shapes.Tree 1000000 None)
+unfolding command_of reading_of over_files parts_from kind_of number_of
 tree_asked = refl
 
-thrifty_asked : command_stage thrifty_words ≡ Ok (ask out_text.Rows shapes.Order 11)
-unfolding command_of reading_of parts_from kind_of number_of
+thrifty_asked : command_stage thrifty_words ≡ Ok (ask out_text.Rows shapes.Order 11 None)
+unfolding command_of reading_of over_files parts_from kind_of number_of
 thrifty_asked = refl
+
+limited_asked : command_stage limited_words ≡ Ok (ask out_text.Rows shapes.Order 1000000 (Some 556))
+unfolding command_of reading_of over_files parts_from kind_of number_of
+limited_asked = refl
+
+narrow_asked : command_stage narrow_words ≡ Ok (ask out_text.Rows shapes.Order 1000000 (Some 555))
+unfolding command_of reading_of over_files parts_from kind_of number_of
+narrow_asked = refl
 
 -- ---- the files
 
@@ -86,67 +97,82 @@ tables_found = rw (r_found, s_found) refl
 -- ---- the plan
 
 -- the run of a plan over the lists that were found
-found : (out : OutText) (shape : Shape) (plan : Shaped) → run_asked (task out shape 1000000) pair small_rows plan ≡ record {
+found : (out : OutText) (shape : Shape) (memory : Option ℕ) (plan : Shaped) → run_asked (task out shape 1000000 memory) pair small_rows plan ≡ record {
   query = pair;
   rows = small_rows;
   plan = plan;
   source = sources.Columns;
   lists = small_lists;
+  memory = memory;
   out = out;
 }
-found out shape plan = ap (λ (lists : List (List ℕ)). record {
+found out shape memory plan = ap (λ (lists : List (List ℕ)). record {
   query = pair;
   rows = small_rows;
   plan = plan;
   source = sources.Columns;
   lists = lists;
+  memory = memory;
   out = out;
 }) lists_found
 
-made : (out : OutText) (shape : Shape) (plan : Shaped) → plan_asked (task out shape 1000000) pair (tables_in small_rows) ≡ Ok plan
-    → plan_stage (task out shape 1000000) pair small_rows ≡ Ok (Planned (run_asked (task out shape 1000000) pair small_rows plan))
+made : (out : OutText) (shape : Shape) (memory : Option ℕ) (plan : Shaped) → plan_asked (task out shape 1000000 memory) pair (tables_in small_rows) ≡ Ok plan
+    → plan_stage (task out shape 1000000 memory) pair small_rows
+    ≡ within_limit memory (shape_bytes plan) (Planned (run_asked (task out shape 1000000 memory) pair small_rows plan))
 unfolding plan_stage
-made out shape plan is =
-    ap (λ (answer : Result Shaped PlanError). told plan_refusal answer >>= λ plan. Ok (Planned (run_asked (task out shape 1000000) pair small_rows plan))) is
+made out shape memory plan is =
+    ap (λ (answer : Result Shaped PlanError). told plan_refusal answer
+    >>= λ plan. within_limit memory (shape_bytes plan) (Planned (run_asked (task out shape 1000000 memory) pair small_rows plan))) is
 
-plan_made : (out : OutText) → plan_stage (task out shapes.Order 1000000) pair small_rows ≡ Ok (Planned (two_tables_run out))
-plan_made out =
-    let plan : Shaped = (two_tables_run out).plan in
-    made out shapes.Order plan plan_found ∙ ap (λ (run : Accepted). Ok (Planned run)) (found out shapes.Order plan)
+-- the order, behind a limit of memory
+plan_within : (out : OutText) (memory : Option ℕ)
+    → plan_stage (task out shapes.Order 1000000 memory) pair small_rows ≡ within_limit memory 556 (Planned (two_tables_run out memory))
+plan_within out memory =
+    let plan : Shaped = (two_tables_run out memory).plan in
+    made out shapes.Order memory plan plan_found ∙ ap (λ (run : Accepted). within_limit memory 556 (Planned run)) (found out shapes.Order memory plan)
 
-tree_made : (out : OutText) → plan_stage (task out shapes.Tree 1000000) pair small_rows ≡ Ok (Planned (two_tables_tree out))
+plan_made : (out : OutText) → plan_stage (task out shapes.Order 1000000 None) pair small_rows ≡ Ok (Planned (two_tables_run out None))
+plan_made out = plan_within out None
+
+tree_made : (out : OutText) → plan_stage (task out shapes.Tree 1000000 None) pair small_rows ≡ Ok (Planned (two_tables_tree out None))
 tree_made out =
-    let plan : Shaped = (two_tables_tree out).plan in
-    made out shapes.Tree plan tree_found ∙ ap (λ (run : Accepted). Ok (Planned run)) (found out shapes.Tree plan)
+    let plan : Shaped = (two_tables_tree out None).plan in
+    made out shapes.Tree None plan tree_found ∙ ap (λ (run : Accepted). Ok (Planned run)) (found out shapes.Tree None plan)
 
-plan_too_dear : plan_stage (task out_text.Rows shapes.Order 11) pair small_rows ≡ Err (refusal.Budget 12)
+plan_too_dear : plan_stage (task out_text.Rows shapes.Order 11 None) pair small_rows ≡ Err (refusal.Budget 12)
 unfolding plan_stage
 plan_too_dear = ap (λ (plan : Result Shaped PlanError). told plan_refusal plan
-    >>= λ plan. Ok (Planned (run_asked (task out_text.Rows shapes.Order 11) pair small_rows plan))) plan_refused
+    >>= λ plan. Ok (Planned (run_asked (task out_text.Rows shapes.Order 11 None) pair small_rows plan))) plan_refused
 
 -- ---- one stage after the other
 
-over_files : (out : OutText) (shape : Shape) (budget : ℕ) → ask_run (ask out shape budget) small_files ≡ plan_stage (task out shape budget) pair small_rows
+of_files : (out : OutText) (shape : Shape) (budget : ℕ) (memory : Option ℕ) → ask_run (ask out shape budget memory) small_files ≡ plan_stage (task out shape budget memory) pair small_rows
 unfolding ask_run schema_run query_run
-over_files out shape budget =
-    ap (λ (schema : Result Schema Refusal). schema >>= λ s. schema_run (ask out shape budget) s small_files) schema_found
-    ∙ ap (λ (query : Result Query Refusal). query >>= λ q. query_run (ask out shape budget) two_tables q small_files) query_found
-    ∙ ap (λ (rows : Result (List (List Row)) Refusal). rows >>= plan_stage (task out shape budget) pair) tables_found
+of_files out shape budget memory =
+    ap (λ (schema : Result Schema Refusal). schema >>= λ s. schema_run (ask out shape budget memory) s small_files) schema_found
+    ∙ ap (λ (query : Result Query Refusal). query >>= λ q. query_run (ask out shape budget memory) two_tables q small_files) query_found
+    ∙ ap (λ (rows : Result (List (List Row)) Refusal). rows >>= plan_stage (task out shape budget memory) pair) tables_found
 
-of_words : (words : List (List ℕ)) (out : OutText) (shape : Shape) (budget : ℕ) → command_stage words ≡ Ok (ask out shape budget)
-    → verdict words small_files ≡ plan_stage (task out shape budget) pair small_rows
+of_words : (words : List (List ℕ)) (out : OutText) (shape : Shape) (budget : ℕ) (memory : Option ℕ) → command_stage words ≡ Ok (ask out shape budget memory)
+    → verdict words small_files ≡ plan_stage (task out shape budget memory) pair small_rows
 unfolding verdict
-of_words words out shape budget asked =
-    ap (λ (a : Result Ask Refusal). a >>= λ a. ask_run a small_files) asked ∙ over_files out shape budget
+of_words words out shape budget memory asked =
+    ap (λ (a : Result Ask Refusal). a >>= λ a. ask_run a small_files) asked ∙ of_files out shape budget memory
 
-pub run_verdict : verdict run_words small_files ≡ Ok (Planned (two_tables_run out_text.Rows))
-run_verdict = of_words run_words out_text.Rows shapes.Order 1000000 run_is_asked ∙ plan_made out_text.Rows
+pub run_verdict : verdict run_words small_files ≡ Ok (Planned (two_tables_run out_text.Rows None))
+run_verdict = of_words run_words out_text.Rows shapes.Order 1000000 None run_is_asked ∙ plan_made out_text.Rows
 
-pub audit_verdict : verdict audit_words small_files ≡ Ok (Planned (two_tables_run out_text.Audit))
-audit_verdict = of_words audit_words out_text.Audit shapes.Order 1000000 audit_asked ∙ plan_made out_text.Audit
+pub audit_verdict : verdict audit_words small_files ≡ Ok (Planned (two_tables_run out_text.Audit None))
+audit_verdict = of_words audit_words out_text.Audit shapes.Order 1000000 None audit_asked ∙ plan_made out_text.Audit
 
-pub tree_verdict : verdict tree_words small_files ≡ Ok (Planned (two_tables_tree out_text.Audit))
-tree_verdict = of_words tree_words out_text.Audit shapes.Tree 1000000 tree_asked ∙ tree_made out_text.Audit
+pub tree_verdict : verdict tree_words small_files ≡ Ok (Planned (two_tables_tree out_text.Audit None))
+tree_verdict = of_words tree_words out_text.Audit shapes.Tree 1000000 None tree_asked ∙ tree_made out_text.Audit
 
 pub thrifty_verdict : verdict thrifty_words small_files ≡ Err (refusal.Budget 12)
-thrifty_verdict = of_words thrifty_words out_text.Rows shapes.Order 11 thrifty_asked ∙ plan_too_dear
+thrifty_verdict = of_words thrifty_words out_text.Rows shapes.Order 11 None thrifty_asked ∙ plan_too_dear
+
+pub limited_verdict : verdict limited_words small_files ≡ Ok (Planned (two_tables_run out_text.Rows (Some 556)))
+limited_verdict = of_words limited_words out_text.Rows shapes.Order 1000000 (Some 556) limited_asked ∙ plan_within out_text.Rows (Some 556)
+
+pub narrow_verdict : verdict narrow_words small_files ≡ Err (refusal.MemoryLimit 556)
+narrow_verdict = of_words narrow_words out_text.Rows shapes.Order 1000000 (Some 555) narrow_asked ∙ plan_within out_text.Rows (Some 555)

@@ -1,5 +1,5 @@
 -- What the two tables and their query mean.
-use Rattle.std.specs.Prelude.{ℕ, List, [], ◌∷◌, map, pos}
+use Rattle.std.specs.Prelude.{ℕ, List, [], ◌∷◌, map, pos, Option}
 use Rattle.csv_tables.specs.Rows.{Row}
 use Rattle.csv_tables.specs.Values.{Int}
 use Rattle.plans.specs.Examples.{plan_of}
@@ -23,24 +23,26 @@ small_rows = rows_of r_column ∷ rows_of s_column ∷ []
 abbrev pub small_lists : List (List ℕ)
 small_lists = (0 ∷ 1 ∷ 2 ∷ 3 ∷ 4 ∷ 5 ∷ []) ∷ (0 ∷ 1 ∷ 2 ∷ 3 ∷ 4 ∷ []) ∷ []
 
--- the join of both, in the order S, R, with bounds 6 and 5 of the scans and 5 and 12 of the levels
-abbrev pub two_tables_run : OutText → Accepted
-two_tables_run out = record {
+-- the join of both, with a limit of memory, where there is one, in the order S, R, with bounds 6 and 5 of the scans and 5 and 12 of the levels
+abbrev pub two_tables_run : OutText → Option ℕ → Accepted
+two_tables_run out memory = record {
   query = pair;
   rows = small_rows;
   plan = shaped.Along (plan_of (1 ∷ 0 ∷ []) (6 ∷ 5 ∷ []) (5 ∷ 12 ∷ []));
   source = sources.Columns;
   lists = small_lists;
+  memory = memory;
   out = out;
 }
 
 -- the join of both as a tree: the node over R and S has bound 12
-abbrev pub two_tables_tree : OutText → Accepted
-two_tables_tree out = record {
+abbrev pub two_tables_tree : OutText → Option ℕ → Accepted
+two_tables_tree out memory = record {
   query = pair;
   rows = small_rows;
   plan = shaped.Over (tree_of (join 0 1 12 ∷ []) (6 ∷ 5 ∷ []) 12);
   source = sources.Columns;
   lists = small_lists;
+  memory = memory;
   out = out;
 }

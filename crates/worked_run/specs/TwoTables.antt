@@ -1,4 +1,4 @@
--- Two tables that are joined by one column: the words of four commands, and the files.
+-- Two tables that are joined by one column: the words of six commands, and the files.
 use Rattle.std.specs.Prelude.{ℕ, List, [], ◌∷◌, codes}
 use Rattle.base_io.specs.Files.{Files}
 
@@ -29,6 +29,13 @@ audit_words = codes "audit" ∷ codes "schema.sql" ∷ codes "query.sql" ∷ []
 -- by a join tree
 abbrev pub tree_words : List (List ℕ)
 tree_words = codes "audit" ∷ codes "schema.sql" ∷ codes "query.sql" ∷ codes "--bushy" ∷ []
+
+-- with a limit of memory that is enough, and with one that is a byte too small
+abbrev pub limited_words : List (List ℕ)
+limited_words = codes "run" ∷ codes "schema.sql" ∷ codes "query.sql" ∷ codes "--memory" ∷ codes "556" ∷ []
+
+abbrev pub narrow_words : List (List ℕ)
+narrow_words = codes "run" ∷ codes "schema.sql" ∷ codes "query.sql" ∷ codes "--memory" ∷ codes "555" ∷ []
 
 -- with a budget that is one too small
 abbrev pub thrifty_words : List (List ℕ)

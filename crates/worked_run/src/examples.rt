@@ -1,4 +1,4 @@
-//! What the four calls answer. Each function is the law in its contract, and does nothing.
+//! What the six calls answer. Each function is the law in its contract, and does nothing.
 ghost use Rattle.std.specs.Prelude.{◌≡◌, Ok, Err, None, Some, codes};
 ghost use Rattle.outcomes.specs.declared.refusal.Refusal.TheVariants as refusal;
 ghost use Rattle.outcomes.specs.declared.status.Status.TheVariants as status;
@@ -7,31 +7,31 @@ ghost use Rattle.safebound_top.specs.Outcome.{Planned};
 ghost use Rattle.safebound_top.specs.Texts.{out_text_of, plan_text};
 ghost use Rattle.safebound_top.specs.Verdict.{verdict};
 ghost use Rattle.worked_run.specs.Calls.{Answers};
-ghost use Rattle.worked_run.specs.TwoTables.{audit_words, run_words, small_files, thrifty_words, tree_words};
+ghost use Rattle.worked_run.specs.TwoTables.{audit_words, limited_words, narrow_words, run_words, small_files, thrifty_words, tree_words};
 ghost use Rattle.worked_run.specs.Meaning.{two_tables_run, two_tables_tree};
 
 /// `run schema.sql query.sql`: of 30 pairs of rows six are joined. Both orders cost 12, the bound of both tables; S, R has the
 /// smaller sum.
 pub fn joined()
-    ensures verdict { verdict run_words small_files ≡ Ok (Planned (two_tables_run out_text.Rows)) }
-    ensures notes { plan_text (two_tables_run out_text.Rows) ≡ codes "scan R 6\nscan S 5\nlevel 1 S 5\nlevel 2 R 12\n" }
-    ensures out { out_text_of (two_tables_run out_text.Rows) ≡ Some (codes "X\r\n1\r\n1\r\n1\r\n1\r\n1\r\n1\r\n") }
+    ensures verdict { verdict run_words small_files ≡ Ok (Planned (two_tables_run out_text.Rows None)) }
+    ensures notes { plan_text (two_tables_run out_text.Rows None) ≡ codes "scan R 6\nscan S 5\nlevel 1 S 5\nlevel 2 R 12\n" }
+    ensures out { out_text_of (two_tables_run out_text.Rows None) ≡ Some (codes "X\r\n1\r\n1\r\n1\r\n1\r\n1\r\n1\r\n") }
     ensures call { Answers run_words status.Done (codes "scan R 6\nscan S 5\nlevel 1 S 5\nlevel 2 R 12\n")
         (Some (codes "X\r\n1\r\n1\r\n1\r\n1\r\n1\r\n1\r\n")) }
 {}
 
 /// `audit schema.sql query.sql`: the first level has as many rows as its bound, and the second half as many.
 pub fn audited()
-    ensures verdict { verdict audit_words small_files ≡ Ok (Planned (two_tables_run out_text.Audit)) }
-    ensures out { out_text_of (two_tables_run out_text.Audit) ≡ Some (codes "level 1 S 5 5\nlevel 2 R 12 6\n") }
+    ensures verdict { verdict audit_words small_files ≡ Ok (Planned (two_tables_run out_text.Audit None)) }
+    ensures out { out_text_of (two_tables_run out_text.Audit None) ≡ Some (codes "level 1 S 5 5\nlevel 2 R 12 6\n") }
     ensures call { Answers audit_words status.Done (codes "scan R 6\nscan S 5\nlevel 1 S 5\nlevel 2 R 12\n")
         (Some (codes "level 1 S 5 5\nlevel 2 R 12 6\n")) }
 {}
 
 /// `audit schema.sql query.sql --bushy`: the one inner node joins R and S, and has half as many rows as its bound.
 pub fn joined_by_a_tree()
-    ensures verdict { verdict tree_words small_files ≡ Ok (Planned (two_tables_tree out_text.Audit)) }
-    ensures out { out_text_of (two_tables_tree out_text.Audit) ≡ Some (codes "node 2 0 1 12 6\n") }
+    ensures verdict { verdict tree_words small_files ≡ Ok (Planned (two_tables_tree out_text.Audit None)) }
+    ensures out { out_text_of (two_tables_tree out_text.Audit None) ≡ Some (codes "node 2 0 1 12 6\n") }
     ensures call { Answers tree_words status.Done (codes "scan R 6\nscan S 5\nnode 2 0 1 12\n") (Some (codes "node 2 0 1 12 6\n")) }
 {}
 
@@ -39,4 +39,16 @@ pub fn joined_by_a_tree()
 pub fn refused()
     ensures verdict { verdict thrifty_words small_files ≡ Err (refusal.Budget 12) }
     ensures call { Answers thrifty_words (status.Budget 12) (codes "error budget 12\n") None }
+{}
+
+/// `run schema.sql query.sql --memory 556`: the plan takes just so many bytes, and its text tells them.
+pub fn joined_within_a_limit()
+    ensures verdict { verdict limited_words small_files ≡ Ok (Planned (two_tables_run out_text.Rows (Some 556))) }
+    ensures notes { plan_text (two_tables_run out_text.Rows (Some 556)) ≡ codes "scan R 6\nscan S 5\nlevel 1 S 5\nlevel 2 R 12\nmemory 556\n" }
+{}
+
+/// `run schema.sql query.sql --memory 555`: the plan takes a byte more.
+pub fn above_its_limit()
+    ensures verdict { verdict narrow_words small_files ≡ Err (refusal.MemoryLimit 556) }
+    ensures call { Answers narrow_words (status.MemoryLimit 556) (codes "error memory-limit 556\n") None }
 {}

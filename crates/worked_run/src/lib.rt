@@ -1,5 +1,6 @@
-//! Four calls over two small tables, from the words and the bytes of the files to the bytes of both streams, as theorems by
-//! computation: `run`, `audit`, `audit` with a join tree, and `run` with a budget that is one too small.
+//! Six calls over two small tables, from the words and the bytes of the files to the bytes of both streams, as theorems by
+//! computation: `run`, `audit`, `audit` with a join tree, `run` with a budget that is one too small, and `run` with a limit of memory
+//! that is just enough, and with one that is a byte too small.
 //!
 //! The files are
 //!
@@ -26,4 +27,6 @@
 
 mod examples;
 
-pub use examples::{audited, joined, joined_by_a_tree, refused};
+pub use examples::{
+    above_its_limit, audited, joined, joined_by_a_tree, joined_within_a_limit, refused,
+};

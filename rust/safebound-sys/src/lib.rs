@@ -59,6 +59,10 @@ statuses! {
     SAFEBOUND_MISSING_LIST = 26, "`detail` is an element of `equalities`, of which a column has no list.";
     SAFEBOUND_BAD_BOUNDS = 27, "`detail` is the number of bounds.";
     SAFEBOUND_BAD_BUDGET = 28, "`detail` is the budget.";
+    SAFEBOUND_BAD_LEVELS = 29, "`detail` is the number of levels.";
+    SAFEBOUND_BAD_LEVEL = 30, "`detail` is an element of `levels`.";
+    SAFEBOUND_BAD_JOINS = 31, "`detail` is the number of joins.";
+    SAFEBOUND_BAD_JOIN = 32, "`detail` is an element of `joins`.";
 }
 
 /// So many keys stand in `degree` rows each.
@@ -194,6 +198,24 @@ extern "C" {
         budget: u64,
         into: *mut safebound_join,
         room: usize,
+        detail: *mut u64,
+    ) -> safebound_status;
+
+    /// How many bytes the buffers of SafeBound's own engine take for an order.
+    pub fn safebound_memory(
+        rows: *const u64,
+        entries: usize,
+        levels: *const safebound_level,
+        levels_length: usize,
+        detail: *mut u64,
+    ) -> safebound_status;
+
+    /// How many bytes they take for a join tree.
+    pub fn safebound_tree_memory(
+        rows: *const u64,
+        entries: usize,
+        joins: *const safebound_join,
+        joins_length: usize,
         detail: *mut u64,
     ) -> safebound_status;
 

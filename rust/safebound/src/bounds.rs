@@ -141,4 +141,48 @@ impl Bounds {
         };
         Ok(Tree { entries: self.entries.clone(), joins: joins.iter().map(join).collect() })
     }
+
+    // The row bound of each entry.
+    fn rows(&self) -> Vec<u64> {
+        (0..self.entries.len()).map(|entry| self.numbers[1 << entry]).collect()
+    }
+
+    /// How many bytes the buffers of SafeBound's own engine take for an order of these entries: of each buffer its capacity times
+    /// the size of an element, and of each list of buffers its own. It is the same number on every machine.
+    ///
+    /// ```
+    /// # use safebound::Query;
+    /// # let mut query = Query::new();
+    /// # query.entry("r", 6).entry("s", 5);
+    /// let bounds = query.bounds()?;
+    /// let order = bounds.best_order(1_000_000)?;
+    /// assert!(bounds.memory_of_order(&order)? > 0);
+    /// # Ok::<(), safebound::Error>(())
+    /// ```
+    ///
+    /// # Errors
+    ///
+    /// [`Error::BadPlan`] where the order isn't one of these entries; [`Error::PastBits`] where 64 bits don't tell the number.
+    pub fn memory_of_order(&self, order: &Order) -> Result<u64, Error> {
+        let entry = |name: &String| self.entries.iter().position(|entry| entry == name).ok_or(Error::BadPlan);
+        let levels = order.entries.iter().zip(&order.levels).map(|(name, &bound)| {
+            Ok(safebound_sys::safebound_level { entry: entry(name)? as u64, bound })
+        });
+        let levels = levels.collect::<Result<Vec<_>, Error>>()?;
+        calls::memory(&self.rows(), &levels).map_err(Error::from_refusal)
+    }
+
+    /// The same for a join tree of these entries.
+    ///
+    /// # Errors
+    ///
+    /// As [`memory_of_order`](Bounds::memory_of_order).
+    pub fn memory_of_tree(&self, tree: &Tree) -> Result<u64, Error> {
+        let joins = tree.joins.iter().map(|join| safebound_sys::safebound_join {
+            left: join.left as u64,
+            right: join.right as u64,
+            bound: join.bound,
+        });
+        calls::tree_memory(&self.rows(), &joins.collect::<Vec<_>>()).map_err(Error::from_refusal)
+    }
 }

@@ -117,6 +117,24 @@ pub(crate) fn order(bounds: &[u64], budget: u64) -> Result<Vec<sys::safebound_le
     }
 }
 
+pub(crate) fn memory(rows: &[u64], levels: &[sys::safebound_level]) -> Result<u64, Refusal> {
+    let mut detail = 0;
+    let (rows, entries, levels, count) = (rows.as_ptr(), rows.len(), levels.as_ptr(), levels.len());
+    match unsafe { sys::safebound_memory(rows, entries, levels, count, &mut detail) } {
+        sys::SAFEBOUND_OK => Ok(detail),
+        status => Err(Refusal { status, detail }),
+    }
+}
+
+pub(crate) fn tree_memory(rows: &[u64], joins: &[sys::safebound_join]) -> Result<u64, Refusal> {
+    let mut detail = 0;
+    let (rows, entries, joins, count) = (rows.as_ptr(), rows.len(), joins.as_ptr(), joins.len());
+    match unsafe { sys::safebound_tree_memory(rows, entries, joins, count, &mut detail) } {
+        sys::SAFEBOUND_OK => Ok(detail),
+        status => Err(Refusal { status, detail }),
+    }
+}
+
 pub(crate) fn tree(bounds: &[u64], budget: u64) -> Result<Vec<sys::safebound_join>, Refusal> {
     unsafe {
         answer(sys::SAFEBOUND_MOST_ENTRIES, |into, room, detail| {

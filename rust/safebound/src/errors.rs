@@ -112,6 +112,8 @@ pub enum Error {
         /// What it is.
         budget: u64,
     },
+    /// The order or the tree isn't one of these entries.
+    BadPlan,
     /// The library answers what this crate doesn't know, so it is of another version.
     OtherVersion {
         /// The status that it answered.
@@ -137,6 +139,10 @@ impl Error {
             sys::SAFEBOUND_BAD_EQUALITY => Error::BadEquality { place },
             sys::SAFEBOUND_MISSING_LIST => Error::MissingList { place },
             sys::SAFEBOUND_BAD_BUDGET => Error::BadBudget { budget: detail },
+            sys::SAFEBOUND_BAD_LEVELS
+            | sys::SAFEBOUND_BAD_LEVEL
+            | sys::SAFEBOUND_BAD_JOINS
+            | sys::SAFEBOUND_BAD_JOIN => Error::BadPlan,
             _ => Error::OtherVersion { status },
         }
     }
@@ -175,6 +181,7 @@ impl fmt::Display for Error {
             }
             Error::MissingList { place } => write!(f, "a column of equality {place} has no list"),
             Error::BadBudget { budget } => write!(f, "a budget is from 0 to 2^59, not {budget}"),
+            Error::BadPlan => write!(f, "the plan isn't one of these entries"),
             Error::OtherVersion { status } => {
                 write!(f, "the library answers {status}: it is of another version than this crate")
             }

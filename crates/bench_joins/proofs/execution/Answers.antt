@@ -32,7 +32,7 @@ execute-executed-requires-clause-lists g c =
     let query = c.args.query.now in
     let tables = tables_of c.args.db.now in
     let same : c.as_slice.result.now ≡ c.scan_all.new.lists = c.as_slice.ensures.value ∙ take_at c.scan_all.new.lists _ c.args.lists.len (omega (arith, c.scan_all.auto.lists, c.as_mut_slice.ensures.len)) in
-    subst (AreOfScans query tables) (sym (ap lists_of same ∙ c.scan_all.ensures)) (whole_of_scans query tables)
+    subst (AreOfScans query tables) (sym (ap lists_of same ∙ c.scan_all.ensures.rows)) (whole_of_scans query tables)
 
 pub execute-executed-requires-clause-order : goal.execute-executed-requires-clause-order
 execute-executed-requires-clause-order g c = two_order c.args.sizes.left c.args.sizes.right c.args.sizes.times c.args.values c.args.query.now c.args.db.now c.requires.query c.requires.db c.requires.some c.requires.right
@@ -42,7 +42,7 @@ execute-executed-requires-clause-small g c =
     let query = c.args.query.now in
     let tables = tables_of c.args.db.now in
     let same : c.as_slice.result.now ≡ c.scan_all.new.lists = c.as_slice.ensures.value ∙ take_at c.scan_all.new.lists _ c.args.lists.len (omega (arith, c.scan_all.auto.lists, c.as_mut_slice.ensures.len)) in
-    subst (λ (lists : List (List ℕ)). All (λ rows. rows ≤ 20000000) (list_level_sizes query tables lists (0 ∷ 1 ∷ []))) (sym (ap lists_of same ∙ c.scan_all.ensures))
+    subst (λ (lists : List (List ℕ)). All (λ rows. rows ≤ 20000000) (list_level_sizes query tables lists (0 ∷ 1 ∷ []))) (sym (ap lists_of same ∙ c.scan_all.ensures.rows))
     (two_small c.args.sizes.left c.args.sizes.right c.args.sizes.times c.args.values c.args.query.now c.args.db.now c.requires.query c.requires.db c.requires.some c.requires.right c.requires.joined c.requires.left)
 
 pub execute-executed-requires-clause-rooms : goal.execute-executed-requires-clause-rooms
@@ -50,5 +50,5 @@ execute-executed-requires-clause-rooms g c =
     let query = c.args.query.now in
     let tables = tables_of c.args.db.now in
     let same : c.as_slice.result.now ≡ c.scan_all.new.lists = c.as_slice.ensures.value ∙ take_at c.scan_all.new.lists _ c.args.lists.len (omega (arith, c.scan_all.auto.lists, c.as_mut_slice.ensures.len)) in
-    subst (λ (lists : List (List ℕ)). HasRooms (rooms (0 ∷ 1 ∷ []) (list_sizes query lists) (list_level_sizes query tables lists (0 ∷ 1 ∷ []))) c.args.reserved) (sym (ap lists_of same ∙ c.scan_all.ensures))
+    subst (λ (lists : List (List ℕ)). HasRooms (rooms (0 ∷ 1 ∷ []) (list_sizes query lists) (list_level_sizes query tables lists (0 ∷ 1 ∷ []))) c.args.reserved) (sym (ap lists_of same ∙ c.scan_all.ensures.rows))
     (two_rooms c.args.sizes.left c.args.sizes.right c.args.sizes.times c.args.values c.args.query.now c.args.db.now c.requires.query c.requires.db c.requires.some c.requires.right c.args.reserved c.requires.rooms)

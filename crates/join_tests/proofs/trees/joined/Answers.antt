@@ -14,14 +14,14 @@ reserve_bushy-requires c = record {
 }
 
 pub scan_all-requires-clause-room : goal.scan_all-requires-clause-room
-scan_all-requires-clause-room c = rw c.as_mut_slice.ensures.value c.in_ok-lists.ensures
+scan_all-requires-clause-room c = rw c.as_mut_slice.ensures.value c.in_ok-lists.ensures.room
 
 pub execute_bushy-done-requires-clause-lists : goal.execute_bushy-done-requires-clause-lists
 execute_bushy-done-requires-clause-lists c =
     let query = c.args.query.now in
     let tables = tables_of c.args.db.now in
     subst (AreOfScans query tables)
-    (sym (ap lists_of (take_at c.scan_all.new.lists _ c.in_ok-lists.lists.len (omega (arith, c.scan_all.auto.lists, c.as_mut_slice.ensures.len))) ∙ c.scan_all.ensures))
+    (sym (ap lists_of (take_at c.scan_all.new.lists _ c.in_ok-lists.lists.len (omega (arith, c.scan_all.auto.lists, c.as_mut_slice.ensures.len))) ∙ c.scan_all.ensures.rows))
     (whole_of_scans query tables)
 
 pub execute_bushy-done-requires-clause-plan : goal.execute_bushy-done-requires-clause-plan
@@ -29,7 +29,7 @@ execute_bushy-done-requires-clause-plan c =
     let query = c.args.query.now in
     let tables = tables_of c.args.db.now in
     subst (λ (s : List (List ℕ)). IsTreePlanOf query tables s c.in_ok-plan.plan)
-    (sym (ap lists_of (take_at c.scan_all.new.lists _ c.in_ok-lists.lists.len (omega (arith, c.scan_all.auto.lists, c.as_mut_slice.ensures.len))) ∙ c.scan_all.ensures))
+    (sym (ap lists_of (take_at c.scan_all.new.lists _ c.in_ok-lists.lists.len (omega (arith, c.scan_all.auto.lists, c.as_mut_slice.ensures.len))) ∙ c.scan_all.ensures.rows))
     c.in_ok-plan.ensures.never_under
 
 pub returns : goal.returns

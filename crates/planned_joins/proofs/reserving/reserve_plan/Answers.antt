@@ -29,9 +29,10 @@ returns c =
     let query = c.args.query.now in
     let db = c.args.db.now in
     let plan = c.args.plan.now in
-    let as_planned = rw (c.as_slice.ensures, c.as_slice-2.ensures, c.as_slice-3.ensures) at c.reserve.ensures in
+    let as_planned = rw (c.as_slice.ensures, c.as_slice-2.ensures, c.as_slice-3.ensures) at c.reserve.ensures.rooms in
     record {
       as_planned = as_planned;
+      bytes = rw (c.as_slice.ensures, c.as_slice-2.ensures, c.as_slice-3.ensures) at c.reserve.ensures.bytes;
       ready = IfOk-weaker c.reserve.result (HasRooms (rooms plan.order plan.scans plan.levels))
           (λ reserved. (lists : List (List ℕ)) → IsPlanOf query (tables_of db) lists plan → IsReadyFor query (tables_of db) lists plan.order reserved)
           (λ reserved has lists is. ready query db lists plan is reserved has) as_planned;

@@ -1,4 +1,10 @@
+use Rattle.std.proofs.Common.{◌≡◌, Ok, Result, sym, subst}
+use Rattle.std.specs.Prelude.{IfErr, IfOk}
 use Rattle.filed_bounds.proofs.Named.{names_own}
+use Rattle.outcomes.specs.Reads.{Tells}
+use Rattle.outcomes.specs.declared.refusal.Refusal.{Refusal}
+use Rattle.safebound_top.specs.Outcome.{Outcome}
+use Rattle.safebound_top.specs.Ready.{plan_from}
 use Rattle.safebound_top.proofs.FiledStages.{filed_planned, filed_told}
 use Rattle.safebound_top.proofs.filed.plan_filed.Goals as goal
 
@@ -9,7 +15,15 @@ pub plan_from_file-requires-clause-own : goal.plan_from_file-requires-clause-own
 plan_from_file-requires-clause-own c = names_own c.args.schema.now c.args.query c.requires.query
 
 pub returns-in-Ok-clause-planned : goal.returns-in-Ok-clause-planned
-returns-in-Ok-clause-planned c = filed_planned c.args.query c.args.file c.args.budget c.in-Ok.plan c.in-Ok.ensures.planned
+returns-in-Ok-clause-planned c =
+    subst (λ (s : Result Outcome Refusal). IfOk c.limited.result (λ made. s ≡ Ok (plan_from made)))
+    (sym (filed_planned c.args.query c.args.file c.args.budget c.args.memory c.in-Ok.plan c.in-Ok.ensures.planned)) c.limited.ensures.within
+
+pub returns-in-Ok-clause-refused : goal.returns-in-Ok-clause-refused
+returns-in-Ok-clause-refused c =
+    subst (λ (s : Result Outcome Refusal). IfErr c.limited.result (Tells s))
+    (sym (filed_planned c.args.query c.args.file c.args.budget c.args.memory c.in-Ok.plan c.in-Ok.ensures.planned)) c.limited.ensures.refused
 
 pub returns-in-Err-clause-refused : goal.returns-in-Err-clause-refused
-returns-in-Err-clause-refused c = rw c.ending_of.ensures (filed_told c.args.query c.args.file c.args.budget c.in-Err.error c.in-Err.ensures.refused)
+returns-in-Err-clause-refused c =
+    rw c.ending_of.ensures (filed_told c.args.query c.args.file c.args.budget c.args.memory c.in-Err.error c.in-Err.ensures.refused)

@@ -5,9 +5,9 @@ use Rattle.safebound_top.proofs.filed.prepare_filed.Goals as goal
 pub returns-in_err-stats-clause-reads : goal.returns-in_err-stats-clause-reads
 returns-in_err-stats-clause-reads g c =
     let p = err_from_is_err_and c.from_residual.result c.from_residual.ensures.1 in
-    rw (p.1, p.2) (plan_stops c.args.file.now c.args.budget c.args.schema.now c.args.query _ c.in_err-stats.field-0.0 c.in_err-stats.ensures.reads)
+    rw (p.1, p.2) (plan_stops c.args.file.now c.args.budget c.args.memory c.args.schema.now c.args.query _ c.in_err-stats.field-0.0 c.in_err-stats.ensures.reads)
 
 pub returns-clause-reads : goal.returns-clause-reads
 returns-clause-reads g c =
-    plan_ran c.args.file.now c.args.budget c.args.schema.now c.args.query _ c.in_ok-stats.stats c.plan_filed.result c.plan_filed.ensures.planned c.plan_filed.ensures.refused
+    plan_ran c.args.file.now c.args.budget c.args.memory c.args.schema.now c.args.query _ c.in_ok-stats.stats c.plan_filed.result c.plan_filed.ensures.planned c.plan_filed.ensures.refused
     c.in_ok-stats.ensures.reads

@@ -1,15 +1,15 @@
-use Rattle.std.proofs.Common.{List, ℕ, Ok, ◌∙◌, ap, sym, subst, arith}
+use Rattle.std.proofs.Common.{List, ℕ, Ok, length, ◌∙◌, ap, sym, subst, arith}
 use Rattle.std.proofs.lemmas.Result.{err_from_is_err_and}
 use Rattle.sql_meaning.specs.Tables.{Tables, tables_of}
 use Rattle.table_files.specs.EntryTables.{entry_rows, tables_in}
 use Rattle.safebound_top.specs.Outcome.{Planned}
 use Rattle.safebound_top.specs.Prepared.{AreListed, text_left}
-use Rattle.safebound_top.specs.Shapes.{IsPlanOver, IsShapedPlan}
+use Rattle.safebound_top.specs.Shapes.{IsPlanOver, IsShapedPlan, shape_bytes}
 use Rattle.safebound_top.specs.Sources.{sourced}
 use Rattle.safebound_top.specs.Standing.{LoseNoRow}
 use Rattle.safebound_top.specs.declared.shapes.Shaped.{Shaped}
 use Rattle.safebound_top.specs.declared.task.OutText.{OutText}
-use Rattle.safebound_top.proofs.Answered.{plan_stage_ok, plan_told}
+use Rattle.safebound_top.proofs.Answered.{limit_told, plan_stage_ok, plan_told}
 use Rattle.safebound_top.proofs.ShapeFacts.{plan_fits, plan_over}
 use Rattle.safebound_top.proofs.SourceFacts.{stand}
 use Rattle.safebound_top.proofs.prepare.prepare_plan.Goals as goal
@@ -18,6 +18,25 @@ pub returns-in_err-planned-clause-refused : goal.returns-in_err-planned-clause-r
 returns-in_err-planned-clause-refused c =
     let p = err_from_is_err_and c.from_residual.result c.from_residual.ensures.1 in
     rw (p.1, p.2) (plan_told c.args.task.now c.args.query (entry_rows c.args.db) (tables_of c.args.db) c.requires.tables c.in_err-planned.field-0.0 c.in_err-planned.ensures.refused)
+
+pub memory_of-bytes-requires : goal.memory_of-bytes-requires
+memory_of-bytes-requires c =
+    let task = c.args.task.now in
+    let query = c.args.query in
+    let tables = tables_of c.args.db in
+    let planned = c.in_ok-planned.planned in (
+      length query.from,
+      omega (arith, c.requires.database.some),
+      c.requires.database.few,
+      (plan_fits query tables (sourced task.source query tables) (stand task.source query tables) task.accuracy task.budget (omega (arith, c.requires.database.some))
+          c.requires.database.few task.shape planned.plan c.in_ok-planned.ensures.planned c.requires.ranges.budget).plan,
+    )
+
+pub returns-in_err-keep_limit-clause-refused : goal.returns-in_err-keep_limit-clause-refused
+returns-in_err-keep_limit-clause-refused c =
+    let p = err_from_is_err_and c.from_residual-in_err-keep_limit.result c.from_residual-in_err-keep_limit.ensures.1 in
+    rw (p.1, p.2) (limit_told c.args.task.now c.args.query (entry_rows c.args.db) (tables_of c.args.db) c.requires.tables c.in_ok-planned.planned.plan
+    c.in_ok-planned.ensures.planned c.in_err-keep_limit.field-0.0 (sym (rw c.memory_of-bytes.ensures at c.in_err-keep_limit.ensures)))
 
 pub make_room-requires-clause-plan : goal.make_room-requires-clause-plan
 make_room-requires-clause-plan c =
@@ -47,6 +66,7 @@ returns-clause-ready c =
       plan = subst (IsShapedPlan _) (sym c.in_ok-rest.ensures.plan)
           (plan_fits query tables (sourced task.source query tables) (stand task.source query tables) task.accuracy task.budget (omega (arith, c.requires.database.some))
           c.requires.database.few task.shape planned.plan c.in_ok-planned.ensures.planned c.requires.ranges.budget).plan;
+      bytes = c.memory_of-bytes.ensures ∙ ap (λ (plan : Shaped). shape_bytes plan) (sym c.in_ok-rest.ensures.plan);
       tables = c.requires.tables;
       room = c.in_ok-rest.ensures.room;
       lists = subst (λ (l : List (List ℕ)). AreListed l c.in_ok-rest.rest)
@@ -60,12 +80,14 @@ returns-clause-run c =
     let rows = entry_rows c.args.db in
     let planned = c.in_ok-planned.planned in
     plan_stage_ok task query rows (tables_of c.args.db) c.requires.tables planned.plan c.in_ok-planned.ensures.planned
+    (sym (rw c.memory_of-bytes.ensures at c.in_ok-keep_limit.ensures))
     ∙ ap (λ (out : OutText). Ok (Planned (record {
       query = query;
       rows = rows;
       plan = planned.plan;
       source = task.source;
       lists = (sourced task.source query (tables_in rows)).lists;
+      memory = task.memory;
       out = out;
     }))) (sym c.in_ok-rest.ensures.out)
     ∙ ap (λ (plan : Shaped). Ok (Planned (record {
@@ -74,5 +96,6 @@ returns-clause-run c =
       plan = plan;
       source = task.source;
       lists = (sourced task.source query (tables_in rows)).lists;
+      memory = task.memory;
       out = text_left c.in_ok-rest.rest;
     }))) (sym c.in_ok-rest.ensures.plan)

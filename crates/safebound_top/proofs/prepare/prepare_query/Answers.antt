@@ -30,10 +30,10 @@ returns-in_ok-filed-in-File-clause-reads g c =
 pub returns-in_err-made-in-PlanFrom-clause-reads : goal.returns-in_err-made-in-PlanFrom-clause-reads
 returns-in_err-made-in-PlanFrom-clause-reads g c =
     let p = err_from_is_err_and c.from_residual-in_err-made-in-PlanFrom.result c.from_residual-in_err-made-in-PlanFrom.ensures.1 in
-    rw (p.1, p.2) (work_done (asked c.args.task.now) (PlanFrom c.in-PlanFrom.file.now c.in-PlanFrom.budget) c.args.schema.now c.args.query (Err c.in_err-made-in-PlanFrom.field-0.0) (ap work_asked c.in-PlanFrom.is)
+    rw (p.1, p.2) (work_done (asked c.args.task.now) (PlanFrom c.in-PlanFrom.file.now c.in-PlanFrom.budget c.in-PlanFrom.memory) c.args.schema.now c.args.query (Err c.in_err-made-in-PlanFrom.field-0.0) (ap work_asked c.in-PlanFrom.is)
     c.in_err-made-in-PlanFrom.ensures.reads)
 
 pub returns-in_ok-made-in-PlanFrom-clause-reads : goal.returns-in_ok-made-in-PlanFrom-clause-reads
 returns-in_ok-made-in-PlanFrom-clause-reads g c =
-    work_done (asked c.args.task.now) (PlanFrom c.in-PlanFrom.file.now c.in-PlanFrom.budget) c.args.schema.now c.args.query (Ok (plan_from c.in_ok-made-in-PlanFrom.made)) (ap work_asked c.in-PlanFrom.is)
+    work_done (asked c.args.task.now) (PlanFrom c.in-PlanFrom.file.now c.in-PlanFrom.budget c.in-PlanFrom.memory) c.args.schema.now c.args.query (Ok (plan_from c.in_ok-made-in-PlanFrom.made)) (ap work_asked c.in-PlanFrom.is)
     c.in_ok-made-in-PlanFrom.ensures.reads

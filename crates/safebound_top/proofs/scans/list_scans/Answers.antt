@@ -8,8 +8,8 @@ use Rattle.safebound_top.proofs.scans.list_scans.Goals as goal
 
 pub scan_all-requires-clause-room : goal.scan_all-requires-clause-room
 scan_all-requires-clause-room c =
-    subst (AllZip IsRoomFor (list_sizes c.args.query.now (scans_of c.args.query.now (tables_of c.args.db.now)))) (sym c.as_mut_slice.ensures.value) c.in_ok-lists.ensures
+    subst (AllZip IsRoomFor (list_sizes c.args.query.now (scans_of c.args.query.now (tables_of c.args.db.now)))) (sym c.as_mut_slice.ensures.value) c.in_ok-lists.ensures.room
 
 pub returns : goal.returns
 returns c =
-    ap lists_of (take_at c.scan_all.new.lists _ c.in_ok-lists.lists.len (omega (arith, c.scan_all.auto.lists, c.as_mut_slice.ensures.len))) ∙ c.scan_all.ensures
+    ap lists_of (take_at c.scan_all.new.lists _ c.in_ok-lists.lists.len (omega (arith, c.scan_all.auto.lists, c.as_mut_slice.ensures.len))) ∙ c.scan_all.ensures.rows

@@ -1,8 +1,24 @@
+use Rattle.std.proofs.Common.{ℕ, ◌++◌, ap}
+use Rattle.base_io.proofs.WriteFacts.{wrote_as}
+use Rattle.printed_texts.specs.Memory.{memory_text}
+use Rattle.printed_texts.specs.Plans.{plan_lines}
+use Rattle.safebound_top.specs.Outcome.{FiledPlan}
+use Rattle.safebound_top.specs.OutcomeTexts.{filed_plan_text}
+use Rattle.safebound_top.specs.declared.filed.PreparedPlan.{PreparedPlan}
 use Rattle.safebound_top.proofs.TextSteps.{plan_cut, plan_wrote}
 use Rattle.safebound_top.proofs.texts.write_filed_plan.Goals as goal
 
+abbrev made_of : PreparedPlan → FiledPlan
+made_of made = record { query = made.query; file = made.file; plan = made.plan; memory = made.memory }
+
 pub returns-in-Ok : goal.returns-in-Ok
-returns-in-Ok g c out still = plan_wrote out _ (record { query = c.args.made.query; file = c.args.made.file; plan = c.args.made.plan }) still tt (rw c.as_slice.ensures at c.in-Ok.ensures)
+returns-in-Ok g c out still =
+    let made = c.args.made in
+    plan_wrote out _ (made_of made) still tt
+    (wrote_as (filed_plan_text (made_of made)) (ap (λ (b : ℕ). plan_lines made.query.from made.plan ++ memory_text made.memory b) c.requires.bytes) c.in-Ok.ensures)
 
 pub returns : goal.returns
-returns g c out still = plan_cut out _ (record { query = c.args.made.query; file = c.args.made.file; plan = c.args.made.plan }) still _ (rw c.as_slice.ensures at c.in-Err.ensures)
+returns g c out still =
+    let made = c.args.made in
+    plan_cut out _ (made_of made) still _
+    (wrote_as (filed_plan_text (made_of made)) (ap (λ (b : ℕ). plan_lines made.query.from made.plan ++ memory_text made.memory b) c.requires.bytes) c.in-Err.ensures)

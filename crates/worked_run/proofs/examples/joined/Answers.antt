@@ -1,4 +1,4 @@
-use Rattle.std.proofs.Common.{Some}
+use Rattle.std.proofs.Common.{None, Some}
 use Rattle.std.specs.Prelude.{codes}
 use Rattle.safebound_top.specs.declared.task.OutText.TheVariants as out_text
 use Rattle.worked_run.specs.Meaning.{two_tables_run}
@@ -18,5 +18,5 @@ pub returns-clause-out : goal.returns-clause-out
 returns-clause-out c = rows_printed
 
 pub returns-clause-call : goal.returns-clause-call
-returns-clause-call c = answers_done run_words (two_tables_run out_text.Rows) (codes "scan R 6\nscan S 5\nlevel 1 S 5\nlevel 2 R 12\n")
+returns-clause-call c = answers_done run_words (two_tables_run out_text.Rows None) (codes "scan R 6\nscan S 5\nlevel 1 S 5\nlevel 2 R 12\n")
     (Some (codes "X\r\n1\r\n1\r\n1\r\n1\r\n1\r\n1\r\n")) run_verdict (notes_text out_text.Rows) rows_printed

@@ -1,4 +1,4 @@
-use Rattle.std.proofs.Common.{Some}
+use Rattle.std.proofs.Common.{None, Some}
 use Rattle.std.specs.Prelude.{codes}
 use Rattle.safebound_top.specs.declared.task.OutText.TheVariants as out_text
 use Rattle.worked_run.specs.Meaning.{two_tables_tree}
@@ -15,5 +15,5 @@ pub returns-clause-out : goal.returns-clause-out
 returns-clause-out c = tree_audit
 
 pub returns-clause-call : goal.returns-clause-call
-returns-clause-call c = answers_done tree_words (two_tables_tree out_text.Audit) (codes "scan R 6\nscan S 5\nnode 2 0 1 12\n")
+returns-clause-call c = answers_done tree_words (two_tables_tree out_text.Audit None) (codes "scan R 6\nscan S 5\nnode 2 0 1 12\n")
     (Some (codes "node 2 0 1 12 6\n")) tree_verdict (tree_notes out_text.Audit) tree_audit

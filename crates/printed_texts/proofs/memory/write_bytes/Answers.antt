@@ -1,0 +1,5 @@
+use Rattle.base_io.proofs.WriteFacts.{flushed}
+use Rattle.printed_texts.proofs.memory.write_bytes.Goals as goal
+
+pub returns : goal.returns
+returns g c = flushed c.new-buffer.ensures c.in_ok-put_bytes.ensures c.flush.ensures.wrote

@@ -1,0 +1,37 @@
+//! The line of a plan's bytes. Nothing here takes memory.
+ghost use Rattle.std.specs.Prelude.{◌≡◌};
+ghost use Rattle.base_io.specs.Devices.{growth};
+ghost use Rattle.base_io.specs.Writes.{Put, Wrote};
+ghost use Rattle.printed_texts.specs.Memory.{memory_line, memory_text};
+
+use base_io::{Buffer, Failed, Sink};
+
+const MEMORY: &[u8] = b"memory ";
+
+const LINE_END: &[u8] = b"\n";
+
+fn put_bytes<N: Sink>(bytes: u128, buffer: &mut Buffer, sink: &mut N) -> Result<(), Failed>
+    ensures { Put (growth N.taken N.faults sink.old sink.new) buffer.old buffer.new (memory_line bytes) result }
+{
+    let mut digits = itoa::Buffer::new();
+    let bytes = digits.format(bytes).as_bytes();
+    buffer.put_parts(sink, &[MEMORY, bytes, LINE_END])
+}
+
+fn write_bytes<N: Sink>(bytes: u128, sink: &mut N) -> Result<(), Failed>
+    ensures { Wrote (growth N.taken N.faults sink.old sink.new) (memory_line bytes) result }
+{
+    let mut buffer = Buffer::new();
+    put_bytes(bytes, &mut buffer, sink)?;
+    buffer.flush(sink)
+}
+
+/// Writes the line of a plan's bytes, where a limit of memory is given. It stands behind the plan text.
+pub fn write_memory<N: Sink>(limit: Option<u64>, bytes: u128, sink: &mut N) -> Result<(), Failed>
+    ensures { Wrote (growth N.taken N.faults sink.old sink.new) (memory_text limit bytes) result }
+{
+    if limit.is_none() {
+        return Ok(());
+    }
+    write_bytes(bytes, sink)
+}

@@ -1,0 +1,85 @@
+-- The bytes of a plan that is given by its levels or its joins, and why a call for them refuses.
+use Rattle.std.specs.Prelude.{◌≡◌, ℕ, ◌+◌, ◌^◌, ◌<◌, ◌≤◌, List, [], ◌∷◌, length, map, slice_index_or}
+use Rattle.limits.specs.Profile.{most_entries}
+use Rattle.reserve_plan.specs.Memory.{plan_bytes}
+use Rattle.tree_plans.specs.declared.bushy.Join.{Join}
+use Rattle.tree_rows.specs.Memory.{joins_bytes}
+use Rattle.safebound_lists.specs.declared.refusal.Refusal.{Refusal}
+use Rattle.safebound_lists.specs.declared.refusal.Refusal.TheVariants as refusal
+use Rattle.safebound_lists.specs.First.{IsFirstWrong}
+use Rattle.safebound_plans.specs.declared.ordering.Level.{Level}
+use Rattle.safebound_plans.specs.declared.shaping.JoinNode.{JoinNode}
+use Rattle.safebound_plans.specs.Orders.{bounds_in, entries_in}
+
+-- past the end there is no level and no node
+abbrev pub no_level : Level
+no_level = record { entry = 0; bound = 0 }
+
+abbrev pub no_node : JoinNode
+no_node = record { left = 0; right = 0; bound = 0 }
+
+-- the entry of this level is there
+abbrev pub IsLevelRightAt : ℕ → List Level → ℕ → Type 0
+IsLevelRightAt entries levels place = (slice_index_or levels place no_level).entry < entries
+
+-- this join is of two nodes before it
+abbrev pub IsJoinRightAt : ℕ → List JoinNode → ℕ → Type 0
+IsJoinRightAt entries joins place =
+    let join = slice_index_or joins place no_node in (join.left < entries + place) × (join.right < entries + place)
+
+-- rows of 1 to 12 entries
+abbrev pub AreOfEntries : List ℕ → Type 0
+AreOfEntries rows = (1 ≤ length rows) × (length rows ≤ most_entries)
+
+abbrev pub order_bytes : List ℕ → List Level → ℕ
+order_bytes rows levels = plan_bytes (entries_in levels) rows (bounds_in levels)
+
+abbrev pub join_of : JoinNode → Join
+join_of node = record { left = node.left; right = node.right; bound = node.bound }
+
+abbrev pub nodes_bytes : List ℕ → List JoinNode → ℕ
+nodes_bytes rows joins = joins_bytes rows (map join_of joins)
+
+-- a level for each entry, and the bytes of the order
+pub record IsOrderMemory (rows : List ℕ) (levels : List Level) (bytes : ℕ) : Type 0 where
+  pub entries : AreOfEntries rows
+  pub as_many : length levels ≡ length rows
+  pub right : (place : ℕ) → place < length levels → IsLevelRightAt (length rows) levels place
+  pub are : bytes ≡ order_bytes rows levels
+
+-- a join fewer than entries, and the bytes of the tree
+pub record IsTreeMemory (rows : List ℕ) (joins : List JoinNode) (bytes : ℕ) : Type 0 where
+  pub entries : AreOfEntries rows
+  pub as_many : length joins + 1 ≡ length rows
+  pub right : (place : ℕ) → place < length joins → IsJoinRightAt (length rows) joins place
+  pub are : bytes ≡ nodes_bytes rows joins
+
+-- of an order: no entries or too many, another number of levels, a level of an entry that isn't there, or more bytes than 64 bits tell
+abbrev pub IsOrderMemoryCause : List ℕ → List Level → Refusal → Type 0
+IsOrderMemoryCause rows levels (refusal.Entries count) = (count ≡ length rows) × ¬ AreOfEntries rows
+IsOrderMemoryCause rows levels (refusal.Levels count) = (count ≡ length levels) × AreOfEntries rows × ¬ (length levels ≡ length rows)
+IsOrderMemoryCause rows levels (refusal.Level place) =
+    AreOfEntries rows × (length levels ≡ length rows) × IsFirstWrong (IsLevelRightAt (length rows) levels) (length levels) place
+IsOrderMemoryCause rows levels refusal.PastBits =
+    AreOfEntries rows × (length levels ≡ length rows) × ((place : ℕ) → place < length levels → IsLevelRightAt (length rows) levels place)
+    × (2 ^ 64 ≤ order_bytes rows levels)
+IsOrderMemoryCause rows levels _ = ⊥
+
+-- of a tree: likewise
+abbrev pub IsTreeMemoryCause : List ℕ → List JoinNode → Refusal → Type 0
+IsTreeMemoryCause rows joins (refusal.Entries count) = (count ≡ length rows) × ¬ AreOfEntries rows
+IsTreeMemoryCause rows joins (refusal.Joins count) = (count ≡ length joins) × AreOfEntries rows × ¬ (length joins + 1 ≡ length rows)
+IsTreeMemoryCause rows joins (refusal.Join place) =
+    AreOfEntries rows × (length joins + 1 ≡ length rows) × IsFirstWrong (IsJoinRightAt (length rows) joins) (length joins) place
+IsTreeMemoryCause rows joins refusal.PastBits =
+    AreOfEntries rows × (length joins + 1 ≡ length rows) × ((place : ℕ) → place < length joins → IsJoinRightAt (length rows) joins place)
+    × (2 ^ 64 ≤ nodes_bytes rows joins)
+IsTreeMemoryCause rows joins _ = ⊥
+
+-- entry 1 with 5 rows and then entry 0 with 6: levels of 5 and 12 rows
+abbrev pub six_and_five_bytes : ℕ
+six_and_five_bytes = order_bytes (6 ∷ 5 ∷ []) (record { entry = 1; bound = 5 } ∷ record { entry = 0; bound = 12 } ∷ [])
+
+-- the same entries as a tree of at most 12 rows
+abbrev pub six_with_five_bytes : ℕ
+six_with_five_bytes = nodes_bytes (6 ∷ 5 ∷ []) (record { left = 0; right = 1; bound = 12 } ∷ [])

@@ -1,0 +1,159 @@
+//! How many bytes an engine's buffers take for a plan.
+ghost use Rattle.std.specs.Prelude.{◌≡◌, ℕ, ◌+◌, ◌^◌, ◌<◌, ◌≤◌, length, map, IfErr, IfOk, MatchOption};
+ghost use Rattle.limits.specs.Profile.{most_entries};
+ghost use Rattle.safebound_lists.specs.declared.refusal.Refusal.TheVariants as refusal;
+ghost use Rattle.safebound_lists.specs.First.{IsFirstWrong};
+ghost use Rattle.safebound_plans.specs.Memory.{join_of, six_and_five_bytes, six_with_five_bytes, IsJoinRightAt, IsLevelRightAt, IsOrderMemory, IsOrderMemoryCause, IsTreeMemory, IsTreeMemoryCause};
+ghost use Rattle.safebound_plans.specs.Orders.{bounds_in, entries_in};
+
+use crate::ordering::Level;
+use crate::shaping::JoinNode;
+use limits::MOST_ENTRIES;
+use reserve_plan::plan_memory;
+use safebound_lists::Refusal;
+use tree_plans::Join;
+use tree_rows::joins_memory;
+
+// The first level whose entry isn't there.
+fn first_wrong_level(levels: &[Level], entries: u64) -> Option<u64>
+    ensures { MatchOption result ((place : ℕ) → place < length levels.now → IsLevelRightAt entries levels.now place)
+        (IsFirstWrong (IsLevelRightAt entries levels.now) (length levels.now)) }
+{
+    for place in 0..levels.len() {
+        if levels[place].entry >= entries {
+            return Some(place as u64);
+        }
+    }
+    None
+}
+
+// The first join that isn't of two nodes before it.
+fn first_wrong_join(joins: &[JoinNode], entries: u64) -> Option<u64>
+    requires few { entries + length joins.now ≤ 2 ^ 32 }
+    ensures { MatchOption result ((place : ℕ) → place < length joins.now → IsJoinRightAt entries joins.now place)
+        (IsFirstWrong (IsJoinRightAt entries joins.now) (length joins.now)) }
+{
+    for place in 0..joins.len() {
+        let own = entries + place as u64;
+        if joins[place].left >= own || joins[place].right >= own {
+            return Some(place as u64);
+        }
+    }
+    None
+}
+
+// Writes the entries of levels.
+fn write_entries(levels: &[Level], into: &mut [u8])
+    requires right { (place : ℕ) → place < length levels.now → IsLevelRightAt most_entries levels.now place }
+    requires room { length into.old ≡ length levels.now }
+    ensures { into.new ≡ entries_in levels.now }
+{
+    for place in 0..levels.len() {
+        into[place] = levels[place].entry as u8;
+    }
+}
+
+// Writes the bounds of levels.
+fn write_bounds(levels: &[Level], into: &mut [u64])
+    requires { length into.old ≡ length levels.now }
+    ensures { into.new ≡ bounds_in levels.now }
+{
+    for place in 0..levels.len() {
+        into[place] = levels[place].bound;
+    }
+}
+
+// Writes nodes as joins.
+fn write_joins(nodes: &[JoinNode], into: &mut [Join])
+    requires right { (place : ℕ) → place < length nodes.now → IsJoinRightAt most_entries nodes.now place }
+    requires few { length nodes.now ≤ most_entries }
+    requires room { length into.old ≡ length nodes.now }
+    ensures { into.new ≡ map join_of nodes.now }
+{
+    for place in 0..nodes.len() {
+        let node = nodes[place];
+        into[place] = Join {
+            left: node.left as u8,
+            right: node.right as u8,
+            bound: node.bound,
+        };
+    }
+}
+
+// The number, where 64 bits tell it.
+fn told(bytes: u128) -> Result<u64, Refusal>
+    ensures done { IfOk result (λ told. told ≡ bytes) }
+    ensures refused { IfErr result (λ e. (e ≡ refusal.PastBits) × (2 ^ 64 ≤ bytes)) }
+{
+    if bytes > u64::MAX as u128 {
+        return Err(Refusal::PastBits);
+    }
+    Ok(bytes as u64)
+}
+
+/// The bytes that an engine's buffers take for an order, where each entry's list has at most so many rows: the lists, the levels, the chains
+/// of the lists that are joined after the first, and the keys of one of them.
+pub fn order_memory(rows: &[u64], levels: &[Level]) -> Result<u64, Refusal>
+    ensures done { IfOk result (IsOrderMemory rows.now levels.now) }
+    ensures refused { IfErr result (IsOrderMemoryCause rows.now levels.now) }
+{
+    let count = rows.len();
+    if count == 0 || count > MOST_ENTRIES {
+        return Err(Refusal::Entries {
+            count: count as u64,
+        });
+    }
+    if levels.len() != count {
+        return Err(Refusal::Levels {
+            count: levels.len() as u64,
+        });
+    }
+    if let Some(place) = first_wrong_level(levels, count as u64) {
+        return Err(Refusal::Level { place });
+    }
+    let mut order = [0u8; MOST_ENTRIES];
+    let mut bounds = [0u64; MOST_ENTRIES];
+    let order = &mut order[..count];
+    let bounds = &mut bounds[..count];
+    write_entries(levels, order);
+    write_bounds(levels, bounds);
+    told(plan_memory(order, rows, bounds))
+}
+
+/// The same for a join tree, by its joins.
+pub fn tree_memory(rows: &[u64], joins: &[JoinNode]) -> Result<u64, Refusal>
+    ensures done { IfOk result (IsTreeMemory rows.now joins.now) }
+    ensures refused { IfErr result (IsTreeMemoryCause rows.now joins.now) }
+{
+    let count = rows.len();
+    if count == 0 || count > MOST_ENTRIES {
+        return Err(Refusal::Entries {
+            count: count as u64,
+        });
+    }
+    if joins.len() + 1 != count {
+        return Err(Refusal::Joins {
+            count: joins.len() as u64,
+        });
+    }
+    if let Some(place) = first_wrong_join(joins, count as u64) {
+        return Err(Refusal::Join { place });
+    }
+    let mut nodes = [Join {
+        left: 0,
+        right: 0,
+        bound: 0,
+    }; MOST_ENTRIES];
+    let nodes = &mut nodes[..joins.len()];
+    write_joins(joins, nodes);
+    told(joins_memory(rows, nodes))
+}
+
+/// The bytes of two small plans. It does nothing.
+///
+/// The tree has 44 bytes of lists, 96 of pairs, 80 of the chain, 8 of row numbers and 40 of keys; and the lists of buffers, 64 of row
+/// numbers, 40 of inner nodes, 96 of chains and 39 of the entries below each node.
+pub fn small_plans()
+    ensures order { six_and_five_bytes ≡ 556 }
+    ensures tree { six_with_five_bytes ≡ 507 }
+{}

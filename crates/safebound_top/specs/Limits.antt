@@ -1,0 +1,18 @@
+-- A limit of memory: a plan whose buffers take more bytes is refused.
+use Rattle.std.specs.Prelude.{ℕ, ◌≤◌, nat_le, if◌then◌else◌, Option, None, Some, Result, Ok, Err, ⊤}
+use Rattle.outcomes.specs.declared.refusal.Refusal.{Refusal}
+use Rattle.outcomes.specs.declared.refusal.Refusal.TheVariants as refusal
+
+-- the value, where so many bytes are within the limit or there is none
+abbrev pub within_limit : {A : Type 0} → Option ℕ → ℕ → A → Result A Refusal
+within_limit None bytes value = Ok value
+within_limit (Some limit) bytes value = if nat_le bytes limit then Ok value else Err (refusal.MemoryLimit bytes)
+
+-- whether so many bytes are within it
+abbrev pub limit_test : Option ℕ → ℕ → Result (Unit {0}) Refusal
+limit_test limit bytes = within_limit limit bytes tt
+
+-- so many bytes are within the limit, where there is one
+abbrev pub AreWithin : Option ℕ → ℕ → Type 0
+AreWithin None bytes = ⊤
+AreWithin (Some limit) bytes = bytes ≤ limit

@@ -1,0 +1,74 @@
+//! How many bytes a join tree takes. Nothing is taken here.
+ghost use Rattle.std.specs.Prelude.{◌≡◌, ℕ, ◌+◌, ◌*◌, ◌^◌, ◌<◌, ◌≤◌, length, map, sum};
+ghost use Rattle.std.specs.List.{AllByRecursion};
+ghost use Rattle.limits.specs.Profile.{most_entries, most_rows};
+ghost use Rattle.reserve_plan.specs.Memory.{row_chain_bytes};
+ghost use Rattle.tree_plans.specs.declared.bushy.BushyPlan.{BushyPlan};
+ghost use Rattle.tree_plans.specs.TreePlans.{IsTreePlan, IsWithin};
+ghost use Rattle.tree_rows.specs.Memory.{joins_bytes, tree_bytes};
+ghost use Rattle.tree_rows.specs.Rooms.{right_bounds_in};
+
+use crate::inner::{INNER_BYTES, PAIR_BYTES};
+use crate::leaves::LEAVES_BYTES;
+use crate::reserving::{bound_at, most_keys};
+use reserve_plan::{CHAINS_BYTES, lists_memory, row_chain_bytes};
+use row_buf::{KEY_BYTES, ROW_NUMBER_BYTES};
+use tree_plans::{BushyPlan, Join};
+
+// The sum of the bounds of joins.
+fn pairs_total(joins: &[Join]) -> u128
+    requires few { length joins.now ≤ most_entries }
+    ensures value { result ≡ sum (map (λ join. join.bound) joins.now) }
+    ensures small { result < 2 ^ 68 }
+{
+    let mut total: u128 = 0;
+    'joins: for join in joins {
+        total += u128::from(join.bound);
+    }
+    total
+}
+
+// The bytes of the chains of the joins' right nodes.
+fn chains_total(scans: &[u64], joins: &[Join]) -> u128
+    requires few { length joins.now ≤ most_entries }
+    requires nodes { AllByRecursion (λ join. join.right < length scans.now + length joins.now) joins.now }
+    ensures value { result ≡ sum (map row_chain_bytes (right_bounds_in scans.now joins.now joins.now)) }
+    ensures small { result < 2 ^ 73 }
+{
+    let mut total: u128 = 0;
+    'joins: for join in joins {
+        total += row_chain_bytes(bound_at(scans, joins, join.right));
+    }
+    total
+}
+
+/// The bytes of joins over lists of rows, of which the sizes are given, one for each entry: those that `row_buffers` takes for the lists and
+/// `reserve_bushy` for the joins. The nodes that are joined exist.
+pub fn joins_memory(scans: &[u64], joins: &[Join]) -> u128
+    requires few { (length scans.now ≤ most_entries) × (length joins.now ≤ most_entries) }
+    requires nodes { AllByRecursion (λ join. join.right < length scans.now + length joins.now) joins.now }
+    ensures value { result ≡ joins_bytes scans.now joins.now }
+    ensures small { result < 2 ^ 80 }
+{
+    let inners = INNER_BYTES as u128 * joins.len() as u128
+        + PAIR_BYTES as u128 * pairs_total(joins);
+    let chains = CHAINS_BYTES as u128 * joins.len() as u128 + chains_total(scans, joins);
+    let row = ROW_NUMBER_BYTES as u128 * scans.len() as u128;
+    let keys = KEY_BYTES as u128 * u128::from(most_keys(scans, joins));
+    let leaves = LEAVES_BYTES as u128 * (scans.len() as u128 + joins.len() as u128);
+    lists_memory(scans) + inners + chains + row + keys + leaves
+}
+
+/// The bytes of a plan.
+pub fn tree_memory(plan: &BushyPlan) -> u128
+    requires { IsTreePlan (length plan.now.scans) plan.now }
+    ensures value { result ≡ tree_bytes plan.now }
+    ensures small { result < 2 ^ 80 }
+{
+    joins_memory(plan.scans.as_slice(), plan.joins.as_slice())
+}
+
+/// Within the limits of a program a plan takes less than 2^40 bytes. It does nothing.
+pub fn trees_take_few_bytes()
+    ensures { (n : ℕ) (plan : BushyPlan) → IsTreePlan n plan → IsWithin most_rows plan → tree_bytes plan < 2 ^ 40 }
+{}
