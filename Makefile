@@ -96,6 +96,7 @@ bench: build library
 	bench/reduce
 	bench/demo
 	bench/shop
+	bench/keys
 	bench/library
 
 # Runs over memory, with each request for memory refused in turn, and what a reservation asks for, in bytes. It takes minutes.

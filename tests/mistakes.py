@@ -289,6 +289,10 @@ OPTIONS = [
     usage("run schema.sql query.sql --budget 5 --budget 6", "--budget stands twice"),
     usage("run schema.sql query.sql --reduce --reduce", "--reduce stands twice"),
     usage("run schema.sql query.sql --reduce=1", "--reduce takes no value"),
+    usage("run schema.sql query.sql --keys=yes", "--keys takes no value"),
+    usage("run schema.sql query.sql --keys --reduce", "--reduce can't stand beside --keys", "an order over whole tables"),
+    usage("plan schema.sql query.sql --bushy --keys", "--bushy can't stand beside --keys"),
+    usage("plan schema.sql query.sql --keys --stats old.stats", "--keys can't stand beside --stats"),
     usage("demo 7 --budget 5", "demo has no option --budget"),
     usage("run schema.sql query.sql --budget --explain", "has the value --explain"),
 ]
@@ -314,6 +318,15 @@ BUDGETS = [
                 "With --accuracy 8 the least budget is 81", words="--budget 80", files=EQUAL),
     past_budget("SELECT R.X FROM R, S WHERE R.X = S.X", "error budget 9", "level 2 (S), of 9 rows", "With --reduce it fits: no level has a bound of more than 3 rows", words="--budget=5",
                 files={**EQUAL, "r.csv": b"X\r\n1\r\n2\r\n3\r\n", "s.csv": b"X\r\n1\r\n1\r\n1\r\n7\r\n7\r\n7\r\n8\r\n8\r\n8\r\n"}),
+]
+# The orders of one region's one customer, of whom each order refers to one: 4 orders of some customer, and 1 of this one.
+REGION = {
+    "schema.sql": b"CREATE TABLE C (ID INTEGER PRIMARY KEY, REG INTEGER NOT NULL); CREATE TABLE O (N INTEGER NOT NULL, CID INTEGER NOT NULL REFERENCES C)",
+    "c.csv": b"ID,REG\r\n1,3\r\n2,4\r\n3,4\r\n4,4\r\n", "o.csv": b"N,CID\r\n1,1\r\n2,2\r\n3,2\r\n4,2\r\n5,2\r\n",
+}
+OF_REGION = "SELECT O.N FROM O, C WHERE O.CID = C.ID AND C.REG = 3"
+BUDGETS += [
+    past_budget(OF_REGION, "error budget 4", "level 2 (O), of 4 rows", "With --keys it fits: no level has a bound of more than 1 rows", words="--budget=3", files=REGION),
 ]
 LIMITS = [
     Mistake("error limit from-entries 13", ("at most 12 entries", "13"), {"query.sql": ("SELECT A0.ID FROM " + ", ".join(f"AUTHOR A{i}" for i in range(13))).encode()}),
@@ -344,6 +357,25 @@ STATISTICS = [
     usage("run schema.sql query.sql --stats old.stats", "run has no option --stats"),
 ]
 
+
+def append(line, *says, table="AUTHOR", files=None, rows="new.csv"):
+    laid = {"schema.sql": b"CREATE TABLE AUTHOR (ID INTEGER PRIMARY KEY); CREATE TABLE GENRE (ID INTEGER PRIMARY KEY)", "old.stats": b"safebound-stats 1 1\ntable x415554484f52 3999999\nend\n"}
+    return Mistake(line, says, {**laid, **(files or {})}, ("append", "schema.sql", "old.stats", table, rows))
+
+
+APPENDS = [
+    append("error stats missing 0", "no table AUTOR", "Did you mean AUTHOR?", table="AUTOR"),
+    append("error stats missing 0", "no statistics of the table genre", "safebound stats schema.sql QUERY > old.stats", table="genre"),
+    append("error read new.csv", "There is no file new.csv"),
+    append("error table new.csv key 2 1", "new.csv, line 3, record 2", "`7` stands in the key ID already", files={"new.csv": b"ID\n7\n7\n"}),
+    append("error table my rows.csv header ID", "The header of my rows.csv", "no column ID", files={"my rows.csv": b"NAME\n7\n"}, rows="my rows.csv"),
+    append("error limit rows new.csv 4000001", "With the rows of new.csv the table author has more than 4,000,000 rows", table="author", files={"new.csv": b"ID\n7\n8\n"}),
+    append("error stats syntax 1", "old.stats is no statistics file from line 1 on", files={"old.stats": b"", "new.csv": b"ID\n"}),
+    usage("append schema.sql old.stats AUTHOR", "append lacks ROWS"),
+    usage("append schema.sql old.stats AUTHOR new.csv --accuracy 2", "append has no option --accuracy"),
+    usage("append schema.sql old.stats AUTHOR new.csv more.csv", "more.csv is a word too many", "SCHEMA, STATS, TABLE and ROWS"),
+]
+
 KINDS = [
     ("a column that isn't there", COLUMNS), ("a column that several entries have", SEVERAL), ("a table that isn't there", TABLES), ("an alias or a table twice", TWICE),
     ("a missing comma", COMMAS), ("two queries in one text", QUERIES), ("functions", FUNCTIONS), ("clauses that aren't part", CLAUSES), ("joins that aren't part", JOINS), ("words that are spelled or placed wrong", WORDS),
@@ -352,5 +384,5 @@ KINDS = [
     ("a column without NOT NULL", NULLABLE), ("names of a schema", LISTS), ("schema and query swapped", SWAPPED), ("a field that is no number", CELLS),
     ("a number out of range", RANGES), ("a key that repeats", KEYS), ("a field too many or too few", WIDTHS), ("headers", HEADERS), ("bytes that are no UTF-8", BYTES),
     ("a file that is missing", FILES), ("outside of the data's folder", ELSEWHERE), ("no command", NO_COMMAND), ("options", OPTIONS), ("place words", PLACES),
-    ("past the budget", BUDGETS), ("past the limit of memory", BUFFERS), ("limits", LIMITS), ("statistics files", STATISTICS),
+    ("past the budget", BUDGETS), ("past the limit of memory", BUFFERS), ("limits", LIMITS), ("statistics files", STATISTICS), ("new rows in a statistics file", APPENDS),
 ]

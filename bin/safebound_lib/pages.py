@@ -50,9 +50,10 @@ def wrapped(text, indent=""):
 
 
 def entry(word, text):
-    """A word and what it says, the text in a column of its own."""
-    first = f"  {word:<22} "
-    return "\n".join(textwrap.wrap(text, 79, initial_indent=first, subsequent_indent=" " * 25, break_on_hyphens=False))
+    """A word and what it says, the text in a column of its own; below a word that is too long for its column."""
+    first = f"  {word:<22} " if len(word) <= 22 else f"  {word}\n{'':25}"
+    above, _, indent = first.rpartition("\n")
+    return (above and above + "\n") + "\n".join(textwrap.wrap(text, 79, initial_indent=indent, subsequent_indent=" " * 25, break_on_hyphens=False))
 
 
 def errors():

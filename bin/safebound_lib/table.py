@@ -41,8 +41,9 @@ BUDGET = Option("--budget", "N", "the most rows that the bound of any level may 
 ACCURACY = Option("--accuracy", "K", "how closely lists of degrees are kept: more takes longer and mostly lowers bounds; 1 without it", 1, 64)
 REDUCE = Option("--reduce", None, "puts rows aside that lack a partner, and makes bounds over those that are left")
 BUSHY = Option("--bushy", None, "joins by the best tree of any shape and not along an order; a budget is then at most 4,000,000")
+KEYS = Option("--keys", None, "carries conditions on a table to those that refer to its key; stands beside neither --reduce nor --bushy")
 MEMORY = Option("--memory", "N", "the most bytes that the buffers of the plan may take; the plan then ends with a line of its bytes", 1, 2**40)
-OF_PLANS = (BUDGET, ACCURACY, MEMORY, REDUCE, BUSHY)
+OF_PLANS = (BUDGET, ACCURACY, MEMORY, REDUCE, BUSHY, KEYS)
 STATS = Option("--stats", "FILE", "plans from this statistics file, which `stats` wrote, and reads no table; beside it only --budget and --memory may stand")
 
 DATA = Option("--data", "DIR", "runs in the folder DIR, where the tables are; SCHEMA and QUERY are looked up there too", is_own=True)
@@ -53,6 +54,7 @@ HELP = Option("--help", None, "this help", is_own=True)
 VERSION = Option("--version", None, "the version of this command, and which program it runs", is_own=True)
 
 TEXTS = ("SCHEMA", "QUERY")
+OF_APPEND = ("SCHEMA", "STATS", "TABLE", "ROWS")
 SHELLS = ("bash", "zsh")
 COMMANDS = (
     Command("run", TEXTS, "the plan on standard error, and every row on standard output, as CSV",
@@ -69,6 +71,10 @@ COMMANDS = (
     Command("stats", TEXTS, "the statistics file of the query's tables on standard output, for `plan --stats`",
             (ACCURACY, DATA, EXPLAIN), "The file serves every query that compares and joins the same columns. Make it anew where rows have changed.",
             ("safebound stats schema.sql query.sql > trips.stats",)),
+    Command("append", OF_APPEND, "the statistics file STATS with new rows of one of its tables, on standard output",
+            (DATA, EXPLAIN), "TABLE is the table's name, and ROWS a CSV file of the new rows alone, with a header. The old rows aren't read, and keys are looked at among "
+            "the new rows alone. Write to another file than STATS.",
+            ("safebound append schema.sql trips.stats TRIP new.csv > trips.new",)),
     Command("demo", ("NUMBER",), "the audit of a query over a shop of 670,000 rows, made in memory",
             (EXPLAIN,), "NUMBER is from 0 to 4,294,967,295, and another one makes other rows.",
             ("safebound demo 7",)),

@@ -4,7 +4,7 @@
 
    Each word, name, file and room ends where its page ends, and the next page can't be touched; what is only read can't be
    written. Rooms begin at 16 bytes, and grow where one is too small; what stood in the smaller one is the beginning of what
-   stands in the larger one. No memory is kept. With REFUSE in its environment, so many requests for memory are answered before
+   stands in the larger one, but for notes where out was cut too: they may have the line of that. No memory is kept. With REFUSE in its environment, so many requests for memory are answered before
    one isn't. */
 #define _GNU_SOURCE
 #include "safebound_command.h"
@@ -117,6 +117,11 @@ static void look_at(const stream *of, const block *before) {
     munmap(before->pages, before->mapped);
 }
 
+static void forget(block *before) {
+    if (before->bytes != NULL) munmap(before->pages, before->mapped);
+    *before = (block){0};
+}
+
 static void write_all(int to, const stream *of) {
     for (size_t done = 0; done < of->length;) {
         ssize_t count = write(to, of->room.bytes + done, of->length - done);
@@ -148,6 +153,7 @@ int main(int count, char **arguments) {
         out_before = notes_before = (block){0};
         bool is_cut = status == SAFEBOUND_EXIT_WRITE, out_grows = grown(&out, &out_before), notes_grow = grown(&notes, &notes_before);
         if (is_cut && !out_grows && !notes_grow) stop("a room is too small, and both have more");
+        if (out_grows) forget(&notes_before);
         again = out_grows || notes_grow;
     } while (again);
     write_all(1, &out);

@@ -108,6 +108,23 @@ class Statistics(unittest.TestCase):
             self.assertEqual((refused.exception.status, refused.exception.line), (status, line))
 
 
+    def test_new_rows(self):
+        rows = "X\r\n1\r\n4\r\n"
+        grown = safebound.append_stats(SCHEMA, self.stats, "r", rows)
+        self.assertEqual(safebound.plan_stats(SCHEMA, QUERY, grown).scans, (("R", 8), ("S", 5)))
+        self.assertEqual(safebound.append_stats(SCHEMA, self.stats, "R", "X\n"), self.stats)
+        self.assertEqual(safebound.run(["append", "schema.sql", "f", "R", "new.csv"], {"schema.sql": SCHEMA, "f": self.stats, "new.csv": rows}), (0, grown, b""))
+        for stats, table, rows, status, line in [
+            (b"", "R", rows, 14, "stats syntax 1"),
+            (self.stats, "T", rows, 14, "stats missing 0"),
+            (self.stats, "R", "Y\n1\n", 6, "table rows header X"),
+            (b"safebound-stats 1 1\ntable x52 4000000\nend\n", "R", rows, 7, "limit rows rows 4000001"),
+        ]:
+            with self.assertRaises(safebound.Refused) as refused:
+                safebound.append_stats(SCHEMA, stats, table, rows)
+            self.assertEqual((refused.exception.status, refused.exception.line), (status, line))
+
+
 class Library(unittest.TestCase):
     def test_threads(self):
         answers = []

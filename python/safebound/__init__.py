@@ -17,11 +17,11 @@ values of each joined column repeat:
 from . import errors
 from ._library import VERSION as __version__
 from ._library import path, version
-from .command import Output, Plan, plan_stats, run
+from .command import Output, Plan, append_stats, plan_stats, run
 from .errors import *  # noqa: F401,F403
 from .lists import Run, Runs, append, compress, degree_sequence
 from .query import Bounds, Column, Join, Order, Query, Tree
 
 __all__ = [name for name, value in vars(errors).items() if isinstance(value, type)]
 __all__ += ["Bounds", "Column", "Join", "Order", "Output", "Plan", "Query", "Run", "Runs", "Tree"]
-__all__ += ["__version__", "append", "compress", "degree_sequence", "path", "plan_stats", "run", "version"]
+__all__ += ["__version__", "append", "append_stats", "compress", "degree_sequence", "path", "plan_stats", "run", "version"]

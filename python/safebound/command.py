@@ -136,6 +136,34 @@ def plan_stats(schema: Text, query: Text, stats: Text, budget: Optional[int] = N
     return Plan(tuple(scans), Order(*map(tuple, zip(*levels))))
 
 
+def append_stats(schema: Text, stats: Text, table: str, rows: Text) -> bytes:
+    """The text of a statistics file with new rows of one of its tables, without the rows that were there before.
+
+    Where the file stood for its tables, the new one stands for them with the new rows: no bound of a plan from it is too low
+    for the grown table. Keys are looked at among the new rows alone.
+
+    >>> schema = "CREATE TABLE R (X INTEGER NOT NULL)"
+    >>> files = {"schema": schema, "query": "SELECT X FROM R", "r.csv": "X\\n1\\n2\\n"}
+    >>> stats = run(["stats", "schema", "query"], files).out
+    >>> more = append_stats(schema, stats, "R", "X\\n2\\n3\\n4\\n")
+    >>> plan_stats(schema, "SELECT X FROM R", more).scans
+    (('R', 5),)
+
+    Args:
+        table: the table's name; upper and lower case are one.
+        rows: the new rows alone, as CSV with a header.
+
+    Raises:
+        Refused: a text or a row isn't right, the file has no statistics of the table, or it would have too many rows.
+        OutOfMemory: memory was wanting.
+        LibraryNotFound: libsafebound_command.so isn't there, or is of another version.
+    """
+    output = run(["append", "--", "schema", "stats", table, "rows"], {"schema": schema, "stats": stats, "rows": rows})
+    if output.status:
+        raise _refusal(output)
+    return output.out
+
+
 def _refusal(output: Output) -> errors.SafeBoundError:
     line = output.notes.decode().split("\n")[0].split(" ", 1)[1]
     if output.status == BUDGET:

@@ -20,11 +20,20 @@ class Run:
         found = places(words[1:])
         self.schema_file, self.query_file = (found + ["", ""])[:2] if self.command != "demo" else ("schema.sql", "query.sql")
         self.stats_file = option_of(words[1:], STATS.word) if self.command == "plan" else None
+        self.table, self.rows_file = "", None
+        if self.command == "append":
+            self.stats_file, self.table, self.rows_file = (found[1:] + ["", "", ""])[:3]
+            self.query_file = ""
 
     @property
     def schema(self):
         from ..schema import read_schema
         return read_schema(read(self.schema_file))
+
+    @property
+    def named(self):
+        """The files that the words name."""
+        return self.schema_file, self.query_file, self.stats_file, self.rows_file
 
     @property
     def query(self):

@@ -5,7 +5,7 @@ from ..near import listed
 from ..plans import option_of, read_plan
 from ..program import answer
 from ..query import groups
-from ..table import ACCURACY, BUDGET, BUSHY, MOST_BUDGET, MOST_BUDGET_OF_A_TREE, REDUCE, USUAL_BUDGET
+from ..table import ACCURACY, BUDGET, BUSHY, KEYS, MOST_BUDGET, MOST_BUDGET_OF_A_TREE, REDUCE, USUAL_BUDGET
 from ..faults import fault_of
 
 SECONDS = 60
@@ -66,7 +66,7 @@ def planned_words(words):
             return found + [word, *left]
         if word in (BUDGET.word, ACCURACY.word):
             del left[:1]
-        elif word not in (REDUCE.word, BUSHY.word) and not word.startswith((BUDGET.word + "=", ACCURACY.word + "=")):
+        elif word not in (REDUCE.word, BUSHY.word, KEYS.word) and not word.startswith((BUDGET.word + "=", ACCURACY.word + "=")):
             found.append(word)
     return found
 
@@ -90,11 +90,14 @@ def at_fault(run, least, budget):
     return f"That order is {order}. Past the budget: {said}."
 
 
-def given(run, budget, accuracy=None, reduce=False, bushy=False):
-    """The options of the run, with these in their place."""
+def given(run, budget, accuracy=None, flag=None):
+    """The options of the run, with these beside them. `--keys` stands beside no other flag, so the one that is tried takes its place."""
     kept = accuracy or option_of(run.words, ACCURACY.word)
     words = [BUDGET.word, str(budget)] + ([ACCURACY.word, kept] if kept else [])
-    return words + [REDUCE.word] * (reduce or has(run, REDUCE)) + [BUSHY.word] * (bushy or has(run, BUSHY))
+    flags = [one for one in (REDUCE, BUSHY, KEYS) if has(run, one)]
+    if flag is not None:
+        flags = [flag] if KEYS in (flag, *flags) else [*flags, flag]
+    return words + [one.word for one in flags]
 
 
 def has(run, flag):
@@ -102,18 +105,27 @@ def has(run, flag):
     return flag.word in before
 
 
+def refers(run):
+    """Whether a table of the query declares a reference."""
+    schema = run.schema
+    tables = [schema.table(entry.table.name) for entry in run.query.entries]
+    return any(table is not None and table.references for table in tables)
+
+
 def tried(run, budget, apart):
     """What the other options come to, and what else there is to do."""
     is_close = int(option_of(run.words, ACCURACY.word) or 1) >= int(CLOSER)
     ways = []
     if not has(run, REDUCE):
-        ways.append((f"With {REDUCE.word}", dict(reduce=True)))
+        ways.append((f"With {REDUCE.word}", dict(flag=REDUCE)))
     if not is_close:
         ways.append((f"With {ACCURACY.word} {CLOSER}", dict(accuracy=CLOSER)))
     if len(ways) == 2:
-        ways.append(("With both", dict(reduce=True, accuracy=CLOSER)))
+        ways.append(("With both", dict(flag=REDUCE, accuracy=CLOSER)))
+    if not has(run, KEYS) and refers(run):
+        ways.append((f"With {KEYS.word}", dict(flag=KEYS)))
     if not has(run, BUSHY) and len(run.query.entries) > 3 and budget <= MOST_BUDGET_OF_A_TREE:
-        ways.append((f"With {BUSHY.word}", dict(bushy=True)))
+        ways.append((f"With {BUSHY.word}", dict(flag=BUSHY)))
     found = [f"    {name} {said_of(with_words(run, given(run, budget, **how)), budget)}" for name, how in ways]
     found = [line for line in found if not line.endswith(" None")]
     rest = "" if apart else "A condition on a column of one entry lowers bounds most: = or a range."

@@ -16,6 +16,8 @@ BYTES_OF_TEXT, BYTES_OF_TABLE, ROWS = 1_048_576, 67_108_864, 4_000_000
 
 def explain(fault, run):
     file = plain(fault.get("file") or "")
+    if fault["cause"] == "rows" and run.command == "append":
+        return [f"With the rows of {file} the table {plain(run.table)} has more than {ROWS:,} rows, which is the most for a table.", beyond()]
     if fault["cause"] == "rows":
         return [f"{file} has more than {ROWS:,} rows, which is the most for a table.", beyond()]
     if fault["cause"] != "file-bytes":

@@ -26,7 +26,7 @@ def where(file, run):
     """Where it was looked for, and what lies there or elsewhere under that name or one near it."""
     if os.path.exists(file):
         return []
-    is_table = file not in (run.schema_file, run.query_file, run.stats_file)
+    is_table = file not in run.named
     folder = os.path.dirname(file) or "."
     found = [f"It was looked for in {plain(os.path.abspath(folder)) if working() else 'a working folder that is gone'}."]
     if is_table:

@@ -1,4 +1,5 @@
-"""`error stats CAUSE AT`: a statistics file that isn't one, or that lacks what the query needs."""
+"""`error stats CAUSE AT`: a statistics file that isn't one, or that lacks what the query needs or the table that gets new rows."""
+from ..near import hint
 from ..spot import plain
 
 ANEW = "Make it anew: safebound stats {schema} {query} > {stats}"
@@ -6,13 +7,23 @@ ANEW = "Make it anew: safebound stats {schema} {query} > {stats}"
 
 def explain(fault, run):
     file, at = plain(run.stats_file or ""), fault["at"]
-    anew = ANEW.format(schema=plain(run.schema_file), query=plain(run.query_file), stats=file)
+    anew = ANEW.format(schema=plain(run.schema_file), query=plain(run.query_file or "QUERY"), stats=file)
+    if fault["cause"] == "missing" and run.command == "append":
+        return [without_section(file, run), anew]
     if fault["cause"] == "missing":
         return [f"{lacking(run, at)} needs statistics that {file} doesn't have: it was made for a query that doesn't name its table, or compares or joins other columns.", anew]
     if fault["cause"] == "syntax":
         return [f"{file} is no statistics file from line {at} on: it is cut there, or was changed.", anew]
     return [f"Line {at} of {file} can't follow those before it: it names what the schema doesn't have, or a number or a list is past its limit or out of order.",
             "Was the file made over another schema?", anew]
+
+
+def without_section(file, run):
+    """Which of the two is missing, the table in the schema or its statistics in the file."""
+    names = [table.name for table in run.schema.tables]
+    if not any(name.upper() == run.table.upper() for name in names):
+        return f"The schema has no table {plain(run.table)}.{hint(run.table, names)}"
+    return f"{file} has no statistics of the table {plain(run.table)}: it was made for a query that doesn't name it."
 
 
 def lacking(run, entry):

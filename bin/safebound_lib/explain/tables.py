@@ -14,9 +14,10 @@ MOST_OF_VALUE = 60
 
 def explain(fault, run):
     schema = run.schema
-    table = next(t for t in schema.tables if t.file == fault["file"])
+    is_it = (lambda t: t.name.upper() == run.table.upper()) if run.command == "append" else (lambda t: t.file == fault["file"])
+    table = next(filter(is_it, schema.tables))
     says = {"utf8": utf8, "header": header, "width": width, "field": field, "key": key}[fault["cause"]]
-    return says(table, fault, read(table.file))
+    return says(table, fault, read(fault["file"]))
 
 
 def quoted(value):
@@ -38,11 +39,11 @@ def header(table, fault, data):
     found = next((fields for _, fields in records(data)), None)
     wanted = [column.name for column in table.columns]
     if found is None:
-        return [f"{table.file} holds nothing. Its first line names the columns: {','.join(map(plain, wanted))}"]
+        return [f"{fault['file']} holds nothing. Its first line names the columns: {','.join(map(plain, wanted))}"]
     column = fault["column"]
     count = sum(same(name) == same(column) for name in found)
-    first = f"The header of {table.file} names {plain(column)} {count} times; each declared column stands there once." if count else \
-        f"The header of {table.file}, its first line, has no column {plain(column)}."
+    first = f"The header of {fault['file']} names {plain(column)} {count} times; each declared column stands there once." if count else \
+        f"The header of {fault['file']}, its first line, has no column {plain(column)}."
     shown = f"\n    found:    {plain(','.join(found)[:200])}\n    expected: {plain(','.join(wanted))}"
     return [first + shown, "Columns may come in any order, and further ones are passed over.", why_no_header(found, wanted, column, count)]
 

@@ -3,7 +3,7 @@ import re
 
 from ..near import hint, listed
 from ..spot import plain
-from ..table import ACCURACY, BUDGET, BUSHY, BY_WORD, COMMANDS, MOST_BUDGET_OF_A_TREE, MOST_SEED, REDUCE, STATS, program_options
+from ..table import ACCURACY, BUDGET, BUSHY, BY_WORD, COMMANDS, KEYS, MOST_BUDGET_OF_A_TREE, MOST_SEED, REDUCE, STATS, program_options
 
 DIGITS = re.compile(r"[0-9]+", re.ASCII)
 
@@ -62,9 +62,14 @@ def unknown(command, word):
 
 
 def wrong_beside(seen):
-    """Which option can't stand beside a statistics file, if one does."""
-    others = [option.word for option in (ACCURACY, REDUCE, BUSHY) if STATS.word in seen and option.word in seen]
-    return f"{others[0]} can't stand beside {STATS.word}: a statistics file has its own accuracy, and tells of whole tables." if others else None
+    """Which options can't stand beside each other, if some do."""
+    others = [option.word for option in (ACCURACY, REDUCE, BUSHY, KEYS) if option.word in seen]
+    if STATS.word in seen and others:
+        return f"{others[0]} can't stand beside {STATS.word}: a statistics file has its own accuracy, and tells of whole tables."
+    if KEYS.word in seen and len(set(others) - {ACCURACY.word}) > 1:
+        other = next(word for word in others if word in (REDUCE.word, BUSHY.word))
+        return f"{other} can't stand beside {KEYS.word}. {KEYS.word} is for an order over whole tables."
+    return None
 
 
 def wrong_budget(value):

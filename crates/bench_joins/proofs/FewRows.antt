@@ -165,7 +165,7 @@ nothing_asked (x ∷ xs) = (tt, nothing_asked xs)
 
 -- ---- the two tables
 
-module _ (left right times : ℕ) (values : Option Op) (lk lv rv : List ℕ) (are_lk : AreNumbers left lk) (are_lv : AreNumbers left lv) (are_rv : AreNumbers right rv) (some : 0 < times) (few_right : right ≤ 4000000) where
+module _ (left right times : ℕ) (values : Option Op) (lk lv rv : List ℕ) (are_lk : AreNumbers left lk) (are_lv : AreNumbers left lv) (are_rv : AreNumbers right rv) (some : 0 < times) (few_right : right ≤ 4000000) (few_left : left ≤ 4000000) where
   abbrev db : Database
   db = tables_of_two (table_of left lk lv) (table_of right (repeated right times) rv)
 
@@ -205,9 +205,6 @@ module _ (left right times : ℕ) (values : Option Op) (lk lv rv : List ℕ) (ar
   few_conjuncts (Some o) = omega arith
   few_conjuncts None = omega arith
 
-  pub few : length q.conjuncts ≤ 256
-  few = omega (arith, few_conjuncts values)
-
   quotient_low : (x : ℕ) → x < right → x / times < 2 ^ 64
   quotient_low x low = let whole : x / times * times + x % times ≡ x = div-add-mod' x times in let at_least : x / times ≤ x / times * times = le_product (x / times) times some in omega (arith, whole, at_least)
 
@@ -216,6 +213,11 @@ module _ (left right times : ℕ) (values : Option Op) (lk lv rv : List ℕ) (ar
     long = length-map (range_with_len 0 right) (λ row. row / times) ∙ length-range_with_len 0 right;
     small = All-map (λ cell. cell < 2 ^ 64) (λ row. row / times) (range_with_len 0 right) (All-from_recursion (λ row. row / times < 2 ^ 64) (range_with_len 0 right) (weaker (λ x. x < right) (λ x. x / times < 2 ^ 64) quotient_low (range_with_len 0 right) (below 0 right right (omega arith))));
   }
+
+  few_at : (entry : ℕ) → entry < 2 → row_counts (tables_of db) entry ≤ 4000000
+  few_at zero low = let is : row_counts (tables_of db) 0 ≡ left = rows_are db 0 in omega (arith, is, few_left)
+  few_at (suc zero) low = let is : row_counts (tables_of db) 1 ≡ right = rows_are db 1 in omega (arith, is, few_right)
+  few_at (suc (suc entry)) low = absurd (omega arith)
 
   pub fits : IsDatabaseOf q db
   fits = record {
@@ -230,6 +232,7 @@ module _ (left right times : ℕ) (values : Option Op) (lk lv rv : List ℕ) (ar
       );
       slots = All-from_recursion (λ slot. slot < 2) (0 ∷ 1 ∷ []) (omega arith, (omega arith, tt));
     };
+    few_rows = few_at;
     one_place = λ i j low high same. same;
     conjuncts = All-from_recursion (IsAskable db) q.conjuncts (all_askable values);
     outputs = All-from_recursion (λ out. IsColumnOf db out.column) q.select tt;
@@ -302,8 +305,8 @@ module _ (left right times : ℕ) (values : Option Op) (lk lv rv : List ℕ) (ar
   abbrev scans : List (List ℕ)
   scans = scans_of q (tables_of db)
 
-  pub small : times * left ≤ 20000000 → left ≤ 4000000 → All (λ rows. rows ≤ 20000000) (list_level_sizes q (tables_of db) (scans_of q (tables_of db)) order)
-  small most few_left = All-from_recursion (λ rows. rows ≤ 20000000) (list_level_sizes q (tables_of db) scans order) (omega (arith, first_level, few_left), (omega (arith, second_level, most), tt))
+  pub small : times * left ≤ 20000000 → All (λ rows. rows ≤ 20000000) (list_level_sizes q (tables_of db) (scans_of q (tables_of db)) order)
+  small most = All-from_recursion (λ rows. rows ≤ 20000000) (list_level_sizes q (tables_of db) scans order) (omega (arith, first_level, few_left), (omega (arith, second_level, most), tt))
 
   pub has_rooms : (reserved : Reserved) → HasRooms (rooms order (left ∷ right ∷ []) (left ∷ times * left ∷ [])) reserved
       → HasRooms (rooms order (list_sizes q (scans_of q (tables_of db))) (list_level_sizes q (tables_of db) (scans_of q (tables_of db)) order)) reserved

@@ -14,8 +14,9 @@ mod tables;
 
 use base_io::NoMemory;
 use csv_tables::Database;
-use hash_join::{Executed, execute};
+use hash_join::execute;
 use join_steps::scan_all;
+use link_index::RowForest;
 use query_types::{Op, Query};
 use reserve_plan::{Reserved, reserve, row_buffers};
 use row_buf::RowBuf;
@@ -39,7 +40,7 @@ struct Joined {
     sum: u64,
 }
 
-fn summed(executed: &Executed) -> Joined
+fn summed(executed: &RowForest) -> Joined
     requires { length executed.now ≡ 2 }
 {
     let rows = executed.len(1);
@@ -99,7 +100,7 @@ fn execution(
     scan_all(query, db, lists.as_mut_slice());
     let executed = execute(reserved, lists.as_slice(), &[0, 1], query, db);
     let nanos = start.elapsed(rt)?.as_nanos();
-    let Joined { rows, sum, .. } = summed(&executed);
+    let Joined { rows, sum, .. } = summed(&executed.levels);
     Ok(Joined { nanos, rows, sum })
 }
 

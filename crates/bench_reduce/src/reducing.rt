@@ -1,8 +1,6 @@
 //! The reduction that is measured.
-ghost use Rattle.std.specs.Prelude.{◌≡◌, ◌<◌, ◌≤◌, ℕ, IfOk, OnOk, length};
-ghost use Rattle.limits.specs.Profile.{most_conjuncts, most_rows};
+ghost use Rattle.std.specs.Prelude.{◌≡◌, ◌<◌, IfOk, OnOk};
 ghost use Rattle.sql_meaning.specs.Databases.{IsDatabaseOf};
-ghost use Rattle.sql_meaning.specs.Tables.{row_counts, tables_of};
 ghost use Rattle.join_steps.specs.Lists.{scan_of, list_at, lists_of};
 
 use crate::failed::Failed;
@@ -27,8 +25,6 @@ pub(crate) struct Reduced {
 
 fn reduce_query(alloc: Global, query: &Query, db: &Database) -> Result<Vec<RowBuf<u32>>, NoMemory>
     requires database { IsDatabaseOf query.now db.now }
-    requires few { length query.now.conjuncts ≤ most_conjuncts }
-    requires sizes { (entry : ℕ) → entry < length query.now.from → row_counts (tables_of db.now) entry ≤ most_rows }
 {
     let parts = split(alloc, query)?;
     let scans = scan_entries(alloc, query, db)?;
@@ -55,8 +51,6 @@ pub(crate) fn timed(
     db: &Database,
 ) -> Result<Reduced, Failed>
     requires database { IsDatabaseOf query.now db.now }
-    requires few { length query.now.conjuncts ≤ most_conjuncts }
-    requires sizes { (entry : ℕ) → entry < length query.now.from → row_counts (tables_of db.now) entry ≤ most_rows }
 {
     let start = Instant::now(rt)?;
     let lists = reduce_query(alloc, query, db)?;

@@ -1,9 +1,9 @@
 //! The plan of a query over a join tree.
-ghost use Rattle.std.specs.Prelude.{◌≡◌, ◌⊎◌, ◌^◌, ◌<◌, ◌≤◌, ℕ, Err, length, IfOk};
+ghost use Rattle.std.specs.Prelude.{◌≡◌, ◌⊎◌, ◌^◌, ◌<◌, ◌≤◌, Err, length, IfOk};
 ghost use Rattle.limits.specs.Profile.{greatest_budget, most_accuracy, most_entries, most_rows};
 ghost use Rattle.order_search.specs.declared.refusal.PlanError.TheVariants as error;
 ghost use Rattle.sql_meaning.specs.Databases.{IsDatabaseOf};
-ghost use Rattle.sql_meaning.specs.Tables.{row_counts, tables_of};
+ghost use Rattle.sql_meaning.specs.Tables.{tables_of};
 ghost use Rattle.planning.specs.Bounds.{scan_bounds_of, set_bounds_of};
 ghost use Rattle.tree_answers.specs.TreeAnswer.{tree_answer};
 ghost use Rattle.join_steps.specs.Lists.{scans_of};
@@ -45,7 +45,6 @@ pub fn plan_bushy(
     budget: u64,
 ) -> Result<BushyPlan, PlanError>
     requires database { IsDatabaseOf query.now db.now }
-    requires few_rows { (entry : ℕ) → entry < length query.now.from → row_counts (tables_of db.now) entry ≤ most_rows }
     requires accuracy { (0 < accuracy) × (accuracy ≤ most_accuracy) }
     requires budget { budget ≤ most_rows }
     ensures plan { (result ≡ Err error.NoMemory) ⊎ (result

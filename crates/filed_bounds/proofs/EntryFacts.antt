@@ -17,8 +17,8 @@ use Rattle.predicate_bounds.specs.Steps.{steps_of}
 use Rattle.query_types.specs.declared.types.Query.{Query}
 use Rattle.stats_file.specs.declared.types.StatsFile.{StatsFile}
 use Rattle.stats_file.specs.declared.types.TableStats.{TableStats}
-use Rattle.needed_pairs.specs.declared.needs.Needs.{Needs}
-use Rattle.needed_pairs.specs.Needs.{needs_of, table_of}
+use Rattle.filed_stats.specs.declared.needs.Needs.{Needs}
+use Rattle.filed_stats.specs.Needs.{needs_of, table_of}
 use Rattle.filed_stats.specs.Standing.{section_of}
 use Rattle.filed_stats.proofs.Finding.{first_found}
 use Rattle.filed_bounds.specs.declared.errors.NeedError.{NeedError}

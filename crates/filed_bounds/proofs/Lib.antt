@@ -1,8 +1,14 @@
+-- What a file tells of the entries is one more `Statistics`, so plans from files, their refusals and that no bound is too low are the laws of
+-- planning over any bounds; only that the lists of a file fall is shown here (`Falling`).
+
 pub mod Finding
 pub mod Small
 pub mod Sums
 pub mod Telling
-pub mod Leaves
 pub mod Under
 pub mod Named
 pub mod EntryFacts
+pub mod Falling
+pub mod FromFiles
+pub mod Answering
+mod SmallPlans

@@ -21,7 +21,7 @@ use Rattle.stats_file.specs.declared.types.Pair.{Pair}
 use Rattle.stats_file.specs.declared.types.StatsFile.{StatsFile}
 use Rattle.stats_file.specs.declared.types.TableStats.{TableStats}
 use Rattle.stats_file.specs.Rules.{IsList, IsPair, IsTreeOf}
-use Rattle.needed_pairs.specs.declared.needs.Needs.{Needs}
+use Rattle.filed_stats.specs.declared.needs.Needs.{Needs}
 use Rattle.filed_stats.specs.Standing.{is_value, leaf_of_value, list_between, list_of_node, list_of_value}
 use Rattle.filed_bounds.specs.Entries.{IsFile, IsFiled}
 use Rattle.filed_bounds.specs.Filed.{filed_lists, of_one_key, partner, whole_by, whole_list}

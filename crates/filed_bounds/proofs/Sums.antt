@@ -15,10 +15,10 @@ use Rattle.stats_file.specs.declared.types.Datum.{Datum}
 use Rattle.stats_file.specs.declared.types.Pair.{Pair}
 use Rattle.stats_file.specs.declared.types.TableStats.{TableStats}
 use Rattle.stats_file.specs.Rules.{Agree, CountTheSame}
-use Rattle.needed_pairs.specs.declared.needs.Needs.{Needs}
-use Rattle.needed_pairs.specs.declared.pairs.ColumnPair.{ColumnPair}
-use Rattle.needed_pairs.specs.Needs.{pairs_of}
-use Rattle.needed_pairs.specs.Pairs.{column_pair, of_itself, pairs_between, with_each}
+use Rattle.filed_stats.specs.declared.needs.Needs.{Needs}
+use Rattle.filed_stats.specs.declared.column_pairs.ColumnPair.{ColumnPair}
+use Rattle.filed_stats.specs.Needs.{pairs_of}
+use Rattle.filed_stats.specs.ColumnPairs.{column_pair, of_itself, pairs_between, with_each}
 use Rattle.filed_stats.specs.Standing.{is_value, leaf_of_value, list_between, list_of_node, list_of_value}
 use Rattle.filed_bounds.specs.Entries.{IsFiled}
 use Rattle.filed_bounds.specs.Filed.{filed_counts, filed_lists, of_one_key, partner, whole_by, whole_list}

@@ -26,7 +26,7 @@ use Rattle.query_types.specs.declared.types.Query.{Query}
 use Rattle.query_types.specs.Named.{NamesItsEntries, entries_named}
 use Rattle.stats_file.specs.declared.types.StatsFile.{StatsFile}
 use Rattle.stats_file.specs.declared.types.TableStats.{TableStats}
-use Rattle.needed_pairs.specs.Needs.{needed, needs_of, pairs_of, table_of}
+use Rattle.filed_stats.specs.Needs.{needed, needs_of, pairs_of, table_of}
 use Rattle.filed_stats.specs.Standing.{section_of}
 use Rattle.filed_bounds.specs.Entries.{AreFiledSteps, IsFile, IsFiled, IsTold}
 use Rattle.filed_bounds.specs.Filed.{filed_lists, filed_statistics}

@@ -35,16 +35,16 @@ use Rattle.stats_file.specs.declared.types.TableStats.{TableStats}
 use Rattle.table_stats.specs.Keys.{TellsValues}
 use Rattle.table_stats.proofs.EqualValues.{le_from_ge}
 use Rattle.table_stats.proofs.FewerRows.{PassesBoth, all_in_range, fewer_dominated}
-use Rattle.needed_pairs.specs.declared.needs.Needs.{Needs}
-use Rattle.needed_pairs.specs.Needs.{needs_of, pairs_of}
-use Rattle.needed_pairs.specs.Pairs.{column_pair, pairs_between}
+use Rattle.filed_stats.specs.declared.needs.Needs.{Needs}
+use Rattle.filed_stats.specs.Needs.{needs_of, pairs_of}
+use Rattle.filed_stats.specs.ColumnPairs.{column_pair, pairs_between}
 use Rattle.entry_sets.proofs.Listing.{in_front}
 use Rattle.filed_stats.specs.Standing.{PairStandsFor, SectionStandsFor, StandsFor, cut_at, leaf_of_value, list_between, list_of_value}
 use Rattle.filed_bounds.specs.Entries.{IsFile, IsFiled}
 use Rattle.filed_bounds.specs.Filed.{filed_counts, filed_lists, filed_statistics, partner, whole_by, whole_list}
 use Rattle.filed_bounds.specs.Found.{are_columns, first_missing, has_pair, is_missing, no_pair, pair_for, pair_in, section_for}
 use Rattle.filed_bounds.proofs.Finding.{none_passes}
-use Rattle.filed_bounds.proofs.Leaves.{range_length}
+use Rattle.filed_stats.proofs.Leaves.{range_length}
 use Rattle.filed_bounds.proofs.Small.{its_within}
 use Rattle.filed_bounds.proofs.Sums.{IsJoined, contained, found_at, its, joined_needed, lead_joined, pair_found, partner_found, whole_sum}
 use Rattle.filed_bounds.proofs.Telling.{IsThere, is_there, its_filed, its_pairs, place_low, section_is}

@@ -13,8 +13,8 @@ use Rattle.stats_file.specs.declared.types.StatsFile.{StatsFile}
 use Rattle.stats_file.specs.declared.types.TableStats.{TableStats}
 use Rattle.stats_file.specs.Rules.{IsSection, KeepsRules}
 use Rattle.std.specs.Bool.{IsTrue}
-use Rattle.needed_pairs.specs.declared.needs.Needs.{Needs}
-use Rattle.needed_pairs.specs.Needs.{needs_of}
+use Rattle.filed_stats.specs.declared.needs.Needs.{Needs}
+use Rattle.filed_stats.specs.Needs.{needs_of}
 use Rattle.filed_bounds.specs.declared.errors.NeedError.{NeedError}
 use Rattle.filed_bounds.specs.declared.errors.NeedError.TheVariants as error
 use Rattle.filed_bounds.specs.Filed.{filed_lists, is_filter}

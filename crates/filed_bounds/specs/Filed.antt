@@ -6,8 +6,8 @@ use Rattle.query_bounds.specs.Statistics.{Statistics}
 use Rattle.query_types.specs.declared.types.Query.{Query}
 use Rattle.stats_file.specs.declared.types.StatsFile.{StatsFile}
 use Rattle.stats_file.specs.declared.types.TableStats.{TableStats}
-use Rattle.needed_pairs.specs.declared.needs.Needs.{Needs}
-use Rattle.needed_pairs.specs.Needs.{needs_of}
+use Rattle.filed_stats.specs.declared.needs.Needs.{Needs}
+use Rattle.filed_stats.specs.Needs.{needs_of}
 use Rattle.filed_stats.specs.Standing.{list_between, list_of_value}
 use Rattle.filed_bounds.specs.Found.{pair_for, section_for}
 

@@ -5,8 +5,8 @@ use Rattle.query_types.specs.declared.types.Query.{Query}
 use Rattle.stats_file.specs.declared.types.Pair.{Pair}
 use Rattle.stats_file.specs.declared.types.StatsFile.{StatsFile}
 use Rattle.stats_file.specs.declared.types.TableStats.{TableStats}
-use Rattle.needed_pairs.specs.declared.pairs.ColumnPair.{ColumnPair}
-use Rattle.needed_pairs.specs.Needs.{needed, table_of}
+use Rattle.filed_stats.specs.declared.column_pairs.ColumnPair.{ColumnPair}
+use Rattle.filed_stats.specs.Needs.{needed, table_of}
 use Rattle.filed_stats.specs.Standing.{section_of}
 
 -- the pair of two columns in a section, where it has one

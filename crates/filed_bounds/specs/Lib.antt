@@ -2,4 +2,6 @@ pub mod Found
 pub mod Filed
 pub mod Entries
 pub mod Compared
+pub mod Errors
+pub mod Plans
 pub mod Examples

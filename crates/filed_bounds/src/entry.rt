@@ -10,7 +10,7 @@ ghost use Rattle.filed_bounds.specs.Found.{pair_for};
 use crate::answers::{list_of_literal, list_within};
 use crate::find::pair_in;
 use base_io::{NoMemory, Seq};
-use needed_pairs::Needs;
+use filed_stats::Needs;
 use piece_math::Pieces;
 use predicate_bounds::{ColumnSteps, EntryStats, ListStep, Literal, Range, Step};
 use stats_file::TableStats;

@@ -1,11 +1,15 @@
-//! Small queries over small files, as theorems by computation.
-ghost use Rattle.std.specs.Prelude.{◌≡◌, ◌∷◌, [], None, Some};
+//! Small queries over small files, and plans from these, as theorems by computation.
+ghost use Rattle.std.specs.Prelude.{◌≡◌, ◌∷◌, [], None, Some, Err, Ok};
+ghost use Rattle.order_search.specs.declared.refusal.PlanError.TheVariants as plan_error;
+ghost use Rattle.plans.specs.Examples.{plan_of};
 ghost use Rattle.query_bounds.specs.Bounds.{scan_bounds, set_bounds};
 ghost use Rattle.query_bounds.specs.Examples.{pair};
-ghost use Rattle.needed_pairs.specs.Examples.{one_value};
+ghost use Rattle.filed_stats.specs.Examples.{one_value};
 ghost use Rattle.filed_bounds.specs.Examples.{grown, itself, of_one, of_two, section};
 ghost use Rattle.filed_bounds.specs.Filed.{filed_statistics};
 ghost use Rattle.filed_bounds.specs.Found.{first_missing};
+ghost use Rattle.filed_bounds.specs.Plans.{filed_plan};
+ghost use Rattle.filed_bounds.specs.declared.errors.FiledPlanError.TheVariants as error;
 
 /// R(X) of 1, 1, 1, 2, 2, 3 and S(X) of 1, 1, 4, 5, 6 from their lists alone; the value 99 in a file in which it isn't frequent; and files in
 /// which a section or a pair is missing.
@@ -18,4 +22,14 @@ pub fn small_files()
     ensures all { first_missing one_value (of_one (section 0 4 grown)) ≡ None }
     ensures second { first_missing pair (of_one (section 0 6 (itself (3 ∷ 3 ∷ [])))) ≡ Some 1 }
     ensures first { first_missing pair (of_one (section 2 0 (itself []))) ≡ Some 0 }
+{}
+
+/// R(X) of 1, 1, 1, 2, 2, 3 and S(X) of 1, 1, 4, 5, 6 from the file of both: the best order costs 12; and a file of R alone lacks what the
+/// second entry needs, whatever the budget.
+pub fn small_plans()
+    ensures plan { filed_plan pair (of_two (section 0 6 (itself (3 ∷ 3 ∷ []))) (section 1 5 (itself (2 ∷ 2 ∷ 1 ∷ [])))) 12
+        ≡ Ok (plan_of (1 ∷ 0 ∷ []) (6 ∷ 5 ∷ []) (5 ∷ 12 ∷ [])) }
+    ensures over { filed_plan pair (of_two (section 0 6 (itself (3 ∷ 3 ∷ []))) (section 1 5 (itself (2 ∷ 2 ∷ 1 ∷ [])))) 11
+        ≡ Err (error.Plan (plan_error.Budget 12)) }
+    ensures missing { filed_plan pair (of_one (section 0 6 (itself (3 ∷ 3 ∷ [])))) 0 ≡ Err (error.Missing 1) }
 {}

@@ -4,7 +4,7 @@ ghost use Rattle.std.specs.List.{list_all};
 ghost use Rattle.filed_stats.specs.Standing.{section_of};
 ghost use Rattle.filed_bounds.specs.Found.{has_pair, pair_in};
 
-use needed_pairs::ColumnPair;
+use filed_stats::ColumnPair;
 use stats_file::{Pair, StatsFile, TableStats};
 
 /// The section of a table, where the file has one.

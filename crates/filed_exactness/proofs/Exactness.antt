@@ -31,9 +31,9 @@ use Rattle.stats_file.specs.declared.types.TableStats.{TableStats}
 use Rattle.table_stats.specs.Statistics.{column_lists, entry_counts}
 use Rattle.table_stats.proofs.Summing.{lists_sum}
 use Rattle.tree_bounds.specs.TreeBounds.{EntryBounds}
-use Rattle.needed_pairs.specs.declared.needs.Needs.{Needs}
-use Rattle.needed_pairs.specs.Needs.{needs_of, pairs_of}
-use Rattle.needed_pairs.specs.Pairs.{column_pair, pairs_between}
+use Rattle.filed_stats.specs.declared.needs.Needs.{Needs}
+use Rattle.filed_stats.specs.Needs.{needs_of, pairs_of}
+use Rattle.filed_stats.specs.ColumnPairs.{column_pair, pairs_between}
 use Rattle.filed_stats.specs.Databases.{IsOverSchema}
 use Rattle.filed_stats.specs.Files.{file_of_query}
 use Rattle.filed_stats.specs.Pairs.{pair_in_table}

@@ -23,9 +23,9 @@ use Rattle.sql_meaning.specs.Tables.{cells_of, no_cells, tables_of}
 use Rattle.stats_file.specs.declared.types.Pair.{Pair}
 use Rattle.stats_file.specs.declared.types.StatsFile.{StatsFile}
 use Rattle.stats_file.specs.declared.types.TableStats.{TableStats}
-use Rattle.needed_pairs.specs.declared.pairs.ColumnPair.{ColumnPair}
-use Rattle.needed_pairs.specs.Needs.{filter_columns, needed, needed_of_table, needs_of, table_of}
-use Rattle.needed_pairs.specs.Pairs.{column_pair, is_pair, of_itself, pairs_between, with_each}
+use Rattle.filed_stats.specs.declared.column_pairs.ColumnPair.{ColumnPair}
+use Rattle.filed_stats.specs.Needs.{filter_columns, needed, needed_of_table, needs_of, table_of}
+use Rattle.filed_stats.specs.ColumnPairs.{column_pair, is_pair, of_itself, pairs_between, with_each}
 use Rattle.filed_stats.specs.Databases.{IsOverSchema}
 use Rattle.filed_stats.specs.Files.{column_count, file_of_query, first_entry, for_each_pair, joined_with, section_of_table}
 use Rattle.filed_stats.specs.Pairs.{pair_in_cells, pair_in_table}

@@ -18,7 +18,7 @@ use Rattle.stats_file.specs.declared.types.Datum.{Datum}
 use Rattle.stats_file.specs.Rules.{CountTheSame}
 use Rattle.filed_stats.specs.Pairs.{frequent_in, pair_of}
 
-map-flat : (F : ℕ → List (List ℕ)) (xs : List ℕ) → map sum (flat_map F xs) ≡ flat_map (λ x. map sum (F x)) xs
+pub map-flat : (F : ℕ → List (List ℕ)) (xs : List ℕ) → map sum (flat_map F xs) ≡ flat_map (λ x. map sum (F x)) xs
 map-flat F [] = refl
 map-flat F (x ∷ xs) = map-append sum (F x) (flat_map F xs) ∙ ap (λ s. map sum (F x) ++ s) (map-flat F xs)
 

@@ -7,7 +7,7 @@ use Rattle.query_types.specs.declared.types.Query.{Query}
 use Rattle.schema_types.specs.declared.types.Schema.{Schema}
 use Rattle.schema_types.specs.declared.types.Table.{Table}
 use Rattle.sql_meaning.specs.Tables.{cells_of}
-use Rattle.needed_pairs.specs.Needs.{table_of}
+use Rattle.filed_stats.specs.Needs.{table_of}
 use Rattle.filed_stats.specs.Databases.{IsOverSchema}
 use Rattle.filed_stats.specs.Files.{no_table}
 use Rattle.filed_stats.proofs.SameSections.{kinds_are}

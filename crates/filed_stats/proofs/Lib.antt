@@ -1,6 +1,9 @@
+pub mod Adding
+pub mod SmallNeeds
 pub mod Read
 pub mod Walks
 pub mod Finding
+pub mod Leaves
 pub mod Made
 pub mod SameValues
 pub mod SameSections

@@ -4,8 +4,8 @@ use Rattle.std.specs.List.{All, AllByRecursion, AllPairs, cons_option, filter, f
 use Rattle.std.proofs.lemmas.Bool.{cond_both}
 use Rattle.std.proofs.lemmas.List.Elements.{All-from_recursion}
 use Rattle.table_stats.proofs.FewerRows.{all_in_range}
-use Rattle.needed_pairs.specs.declared.pairs.ColumnPair.{ColumnPair}
-use Rattle.needed_pairs.specs.Pairs.{is_pair}
+use Rattle.filed_stats.specs.declared.column_pairs.ColumnPair.{ColumnPair}
+use Rattle.filed_stats.specs.ColumnPairs.{is_pair}
 use Rattle.filed_stats.specs.Files.{for_each_pair, joined_with}
 
 -- each stands so to all that follow

@@ -51,7 +51,7 @@ back (values.Int number) = refl
 back (values.Text text) = refl
 
 -- what holds of each pair of different places is carried by a map
-pairs_mapped : {X Y : Type 0} (R : X → X → Type 0) (S : Y → Y → Type 0) (f : X → Y) (xs : List X) (d : X) → AllPairs R xs
+pub pairs_mapped : {X Y : Type 0} (R : X → X → Type 0) (S : Y → Y → Type 0) (f : X → Y) (xs : List X) (d : X) → AllPairs R xs
     → ((i j : ℕ) → i < j → j < length xs → R (get_or xs i d) (get_or xs j d) → S (f (get_or xs i d)) (f (get_or xs j d))) → AllPairs S (map f xs)
 pairs_mapped R S f xs d all each i j e before low =
     let within : j < length xs = omega (arith, low, length-map xs f) in

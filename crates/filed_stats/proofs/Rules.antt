@@ -27,8 +27,8 @@ use Rattle.stats_file.specs.declared.types.Pair.{Pair}
 use Rattle.stats_file.specs.declared.types.StatsFile.{StatsFile}
 use Rattle.stats_file.specs.declared.types.TableStats.{TableStats}
 use Rattle.stats_file.specs.Rules.{Agree, CountTheSame, IsPair, IsSection, KeepsRules, StandsBefore}
-use Rattle.needed_pairs.specs.declared.pairs.ColumnPair.{ColumnPair}
-use Rattle.needed_pairs.specs.Needs.{needed_of_table, table_of}
+use Rattle.filed_stats.specs.declared.column_pairs.ColumnPair.{ColumnPair}
+use Rattle.filed_stats.specs.Needs.{needed_of_table, table_of}
 use Rattle.filed_stats.specs.Databases.{IsOverSchema, section_of_cells, sections_of_cells}
 use Rattle.filed_stats.specs.Files.{file_of_query, first_entry, for_each_pair, for_each_table, section_of_table, table_at}
 use Rattle.filed_stats.specs.Pairs.{datum_of_cell, pair_in_cells}
@@ -54,7 +54,7 @@ module _ (texts : List (List ℕ)) (differ : HaveDifferentCharacters texts) (utf
   kind_is column low =
       sym (ap (λ s. get_or s column kind.Int) of.kinds ∙ get_or-map (λ (c : Column). c.kind) table.columns column no_column kind.Int (omega (arith, low, as_many)))
 
-  pair_kept : (filter joined : ℕ) → filter < length cells.kinds → joined < length cells.kinds → IsPair table cells.rows (pair_in_cells texts cells accuracy filter joined)
+  pub pair_kept : (filter joined : ℕ) → filter < length cells.kinds → joined < length cells.kinds → IsPair table cells.rows (pair_in_cells texts cells accuracy filter joined)
   pair_kept filter joined has_filter has_joined =
       let one = column_there filter has_filter in
       let other = column_there joined has_joined in
@@ -79,7 +79,7 @@ module _ (texts : List (List ℕ)) (differ : HaveDifferentCharacters texts) (utf
       ((columns_are (cells_of_column cells filter) (cells_of_column cells joined) (as_high filter joined has_filter has_joined)).0
       ∙ sym (columns_are (cells_of_column cells filter) (cells_of_column cells also) (as_high filter also has_filter has_also)).0) filter joined filter also
 
-  agree : (filter joined other also : ℕ) → filter < length cells.kinds → joined < length cells.kinds → other < length cells.kinds → also < length cells.kinds
+  pub agree : (filter joined other also : ℕ) → filter < length cells.kinds → joined < length cells.kinds → other < length cells.kinds → also < length cells.kinds
       → Agree (pair_in_cells texts cells accuracy filter joined) (pair_in_cells texts cells accuracy other also)
   agree filter joined other also has_filter has_joined has_other has_also = record {
     joined = λ same. same_whole filter joined other has_filter has_joined has_other ∙ ap (λ j. (pair_in_cells texts cells accuracy other j).whole) same;
@@ -117,7 +117,7 @@ module _ (schema : Schema) (query : Query) (db : Database) (over : IsOverSchema 
       let of : AreCellsOf (table_at schema table) db.pool cells = subst (λ t. AreCellsOf (table_at schema t) db.pool cells) is (over.of.cells entry low) in record {
         table = table_at schema table;
         table_is = slice_get-get_or schema.tables table (record { name = []; columns = []; keys = []; references = [] }) within;
-        rows = omega (arith, over.of.few_rows entry low, rows_are db entry);
+        rows = omega (arith, over.of.database.few_rows entry low, rows_are db entry);
         pairs = all_kept db.pool over.differ over.texts (table_at schema table) cells of accuracy (needed_of_table query table);
         order = in_order db.pool over.differ over.texts (table_at schema table) cells of accuracy (needed_of_table query table);
         agree = all_agree db.pool over.differ over.texts (table_at schema table) cells of accuracy (needed_of_table query table);

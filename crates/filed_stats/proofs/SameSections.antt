@@ -17,9 +17,9 @@ use Rattle.stats_file.specs.declared.types.Pair.{Pair}
 use Rattle.stats_file.specs.declared.types.TableStats.{TableStats}
 use Rattle.table_stats.specs.Columns.{column_values}
 use Rattle.table_stats.proofs.DatabaseColumns.{column_is, values_are}
-use Rattle.needed_pairs.specs.declared.pairs.ColumnPair.{ColumnPair}
-use Rattle.needed_pairs.specs.Pairs.{is_pair}
-use Rattle.needed_pairs.specs.Needs.{needed_of_table, table_of}
+use Rattle.filed_stats.specs.declared.column_pairs.ColumnPair.{ColumnPair}
+use Rattle.filed_stats.specs.ColumnPairs.{is_pair}
+use Rattle.filed_stats.specs.Needs.{needed_of_table, table_of}
 use Rattle.filed_stats.specs.Databases.{IsOverSchema, section_of_cells, sections_of_cells}
 use Rattle.filed_stats.specs.Files.{column_count, first_entry, for_each_pair, for_each_table, joined_with, section_of_table, table_at}
 use Rattle.filed_stats.specs.Pairs.{pair_in_cells, pair_in_table, pair_of_values}

@@ -18,9 +18,9 @@ use Rattle.stats_file.specs.declared.types.TableStats.{TableStats}
 use Rattle.table_stats.specs.Columns.{column_values}
 use Rattle.table_stats.specs.Keys.{TellsValues}
 use Rattle.table_stats.proofs.FewerRows.{all_in_range}
-use Rattle.needed_pairs.specs.declared.pairs.ColumnPair.{ColumnPair}
-use Rattle.needed_pairs.specs.Pairs.{is_pair}
-use Rattle.needed_pairs.specs.Needs.{needed_of_table, table_of}
+use Rattle.filed_stats.specs.declared.column_pairs.ColumnPair.{ColumnPair}
+use Rattle.filed_stats.specs.ColumnPairs.{is_pair}
+use Rattle.filed_stats.specs.Needs.{needed_of_table, table_of}
 use Rattle.filed_stats.specs.Databases.{IsOverSchema}
 use Rattle.filed_stats.specs.Files.{column_count, file_of_query, first_entry, for_each_pair, joined_with, section_of_table}
 use Rattle.filed_stats.specs.Pairs.{pair_in_table, pair_of_values}

@@ -35,7 +35,7 @@ use Rattle.stats_file.specs.declared.types.Pair.{Pair}
 use Rattle.table_stats.specs.Columns.{column_values, first_row, numbered, paired, row_le, value_of_row}
 use Rattle.table_stats.specs.Keys.{TellsValues}
 use Rattle.table_stats.specs.Statistics.{column_lists}
-use Rattle.table_stats.proofs.ColumnRows.{filter_numbers, height, number_at, number_below, number_has, numbers_are, pairs_are, same_number}
+use Rattle.table_stats.proofs.ColumnRows.{height, number_at, number_below, number_has, numbers_are, same_number}
 use Rattle.table_stats.proofs.Dominating.{lists_stand}
 use Rattle.table_stats.proofs.EqualValues.{alike_le, equal_back, equal_chain, equal_itself, is_equal}
 use Rattle.table_stats.proofs.FewerRows.{PassesBoth, all_in_range, fewer_dominated}
@@ -82,6 +82,13 @@ pick true true any d list other others found rest same is later = is refl
 pick false false any d list other others found rest same is later = later
 pick true false any d list other others found rest same is later = absurd (false≢true (sym same))
 pick false true any d list other others found rest same is later = absurd (false≢true same)
+
+-- the rows of two columns, by the numbers of their values
+pub numbered_pairs : (tables : Tables) (entry filter joined : ℕ) → paired (column_values tables entry filter) (column_values tables entry joined)
+    ≡ zip (map (number_at tables entry filter) (range_with_len 0 (row_counts tables entry))) (map (number_at tables entry joined) (range_with_len 0 (row_counts tables entry)))
+numbered_pairs tables entry filter joined =
+    ap (λ (s : List ℕ). zip s (numbered (column_values tables entry joined))) (numbers_are tables entry filter)
+    ∙ ap (λ (s : List ℕ). zip (map (number_at tables entry filter) (range_with_len 0 (row_counts tables entry))) s) (numbers_are tables entry joined)
 
 module _ (tables : Tables) (accuracy entry filter_column joined : ℕ) where
   abbrev filters : List Value
@@ -197,7 +204,7 @@ module _ (tables : Tables) (accuracy entry filter_column joined : ℕ) where
   node_dominates size leaf =
       let passes : List ℕ → ℕ → Bool = λ numbers n. in_node size leaf (leaf_of le numbers n) in
       subst (DominatesKeys (compressed_degrees accuracy (keys_where (passes (filter_values pairs)) pairs)))
-      (ap (keys_where (passes (filter_values pairs))) (pairs_are tables entry filter_column joined)
+      (ap (keys_where (passes (filter_values pairs))) (numbered_pairs tables entry filter_column joined)
       ∙ of_rows (number_at tables entry filter_column) (number_at tables entry joined) rows
       (λ row. passes (filter_values pairs) (number_at tables entry filter_column row)) (passes (filter_values pairs)) (λ row has. refl)
       ∙ ap (λ (numbers : List ℕ). map (number_at tables entry joined) (filter (λ row. passes numbers (number_at tables entry filter_column row)) rows)) firsts)

@@ -1,7 +1,6 @@
 -- A query's database as its file of statistics is made from it.
-use Rattle.std.specs.Prelude.{ℕ, ◌<◌, ◌≤◌, All, List, length}
+use Rattle.std.specs.Prelude.{ℕ, ◌<◌, All, List, length}
 use Rattle.std.specs.Str.{IsUtf8}
-use Rattle.limits.specs.Profile.{most_rows}
 use Rattle.csv_tables.specs.Cells.{AreCellsOf}
 use Rattle.csv_tables.specs.declared.types.Database.{Database}
 use Rattle.level_bounds.specs.Keys.{HaveDifferentCharacters}
@@ -10,19 +9,18 @@ use Rattle.query_types.specs.declared.types.Query.{Query}
 use Rattle.schema_types.specs.Validity.{IsValid}
 use Rattle.schema_types.specs.declared.types.Schema.{Schema}
 use Rattle.sql_meaning.specs.Databases.{IsDatabaseOf}
-use Rattle.sql_meaning.specs.Tables.{cells_of, row_counts, tables_of}
+use Rattle.sql_meaning.specs.Tables.{cells_of}
 use Rattle.stats_file.specs.declared.types.TableStats.{TableStats}
-use Rattle.needed_pairs.specs.Needs.{needed_of_table, table_of}
+use Rattle.filed_stats.specs.Needs.{needed_of_table, table_of}
 use Rattle.filed_stats.specs.Files.{for_each_pair, for_each_table, table_at}
 use Rattle.filed_stats.specs.Pairs.{pair_in_cells}
 
--- the query is of the schema, and the database of the query; each entry has the cells of its table, of few rows
+-- the query is of the schema, and the database of the query; each entry has the cells of its table
 pub record IsReadOver (schema : Schema) (query : Query) (db : Database) : Type 0 where
   pub schema_is : IsValid schema
   pub query_is : IsOf schema query
   pub database : IsDatabaseOf query db
   pub cells : (entry : ℕ) → entry < length query.from → AreCellsOf (table_at schema (table_of query entry)) db.pool (cells_of db entry)
-  pub few_rows : (entry : ℕ) → entry < length query.from → row_counts (tables_of db) entry ≤ most_rows
 
 -- and the texts are UTF-8, no two of the same characters, as those of every pool are
 pub record IsOverSchema (schema : Schema) (query : Query) (db : Database) : Type 0 where

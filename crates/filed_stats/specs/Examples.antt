@@ -1,6 +1,12 @@
 -- Small queries over small tables, for worked examples.
-use Rattle.std.specs.Prelude.{ℕ, List, [], ◌∷◌, codes, map, pos}
+use Rattle.std.specs.Prelude.{ℕ, List, [], ◌∷◌, ◌++◌, codes, map, pos}
 use Rattle.csv_tables.specs.Values.{Int}
+use Rattle.query_grammar.specs.declared.tree.Op.TheVariants as op
+use Rattle.query_types.specs.declared.types.Cond.{Cond, Compare}
+use Rattle.query_types.specs.declared.types.Operand.TheVariants as operand
+use Rattle.query_types.specs.declared.types.Query.{Query}
+use Rattle.join_graph.specs.Conjuncts.{column_operand}
+use Rattle.query_bounds.specs.Examples.{pair}
 use Rattle.schema_types.specs.declared.types.Kind.TheVariants as kind
 use Rattle.schema_types.specs.declared.types.Schema.{Schema}
 use Rattle.schema_types.specs.declared.types.Table.{Table}
@@ -21,3 +27,21 @@ schema_of_one = record { tables = numbers_of (codes "K") ∷ [] }
 -- every entry has these numbers as rows
 abbrev pub rows_of : List ℕ → Tables
 rows_of column entry = map (λ n. Int (pos n) ∷ []) column
+
+-- ---- queries
+
+-- R.X = S.X, and S.Y > 3 AND S.Y < 9
+abbrev pub filtered_pair : Query
+filtered_pair = record {
+  from = pair.from;
+  conjuncts = pair.conjuncts ++ Compare op.Gt (column_operand 1 1) (operand.Int (pos 3)) ∷ Compare op.Lt (column_operand 1 1) (operand.Int (pos 9)) ∷ [];
+  select = pair.select;
+}
+
+-- SELECT X FROM K WHERE X = 99
+abbrev pub one_value : Query
+one_value = record {
+  from = record { table = 0; alias = 75 ∷ [] } ∷ [];
+  conjuncts = Compare op.Eq (column_operand 0 0) (operand.Int (pos 99)) ∷ [];
+  select = record { column = record { from = 0; column = 0 }; name = 88 ∷ [] } ∷ [];
+}

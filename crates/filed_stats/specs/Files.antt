@@ -7,9 +7,9 @@ use Rattle.schema_types.specs.declared.types.Table.{Table}
 use Rattle.sql_meaning.specs.Tables.{Tables, row_counts}
 use Rattle.stats_file.specs.declared.types.StatsFile.{StatsFile}
 use Rattle.stats_file.specs.declared.types.TableStats.{TableStats}
-use Rattle.needed_pairs.specs.declared.pairs.ColumnPair.{ColumnPair}
-use Rattle.needed_pairs.specs.Needs.{needed_of_table, table_of}
-use Rattle.needed_pairs.specs.Pairs.{is_pair}
+use Rattle.filed_stats.specs.declared.column_pairs.ColumnPair.{ColumnPair}
+use Rattle.filed_stats.specs.Needs.{needed_of_table, table_of}
+use Rattle.filed_stats.specs.ColumnPairs.{is_pair}
 use Rattle.filed_stats.specs.Pairs.{pair_in_table}
 
 -- ---- of a table

@@ -1,3 +1,6 @@
+pub mod ColumnPairs
+pub mod Columns
+pub mod Needs
 pub mod Data
 pub mod Pairs
 pub mod Files

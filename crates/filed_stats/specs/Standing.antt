@@ -17,7 +17,7 @@ use Rattle.stats_file.specs.declared.types.Pair.{Pair}
 use Rattle.stats_file.specs.declared.types.StatsFile.{StatsFile}
 use Rattle.stats_file.specs.declared.types.TableStats.{TableStats}
 use Rattle.table_stats.specs.Keys.{TellsValues}
-use Rattle.needed_pairs.specs.Needs.{table_of}
+use Rattle.filed_stats.specs.Needs.{table_of}
 use Rattle.filed_stats.specs.Data.{value_of}
 
 -- ---- what a pair answers

@@ -1,13 +1,26 @@
-//! Files of small queries, as theorems by computation.
+//! What small queries need, and their files, as theorems by computation.
 ghost use Rattle.std.specs.Prelude.{◌≡◌, ◌∷◌, [], None, Some, length, map, pos};
 ghost use Rattle.csv_tables.specs.Values.{Int};
 ghost use Rattle.query_bounds.specs.Examples.{pair};
 ghost use Rattle.stats_file.specs.declared.types.Datum.TheVariants as datum;
-ghost use Rattle.needed_pairs.specs.Examples.{one_value};
-ghost use Rattle.filed_stats.specs.Examples.{rows_of, schema_of_one, schema_of_pair};
+ghost use Rattle.filed_stats.specs.ColumnPairs.{column_pair, pairs_between};
+ghost use Rattle.filed_stats.specs.Examples.{filtered_pair, one_value, rows_of, schema_of_one, schema_of_pair};
 ghost use Rattle.filed_stats.specs.Files.{file_of_query};
+ghost use Rattle.filed_stats.specs.Needs.{needed, needed_of_table};
 ghost use Rattle.filed_stats.specs.Pairs.{pair_in_table};
 ghost use Rattle.filed_stats.specs.Standing.{leaf_of_value, list_between, list_of_value};
+
+/// Two tables joined by X; the same where S.Y is compared, twice; one table of which X is compared; and both kinds of columns.
+pub fn small_needs()
+    ensures joined { needed pair 0 ≡ column_pair 0 0 ∷ [] }
+    ensures filtered { needed filtered_pair 1 ≡ column_pair 1 0 ∷ [] }
+    ensures beside { needed filtered_pair 0 ≡ column_pair 0 0 ∷ [] }
+    ensures of_table { needed_of_table filtered_pair 1 ≡ column_pair 1 0 ∷ [] }
+    ensures compared { needed one_value 0 ≡ column_pair 0 0 ∷ [] }
+    ensures neither { pairs_between [] [] ≡ [] }
+    ensures both { pairs_between (2 ∷ 1 ∷ []) (0 ∷ 3 ∷ [])
+        ≡ column_pair 2 0 ∷ column_pair 2 3 ∷ column_pair 1 0 ∷ column_pair 1 3 ∷ [] }
+{}
 
 /// X of 1, 1, 1, 2, 2, 3 with itself: the lists of all rows, of the frequent values and of the rest; the leaf of 2; and what is answered for
 /// a value, for one that is nowhere, and for a range.

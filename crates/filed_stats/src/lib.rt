@@ -1,24 +1,32 @@
-//! The file of statistics of a query: for each of its tables the number of rows, and for each pair of columns that the query needs all
-//! lists.
+//! Which pairs of a filter column and a joined column a query needs statistics of, and the file of these statistics: for each of its tables
+//! the number of rows, and for each needed pair all lists.
 //!
 //! In: a query over its schema, and its database. Out: a `StatsFile`, whose text `write_stats` of stats_file writes. A filter column is
 //! sorted once for all joined columns with which it is needed.
 //!
-//! Callers cite `file_of_query` (in `specs/Files.antt`) for the file, and `StandsFor` (in `specs/Standing.antt`) for when a file stands for
-//! tables.
+//! Callers cite `needs_of`, `pairs_of` and `needed` (in `specs/Needs.antt`) for what an entry needs, `file_of_query` (in `specs/Files.antt`)
+//! for the file, and `StandsFor` (in `specs/Standing.antt`) for when a file stands for tables.
 //!
 //! ```text
+//! let needs = needs_of(alloc, steps, equalities, 0)?;      // needs ≡ needs_of query 0
+//! needs.add_pairs(&mut pairs)?;                            // pairs ≡ pairs_of needs
 //! let file = stats_of(alloc, &schema, &query, &db, 1)?;    // file ≡ file_of_query schema query (tables_of db) 1
 //! write_stats(&file, &schema, sink)?;
 //! ```
 #![tactic(auto)]
 
+mod column_pairs;
 mod data;
 mod examples;
 mod files;
+mod filters;
 pub mod laws;
+mod needs;
 mod pairs;
 mod sections;
 
-pub use examples::small_files;
+pub use column_pairs::ColumnPair;
+pub use examples::{small_files, small_needs};
 pub use files::stats_of;
+pub use needs::{Needs, needs_of};
+pub use pairs::pair_of_columns;

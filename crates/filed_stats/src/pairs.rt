@@ -2,17 +2,17 @@
 ghost use Rattle.std.specs.Prelude.{◌≡◌, ◌++◌, ◌<◌, ◌≤◌, ◌^◌, All, IfOk, OnOk, length, map};
 ghost use Rattle.std.specs.List.{filter, list_any, range_with_len};
 ghost use Rattle.gathered_stats.specs.Filters.{IsColumnIn};
-ghost use Rattle.needed_pairs.specs.Pairs.{is_pair};
+ghost use Rattle.filed_stats.specs.ColumnPairs.{is_pair};
 ghost use Rattle.sql_meaning.specs.Databases.{AreCells};
 ghost use Rattle.filed_stats.specs.Files.{joined_with};
 ghost use Rattle.filed_stats.specs.Pairs.{pair_in_cells};
 
+use crate::column_pairs::ColumnPair;
 use crate::data::{cut_values, frequent_values};
 use base_io::{NoMemory, Seq};
 use column_stats::{ColumnStats, gather_sorted};
 use cond_stats::FilterColumn;
 use csv_tables::{Cells, Pool};
-use needed_pairs::ColumnPair;
 use stats_file::Pair;
 use std::alloc::Global;
 
@@ -60,6 +60,28 @@ fn pair_of(
         cuts,
         nodes,
     })
+}
+
+/// All statistics of two columns of a table. The filter column is sorted for them alone.
+pub fn pair_of_columns(
+    alloc: Global,
+    pool: &Pool,
+    cells: &Cells,
+    filter: u32,
+    joined: u32,
+    accuracy: u8,
+) -> Result<Pair, NoMemory>
+    requires cells { AreCells pool.now cells.now }
+    requires filter { filter < length cells.now.kinds }
+    requires joined { joined < length cells.now.kinds }
+    requires accuracy { (0 < accuracy) × (accuracy ≤ 64) }
+    ensures { IfOk result (λ pair. pair ≡ pair_in_cells pool.now cells.now accuracy filter joined) }
+{
+    let _rows = row_count(cells);
+    let kind = *cells.kinds.get(filter as usize);
+    let values = cells.columns.get(filter as usize).as_slice();
+    let sorted = FilterColumn::new(alloc, pool, kind, values)?;
+    pair_of(alloc, pool, cells, &sorted, filter, joined, accuracy)
 }
 
 // Whether a pair is there.

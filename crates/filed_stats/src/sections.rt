@@ -1,18 +1,19 @@
 //! The section of a table.
 ghost use Rattle.std.specs.Prelude.{◌≡◌, ◌++◌, ◌<◌, ◌≤◌, ◌^◌, IfOk, OnOk, length};
 ghost use Rattle.join_graph.specs.Conjuncts.{equalities_of, local_of};
-ghost use Rattle.needed_pairs.specs.Needs.{needed, needed_of_table, table_of};
+ghost use Rattle.filed_stats.specs.Needs.{needed, needed_of_table, table_of};
 ghost use Rattle.sql_meaning.specs.Databases.{AreCells, IsDatabaseOf};
 ghost use Rattle.sql_meaning.specs.Tables.{cells_of};
 ghost use Rattle.filed_stats.specs.Databases.{section_of_cells};
 ghost use Rattle.filed_stats.specs.Files.{for_each_pair};
 ghost use Rattle.filed_stats.specs.Pairs.{pair_in_cells};
 
+use crate::column_pairs::ColumnPair;
+use crate::needs::needs_of;
 use crate::pairs::{add_pairs, row_count};
 use base_io::{NoMemory, Seq};
 use csv_tables::{Cells, Database, Pool};
 use join_graph::Parts;
-use needed_pairs::{ColumnPair, needs_of};
 use predicate_bounds::read_steps;
 use query_types::Query;
 use stats_file::{Pair, TableStats};

@@ -1,13 +1,14 @@
 -- The columns of an entry that statistics are asked for.
 use Rattle.std.proofs.Common.{◌≡◌, ◌⊎◌, ℕ, ◌+◌, ◌<◌, Bool, true, false, not, ◌&&◌, cond, eqb, List, [], ◌∷◌, ◌++◌, map, length, take, get_or, Some, refl, ap, sym, ◌∙◌, subst, inl, inr, arith}
 use Rattle.std.specs.Prelude.{if◌then◌else◌}
-use Rattle.std.specs.List.{Contains, filter}
+use Rattle.std.specs.List.{All, Contains, filter}
 use Rattle.std.proofs.lemmas.Bool.{cases_Bool, cases_eq, eq-eqb, eqb-true, ne_eqb}
 use Rattle.std.proofs.lemmas.List.{append-nil, map-append}
-use Rattle.std.proofs.lemmas.List.Elements.{All-contains, filter-append}
+use Rattle.std.proofs.lemmas.List.Elements.{All-contains, Contains-get_or, filter-append}
 use Rattle.berge_tree.specs.declared.edges.Edge.{Edge}
 use Rattle.berge_tree.specs.declared.edges.Place.{Place}
 use Rattle.berge_tree.specs.Equalities.{places_of}
+use Rattle.csv_tables.specs.declared.types.Cells.{Cells}
 use Rattle.csv_tables.specs.declared.types.Database.{Database}
 use Rattle.degree_lists.proofs.OneMoreKey.{different-push}
 use Rattle.degree_sequences.specs.Degrees.{different}
@@ -23,6 +24,7 @@ use Rattle.query_types.specs.declared.types.Cond.{Cond, every_here-Cond}
 use Rattle.query_types.specs.declared.types.Cond.TheViews.{out-Cond}
 use Rattle.query_types.specs.declared.types.Query.{Query}
 use Rattle.sql_meaning.specs.Databases.{CanAskLayer, CanCompare, IsAskable, IsColumnOf, IsDatabaseOf}
+use Rattle.sql_meaning.specs.Tables.{cells_of}
 use Rattle.gathered_stats.specs.Asked.{asked_columns, joined_columns, no_column, or_no_column, with_place}
 
 -- ---- one place more
@@ -86,13 +88,25 @@ or_more : (L : List ℕ) (x : ℕ) → Contains L x → Contains (or_no_column L
 or_more [] x k = absurd (in_none x k)
 or_more (y ∷ L) x k = k
 
--- each column of an entry that an equality names is asked for
-pub place_asked : (es : List Edge) (p : Place) → Contains (places_of es) p → Contains (asked_columns p.entry es) p.column
-place_asked es p k =
-    or_more (joined_columns p.entry es) p.column (in_different (columns_at p.entry (places_of es)) p.column
-    (in_map (λ (q : Place). q.column) (filter (is_of p.entry) (places_of es)) p (in_filter (is_of p.entry) (places_of es) p k (eq-eqb p.entry p.entry refl))))
+-- each column of an entry that an equality names is one of its joined columns, and so it is asked for
+pub place_joined : (es : List Edge) (p : Place) → Contains (places_of es) p → Contains (joined_columns p.entry es) p.column
+place_joined es p k =
+    in_different (columns_at p.entry (places_of es)) p.column
+    (in_map (λ (q : Place). q.column) (filter (is_of p.entry) (places_of es)) p (in_filter (is_of p.entry) (places_of es) p k (eq-eqb p.entry p.entry refl)))
 
--- a column that is asked for is one that an equality names, or one that no table has
+pub place_asked : (es : List Edge) (p : Place) → Contains (places_of es) p → Contains (asked_columns p.entry es) p.column
+place_asked es p k = or_more (joined_columns p.entry es) p.column (place_joined es p k)
+
+-- a joined column is one that an equality names
+pub joined_place : (entry : ℕ) (es : List Edge) (column : ℕ) → Contains (joined_columns entry es) column
+    → (p : Place) × Contains (places_of es) p × (p.entry ≡ entry) × (column ≡ p.column)
+joined_place entry es column k =
+    let at : (p : Place) × Contains (filter (is_of entry) (places_of es)) p × (column ≡ p.column) =
+    from_map (λ (q : Place). q.column) (filter (is_of entry) (places_of es)) column (from_different (columns_at entry (places_of es)) column k) in
+    let kept : Contains (places_of es) at.0 × (is_of entry at.0 ≡ true) = from_filter (is_of entry) (places_of es) at.0 at.1 in
+    (at.0, kept.0, eqb-true at.0.entry entry kept.1, at.2)
+
+-- a column that is asked for is a joined one, or one that no table has
 pub asked_place : (entry : ℕ) (es : List Edge) (column : ℕ) → Contains (asked_columns entry es) column
     → ((p : Place) × Contains (places_of es) p × (p.entry ≡ entry) × (column ≡ p.column)) ⊎ (column ≡ no_column)
 asked_place entry es column k = by (joined_columns entry es) refl k
@@ -100,11 +114,7 @@ asked_place entry es column k = by (joined_columns entry es) refl k
     by : (L : List ℕ) → L ≡ joined_columns entry es → Contains (or_no_column L) column
         → ((p : Place) × Contains (places_of es) p × (p.entry ≡ entry) × (column ≡ p.column)) ⊎ (column ≡ no_column)
     by [] is k = elim (one_in no_column [] column k) [ inl later ↦ absurd (in_none column later) | inr first ↦ inr first ]
-    by (c ∷ L) is k =
-        let named : Contains (columns_at entry (places_of es)) column = from_different (columns_at entry (places_of es)) column (subst (λ (s : List ℕ). Contains s column) is k) in
-        let at : (p : Place) × Contains (filter (is_of entry) (places_of es)) p × (column ≡ p.column) = from_map (λ (q : Place). q.column) (filter (is_of entry) (places_of es)) column named in
-        let kept : Contains (places_of es) at.0 × (is_of entry at.0 ≡ true) = from_filter (is_of entry) (places_of es) at.0 at.1 in
-        inl (at.0, kept.0, eqb-true at.0.entry entry kept.1, at.2)
+    by (c ∷ L) is k = inl (joined_place entry es column (subst (λ (s : List ℕ). Contains s column) is k))
 
 pub some_asked : (entry : ℕ) (es : List Edge) → 0 < length (asked_columns entry es)
 some_asked entry es = by (joined_columns entry es)
@@ -139,3 +149,18 @@ place_exists query db of p k =
       | inl is ↦ subst (λ (q : Place). IsColumnOf db (ref_of q)) (sym (is ∙ ap (λ (e : Edge). e.left) j.joins)) can.left_kind.exists
       | inr is ↦ subst (λ (q : Place). IsColumnOf db (ref_of q)) (sym (is ∙ ap (λ (e : Edge). e.right) j.joins)) can.right_kind.exists
     ]
+
+-- each joined column is one of the entry's table
+pub joined_exist : (query : Query) (db : Database) → IsDatabaseOf query db → (entry : ℕ)
+    → All (λ column. column < length (cells_of db entry).kinds) (joined_columns entry (equalities_of query))
+joined_exist query db of entry i d low =
+    let column : ℕ = get_or (joined_columns entry (equalities_of query)) i d in
+    let at = joined_place entry (equalities_of query) column (Contains-get_or (joined_columns entry (equalities_of query)) i d low) in
+    subst (λ (c : ℕ). c < length (cells_of db entry).kinds) (sym at.3)
+    (subst (λ (e : ℕ). at.0.column < length (cells_of db e).kinds) at.2 (place_exists query db of at.0 at.1).exists)
+
+pub columns_exist : (query : Query) (db : Database) → IsDatabaseOf query db → (entry : ℕ) (cells : Cells) (es es_read : List Edge) (columns columns_read : List ℕ) → cells ≡ cells_of db entry
+    → es ≡ equalities_of query → es_read ≡ es → columns ≡ joined_columns entry es_read → columns_read ≡ columns → All (λ column. column < length cells.kinds) columns_read
+columns_exist query db of entry cells es es_read columns columns_read is equalities same joined read =
+    subst (λ (s : List ℕ). All (λ column. column < length cells.kinds) s) (sym (read ∙ joined ∙ ap (joined_columns entry) (same ∙ equalities)))
+    (subst (λ (t : Cells). All (λ column. column < length t.kinds) (joined_columns entry (equalities_of query))) (sym is) (joined_exist query db of entry))

@@ -19,10 +19,12 @@
 --   one; it, and the loop's invariant "none before", closed without an answer. Three facts needed a proof: one list more (`one_kept`), that
 --   what is kept stays right (`all_kept`), and that a value which isn't frequent has the rest list (`rest_of_value`).
 
+pub mod Seeing
 pub mod Standing
 pub mod Sizes
 pub mod Known
 pub mod Serving
+pub mod Picking
 pub mod Asking
 pub mod Kept
 pub mod Joined

@@ -10,6 +10,7 @@ use Rattle.gathered_stats.specs.declared.entry_table.EntryTable.{EntryTable}
 use Rattle.gathered_stats.specs.declared.filters.Filter.{Filter}
 use Rattle.gathered_stats.specs.Asked.{column_asked}
 use Rattle.gathered_stats.specs.Columns.{HaveLists, cells_in, kind_in}
+use Rattle.gathered_stats.specs.Seen.{seen}
 
 -- a sorted column is the one of a table with this number
 pub record IsColumnIn (texts : List (List ℕ)) (cells : Cells) (column : ℕ) (sorted : CellColumn) : Type 0 where
@@ -30,11 +31,11 @@ Serve filters step = IfSome (column_asked step) (λ column. is_sorted filters co
 
 -- cells in order, filter columns of this table, and an accuracy from 1 to 64
 pub record IsReady (table : EntryTable) : Type 0 where
-  pub cells : AreCells table.pool.now table.cells.now
-  pub rows : table.cells.now.rows < 2 ^ 32
-  pub filters : All (IsFilterOf table.pool.now table.cells.now) table.filters
+  pub cells : AreCells table.pool.now (seen table)
+  pub rows : (seen table).rows < 2 ^ 32
+  pub filters : All (IsFilterOf table.pool.now (seen table)) table.filters
   pub accuracy : (0 < table.accuracy) × (table.accuracy ≤ 64)
 
 -- keys, one for each row of the table, have these lists
 abbrev pub AreListsOf : EntryTable → List ℕ → ColumnLists → Type 0
-AreListsOf table keys lists = HaveLists table.pool.now table.cells.now table.accuracy keys lists
+AreListsOf table keys lists = HaveLists table.pool.now (seen table) table.accuracy keys lists

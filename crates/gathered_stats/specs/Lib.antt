@@ -1,5 +1,7 @@
 pub mod Statistics
 pub mod Asked
 pub mod Columns
+pub mod Seen
 pub mod Filters
+pub mod Beside
 pub mod Rests

@@ -6,6 +6,7 @@ use Rattle.cond_stats.specs.Lists.{rest}
 use Rattle.gathered_stats.specs.declared.entry_table.EntryTable.{EntryTable}
 use Rattle.gathered_stats.specs.declared.rests.RestList.{RestList}
 use Rattle.gathered_stats.specs.Columns.{cells_in}
+use Rattle.gathered_stats.specs.Seen.{seen}
 
 -- whether a value, by its cell, is one of the frequent ones of a column. A text that the pool doesn't have is none of them
 abbrev pub among_frequent : List ℕ → Option ℕ → Bool
@@ -14,7 +15,7 @@ among_frequent column (Some cell) = list_any (λ other. other == cell) (frequent
 
 -- the rest list of a filter column of a table, for keys
 abbrev pub rest_in : EntryTable → List ℕ → ℕ → List ℕ
-rest_in table keys column = rest table.accuracy (zip (cells_in table.cells.now column) keys)
+rest_in table keys column = rest table.accuracy (zip (cells_in (seen table) column) keys)
 
 -- a list that is kept is the rest list of its filter column
 abbrev pub IsRestOf : EntryTable → List ℕ → RestList → Type 0

@@ -1,15 +1,19 @@
 //! An entry's table, with what its own conjuncts ask for.
-ghost use Rattle.std.specs.Prelude.{◌≡◌};
+ghost use Rattle.std.specs.Prelude.{◌≡◌, ◌<◌, length, slice_index};
+ghost use Rattle.sql_meaning.specs.Tables.{cells_of};
 
 use crate::filters::Filter;
 use base_io::Seq;
-use csv_tables::{Cells, Pool};
+use csv_tables::{Cells, Database, Pool};
 
-/// The table of a FROM entry, the columns that the entry's own conjuncts compare with literals, and the accuracy of lists.
+/// The table of a FROM entry, the columns that the entry's own conjuncts compare with literals, and the accuracy of lists. Of the table the
+/// whole is seen, or the rows of these numbers, one after another.
 #[derive(Drop)]
 pub(crate) struct EntryTable<'a> {
     pub pool: &'a Pool,
     pub cells: &'a Cells,
+    pub whole: bool,
+    pub rows: &'a [u32],
     pub filters: Seq<Filter<'a>>,
     pub accuracy: u8,
 }
@@ -19,4 +23,14 @@ pub(crate) fn row_count(cells: &Cells) -> u32
     ensures { result ≡ cells.now.rows }
 {
     cells.rows
+}
+
+/// The cells of an entry's table.
+pub(crate) fn cells_in_entry<'a>(db: &'a Database, entry: u8) -> &'a Cells
+    requires slot { entry < length db.now.slots }
+    requires cells { slice_index db.now.slots entry < length db.now.cells }
+    ensures { result.now ≡ cells_of db.now entry }
+{
+    let slot = *db.slots.get(usize::from(entry));
+    db.cells.get(slot as usize)
 }

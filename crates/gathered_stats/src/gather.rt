@@ -1,5 +1,5 @@
 //! The statistics of each column, of each entry, and of a query.
-ghost use Rattle.std.specs.Prelude.{◌≡◌, ◌<◌, ◌≤◌, All, length, map, replicate, IfOk};
+ghost use Rattle.std.specs.Prelude.{◌≡◌, ◌<◌, ◌≤◌, All, length, map, replicate, true, IfOk};
 ghost use Rattle.join_graph.specs.Conjuncts.{equalities_of, local_of};
 ghost use Rattle.level_bounds.specs.Keys.{HaveDifferentCharacters};
 ghost use Rattle.query_bounds.specs.Statistics.{Tells};
@@ -7,10 +7,11 @@ ghost use Rattle.sql_meaning.specs.Databases.{IsDatabaseOf};
 ghost use Rattle.sql_meaning.specs.Tables.{tables_of};
 ghost use Rattle.gathered_stats.specs.Asked.{AreStepsOf, IsGathered};
 ghost use Rattle.gathered_stats.specs.Filters.{IsReady, Serve};
+ghost use Rattle.gathered_stats.specs.Seen.{seen};
 ghost use Rattle.gathered_stats.specs.Statistics.{statistics_of};
 
 use crate::columns::asked_columns;
-use crate::entry_table::{EntryTable, row_count};
+use crate::entry_table::{EntryTable, cells_in_entry, row_count};
 use crate::filters::filters_of;
 use base_io::{NoMemory, Seq};
 use csv_tables::{Cells, Database, Pool};
@@ -36,9 +37,10 @@ fn gather_column(
     column: u32,
 ) -> Result<ColumnSteps, NoMemory>
     requires ready { IsReady table.now }
+    requires whole { table.now.whole ≡ true }
     requires served { All (Serve table.now.filters) steps.now }
     ensures column { IfOk result (λ gathered. gathered.column ≡ column) }
-    ensures steps { IfOk result (AreStepsOf table.now.pool.now table.now.cells.now table.now.accuracy steps.now) }
+    ensures steps { IfOk result (AreStepsOf table.now.pool.now (seen table.now) table.now.accuracy steps.now) }
 {
     let at = column as usize;
     if at < table.cells.columns.len() {
@@ -57,10 +59,11 @@ fn gather_columns(
     columns: &[u32],
 ) -> Result<EntryStats, NoMemory>
     requires ready { IsReady table.now }
+    requires whole { table.now.whole ≡ true }
     requires served { All (Serve table.now.filters) steps.now }
     ensures columns { IfOk result (λ stats. map (λ gathered. gathered.column) stats.columns ≡ columns.now) }
     ensures steps { IfOk result (λ stats.
-        All (AreStepsOf table.now.pool.now table.now.cells.now table.now.accuracy steps.now) stats.columns) }
+        All (AreStepsOf table.now.pool.now (seen table.now) table.now.accuracy steps.now) stats.columns) }
 {
     let mut gathered = Seq::new(alloc);
     for column in columns {
@@ -87,12 +90,13 @@ fn gather_entry(
 {
     let steps = read_steps(alloc, query, parts, entry)?;
     let steps = steps.as_slice();
-    let slot = *db.slots.get(usize::from(entry));
-    let cells = db.cells.get(slot as usize);
+    let cells = cells_in_entry(db, entry);
     let _rows = row_count(cells);
     let table = EntryTable {
         pool: &db.pool,
         cells,
+        whole: true,
+        rows: &[],
         filters: filters_of(alloc, &db.pool, cells, steps)?,
         accuracy,
     };

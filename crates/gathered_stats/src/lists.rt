@@ -7,6 +7,7 @@ ghost use Rattle.predicate_bounds.specs.ListRuns.{is_small, listed};
 ghost use Rattle.predicate_bounds.specs.Steps.{range_of, value_of};
 ghost use Rattle.gathered_stats.specs.Filters.{AreListsOf, IsColumnIn, IsReady, Serve, is_sorted};
 ghost use Rattle.gathered_stats.specs.Rests.{IsRestOf, rest_in, with_rest};
+ghost use Rattle.gathered_stats.specs.Seen.{seen};
 
 use crate::entry_table::EntryTable;
 use crate::filters::find;
@@ -28,8 +29,8 @@ impl EntryTable<'_> {
         rests: &mut Seq<RestList>,
     ) -> Result<Pieces, NoMemory>
         requires ready { IsReady self.now }
-        requires keys { length keys.now ≡ self.now.cells.now.rows }
-        requires column { IsColumnIn self.now.pool.now self.now.cells.now column sorted.now }
+        requires keys { length keys.now ≡ (seen self.now).rows }
+        requires column { IsColumnIn self.now.pool.now (seen self.now) column sorted.now }
         requires rests { All (IsRestOf self.now keys.now) rests.old }
         ensures list { IfOk result (λ list. list ≡ rest_in self.now keys.now column) }
         ensures rests { OnOk result (rests.new ≡ with_rest self.now keys.now column rests.old) }
@@ -53,8 +54,8 @@ impl EntryTable<'_> {
         rests: &mut Seq<RestList>,
     ) -> Result<Pieces, NoMemory>
         requires ready { IsReady self.now }
-        requires keys { length keys.now ≡ self.now.cells.now.rows }
-        requires column { IsColumnIn self.now.pool.now self.now.cells.now column sorted.now }
+        requires keys { length keys.now ≡ (seen self.now).rows }
+        requires column { IsColumnIn self.now.pool.now (seen self.now) column sorted.now }
         requires rests { All (IsRestOf self.now keys.now) rests.old }
         ensures list { IfOk result (λ list. list ≡ list_of_value self.now.accuracy (zip sorted.now.cells keys.now) cell) }
         ensures rests { OnOk result (All (IsRestOf self.now keys.now) rests.new) }
@@ -75,7 +76,7 @@ impl EntryTable<'_> {
         rests: &mut Seq<RestList>,
     ) -> Result<Pieces, NoMemory>
         requires ready { IsReady self.now }
-        requires keys { length keys.now ≡ self.now.cells.now.rows }
+        requires keys { length keys.now ≡ (seen self.now).rows }
         requires sorted { is_sorted self.now.filters column ≡ true }
         requires rests { All (IsRestOf self.now keys.now) rests.old }
         ensures list { IfOk result (λ list. (lists : ColumnLists) → AreListsOf self.now keys.now lists
@@ -92,7 +93,7 @@ impl EntryTable<'_> {
     // The list of the rows in a range of a filter column.
     fn list_within(&self, keys: &[u64], range: &Range) -> Result<Pieces, NoMemory>
         requires ready { IsReady self.now }
-        requires keys { length keys.now ≡ self.now.cells.now.rows }
+        requires keys { length keys.now ≡ (seen self.now).rows }
         requires sorted { is_sorted self.now.filters range.now.column ≡ true }
         ensures list { IfOk result (λ list. (lists : ColumnLists) → AreListsOf self.now keys.now lists
             → list ≡ lists.range (range_of range.now)) }
@@ -113,7 +114,7 @@ impl EntryTable<'_> {
         rests: &mut Seq<RestList>,
     ) -> Result<ListStep, NoMemory>
         requires ready { IsReady self.now }
-        requires keys { length keys.now ≡ self.now.cells.now.rows }
+        requires keys { length keys.now ≡ (seen self.now).rows }
         requires whole { whole.now ≡ compressed_degrees self.now.accuracy keys.now }
         requires rows { sum whole.now ≤ 2 ^ 32 }
         requires served { Serve self.now.filters step.now }
@@ -144,7 +145,7 @@ impl EntryTable<'_> {
         steps: &[Step],
     ) -> Result<ColumnSteps, NoMemory>
         requires ready { IsReady self.now }
-        requires keys { length keys.now ≡ self.now.cells.now.rows }
+        requires keys { length keys.now ≡ (seen self.now).rows }
         requires served { All (Serve self.now.filters) steps.now }
         ensures column { IfOk result (λ gathered. gathered.column ≡ column) }
         ensures steps { IfOk result (λ gathered. (lists : ColumnLists)

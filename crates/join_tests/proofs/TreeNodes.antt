@@ -1,9 +1,6 @@
 -- What is joined by a plan has the nodes of its tree.
-use Rattle.std.proofs.Common.{◌≡◌, ℕ, zero, suc, ◌<◌, List, length, sym, subst, arith}
+use Rattle.std.proofs.Common.{◌≡◌, ℕ, ◌<◌, List, length, sym, subst, arith}
 use Rattle.std.specs.List.{AllByRecursion}
-use Rattle.sql_meaning.specs.Examples.{triangle_tables}
-use Rattle.sql_meaning.specs.Tables.{tables_of}
-use Rattle.planned_joins.specs.PlansOf.{HaveFewRows}
 use Rattle.tree_plans.specs.declared.bushy.BushyPlan.{BushyPlan}
 use Rattle.tree_plans.specs.TreePlans.{IsTreePlan}
 use Rattle.tree_rows.specs.Nodes.{node_at, Node}
@@ -22,9 +19,3 @@ has_nodes n plan nodes is count entries = record {
       let there : node < node_count plan = omega (arith, low, count) in
       subst (AllByRecursion (λ entry. entry < n)) (sym (entries node there)) (plan_once n plan node is there).1;
 }
-
-pub triangle_rows : HaveFewRows (tables_of triangle_tables) 3
-triangle_rows zero low = omega arith
-triangle_rows (suc zero) low = omega arith
-triangle_rows (suc (suc zero)) low = omega arith
-triangle_rows (suc (suc (suc entry))) low = absurd (omega arith)

@@ -1,10 +1,7 @@
 //! Join trees: the best one of a query, and the rows of its nodes.
-ghost use Rattle.std.specs.Prelude.{◌≡◌, ℕ, ◌<◌, ◌≤◌, IfOk, length};
+ghost use Rattle.std.specs.Prelude.{◌≡◌, ℕ, ◌<◌, IfOk, length};
 ghost use Rattle.std.specs.List.{AllByRecursion};
-ghost use Rattle.limits.specs.Profile.{most_conjuncts};
 ghost use Rattle.sql_meaning.specs.Databases.{IsDatabaseOf};
-ghost use Rattle.sql_meaning.specs.Tables.{tables_of};
-ghost use Rattle.planned_joins.specs.PlansOf.{HaveFewRows};
 ghost use Rattle.tree_rows.specs.Nodes.{node_at};
 ghost use Rattle.join_tests.specs.Examples.{HasNodes};
 
@@ -51,9 +48,7 @@ struct JoinedTree {
 // Joins the entries of a query by its best tree.
 fn joined(alloc: Global, query: &Query, db: &Database) -> Result<JoinedTree, Failed>
     requires database { IsDatabaseOf query.now db.now }
-    requires few { length query.now.conjuncts ≤ most_conjuncts }
-    requires few_rows { HaveFewRows (tables_of db.now) (length query.now.from) }
-    ensures { IfOk result (λ joined. HasNodes (length query.now.from) joined.done) }
+    ensures { IfOk result (λ joined. HasNodes (length query.now.from) joined.done.nodes) }
 {
     let plan = plan_bushy(alloc, query, db, 1, MOST_ROWS as u64)?;
     let mut lists = reserve_leaves(alloc, &plan, query, db)?;
@@ -65,8 +60,8 @@ fn joined(alloc: Global, query: &Query, db: &Database) -> Result<JoinedTree, Fai
 
 // The rows of a node, one after another: the row number of each entry, and 9 for one that the node hasn't.
 fn rows_of(alloc: Global, done: &BushyDone, node: u8, entries: usize) -> Result<Vec<u32>, Failed>
-    requires node { node < length done.now }
-    requires within { AllByRecursion (λ entry. entry < entries) (node_at done.now node).entries }
+    requires node { node < length done.now.nodes }
+    requires within { AllByRecursion (λ entry. entry < entries) (node_at done.now.nodes node).entries }
 {
     let mut rows = Vec::new(alloc);
     for i in 0..done.len(node) {
@@ -82,7 +77,7 @@ fn join(left: u8, right: u8, bound: u64) -> Join {
 }
 
 fn best_tree(alloc: Global) -> Result<JoinedTree, Failed>
-    ensures { IfOk result (λ joined. HasNodes 3 joined.done) }
+    ensures { IfOk result (λ joined. HasNodes 3 joined.done.nodes) }
 {
     let query = query(alloc)?;
     let db = database(alloc)?;

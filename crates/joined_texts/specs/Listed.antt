@@ -21,7 +21,7 @@ root_of query nodes = node_at nodes (2 * length query.from - 2)
 -- the entries in the order in which their rows stand in a choice, and the choices: those of the last level of an order, or of a node
 abbrev pub choices_listed : Listed → Node
 choices_listed (listed.Last executed order) = record { entries = order.now; rows = rows_at executed.now (length order.now - 1) }
-choices_listed (listed.Node done node) = node_at done.now node
+choices_listed (listed.Node done node) = node_at done.now.nodes node
 
 -- an order with a level for each of its entries
 pub record HasLevels (executed : List Level) (order : List ℕ) : Type 0 where
@@ -32,7 +32,7 @@ pub record HasLevels (executed : List Level) (order : List ℕ) : Type 0 where
 -- the level or the node is there
 abbrev pub IsThere : Listed → Type 0
 IsThere (listed.Last executed order) = HasLevels executed.now order.now
-IsThere (listed.Node done node) = node < length done.now
+IsThere (listed.Node done node) = node < length done.now.nodes
 
 -- the choices are of rows of each entry of a query over its database
 pub record IsListed (query : Query) (db : Database) (it : Listed) : Type 0 where

@@ -8,7 +8,7 @@ ghost use Rattle.printed_texts.specs.Plans.{audit_line, audit_lines, level_audit
 ghost use Rattle.joined_texts.specs.Printed.{level_counts};
 
 use base_io::{Buffer, Failed, Sink};
-use hash_join::Executed;
+use link_index::RowForest;
 use plans::Plan;
 use printed_texts::{alias_at, put_level_bound};
 use query_types::Source;
@@ -46,7 +46,7 @@ fn put_level<N: Sink>(
 
 // A line for each level, along the order.
 fn put_levels<N: Sink>(
-    executed: &Executed,
+    executed: &RowForest,
     sources: &[Source],
     order: &[u8],
     bounds: &[u64],
@@ -73,7 +73,7 @@ fn put_levels<N: Sink>(
 /// and the number of rows that was listed, both in rows. `Failed` comes where the sink failed, and then a prefix
 /// of the text stands.
 pub fn write_audit<N: Sink>(
-    executed: &Executed,
+    executed: &RowForest,
     plan: &Plan,
     sources: &[Source],
     sink: &mut N,

@@ -5,15 +5,15 @@ ghost use Rattle.link_index.specs.Forest.{rows_at, way_to};
 ghost use Rattle.tree_rows.specs.Nodes.{put};
 ghost use Rattle.joined_texts.specs.Listed.{choices_listed, HasLevels, IsThere};
 
-use hash_join::Executed;
 use limits::MOST_ENTRIES;
+use link_index::RowForest;
 use tree_rows::BushyDone;
 
 /// The rows of the last level of an order, or of a node of a join tree.
 #[derive(Clone, Copy)]
 pub(crate) enum Listed<'a> {
     Last {
-        executed: &'a Executed,
+        executed: &'a RowForest,
         order: &'a [u8],
     },
     Node {
@@ -34,7 +34,7 @@ fn place(order: &[u8], choice: &[u32], rows: &mut [u32])
 }
 
 // Writes the row numbers of a row of the last level, each at the place of its entry.
-fn read_last(executed: &Executed, order: &[u8], i: u32, rows: &mut [u32])
+fn read_last(executed: &RowForest, order: &[u8], i: u32, rows: &mut [u32])
     requires levels { HasLevels executed.now order.now }
     requires row { i < length (rows_at executed.now (length order.now - 1)) }
     requires places { AllByRecursion (λ entry. entry < length rows.old) order.now }

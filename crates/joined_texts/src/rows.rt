@@ -16,8 +16,8 @@ ghost use Rattle.joined_texts.specs.Printed.{printed_rows, selected_rows};
 use crate::listed::{Listed, count, read};
 use base_io::{Buffer, Failed, Sink};
 use csv_tables::Database;
-use hash_join::Executed;
 use limits::MOST_ENTRIES;
+use link_index::RowForest;
 use printed_texts::{Line, put_line};
 use query_types::Query;
 use tree_rows::BushyDone;
@@ -82,7 +82,7 @@ fn write_listed<N: Sink>(
 /// of the outputs for each row of the last level, in its order (RFC 4180). `Failed` comes where the sink failed,
 /// and then a prefix of the text stands.
 pub fn write_rows<N: Sink>(
-    executed: &Executed,
+    executed: &RowForest,
     order: &[u8],
     query: &Query,
     db: &Database,
@@ -107,10 +107,10 @@ pub fn write_tree_rows<N: Sink>(
     sink: &mut N,
 ) -> Result<(), Failed>
     requires database { IsDatabaseOf query.now db.now }
-    requires nodes { length done.now + 1 ≡ 2 * length query.now.from }
-    requires entries { IsOrderOf query.now (root_of query.now done.now).entries }
-    requires choices { let root = root_of query.now done.now in All (IsChoiceOf (row_counts (tables_of db.now)) root.entries) root.rows }
-    ensures { let root = root_of query.now done.now in Wrote (growth N.taken N.faults sink.old sink.new)
+    requires nodes { length done.now.nodes + 1 ≡ 2 * length query.now.from }
+    requires entries { IsOrderOf query.now (root_of query.now done.now.nodes).entries }
+    requires choices { let root = root_of query.now done.now.nodes in All (IsChoiceOf (row_counts (tables_of db.now)) root.entries) root.rows }
+    ensures { let root = root_of query.now done.now.nodes in Wrote (growth N.taken N.faults sink.old sink.new)
         (rows_lines query.now.select (selected_rows query.now db.now root.entries root.rows)) result }
 {
     let node = 2 * query.from.len() as u8 - 2;

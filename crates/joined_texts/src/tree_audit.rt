@@ -33,10 +33,10 @@ fn put_nodes<N: Sink>(
     buffer: &mut Buffer,
     sink: &mut N,
 ) -> Result<(), Failed>
-    requires nodes { length done.now ≡ first + length joins.now }
+    requires nodes { length done.now.nodes ≡ first + length joins.now }
     requires few { first + length joins.now ≤ 255 }
     ensures { Put (growth N.taken N.faults sink.old sink.new) buffer.old buffer.new
-        (node_audits first joins.now (node_counts first done.now)) result }
+        (node_audits first joins.now (node_counts first done.now.nodes)) result }
 {
     'nodes: for i in 0..joins.len() {
         let node = first + i as u8;
@@ -54,8 +54,8 @@ pub fn write_tree_audit<N: Sink>(
     sink: &mut N,
 ) -> Result<(), Failed>
     requires plan { IsTreePlan (length plan.now.scans) plan.now }
-    requires nodes { length done.now ≡ length plan.now.scans + length plan.now.joins }
-    ensures { Wrote (growth N.taken N.faults sink.old sink.new) (tree_audits plan.now (node_counts (length plan.now.scans) done.now)) result }
+    requires nodes { length done.now.nodes ≡ length plan.now.scans + length plan.now.joins }
+    ensures { Wrote (growth N.taken N.faults sink.old sink.new) (tree_audits plan.now (node_counts (length plan.now.scans) done.now.nodes)) result }
 {
     let mut buffer = Buffer::new();
     let first = plan.scans.len() as u8;

@@ -1,30 +1,82 @@
-//! The reservation of a small plan, of which tools/memory-bytes counts the requests for memory.
+//! The reservations of two small plans, an order and a join tree, of which tools/memory-bytes counts the requests for memory.
 //!
-//! The word `take-order` has it reserved, and `tell-order`, which is as long, doesn't; so what one asks of the allocator beyond the other is
-//! the reservation. Either way the bytes are told that the plan is to take.
+//! The word `take-order` has the one reserved and `take-trees` the other, and `tell-plans`, which is as long, neither; so what the first two
+//! ask of the allocator beyond the last is the reservation. Either way the bytes are told that each plan is to take.
 #![tactic(auto)]
 
-use base_io::NoMemory;
+ghost use Rattle.std.specs.Prelude.{IfOk, length};
+ghost use Rattle.limits.specs.Profile.{most_rows};
+ghost use Rattle.tree_plans.specs.TreePlans.{IsTreePlan, IsWithin};
+
+use base_io::{NoMemory, Seq};
 use reserve_plan::{plan_memory, reserve, row_buffers};
 use std::alloc::Global;
 use std::{env, io};
+use tree_plans::{BushyPlan, Join};
+use tree_rows::{reserve_bushy, tree_memory};
 
-// How many lists and chains were reserved.
-fn reserved(alloc: Global) -> Result<usize, NoMemory> {
+const JOIN: Join = Join {
+    left: 1,
+    right: 0,
+    bound: 12,
+};
+
+fn out_of_memory(_: NoMemory) -> io::Error {
+    io::Error::from(io::ErrorKind::OutOfMemory)
+}
+
+// How many lists and chains were reserved for the order.
+fn reserved_order(alloc: Global) -> Result<usize, NoMemory> {
     let lists = row_buffers(alloc, &[6, 5])?;
     let reserved = reserve(alloc, &[1, 0], &[6, 5], &[5, 12])?;
     Ok(lists.len().saturating_add(reserved.chains.len()))
 }
 
-fn takes(rt: &HostRuntime) -> io::Result<bool> {
-    Ok(env::args(rt)?.any(|word| word.as_str() == "take-order"))
+// The two entries, joined as a tree.
+fn tree_of_two(alloc: Global) -> Result<BushyPlan, NoMemory>
+    ensures plan { IfOk result (λ plan. IsTreePlan (length plan.scans) plan) }
+    ensures small { IfOk result (IsWithin most_rows) }
+{
+    let mut joins = Seq::new(alloc);
+    joins.push(JOIN)?;
+    let mut scans = Seq::new(alloc);
+    scans.push(6)?;
+    scans.push(5)?;
+    Ok(BushyPlan {
+        joins,
+        scans,
+        cost: 12,
+    })
 }
 
-fn main(rt: HostRuntime) -> io::Result<()> {
-    let bytes = plan_memory(&[1, 0], &[6, 5], &[5, 12]);
-    println!(rt; "order {bytes}")?;
-    let count = if takes(&rt)? {
-        reserved(rt.alloc())
+// How many lists and chains were reserved for the tree.
+fn reserved_tree(alloc: Global, plan: &BushyPlan) -> Result<usize, NoMemory>
+    requires plan { IsTreePlan (length plan.now.scans) plan.now }
+    requires small { IsWithin most_rows plan.now }
+{
+    let lists = row_buffers(alloc, plan.scans.as_slice())?;
+    let reserved = reserve_bushy(alloc, plan)?;
+    Ok(lists.len().saturating_add(reserved.chains.len()))
+}
+
+fn is_asked(rt: &HostRuntime, word: &str) -> io::Result<bool> {
+    Ok(env::args(rt)?.any(|other| other.as_str() == word))
+}
+
+// Tells the bytes of both plans, and reserves the one that is asked for.
+fn tell(rt: &HostRuntime, plan: &BushyPlan) -> io::Result<()>
+    requires plan { IsTreePlan (length plan.now.scans) plan.now }
+    requires small { IsWithin most_rows plan.now }
+{
+    let order = plan_memory(&[1, 0], &[6, 5], &[5, 12]);
+    println!(rt; "order {order}")?;
+    println!(rt; "trees {}", tree_memory(plan))?;
+    let takes_order = is_asked(rt, "take-order")?;
+    let takes_tree = is_asked(rt, "take-trees")?;
+    let count = if takes_order {
+        reserved_order(rt.alloc())
+    } else if takes_tree {
+        reserved_tree(rt.alloc(), plan)
     } else {
         Ok(0)
     };
@@ -33,4 +85,11 @@ fn main(rt: HostRuntime) -> io::Result<()> {
         Err(_) => println!(rt; "no memory")?,
     }
     Ok(())
+}
+
+fn main(rt: HostRuntime) -> io::Result<()> {
+    match tree_of_two(rt.alloc()) {
+        Ok(plan) => tell(&rt, &plan),
+        Err(error) => Err(out_of_memory(error)),
+    }
 }

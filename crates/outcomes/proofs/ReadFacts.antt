@@ -4,7 +4,7 @@ use Rattle.base_io.specs.Causes.{Rose}
 use Rattle.base_io.specs.Files.{Files}
 use Rattle.base_io.specs.Devices.{Reading}
 use Rattle.base_io.proofs.CountFacts.{later_then_rose}
-use Rattle.outcomes.specs.Reads.{◌>>=◌, Ends, Gives, IsOfWhatIsThere, MissesNothing, Reads, Tells}
+use Rattle.outcomes.specs.Reads.{◌>>=◌, Ends, Gives, IsOfWhatIsThere, MissesNothing, Reads, StopsBy}
 use Rattle.outcomes.specs.declared.ending.Ending.{Ending}
 use Rattle.outcomes.specs.declared.ending.Ending.TheVariants as ending
 use Rattle.outcomes.specs.declared.names.FileId.{FileId}
@@ -114,7 +114,7 @@ module _ {A B : Type 0} (store : Reading) (one : OfFiles A) (next : A → Result
     same = h.same;
   }
 
-  pub then_tells : (e : Ending) → Tells (next x) e → Reads store one C (Ok x) → Reads store after D (Err e)
+  pub then_tells : (e : Ending) → StopsBy (next x) e → Reads store one C (Ok x) → Reads store after D (Err e)
   then_tells e tells h = record {
     gives = ends e tells;
     misses = λ files told missed. h.misses files told (misses_first (one files) next missed);
@@ -122,7 +122,7 @@ module _ {A B : Type 0} (store : Reading) (one : OfFiles A) (next : A → Result
     same = h.same;
   }
     where
-      ends : (e : Ending) → Tells (next x) e → Ends store after D e
+      ends : (e : Ending) → StopsBy (next x) e → Ends store after D e
       ends (ending.Refused r) w = ((λ files told. at_ok (one files) next x (h.gives files told) ∙ w.0), (λ none. w.1), w.2)
       ends (ending.Fault file) w = absurd w
       ends ending.NoMemory w = tt

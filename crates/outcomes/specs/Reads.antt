@@ -34,10 +34,10 @@ abbrev pub IsOfWhatIsThere : Refusal → Type 0
 IsOfWhatIsThere r = (file : FileId) → r ≢ refusal.Missing file
 
 -- why a step ended that reads no file: by the stage's own refusal, which isn't of the words; or for want of memory
-abbrev pub Tells : {A : Type 0} → Result A Refusal → Ending → Type 0
-Tells stage (ending.Refused r) = (stage ≡ Err r) × IsOfWhatIsThere r × (r ≢ refusal.Usage)
-Tells stage (ending.Fault file) = ⊥
-Tells stage ending.NoMemory = ⊤
+abbrev pub StopsBy : {A : Type 0} → Result A Refusal → Ending → Type 0
+StopsBy stage (ending.Refused r) = (stage ≡ Err r) × IsOfWhatIsThere r × (r ≢ refusal.Usage)
+StopsBy stage (ending.Fault file) = ⊥
+StopsBy stage ending.NoMemory = ⊤
 
 -- a step that reads one file comes to this one alone
 abbrev pub AtFile : FileId → Files → FileId → Type 0

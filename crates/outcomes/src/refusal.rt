@@ -1,4 +1,6 @@
 //! Why the words and the files give no run.
+ghost use Rattle.std.specs.Prelude.{◌≡◌};
+ghost use Rattle.outcomes.specs.Statuses.{code_of_refusal};
 
 use crate::FileId;
 use schema_types::LimitKind;
@@ -83,4 +85,24 @@ pub enum Refusal {
     },
     /// The least cost of an order is 2^128 - 1, the top bound, which stands for all from there on.
     PastBits,
+}
+
+impl Refusal {
+    /// The exit status of a process. An absent file ends it like a read that failed.
+    pub(crate) fn code(&self) -> u8
+        ensures { result ≡ code_of_refusal self.now }
+    {
+        match self {
+            Refusal::Usage => 2,
+            Refusal::Missing { .. } => 3,
+            Refusal::Schema { .. } => 4,
+            Refusal::Query { .. } => 5,
+            Refusal::Table { .. } => 6,
+            Refusal::Limit { .. } => 7,
+            Refusal::Budget { .. } => 8,
+            Refusal::PastBits => 9,
+            Refusal::Stats { .. } => 14,
+            Refusal::MemoryLimit { .. } => 16,
+        }
+    }
 }

@@ -4,7 +4,6 @@ use Rattle.std.specs.List.{Contains}
 use Rattle.std.proofs.lemmas.Bool.{cases_lt}
 use Rattle.std.proofs.lemmas.List.{get_or_past}
 use Rattle.std.proofs.lemmas.List.Elements.{Contains-get_or}
-use Rattle.limits.specs.Profile.{most_rows}
 use Rattle.csv_tables.specs.declared.types.Database.{Database}
 use Rattle.query_types.specs.declared.types.Query.{Query}
 use Rattle.row_buf.specs.Rows.{Rows}
@@ -34,8 +33,8 @@ module _ (query : Query) (db : Database) (lists : List (Rows ℕ)) (of : IsDatab
   row_low entry row low has =
       scanned_low query (tables_of db) entry row (subst (λ (l : List ℕ). Contains l row) (scan_at query (tables_of db) entry low) (family.scanned entry row has))
 
-  pub lists_of_db : ((entry : ℕ) → entry < length query.from → row_counts (tables_of db) entry ≤ most_rows) → AreListsOf db lists
-  lists_of_db few = record {
+  pub lists_of_db : AreListsOf db lists
+  lists_of_db = record {
     tables = of.tables;
     count = as_many ∙ sym of.entries;
     few = omega (arith, as_many, of.few);
@@ -49,7 +48,7 @@ module _ (query : Query) (db : Database) (lists : List (Rows ℕ)) (of : IsDatab
       | inl low ↦ omega (
         arith,
         short (list_at (lists_of lists) entry) 0 (row_counts (tables_of db) entry) (omega arith) (family.ascending entry) (λ row has. (omega arith, row_low entry row low has)),
-        few entry low,
+        of.few_rows entry low,
       )
       | inr past ↦ omega (arith, ap (λ (l : List ℕ). length l) (get_or_past (lists_of lists) entry [] (omega (arith, length-lists_of lists, as_many))))
     ];

@@ -16,8 +16,8 @@ use Rattle.reduced_scans.specs.Rounds.{reduced_of}
 use Rattle.planning.specs.Bounds.{scan_bounds_of}
 use Rattle.planning.specs.ListedBounds.{entry_bounds_over}
 
--- the best order of so many entries with its bounds, where these are known: in each set a row bound of each entry and a list of each joined
--- column, whatever they were made from, a bound of each scan, and the equalities between them; or why there is none within the budget
+-- the best order of so many entries with its bounds, where these are known: in each set a row bound of each entry and a degree sequence of
+-- each joined column, whatever they were made from, a bound of each scan, and the equalities between them; or why there is none within the budget
 abbrev pub planned_from : (ℕ → EntryBounds) → List ℕ → List Edge → ℕ → ℕ → Result Plan PlanError
 planned_from bounds scans es count budget = plan_answer (bounds_in_sets bounds es count) scans budget
 

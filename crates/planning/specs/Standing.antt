@@ -20,8 +20,8 @@ use Rattle.level_bounds.specs.Orders.{IsOrderOfSet}
 -- ---- what is known of entries
 
 -- the listed rows that may take part in a choice for a set: no choice of the set's level is lost. What is known of the entries stands for
--- these: each entry of the set has at most as many of them as its row bound, and the list of each column that joins two of its entries
--- dominates the degrees of their keys
+-- these: each entry of the set has at most as many of them as its row bound, and the degree sequence of each column that joins two of its
+-- entries dominates the degrees of their keys
 pub record StandInSet (query : Query) (tables : Tables) (lists : List (List ℕ)) (key : Keys) (bounds : EntryBounds) (subset : ℕ) : Type 0 where
   pub taking : List (List ℕ)
   pub are : AreOfScans query tables taking
@@ -37,17 +37,18 @@ pub record StandForLists (query : Query) (tables : Tables) (lists : List (List �
 
 -- ---- the same in every set
 
--- each column of a FROM entry that an equality joins has its list
+-- each column of a FROM entry that an equality joins has its degree sequence
 abbrev pub JoinedHaveLists : Query → EntryBounds → Type 0
 JoinedHaveLists query bounds = EachNamedColumn (λ entry column. entry < length query.from → HasList bounds entry column) (equalities_of query)
 
--- the list of a column falls and sums to the row bound of its entry, and dominates the degrees of the keys that the listed rows have in it
+-- the degree sequence of a column falls and sums to the row bound of its entry, and dominates the degrees of the keys that the listed rows
+-- have in it
 pub record ColumnStands (lists : List (List ℕ)) (key : Keys) (bounds : EntryBounds) (entry column : ℕ) : Type 0 where
   pub has : HasList bounds entry column
   pub dominates : DominatesKeys (bounds.list entry column) (map (key entry column) (list_at lists entry))
 
 -- rows that an equality joins have one key; the row bound of each FROM entry is at least the number of its listed rows, and each of its
--- columns that an equality joins has such a list
+-- columns that an equality joins has such a degree sequence
 pub record EntriesStand (query : Query) (tables : Tables) (lists : List (List ℕ)) (key : Keys) (bounds : EntryBounds) : Type 0 where
   pub keys : AreKeys tables key (equalities_of query)
   pub rows : (entry : ℕ) → entry < length query.from → rows_listed lists entry ≤ bounds.rows entry

@@ -20,11 +20,11 @@ pub struct Known {
     pub scans: Seq<u64>,
 }
 
-/// The bounds of all sets of the entries, from the row bound of each entry and the list of each of its joined columns, with a bound of each
-/// scan. The row bounds and lists may depend on the set.
+/// The bounds of all sets of the entries, from the row bound of each entry and the degree sequence of each of its joined columns, with a
+/// bound of each scan. The row bounds and degree sequences may depend on the set.
 ///
-/// A set's bound is the least over its turns of the product over its trees, from the lists of its columns (SafeBound, SIGMOD 2023; Degree
-/// Sequence Bound, ICDT 2023).
+/// A set's bound is the least over its turns of the product over its trees, from the degree sequences of its columns (SafeBound, SIGMOD
+/// 2023; Degree Sequence Bound, ICDT 2023).
 pub fn bounds_from<K: KnownInSets>(
     alloc: Global,
     parts: &Parts,

@@ -50,7 +50,7 @@ pub fn bounds_are_never_under()
 {}
 
 /// Near, where no conjunct names just one entry: at accuracy K, K^n times the bound of a set of n entries is at most (K + 1)^n times the
-/// bound of the same set from the degree lists of whole columns.
+/// bound of the same set from the degree sequences of whole columns.
 pub fn bounds_are_near()
     ensures { (query : Query) (tables : Tables) (accuracy subset : ℕ)
         → ((entry : ℕ) → own_conjuncts entry query.conjuncts ≡ []) → subset < 2 ^ length query.from
@@ -95,7 +95,7 @@ pub fn plans_are_never_under()
 /// The law of all plans, whatever bounds they are from. Where no bound of a set is below a level over lists of scanned rows, and each scan's
 /// bound is at least the number of its listed rows and at most that of its table, the plan is one over these lists, so no bound in it is too
 /// low. So it is where what is known of the entries in each set stands for the lists, as statistics of the tables do for the scans, and
-/// degree lists of listed rows for these.
+/// degree sequences of listed rows for these.
 pub fn plans_from_lists_are_never_under()
     ensures sets { (query : Query) (tables : Tables) (lists : List (List ℕ)) (key : Keys) (bounds : ℕ → EntryBounds)
         → StandForLists query tables lists key bounds

@@ -1,8 +1,8 @@
 //! What is known of a query's entries, and plans by it: from a query and its database to the best order of its entries, with the bounds of
 //! its scans and levels.
 //!
-//! In: a query and the tables of its entries. For each entry a row bound is made, and for each of its joined columns a list: from statistics
-//! of its table, which are gathered once, or from a list of its rows, such as its reduced scan. Whatever these were made from, the bounds of
+//! In: a query and the tables of its entries. For each entry a row bound is made, and for each of its joined columns a degree sequence: from
+//! statistics of its table, which are gathered once, or from a list of its rows, such as its reduced scan. Whatever these were made from, the bounds of
 //! all sets of entries are made of them (`bounds_from`), and the order of least cost is chosen (`plan_from`). Out: the plan, or why there is
 //! none within the budget. With reduced scans come also these, since the plan's levels are joined from them.
 //!

@@ -1,4 +1,4 @@
-//! The lists of joined columns over the rows of their entries.
+//! The degree sequences of joined columns over the rows of their entries.
 ghost use Rattle.std.specs.Prelude.{◌≡◌, ◌<◌, ◌≤◌, ℕ, All, IfOk, IsSome, MatchBool, None, OnOk, length, map};
 ghost use Rattle.std.specs.List.{sum};
 ghost use Rattle.limits.specs.Profile.{most_accuracy, most_rows};
@@ -27,7 +27,7 @@ use query_types::ColumnRef;
 use row_buf::RowBuf;
 use std::alloc::Global;
 
-// The degree list of a column over these rows, compressed.
+// The degree sequence of a column over these rows, compressed.
 fn column_list(
     alloc: Global,
     db: &Database,
@@ -56,7 +56,7 @@ fn column_list(
     compress(alloc, degrees.as_slice(), accuracy)
 }
 
-// Adds the list of a column that isn't there yet.
+// Adds the degree sequence of a column that isn't there yet.
 fn add_new(
     alloc: Global,
     db: &Database,
@@ -88,7 +88,7 @@ fn is_there(known: &EntryLists, place: Place) -> bool
     known.list(place.entry, place.column).is_some()
 }
 
-// Adds the list of a column, if it isn't there yet.
+// Adds the degree sequence of a column, if it isn't there yet.
 fn add_list(
     alloc: Global,
     db: &Database,
@@ -112,7 +112,7 @@ fn add_list(
     add_new(alloc, db, lists, place, accuracy, known)
 }
 
-/// The row bound of each entry, and the list of each column that one of the equalities joins, once each.
+/// The row bound of each entry, and the degree sequence of each column that one of the equalities joins, once each.
 pub(crate) fn lists_over_rows(
     alloc: Global,
     db: &Database,

@@ -1,9 +1,9 @@
 //! What is known of a query's entries over their reduced scans.
-ghost use Rattle.std.specs.Prelude.{◌≡◌, ◌<◌, ◌≤◌, ℕ, IfOk, length};
-ghost use Rattle.limits.specs.Profile.{most_accuracy, most_conjuncts, most_rows};
+ghost use Rattle.std.specs.Prelude.{◌≡◌, ◌<◌, ◌≤◌, IfOk, length, vec_capacity};
+ghost use Rattle.limits.specs.Profile.{most_accuracy};
 ghost use Rattle.join_graph.specs.Conjuncts.{equalities_of};
 ghost use Rattle.sql_meaning.specs.Databases.{IsDatabaseOf};
-ghost use Rattle.sql_meaning.specs.Tables.{row_counts, tables_of};
+ghost use Rattle.sql_meaning.specs.Tables.{tables_of};
 ghost use Rattle.join_steps.specs.Lists.{list_sizes, lists_of};
 ghost use Rattle.reduced_scans.specs.Lists.{AreListsOf, HaveNoSpare};
 ghost use Rattle.reduced_scans.specs.Rounds.{reduced_of};
@@ -38,11 +38,10 @@ fn reduced_lists(
 ) -> Result<Vec<RowBuf<u32>>, NoMemory>
     requires equalities { equalities.now ≡ equalities_of query.now }
     requires database { IsDatabaseOf query.now db.now }
-    requires few { length query.now.conjuncts ≤ most_conjuncts }
-    requires few_rows { (entry : ℕ) → entry < length query.now.from → row_counts (tables_of db.now) entry ≤ most_rows }
     ensures reduced { IfOk result (λ lists. lists_of lists.items ≡ reduced_of query.now (tables_of db.now)) }
     ensures lists { IfOk result (λ lists. AreListsOf db.now lists.items) }
     ensures no_spare { IfOk result (λ lists. HaveNoSpare lists.items) }
+    ensures capacity { IfOk result (λ lists. vec_capacity lists ≡ length query.now.from) }
 {
     let scans = scan_entries(alloc, query, db)?;
     reduce_scans(alloc, query, equalities, db, &scans)
@@ -63,14 +62,13 @@ pub fn from_reduced(
     accuracy: u8,
 ) -> Result<Reduced, NoMemory>
     requires database { IsDatabaseOf query.now db.now }
-    requires few { length query.now.conjuncts ≤ most_conjuncts }
-    requires few_rows { (entry : ℕ) → entry < length query.now.from → row_counts (tables_of db.now) entry ≤ most_rows }
     requires accuracy { (0 < accuracy) × (accuracy ≤ most_accuracy) }
     ensures gives { IfOk result (λ made.
         Gives (set_bounds_over query.now (tables_of db.now) (reduced_of query.now (tables_of db.now)) accuracy)
         (list_sizes query.now (reduced_of query.now (tables_of db.now))) made.known) }
     ensures lists { IfOk result (λ made. lists_of made.lists.items ≡ reduced_of query.now (tables_of db.now)) }
     ensures no_spare { IfOk result (λ made. HaveNoSpare made.lists.items) }
+    ensures capacity { IfOk result (λ made. vec_capacity made.lists ≡ length query.now.from) }
 {
     let parts = split(alloc, query)?;
     let lists = reduced_lists(alloc, query, parts.equalities.as_slice(), db)?;

@@ -1,6 +1,5 @@
 //! The scans of a query, before they are reduced.
-ghost use Rattle.std.specs.Prelude.{◌≡◌, ◌<◌, ◌≤◌, ℕ, IfOk, length, map};
-ghost use Rattle.limits.specs.Profile.{most_conjuncts};
+ghost use Rattle.std.specs.Prelude.{◌≡◌, ◌<◌, ℕ, IfOk, length, map};
 ghost use Rattle.sql_meaning.specs.Answers.{entries_of};
 ghost use Rattle.sql_meaning.specs.Databases.{AreTables, IsDatabaseOf};
 ghost use Rattle.sql_meaning.specs.Tables.{row_counts, tables_of};
@@ -43,7 +42,6 @@ pub fn scan_entries(
     db: &Database,
 ) -> Result<Vec<RowBuf<u32>>, NoMemory>
     requires database { IsDatabaseOf query.now db.now }
-    requires few { length query.now.conjuncts ≤ most_conjuncts }
     ensures count { IfOk result (λ scans. length scans.items ≡ length query.now.from) }
     ensures scans { IfOk result (λ scans. (entry : ℕ) → entry < length query.now.from
         → list_at (lists_of scans.items) entry ≡ scan_of query.now db.now entry) }

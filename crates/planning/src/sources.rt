@@ -49,7 +49,7 @@ pub fn from_told(
 
 /// From statistics of the query's tables, which are gathered once. A scan's bound is that of its rows.
 ///
-/// The accuracy of compressed lists is from 1 to 64 (SafeBound, SIGMOD 2023).
+/// The accuracy of compressed degree sequences is from 1 to 64 (SafeBound, SIGMOD 2023).
 #[tactic(auto, using(crate::proofs::Giving::is_told))]
 pub fn from_statistics(
     alloc: Global,
@@ -69,7 +69,7 @@ pub fn from_statistics(
 /// From lists of rows of the query's tables, one list for each entry. A scan's bound is the number of rows of its list. The equalities are
 /// those of `split`.
 ///
-/// The accuracy of compressed lists is from 1 to 64 (SafeBound, SIGMOD 2023).
+/// The accuracy of compressed degree sequences is from 1 to 64 (SafeBound, SIGMOD 2023).
 pub fn from_rows(
     alloc: Global,
     query: &Query,

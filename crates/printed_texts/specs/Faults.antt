@@ -13,6 +13,8 @@ use Rattle.outcomes.specs.declared.names.SinkId.{SinkId}
 use Rattle.outcomes.specs.declared.names.SinkId.TheVariants as sink
 use Rattle.outcomes.specs.declared.refusal.QueryCause.{QueryCause}
 use Rattle.outcomes.specs.declared.refusal.QueryCause.TheVariants as query
+use Rattle.outcomes.specs.declared.refusal.Refusal.{Refusal}
+use Rattle.outcomes.specs.declared.refusal.Refusal.TheVariants as refusal
 use Rattle.outcomes.specs.declared.refusal.SchemaCause.{SchemaCause}
 use Rattle.outcomes.specs.declared.refusal.SchemaCause.TheVariants as schema
 use Rattle.outcomes.specs.declared.refusal.StatsCause.{StatsCause}
@@ -22,11 +24,13 @@ use Rattle.outcomes.specs.declared.refusal.TableCause.TheVariants as table
 use Rattle.outcomes.specs.declared.status.Status.{Status}
 use Rattle.outcomes.specs.declared.status.Status.TheVariants as status
 
--- what a line may name: the files of the two texts and the one of statistics, as the command names them, and the tables of the schema
+-- what a line may name: the files of the two texts and the one of statistics, as the command names them; the file of a table's rows, where the
+-- command names it; and the tables of the schema
 pub record Names : Type 0 where
   pub schema_file : List ℕ
   pub query_file : List ℕ
   pub stats_file : List ℕ
+  pub rows_file : Option (List ℕ)
   pub schema : Option Schema
 
 -- the name of a table's file: the table's in lower case, and `.csv`
@@ -42,6 +46,11 @@ abbrev pub file_of_table : Option Table → List ℕ
 file_of_table None = []
 file_of_table (Some table) = table_file table
 
+-- the file of a table's rows: the one that the command names, or else the table's own
+abbrev pub file_of_rows : Option (List ℕ) → Option Table → List ℕ
+file_of_rows None table = file_of_table table
+file_of_rows (Some name) table = name
+
 abbrev pub name_of_column : Option Column → List ℕ
 name_of_column None = []
 name_of_column (Some column) = column.name
@@ -50,11 +59,11 @@ abbrev pub column_in : Option Table → ℕ → List ℕ
 column_in None number = []
 column_in (Some table) number = name_of_column (slice_get table.columns number)
 
--- a file as the line names it: by the command's word, or a table by its file's name
+-- a file as the line names it: by the command's word, or by the name of a table's own file
 abbrev pub file_name : FileId → Names → List ℕ
 file_name file.Schema names = names.schema_file
 file_name file.Query names = names.query_file
-file_name (file.Table number) names = file_of_table (table_in names.schema number)
+file_name (file.Table number) names = file_of_rows names.rows_file (table_in names.schema number)
 file_name file.Stats names = names.stats_file
 
 abbrev pub schema_cause : SchemaCause → List ℕ
@@ -80,8 +89,8 @@ table_cause (table.Width row found) t = codes "width" ∷ (decimal row ∷ (deci
 table_cause (table.Field row number) t = codes "field" ∷ (decimal row ∷ (column_in t number ∷ []))
 table_cause (table.Key row earlier) t = codes "key" ∷ (decimal row ∷ (decimal earlier ∷ []))
 
-abbrev pub table_words : Option Table → TableCause → List (List ℕ)
-table_words t cause = codes "table" ∷ (file_of_table t ∷ table_cause cause t)
+abbrev pub table_words : List ℕ → Option Table → TableCause → List (List ℕ)
+table_words name t cause = codes "table" ∷ (name ∷ table_cause cause t)
 
 abbrev pub limit_word : LimitKind → List ℕ
 limit_word limit.FileBytes = codes "file-bytes"
@@ -116,19 +125,28 @@ abbrev pub sink_name : SinkId → List ℕ
 sink_name sink.Out = codes "out"
 sink_name sink.Notes = codes "notes"
 
+-- an absent file is told like a read that failed
+abbrev pub read_words : FileId → Names → List (List ℕ)
+read_words id names = codes "read" ∷ (file_name id names ∷ [])
+
+-- why the words or the files are refused, word by word
+abbrev pub refusal_words : Refusal → Names → List (List ℕ)
+refusal_words refusal.Usage names = codes "usage" ∷ []
+refusal_words (refusal.Missing id) names = read_words id names
+refusal_words (refusal.Schema cause at) names = codes "schema" ∷ (schema_cause cause ∷ (decimal at ∷ []))
+refusal_words (refusal.Query cause at) names = codes "query" ∷ (query_cause cause ∷ (decimal at ∷ []))
+refusal_words (refusal.Table number cause) names = table_words (file_name (file.Table number) names) (table_in names.schema number) cause
+refusal_words (refusal.Stats cause at) names = codes "stats" ∷ (stats_cause cause ∷ (decimal at ∷ []))
+refusal_words (refusal.Limit which id found) names = limit_words which (file_name id names) found
+refusal_words (refusal.Budget least) names = codes "budget" ∷ (decimal least ∷ [])
+refusal_words (refusal.MemoryLimit bytes) names = codes "memory-limit" ∷ (decimal bytes ∷ [])
+refusal_words refusal.PastBits names = codes "past-bits" ∷ []
+
 -- what is wrong, word by word
 abbrev pub fault : Status → Names → List (List ℕ)
 fault status.Done names = []
-fault status.Usage names = codes "usage" ∷ []
-fault (status.ReadFault id) names = codes "read" ∷ (file_name id names ∷ [])
-fault (status.Schema cause at) names = codes "schema" ∷ (schema_cause cause ∷ (decimal at ∷ []))
-fault (status.Query cause at) names = codes "query" ∷ (query_cause cause ∷ (decimal at ∷ []))
-fault (status.Table number cause) names = table_words (table_in names.schema number) cause
-fault (status.Stats cause at) names = codes "stats" ∷ (stats_cause cause ∷ (decimal at ∷ []))
-fault (status.Limit which id found) names = limit_words which (file_name id names) found
-fault (status.Budget least) names = codes "budget" ∷ (decimal least ∷ [])
-fault (status.MemoryLimit bytes) names = codes "memory-limit" ∷ (decimal bytes ∷ [])
-fault status.PastBits names = codes "past-bits" ∷ []
+fault (status.Refused r) names = refusal_words r names
+fault (status.ReadFault id) names = read_words id names
 fault (status.WriteFault cut) names = codes "write" ∷ (sink_name cut ∷ [])
 fault status.NoMemory names = codes "memory" ∷ []
 

@@ -1,5 +1,5 @@
 -- The name of a file in a line, and the names that a line is given.
-use Rattle.std.specs.Prelude.{ℕ, List, option_copied}
+use Rattle.std.specs.Prelude.{ℕ, List, option_copied, option_map}
 use Rattle.printed_texts.specs.Faults.{Names, table_file}
 use Rattle.printed_texts.specs.declared.fault_lines.Named.{Named}
 use Rattle.printed_texts.specs.declared.lines.FileWord.{FileWord}
@@ -14,5 +14,6 @@ named names = record {
   schema_file = names.schema_file.now;
   query_file = names.query_file.now;
   stats_file = names.stats_file.now;
+  rows_file = option_map (λ name. name.now) names.rows_file;
   schema = option_copied names.schema;
 }

@@ -1,22 +1,23 @@
 //! The line that tells a status. Nothing here takes memory.
-ghost use Rattle.std.specs.Prelude.{◌≡◌, ◌≢◌, ◌∷◌, [], codes, decimal, option_copied};
+ghost use Rattle.std.specs.Prelude.{◌≡◌, ◌≢◌, ◌∷◌, [], codes, decimal, option_copied, option_map};
 ghost use Rattle.base_io.specs.Devices.{growth};
 ghost use Rattle.base_io.specs.Writes.{Wrote};
-ghost use Rattle.printed_texts.specs.Faults.{column_in, error_line, fault_line, file_name, file_of_table, is_of_file as of_file, limit_word as word_of_limit, limit_words, query_cause, schema_cause, sink_name, stats_cause, table_cause, table_in, table_words};
+ghost use Rattle.printed_texts.specs.Faults.{column_in, error_line, fault_line, file_name, file_of_rows, file_of_table, is_of_file as of_file, limit_word as word_of_limit, limit_words, query_cause, read_words, refusal_words, schema_cause, sink_name, stats_cause, table_cause, table_in, table_words};
 ghost use Rattle.printed_texts.specs.Words.{file_text, named};
 
 use crate::lines::{FileWord, write_words, write_words_about};
 use base_io::{Failed, Sink};
-use outcomes::{FileId, QueryCause, SchemaCause, SinkId, StatsCause, Status, TableCause};
+use outcomes::{FileId, QueryCause, Refusal, SchemaCause, SinkId, StatsCause, Status, TableCause};
 use schema_types::{LimitKind, Schema, Table};
 
-/// What a line may name: the files of the two texts and the one of statistics, as the command names them, and the tables
-/// of the schema, where it was read.
+/// What a line may name: the files of the two texts and the one of statistics, as the command names them; the file of a
+/// table's rows, where the command names it; and the tables of the schema, where it was read.
 #[derive(Clone, Copy)]
 pub struct Named<'a> {
     pub schema_file: &'a str,
     pub query_file: &'a str,
     pub stats_file: &'a str,
+    pub rows_file: Option<&'a str>,
     pub schema: Option<&'a Schema>,
 }
 
@@ -35,6 +36,16 @@ fn table_word<'a>(table: Option<&'a Table>) -> FileWord<'a>
     match table {
         Some(table) => FileWord::OfTable(table),
         None => FileWord::Given(b""),
+    }
+}
+
+// The file of a table's rows.
+fn rows_word<'a>(rows_file: Option<&'a str>, table: Option<&'a Table>) -> FileWord<'a>
+    ensures { file_text result ≡ file_of_rows (option_map (λ name. name.now) rows_file.entry) (option_copied table.entry) }
+{
+    match rows_file {
+        Some(name) => FileWord::Given(name.as_bytes()),
+        None => table_word(table),
     }
 }
 
@@ -63,7 +74,7 @@ fn file_word<'a>(file: FileId, names: Named<'a>) -> FileWord<'a>
     match file {
         FileId::Schema => FileWord::Given(names.schema_file.as_bytes()),
         FileId::Query => FileWord::Given(names.query_file.as_bytes()),
-        FileId::Table(number) => table_word(table_at(names.schema, number)),
+        FileId::Table(number) => rows_word(names.rows_file, table_at(names.schema, number)),
         FileId::Stats => FileWord::Given(names.stats_file.as_bytes()),
     }
 }
@@ -191,13 +202,13 @@ fn write_numbers<N: Sink>(
 
 // The line of a table's refusal.
 fn write_table_fault<N: Sink>(
+    file: FileWord,
     table: Option<&Table>,
     cause: TableCause,
     sink: &mut N,
 ) -> Result<(), Failed>
-    ensures { Wrote (growth N.taken N.faults sink.old sink.new) (error_line (table_words (option_copied table.entry) cause)) result }
+    ensures { Wrote (growth N.taken N.faults sink.old sink.new) (error_line (table_words (file_text file.entry) (option_copied table.entry) cause)) result }
 {
-    let file = table_word(table);
     let mut digits = itoa::Buffer::new();
     match cause {
         TableCause::Utf8 { at } => {
@@ -248,6 +259,36 @@ fn write_memory_limit<N: Sink>(bytes: u128, sink: &mut N) -> Result<(), Failed>
     write_words(&[MEMORY_LIMIT, digits.format(bytes).as_bytes()], sink)
 }
 
+// The line of an absent file, and of a read that failed.
+fn write_read<N: Sink>(file: FileId, names: Named, sink: &mut N) -> Result<(), Failed>
+    ensures { Wrote (growth N.taken N.faults sink.old sink.new) (error_line (read_words file (named names.entry))) result }
+{
+    write_words_about(&[READ], file_word(file, names), &[], sink)
+}
+
+// The line of a refusal.
+fn write_refusal<N: Sink>(refusal: Refusal, names: Named, sink: &mut N) -> Result<(), Failed>
+    ensures { Wrote (growth N.taken N.faults sink.old sink.new) (error_line (refusal_words refusal (named names.entry))) result }
+{
+    match refusal {
+        Refusal::Usage => write_words(&[USAGE], sink),
+        Refusal::Missing { file } => write_read(file, names, sink),
+        Refusal::Schema { cause, at } => write_place(SCHEMA, schema_word(cause), at, sink),
+        Refusal::Query { cause, at } => write_place(QUERY, query_word(cause), at, sink),
+        Refusal::Stats { cause, at } => write_place(STATS, stats_word(cause), at, sink),
+        Refusal::Table { table, cause } => {
+            let file = file_word(FileId::Table(table), names);
+            write_table_fault(file, table_at(names.schema, table), cause, sink)
+        }
+        Refusal::Limit { which, file, found } => {
+            write_limit(which, file_word(file, names), found, sink)
+        }
+        Refusal::Budget { least } => write_budget(least, sink),
+        Refusal::MemoryLimit { bytes } => write_memory_limit(bytes, sink),
+        Refusal::PastBits => write_words(&[PAST_BITS], sink),
+    }
+}
+
 /// Writes the line of a status that is not `Done`. A table is named by its file, a column by its name.
 pub fn write_line<N: Sink>(status: Status, names: Named, sink: &mut N) -> Result<(), Failed>
     requires { status ≢ Status.Done }
@@ -255,22 +296,8 @@ pub fn write_line<N: Sink>(status: Status, names: Named, sink: &mut N) -> Result
 {
     match status {
         Status::Done => Ok(()),
-        Status::Usage => write_words(&[USAGE], sink),
-        Status::ReadFault { file } => {
-            write_words_about(&[READ], file_word(file, names), &[], sink)
-        }
-        Status::Schema { cause, at } => write_place(SCHEMA, schema_word(cause), at, sink),
-        Status::Query { cause, at } => write_place(QUERY, query_word(cause), at, sink),
-        Status::Stats { cause, at } => write_place(STATS, stats_word(cause), at, sink),
-        Status::Table { table, cause } => {
-            write_table_fault(table_at(names.schema, table), cause, sink)
-        }
-        Status::Limit { which, file, found } => {
-            write_limit(which, file_word(file, names), found, sink)
-        }
-        Status::Budget { least } => write_budget(least, sink),
-        Status::MemoryLimit { bytes } => write_memory_limit(bytes, sink),
-        Status::PastBits => write_words(&[PAST_BITS], sink),
+        Status::Refused(refusal) => write_refusal(refusal, names, sink),
+        Status::ReadFault { file } => write_read(file, names, sink),
         Status::WriteFault { sink: cut } => write_words(&[WRITE, sink_word(cut)], sink),
         Status::NoMemory => write_words(&[MEMORY], sink),
     }

@@ -1,5 +1,6 @@
 -- What holds of every query that was read over a schema.
-use Rattle.std.specs.Prelude.{◌≡◌, ◌<◌, ◌≤◌, ◌^◌, Bool, true, false, List, length, All, Some, slice_get, ⊤}
+use Rattle.std.specs.Prelude.{◌≡◌, ◌<◌, ◌≤◌, Bool, true, false, List, length, All, Some, slice_get, ⊤}
+use Rattle.limits.specs.Profile.{most_conjuncts}
 use Rattle.schema_types.specs.declared.types.Kind.{Kind}
 use Rattle.schema_types.specs.declared.types.Kind.TheVariants as kind
 use Rattle.schema_types.specs.declared.types.Column.{Column}
@@ -64,12 +65,12 @@ pub record IsOutOf (schema : Schema) (from : List Source) (out : Out) : Type 0 w
   pub column : Column
   pub finds : Finds schema from out.column column
 
--- a query of a schema: from 1 to 12 FROM entries, fewer than 2^32 conjuncts, every table, entry and column in it
+-- a query of a schema: from 1 to 12 FROM entries, at most 256 conjuncts, every table, entry and column in it
 -- exists, and every comparison has two operands of one kind
 pub record IsOf (schema : Schema) (query : Query) : Type 0 where
   pub some : 0 < length query.from
   pub few : length query.from ≤ 12
-  pub conjuncts_few : length query.conjuncts < 2 ^ 32
+  pub conjuncts_few : length query.conjuncts ≤ most_conjuncts
   pub sources : All (IsSourceOf schema) query.from
   pub conjuncts : All (IsCondOf schema query.from) query.conjuncts
   pub outs : All (IsOutOf schema query.from) query.select

@@ -93,15 +93,15 @@ module _ (query : Query) (db : Database) (scans : List (Rows ℕ)) (of : IsDatab
         | inr past ↦ get_or_past (lists_of scans) entry [] (omega (arith, length-lists_of scans)) ∙ sym (scan_past query (tables_of db) entry past)
       ])
 
-  pub are_lists : ((entry : ℕ) → entry < length query.from → row_counts (tables_of db) entry ≤ most_rows) → AreListsOf db scans
-  are_lists few = record {
+  pub are_lists : AreListsOf db scans
+  are_lists = record {
     tables = of.tables;
     count = count ∙ sym of.entries;
     few = omega (arith, of.few);
     rows = λ entry low. subst (All (λ row. row < (cells_of db entry).rows)) (sym (are entry (omega (arith, count))))
         (λ i d within. omega (arith, scanned_low query (tables_of db) entry (get_or (scan_of query db entry) i d) (Contains-get_or (scan_of query db entry) i d within), rows_are db entry));
     sizes = λ entry. elim (cases_lt entry (length query.from)) [
-      | inl low ↦ omega (arith, ap (λ (l : List ℕ). length l) (are entry low), length-scan query db entry, few entry low)
+      | inl low ↦ omega (arith, ap (λ (l : List ℕ). length l) (are entry low), length-scan query db entry, of.few_rows entry low)
       | inr past ↦ omega (arith, ap (λ (l : List ℕ). length l) (get_or_past (lists_of scans) entry [] (omega (arith, length-lists_of scans))))
     ];
   }

@@ -1,11 +1,11 @@
 //! The reduction of a query's scans.
-ghost use Rattle.std.specs.Prelude.{◌≡◌, ◌+◌, ◌*◌, ◌<◌, ◌≤◌, ℕ, All, Bool, IfOk, length};
+ghost use Rattle.std.specs.Prelude.{◌≡◌, ◌+◌, ◌*◌, ◌<◌, ◌≤◌, ℕ, All, Bool, IfOk, length, vec_capacity};
 ghost use Rattle.limits.specs.Profile.{most_conjuncts, most_entries, most_rows};
 ghost use Rattle.berge_tree.specs.declared.edges.Edge.{Edge};
 ghost use Rattle.counted_sets.specs.Sets.{marked};
 ghost use Rattle.join_graph.specs.Conjuncts.{equalities_of};
 ghost use Rattle.sql_meaning.specs.Databases.{IsDatabaseOf};
-ghost use Rattle.sql_meaning.specs.Tables.{row_counts, tables_of};
+ghost use Rattle.sql_meaning.specs.Tables.{tables_of};
 ghost use Rattle.join_steps.specs.Lists.{scan_of, list_at, lists_of};
 ghost use Rattle.level_bounds.specs.Keys.{cell_at};
 ghost use Rattle.reduced_scans.specs.Families.{AreAscending, IsReduced};
@@ -102,12 +102,13 @@ fn marked_lists(
     requires few_marks { length marks.now.items ≤ most_entries * most_rows }
     ensures lists { IfOk result (λ lists. lists_of lists.items ≡ marked_family (marked marks.now.items) 0 (lists_of scans.now)) }
     ensures no_spare { IfOk result (λ lists. HaveNoSpare lists.items) }
+    ensures capacity { IfOk result (λ lists. vec_capacity lists ≡ length scans.now) }
 {
-    let mut lists = Vec::new(alloc);
+    let mut lists = Vec::with_capacity(alloc, scans.len())?;
     'lists: for entry in 0..scans.len() {
         let first = first_item(scans, entry);
         let rows = marked_rows(alloc, scans[entry].as_slice(), marks, first)?;
-        lists.push(rows)?;
+        lists.push_reserved(rows);
     }
     Ok(lists)
 }
@@ -119,7 +120,7 @@ fn marked_lists(
 /// to the last and back, remove rows whose value the other side doesn't have: where values lie in a short range, each is looked up by its
 /// place. Then the values of the rows that are left are numbered by one hash of each cell, and a worklist removes rows without a match. So
 /// the time is on average linear in the rows times their equalities, and so is the memory. All of it but the answer is let go before the
-/// call returns, and each list of the answer has room for its own rows alone.
+/// call returns, each list of the answer has room for its own rows alone, and the answer has room for one list for each entry.
 pub fn reduce_scans(
     alloc: Global,
     query: &Query,
@@ -129,12 +130,11 @@ pub fn reduce_scans(
 ) -> Result<Vec<RowBuf<u32>>, NoMemory>
     requires equalities { equalities.now ≡ equalities_of query.now }
     requires database { IsDatabaseOf query.now db.now }
-    requires few { length query.now.conjuncts ≤ most_conjuncts }
-    requires sizes { (entry : ℕ) → entry < length query.now.from → row_counts (tables_of db.now) entry ≤ most_rows }
     requires count { length scans.now ≡ length query.now.from }
     requires scans { (entry : ℕ) → entry < length query.now.from → list_at (lists_of scans.now) entry ≡ scan_of query.now db.now entry }
     ensures reduced { IfOk result (λ reduced. AreReducedScans query.now (tables_of db.now) (lists_of reduced.items)) }
     ensures no_spare { IfOk result (λ reduced. HaveNoSpare reduced.items) }
+    ensures capacity { IfOk result (λ reduced. vec_capacity reduced ≡ length query.now.from) }
 {
     texts_are_different(&db.pool);
     let lists = sifted(alloc, db, scans, equalities)?;

@@ -65,7 +65,7 @@ detail_of (Err why) old = detail_of_refusal why old
 
 -- The status and the number behind `detail` tell an answer, and it is right: what was done is done, a refusal has its cause, and on one the
 -- room is as it was.
-pub record Tells {A : Type 0} (Done : ℕ → Type 0) (Cause : Refusal → Type 0) (old new : List A) (before status after : ℕ) : Type 0 where
+pub record TellsAnswer {A : Type 0} (Done : ℕ → Type 0) (Cause : Refusal → Type 0) (old new : List A) (before status after : ℕ) : Type 0 where
   pub answer : Result ℕ Refusal
   pub told : status ≡ status_of answer
   pub detail : after ≡ detail_of answer before

@@ -8,7 +8,7 @@ ghost use Rattle.safebound_lists.specs.Written.{IsFilled};
 ghost use Rattle.safebound_bounds.specs.Causes.{IsBoundsCause, IsRight};
 ghost use Rattle.safebound_bounds.specs.Meaning.{all_bounds, edges_of, given, known, no_bound};
 ghost use Rattle.safebound_bounds.specs.Values.{SatisfiesValues, ValuedTables, ValuesFit};
-ghost use Rattle.safebound_c.specs.Status.{Tells, done};
+ghost use Rattle.safebound_c.specs.Status.{TellsAnswer, done};
 
 use crate::status::told;
 use safebound_bounds::{ColumnList, Equality, bounds};
@@ -29,7 +29,7 @@ pub extern "C" fn safebound_bounds(
     into: &mut [u64],
     detail: &mut u64,
 ) -> u32
-    ensures exact { Tells (IsFilled (all_bounds (known rows.now lists.now runs.now) (edges_of equalities.now) (length rows.now)) into.old into.new)
+    ensures exact { TellsAnswer (IsFilled (all_bounds (known rows.now lists.now runs.now) (edges_of equalities.now) (length rows.now)) into.old into.new)
         (IsBoundsCause rows.now equalities.now lists.now runs.now (length into.old)) into.old into.new detail.old result detail.new }
     ensures right { result ≡ done → IsRight rows.now equalities.now lists.now runs.now }
     ensures never_under { result ≡ done → (subset : ℕ) → subset < 2 ^ length rows.now

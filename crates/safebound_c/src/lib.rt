@@ -1,6 +1,6 @@
 //! The library as C sees it: each call of include/safebound.h, thin over the crates that check values and answer.
 //!
-//! A call answers a status and leaves a number behind `detail`. `Tells` says what both stand for, and with them what was written into the
+//! A call answers a status and leaves a number behind `detail`. `TellsAnswer` says what both stand for, and with them what was written into the
 //! caller's room. No call has a condition, and calls keep nothing between them.
 #![tactic(auto)]
 

@@ -7,7 +7,7 @@ ghost use Rattle.degree_sequences.specs.Degrees.{degree_list};
 ghost use Rattle.safebound_lists.specs.Causes.{IsAppendCause, IsCompressCause, IsDegreesCause};
 ghost use Rattle.safebound_lists.specs.Runs.{MayBeAdded, MayBeCompressed, list_of};
 ghost use Rattle.safebound_lists.specs.Written.{IsWritten};
-ghost use Rattle.safebound_c.specs.Status.{Tells, done};
+ghost use Rattle.safebound_c.specs.Status.{TellsAnswer, done};
 
 use crate::status::told;
 use safebound_lists::{Run, append, compress, degrees};
@@ -21,7 +21,7 @@ pub extern "C" fn safebound_degrees(
     into: &mut [Run],
     detail: &mut u64,
 ) -> u32
-    ensures exact { Tells (IsWritten (degree_list keys.now) into.old into.new) (IsDegreesCause keys.now (length into.old))
+    ensures exact { TellsAnswer (IsWritten (degree_list keys.now) into.old into.new) (IsDegreesCause keys.now (length into.old))
         into.old into.new detail.old result detail.new }
     ensures few { result ≡ done → length keys.now ≤ greatest_rows }
 {
@@ -37,7 +37,7 @@ pub extern "C" fn safebound_compress(
     into: &mut [Run],
     detail: &mut u64,
 ) -> u32
-    ensures exact { Tells (IsWritten (compressed accuracy (list_of runs.now)) into.old into.new)
+    ensures exact { TellsAnswer (IsWritten (compressed accuracy (list_of runs.now)) into.old into.new)
         (IsCompressCause runs.now accuracy (length into.old)) into.old into.new detail.old result detail.new }
     ensures right { result ≡ done → MayBeCompressed runs.now accuracy }
 {
@@ -53,7 +53,7 @@ pub extern "C" fn safebound_append(
     into: &mut [Run],
     detail: &mut u64,
 ) -> u32
-    ensures exact { Tells (IsWritten (rank_sum (list_of runs.now) (list_of others.now)) into.old into.new)
+    ensures exact { TellsAnswer (IsWritten (rank_sum (list_of runs.now) (list_of others.now)) into.old into.new)
         (IsAppendCause runs.now others.now (length into.old)) into.old into.new detail.old result detail.new }
     ensures right { result ≡ done → MayBeAdded runs.now others.now }
 {

@@ -4,7 +4,7 @@ ghost use Rattle.safebound_plans.specs.Causes.{IsOrderCause, IsTreeCause};
 ghost use Rattle.safebound_plans.specs.Memory.{IsOrderMemory, IsOrderMemoryCause, IsTreeMemory, IsTreeMemoryCause};
 ghost use Rattle.safebound_plans.specs.Orders.{IsBestOrder};
 ghost use Rattle.safebound_plans.specs.Trees.{IsBestTree};
-ghost use Rattle.safebound_c.specs.Status.{Tells};
+ghost use Rattle.safebound_c.specs.Status.{TellsAnswer};
 
 use crate::status::told;
 use safebound_plans::{JoinNode, Level, order, order_memory, tree, tree_memory};
@@ -19,7 +19,7 @@ pub extern "C" fn safebound_order(
     into: &mut [Level],
     detail: &mut u64,
 ) -> u32
-    ensures exact { Tells (IsBestOrder bounds.now budget into.old into.new) (IsOrderCause bounds.now budget (length into.old))
+    ensures exact { TellsAnswer (IsBestOrder bounds.now budget into.old into.new) (IsOrderCause bounds.now budget (length into.old))
         into.old into.new detail.old result detail.new }
 {
     told(order(alloc, bounds, budget, into), detail)
@@ -34,7 +34,7 @@ pub extern "C" fn safebound_tree(
     into: &mut [JoinNode],
     detail: &mut u64,
 ) -> u32
-    ensures exact { Tells (IsBestTree bounds.now budget into.old into.new) (IsTreeCause bounds.now budget (length into.old))
+    ensures exact { TellsAnswer (IsBestTree bounds.now budget into.old into.new) (IsTreeCause bounds.now budget (length into.old))
         into.old into.new detail.old result detail.new }
 {
     told(tree(alloc, bounds, budget, into), detail)
@@ -43,7 +43,7 @@ pub extern "C" fn safebound_tree(
 /// The bytes that an engine's buffers take for an order: of its lists of so many rows of each entry, its levels and its chains.
 #[unsafe(no_mangle)]
 pub extern "C" fn safebound_memory(rows: &[u64], levels: &[Level], detail: &mut u64) -> u32
-    ensures exact { Tells (IsOrderMemory rows.now levels.now) (IsOrderMemoryCause rows.now levels.now)
+    ensures exact { TellsAnswer (IsOrderMemory rows.now levels.now) (IsOrderMemoryCause rows.now levels.now)
         levels.now levels.now detail.old result detail.new }
 {
     told(order_memory(rows, levels), detail)
@@ -52,7 +52,7 @@ pub extern "C" fn safebound_memory(rows: &[u64], levels: &[Level], detail: &mut 
 /// The same for a join tree.
 #[unsafe(no_mangle)]
 pub extern "C" fn safebound_tree_memory(rows: &[u64], joins: &[JoinNode], detail: &mut u64) -> u32
-    ensures exact { Tells (IsTreeMemory rows.now joins.now) (IsTreeMemoryCause rows.now joins.now)
+    ensures exact { TellsAnswer (IsTreeMemory rows.now joins.now) (IsTreeMemoryCause rows.now joins.now)
         joins.now joins.now detail.old result detail.new }
 {
     told(tree_memory(rows, joins), detail)

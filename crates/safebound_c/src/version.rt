@@ -1,7 +1,7 @@
 //! The library's version.
 ghost use Rattle.std.specs.Prelude.{◌≡◌, length, IfErr, IfOk, OnErr};
 ghost use Rattle.safebound_lists.specs.Written.{IsFilled, NeedsRoom};
-ghost use Rattle.safebound_c.specs.Status.{Tells};
+ghost use Rattle.safebound_c.specs.Status.{TellsAnswer};
 ghost use Rattle.safebound_c.specs.Version.{version_text};
 
 use crate::status::told;
@@ -28,7 +28,7 @@ fn version(into: &mut [u8]) -> Result<u64, Refusal>
 /// Writes the library's version as text, with a 0 at its end.
 #[unsafe(no_mangle)]
 pub extern "C" fn safebound_version(into: &mut [u8], detail: &mut u64) -> u32
-    ensures exact { Tells (IsFilled version_text into.old into.new) (NeedsRoom (length version_text) (length into.old))
+    ensures exact { TellsAnswer (IsFilled version_text into.old into.new) (NeedsRoom (length version_text) (length into.old))
         into.old into.new detail.old result detail.new }
 {
     told(version(into), detail)

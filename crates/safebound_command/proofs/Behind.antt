@@ -4,7 +4,7 @@ use Rattle.std.specs.Prelude.{IsOkAnd, codes}
 use Rattle.base_io.specs.Devices.{Growth, Reading}
 use Rattle.base_io.specs.Sinks.{GrewByPrefix, appended}
 use Rattle.outcomes.specs.declared.status.Status.{Status}
-use Rattle.safebound_top.specs.Call.{Call, CutThenTold, Tells}
+use Rattle.safebound_top.specs.Call.{Call, CutThenTold, GrewOrWasCut}
 use Rattle.safebound_top.specs.Faults.{fault_text}
 use Rattle.safebound_top.specs.Headline.{DidNotGrow, DoneIsExact, GrewByLine, GrewWhole, Headline, ReadFaultsHaveTheirCause, RefusalsAreTheVerdict, WantOfMemoryLeavesItsLine, WasCut, WasCutAndTold, WriteFaultsHaveTheirCause, grown}
 use Rattle.safebound_top.specs.Outcome.{Outcome}
@@ -41,7 +41,7 @@ prefix_behind : (name : ℕ) (before : List ℕ) (after : Option (List ℕ)) (te
 prefix_behind name before after text h = record { front = h.front; rest = h.rest; whole = h.whole; grew = ap behind h.grew }
 
 tells_behind : (name : ℕ) (before : List ℕ) (after : Option (List ℕ)) (f f' : ℕ) (text : List ℕ)
-    → Tells (Some (name ∷ before)) after f f' text → Tells (Some before) (behind after) f f' text
+    → GrewOrWasCut (Some (name ∷ before)) after f f' text → GrewOrWasCut (Some before) (behind after) f f' text
 tells_behind name before after f f' text h = record {
   prefix = prefix_behind name before after text h.prefix;
   whole = λ calm. ap behind (h.whole calm);
@@ -86,7 +86,7 @@ was_cut_and_told_behind name before after f f' (Some text) line h = cut_behind n
 
 -- what is told after a text, where there is one
 told_after_behind : (name : ℕ) (before : List ℕ) (after : Option (List ℕ)) (f f' : ℕ) (text : Option (List ℕ)) (line : List ℕ)
-    → Tells (grown (Some (name ∷ before)) text) after f f' line → Tells (grown (Some before) text) (behind after) f f' line
+    → GrewOrWasCut (grown (Some (name ∷ before)) text) after f f' line → GrewOrWasCut (grown (Some before) text) (behind after) f f' line
 told_after_behind name before after f f' None line h = tells_behind name before after f f' line h
 told_after_behind name before after f f' (Some text) line h = tells_behind name (before ++ text) after f f' line h
 
@@ -105,7 +105,7 @@ LeftByCutNotes notes line outcome = WasCutAndTold notes (notes_text outcome) lin
 
 abbrev pub LeftByCutOut : Growth → Growth → List ℕ → Outcome → Type 0
 LeftByCutOut out notes line outcome = WasCut out (out_text outcome)
-    × Tells (grown notes.taken_before (notes_text outcome)) notes.taken_after notes.faults_before notes.faults_after line
+    × GrewOrWasCut (grown notes.taken_before (notes_text outcome)) notes.taken_after notes.faults_before notes.faults_after line
 
 -- ---- the headline
 
@@ -180,25 +180,26 @@ module _ (words : List (List ℕ)) (status : Status) (store : Reading)
     refusals_bare : RefusalsAreTheVerdict bare_call
     refusals_bare = record {
       usage = h.refusals_are_the_verdict.usage;
-      told = λ r there is. (
-        out_kept (h.refusals_are_the_verdict.told r there is).0,
+      told = λ r is. (
+        out_kept (h.refusals_are_the_verdict.told r is).0,
         λ files told. (
-          ((h.refusals_are_the_verdict.told r there is).1 files told).0,
-          line_told (fault_text status words files) ((h.refusals_are_the_verdict.told r there is).1 files told).1,
+          ((h.refusals_are_the_verdict.told r is).1 files told).0,
+          line_told (fault_text status words files) ((h.refusals_are_the_verdict.told r is).1 files told).1,
         ),
       );
+      untold = h.refusals_are_the_verdict.untold;
     }
 
     reads_bare : ReadFaultsHaveTheirCause bare_call
     reads_bare = record {
       told = λ file is. (
-        out_kept (h.read_faults_have_their_cause.told file is).0,
+        (h.read_faults_have_their_cause.told file is).0,
+        out_kept (h.read_faults_have_their_cause.told file is).1,
         λ files told. (
-          ((h.read_faults_have_their_cause.told file is).1 files told).0,
-          line_told (fault_text status words files) ((h.read_faults_have_their_cause.told file is).1 files told).1,
+          ((h.read_faults_have_their_cause.told file is).2 files told).0,
+          line_told (fault_text status words files) ((h.read_faults_have_their_cause.told file is).2 files told).1,
         ),
       );
-      untold = h.read_faults_have_their_cause.untold;
       misses = h.read_faults_have_their_cause.misses;
     }
 

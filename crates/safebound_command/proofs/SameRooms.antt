@@ -4,14 +4,10 @@ use Rattle.std.specs.Prelude.{IsOkAnd, codes}
 use Rattle.base_io.specs.Devices.{Reading}
 use Rattle.base_io.specs.Files.{Files}
 use Rattle.base_io.specs.Sinks.{GrewByPrefix, appended}
-use Rattle.outcomes.specs.Reads.{IsOfWhatIsThere}
-use Rattle.outcomes.specs.Statuses.{refused}
 use Rattle.outcomes.specs.declared.names.SinkId.TheVariants as sink
-use Rattle.outcomes.specs.declared.refusal.Refusal.{Refusal}
-use Rattle.outcomes.specs.declared.refusal.Refusal.TheVariants as refusal
 use Rattle.outcomes.specs.declared.status.Status.{Status}
 use Rattle.outcomes.specs.declared.status.Status.TheVariants as status
-use Rattle.safebound_top.specs.Call.{Call, CutThenTold, Tells}
+use Rattle.safebound_top.specs.Call.{Call, CutThenTold, GrewOrWasCut}
 use Rattle.safebound_top.specs.Faults.{fault_text}
 use Rattle.safebound_top.specs.Headline.{DidNotGrow, GrewWhole, Headline, WasCut, WasCutAndTold, grown}
 use Rattle.safebound_top.specs.Outcome.{Outcome}
@@ -50,7 +46,7 @@ was_cut_and_told_name name before after f f' None line h = absurd h
 was_cut_and_told_name name before after f f' (Some text) line h = cut_name name before after text line h
 
 told_after_name : (name : ℕ) (before : List ℕ) (after : Option (List ℕ)) (f f' : ℕ) (text : Option (List ℕ)) (line : List ℕ)
-    → Tells (grown (Some (name ∷ before)) text) after f f' line → name_in after ≡ name
+    → GrewOrWasCut (grown (Some (name ∷ before)) text) after f f' line → name_in after ≡ name
 told_after_name name before after f f' None line h = prefix_name name before after line h.prefix
 told_after_name name before after f f' (Some text) line h = prefix_name name (before ++ text) after line h.prefix
 
@@ -69,17 +65,11 @@ module _ (words : List (List ℕ)) (store : Reading) (files : Files) (tells : st
   abbrev Same : Type 0
   Same = (name_in out_after ≡ out_name) × (name_in notes_after ≡ notes_name)
 
-  told_name : (line : List ℕ) → Tells (Some (notes_name ∷ notes_before)) notes_after n n' line → name_in notes_after ≡ notes_name
+  told_name : (line : List ℕ) → GrewOrWasCut (Some (notes_name ∷ notes_before)) notes_after n n' line → name_in notes_after ≡ notes_name
   told_name line h = prefix_name notes_name notes_before notes_after line h.prefix
 
   out_name_kept : DidNotGrow (with_name out_name out_before out_after o o') → name_in out_after ≡ out_name
   out_name_kept h = ap name_in h.0
-
-  refused_names : (r : Refusal) (s : Status) → IsOfWhatIsThere r → s ≡ refused r → Headline (call_with s) → Same
-  refused_names r s there is h = (
-    out_name_kept (h.refusals_are_the_verdict.told r there is).0,
-    told_name (fault_text s words files) ((h.refusals_are_the_verdict.told r there is).1 files tells).1,
-  )
 
   done_names : (s : Status) (outcome : Outcome) → LeftByDone (call_with s).out (call_with s).notes outcome → Same
   done_names s outcome h = (
@@ -100,19 +90,14 @@ module _ (words : List (List ℕ)) (store : Reading) (files : Files) (tells : st
   same_names status.Done h =
       from_ok (LeftByDone (call_with status.Done).out (call_with status.Done).notes) Same (verdict words files) (done_names status.Done)
       (h.done_is_exact refl files tells)
-  same_names status.Usage h = refused_names refusal.Usage status.Usage (λ file e. cc) refl h
-  same_names (status.ReadFault file) h = (
-    out_name_kept (h.read_faults_have_their_cause.told file refl).0,
-    told_name (fault_text (status.ReadFault file) words files) ((h.read_faults_have_their_cause.told file refl).1 files tells).1,
+  same_names (status.Refused r) h = (
+    out_name_kept (h.refusals_are_the_verdict.told r refl).0,
+    told_name (fault_text (status.Refused r) words files) ((h.refusals_are_the_verdict.told r refl).1 files tells).1,
   )
-  same_names (status.Schema cause at) h = refused_names (refusal.Schema cause at) (status.Schema cause at) (λ file e. cc) refl h
-  same_names (status.Query cause at) h = refused_names (refusal.Query cause at) (status.Query cause at) (λ file e. cc) refl h
-  same_names (status.Table table cause) h = refused_names (refusal.Table table cause) (status.Table table cause) (λ file e. cc) refl h
-  same_names (status.Stats cause at) h = refused_names (refusal.Stats cause at) (status.Stats cause at) (λ file e. cc) refl h
-  same_names (status.Limit which file found) h = refused_names (refusal.Limit which file found) (status.Limit which file found) (λ other e. cc) refl h
-  same_names (status.Budget least) h = refused_names (refusal.Budget least) (status.Budget least) (λ file e. cc) refl h
-  same_names (status.MemoryLimit bytes) h = refused_names (refusal.MemoryLimit bytes) (status.MemoryLimit bytes) (λ file e. cc) refl h
-  same_names status.PastBits h = refused_names refusal.PastBits status.PastBits (λ file e. cc) refl h
+  same_names (status.ReadFault file) h = (
+    out_name_kept (h.read_faults_have_their_cause.told file refl).1,
+    told_name (fault_text (status.ReadFault file) words files) ((h.read_faults_have_their_cause.told file refl).2 files tells).1,
+  )
   same_names (status.WriteFault sink.Out) h =
       from_ok (LeftByCutOut (call_with (status.WriteFault sink.Out)).out (call_with (status.WriteFault sink.Out)).notes (fault_text (status.WriteFault sink.Out) words files))
       Same (verdict words files) (cut_out_names (status.WriteFault sink.Out) (fault_text (status.WriteFault sink.Out) words files))

@@ -69,5 +69,5 @@ abbrev pub HasNoWords : List (List ℕ) → ℕ → Type 0
 HasNoWords words code = ((code ≡ 15) × Any (λ word. ¬ (IsUtf8 word)) words) ⊎ (code ≡ 11)
 
 -- the program was run, or the words can't be had, and then both texts are empty
-abbrev pub Answers : List (List ℕ) → Files → Written → Written → ℕ → Type 0
-Answers words files out notes code = Ran words files out notes code ⊎ (HasNoWords words code × (out.count ≡ 0) × (notes.count ≡ 0))
+abbrev pub CallEnds : List (List ℕ) → Files → Written → Written → ℕ → Type 0
+CallEnds words files out notes code = Ran words files out notes code ⊎ (HasNoWords words code × (out.count ≡ 0) × (notes.count ≡ 0))

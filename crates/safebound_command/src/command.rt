@@ -1,7 +1,7 @@
 //! The call that C makes.
 ghost use Rattle.std.specs.Prelude.{map};
 ghost use Rattle.slice_devices.specs.Slices.{files_of};
-ghost use Rattle.safebound_command.specs.Command.{Answers, written};
+ghost use Rattle.safebound_command.specs.Command.{CallEnds, written};
 
 use crate::rooms::run_over;
 use crate::words::{NoWords, texts};
@@ -20,7 +20,7 @@ pub extern "C" fn safebound_command(
     out_length: &mut u64,
     notes_length: &mut u64,
 ) -> u32
-    ensures { Answers (map (λ w. w.now) words.now) (files_of files.now) (written out.new out_length.new)
+    ensures { CallEnds (map (λ w. w.now) words.now) (files_of files.now) (written out.new out_length.new)
         (written notes.new notes_length.new) result }
 {
     *out_length = 0;

@@ -1,7 +1,7 @@
 //! The whole program over files in memory, as C sees it: include/safebound_command.h.
 //!
 //! One call runs a command line over files that the caller lends, and writes both texts into rooms of the caller's. Its status is the
-//! exit status of the program. `Answers` (in `specs/Command.antt`) says what it answers: the headline of the top call, over a store that
+//! exit status of the program. `CallEnds` (in `specs/Command.antt`) says what it answers: the headline of the top call, over a store that
 //! tells just these files and never fails, and streams that fail only where their room is full.
 #![tactic(auto)]
 

@@ -3,8 +3,8 @@ use Rattle.std.proofs.Common.{◌≡◌, ◌⊎◌, ℕ, inl, inr, List, None, S
 use Rattle.std.specs.Prelude.{IsOkAnd, codes}
 use Rattle.base_io.specs.Causes.{Rose}
 use Rattle.base_io.specs.Files.{Files}
-use Rattle.outcomes.specs.Reads.{Ends, IsOfWhatIsThere, Reads}
-use Rattle.outcomes.specs.Statuses.{ended, refused}
+use Rattle.outcomes.specs.Reads.{Ends, Reads}
+use Rattle.outcomes.specs.Statuses.{ended}
 use Rattle.outcomes.specs.declared.ending.Ending.{Ending}
 use Rattle.outcomes.specs.declared.ending.Ending.TheVariants as ending
 use Rattle.outcomes.specs.declared.names.FileId.{FileId}
@@ -13,9 +13,9 @@ use Rattle.outcomes.specs.declared.names.SinkId.TheVariants as sink
 use Rattle.outcomes.specs.declared.refusal.Refusal.{Refusal}
 use Rattle.outcomes.specs.declared.refusal.Refusal.TheVariants as refusal
 use Rattle.outcomes.specs.declared.status.Status.TheVariants as status
-use Rattle.outcomes.proofs.StatusFacts.{ended_fault, ended_not_cut, ended_not_done, ended_refused, refused_not_cut, refused_not_done}
+use Rattle.outcomes.proofs.StatusFacts.{ended_fault, ended_not_cut, ended_not_done, ended_refused}
 use Rattle.safebound_top.specs.Asks.{command_stage}
-use Rattle.safebound_top.specs.Call.{Call, Tells}
+use Rattle.safebound_top.specs.Call.{Call, GrewOrWasCut}
 use Rattle.safebound_top.specs.Course.{Course, Ended, Done, CutInNotes, CutInOut, How, Unasked, Asked, Ran, Stopped, Went, Told}
 use Rattle.safebound_top.specs.Faults.{fault_text}
 use Rattle.safebound_top.specs.Headline as say
@@ -29,11 +29,9 @@ unasked_verdict : (words : List (List ℕ)) (files : Files) → command_stage wo
 unfolding verdict
 unasked_verdict words files is = rw is refl
 
--- the status of words that are no command is no other
-usage_is : (r : Refusal) → status.Usage ≡ refused r → IsOfWhatIsThere r → r ≡ refusal.Usage
-usage_is r e there =
-    let same : ending.Refused refusal.Usage ≡ ending.Refused r = ended_refused (ending.Refused refusal.Usage) r e there in
-    cc
+-- and they are told as no other refusal
+unasked_is : (r : Refusal) → status.Refused refusal.Usage ≡ status.Refused r → r ≡ refusal.Usage
+unasked_is r is = cc
 
 module _ (call : Call) (course : Course call) where
   -- a line that was told is the fault text, where the store tells its files
@@ -42,33 +40,14 @@ module _ (call : Call) (course : Course call) where
 
   -- a reading that ended
   module _ (e : Ending) (status_is : call.status ≡ ended e) (reads : Reads call.store (verdict call.words) (IsReached call.words) (Err e)) where
-    -- by a refusal of what is there
-    refused_by : (r : Refusal) → IsOfWhatIsThere r → call.status ≡ refused r → e ≡ ending.Refused r
-    refused_by r there is = ended_refused e r (sym status_is ∙ is) there
-
     ends_as : (f : Ending) → e ≡ f → Ends call.store (verdict call.words) (IsReached call.words) f
     ends_as f is = subst (Ends call.store (verdict call.words) (IsReached call.words)) is reads.gives
 
-    stopped_verdict : (r : Refusal) → IsOfWhatIsThere r → call.status ≡ refused r → (files : Files) → call.store.files ≡ Some files → verdict call.words files ≡ Err r
-    stopped_verdict r there is = (ends_as (ending.Refused r) (refused_by r there is)).0
+    by_refusal : (r : Refusal) → call.status ≡ status.Refused r → Ends call.store (verdict call.words) (IsReached call.words) (ending.Refused r)
+    by_refusal r is = ends_as (ending.Refused r) (ended_refused e r (sym status_is ∙ is))
 
-    not_usage : call.status ≡ status.Usage → ⊥
-    not_usage is =
-        let there : IsOfWhatIsThere refusal.Usage = λ file h. cc in
-        (ends_as (ending.Refused refusal.Usage) (refused_by refusal.Usage there is)).2 refl
-
-    fault_told : (file : FileId) → call.status ≡ status.ReadFault file → (files : Files) → call.store.files ≡ Some files
-        → (verdict call.words files ≡ Err (refusal.Missing file)) ⊎ (Rose call.store.faults_before call.store.faults_after × IsReached call.words files file)
-    fault_told file is files told = elim (ended_fault e file (sym status_is ∙ is)) [
-      | inl missing ↦ inl ((ends_as (ending.Refused (refusal.Missing file)) missing).0 files told)
-      | inr fault ↦ (let ends = ends_as (ending.Fault file) fault in inr (ends.0, ends.1 files told))
-    ]
-
-    fault_untold : (file : FileId) → call.status ≡ status.ReadFault file → call.store.files ≡ None → Rose call.store.faults_before call.store.faults_after
-    fault_untold file is none = elim (ended_fault e file (sym status_is ∙ is)) [
-      | inl missing ↦ absurd ((ends_as (ending.Refused (refusal.Missing file)) missing).1 none file refl)
-      | inr fault ↦ (ends_as (ending.Fault file) fault).0
-    ]
+    by_fault : (file : FileId) → call.status ≡ status.ReadFault file → Ends call.store (verdict call.words) (IsReached call.words) (ending.Fault file)
+    by_fault file is = ends_as (ending.Fault file) (ended_fault e file (sym status_is ∙ is))
 
     -- where no fault was counted
     stopped_so : (Rose call.store.faults_before call.store.faults_after → ⊥) → (files : Files) → call.store.files ≡ Some files
@@ -86,24 +65,14 @@ module _ (call : Call) (course : Course call) where
     went_verdict : (files : Files) → call.store.files ≡ Some files → verdict call.words files ≡ Ok run
     went_verdict = reads.gives
 
-    went_not_refused : (r : Refusal) → call.status ≡ refused r → ⊥
-    went_not_refused r is = by written
+    -- no ending of a reading was told
+    went_on : (e : Ending) → call.status ≡ ended e → ⊥
+    went_on e is = by written
       where
         by : Ended call.status call.out call.notes run course.line → ⊥
-        by (Done e notes out) = refused_not_done r (sym is ∙ e)
-        by (CutInNotes e rose out line) = refused_not_cut r sink.Notes (sym is ∙ e)
-        by (CutInOut e rose out line) = refused_not_cut r sink.Out (sym is ∙ e)
-
-    went_not_fault : (file : FileId) → call.status ≡ status.ReadFault file → ⊥
-    went_not_fault file is = went_not_refused (refusal.Missing file) is
-
-    went_not_memory : call.status ≡ status.NoMemory → ⊥
-    went_not_memory is = by written
-      where
-        by : Ended call.status call.out call.notes run course.line → ⊥
-        by (Done e notes out) = ended_not_done ending.NoMemory (sym is ∙ e)
-        by (CutInNotes e rose out line) = ended_not_cut ending.NoMemory sink.Notes (sym is ∙ e)
-        by (CutInOut e rose out line) = ended_not_cut ending.NoMemory sink.Out (sym is ∙ e)
+        by (Done s notes out) = ended_not_done e (sym is ∙ s)
+        by (CutInNotes s rose out line) = ended_not_cut e sink.Notes (sym is ∙ s)
+        by (CutInOut s rose out line) = ended_not_cut e sink.Out (sym is ∙ s)
 
     went_done : call.status ≡ status.Done → (files : Files) → call.store.files ≡ Some files
         → IsOkAnd (verdict call.words files) (λ run. say.GrewWhole call.notes (notes_text run) × say.GrewWhole call.out (out_text run))
@@ -133,21 +102,21 @@ module _ (call : Call) (course : Course call) where
 
     went_cut_out : call.status ≡ status.WriteFault sink.Out → say.FaultsRose call.out
         × say.OverFiles call (λ files v. IsOkAnd v (λ run. say.WasCut call.out (out_text run)
-        × Tells (say.grown call.notes.taken_before (notes_text run)) call.notes.taken_after call.notes.faults_before call.notes.faults_after (fault_text call.status call.words files)))
+        × GrewOrWasCut (say.grown call.notes.taken_before (notes_text run)) call.notes.taken_after call.notes.faults_before call.notes.faults_after (fault_text call.status call.words files)))
     went_cut_out is = by written
       where
         by : Ended call.status call.out call.notes run course.line → say.FaultsRose call.out
             × say.OverFiles call (λ files v. IsOkAnd v (λ run. say.WasCut call.out (out_text run)
-            × Tells (say.grown call.notes.taken_before (notes_text run)) call.notes.taken_after call.notes.faults_before call.notes.faults_after (fault_text call.status call.words files)))
+            × GrewOrWasCut (say.grown call.notes.taken_before (notes_text run)) call.notes.taken_after call.notes.faults_before call.notes.faults_after (fault_text call.status call.words files)))
         by (Done e notes out) = absurd (let no : status.Done ≡ status.WriteFault sink.Out = sym e ∙ is in cc)
         by (CutInNotes e rose out line) = absurd (let no : status.WriteFault sink.Notes ≡ status.WriteFault sink.Out = sym e ∙ is in cc)
         by (CutInOut e rose out line) = (
           rose,
           (λ files told.
               subst (λ (v : Result Outcome Refusal). IsOkAnd v (λ run. say.WasCut call.out (out_text run)
-              × Tells (say.grown call.notes.taken_before (notes_text run)) call.notes.taken_after call.notes.faults_before call.notes.faults_after (fault_text call.status call.words files)))
+              × GrewOrWasCut (say.grown call.notes.taken_before (notes_text run)) call.notes.taken_after call.notes.faults_before call.notes.faults_after (fault_text call.status call.words files)))
               (sym (went_verdict files told))
-              (out, subst (Tells (say.grown call.notes.taken_before (notes_text run)) call.notes.taken_after call.notes.faults_before call.notes.faults_after) (course.is_line files told) line)),
+              (out, subst (GrewOrWasCut (say.grown call.notes.taken_before (notes_text run)) call.notes.taken_after call.notes.faults_before call.notes.faults_after) (course.is_line files told) line)),
         )
 
     went_by_the_store : (files : Files) → call.store.files ≡ Some files
@@ -169,11 +138,11 @@ module _ (call : Call) (course : Course call) where
         by (CutInNotes e rose out line) = absurd (calm_notes rose)
         by (CutInOut e rose out line) = absurd (calm_out rose)
 
-  -- ---- the eight sentences
+  -- ---- the sentences
 
   -- 1
   done : How call course.line → say.DoneIsExact call
-  done (Unasked h) is = absurd (let no : status.Usage ≡ status.Done = sym h.status ∙ is in cc)
+  done (Unasked h) is = absurd (let no : status.Refused refusal.Usage ≡ status.Done = sym h.status ∙ is in cc)
   done (Asked h) is = by h.ran
     where
       by : Ran call.status call.store call.out call.notes (verdict call.words) (IsReached call.words) course.line
@@ -183,18 +152,18 @@ module _ (call : Call) (course : Course call) where
 
   -- 4
   memory : How call course.line → say.WantOfMemoryLeavesItsLine call
-  memory (Unasked h) is = absurd (let no : status.Usage ≡ status.NoMemory = sym h.status ∙ is in cc)
+  memory (Unasked h) is = absurd (let no : status.Refused refusal.Usage ≡ status.NoMemory = sym h.status ∙ is in cc)
   memory (Asked h) is = by h.ran
     where
       by : Ran call.status call.store call.out call.notes (verdict call.words) (IsReached call.words) course.line → say.GrewByLine call.notes (codes "error memory\n") × say.DidNotGrow call.out
       by (Stopped e s reads out told) = (subst (say.GrewByLine call.notes) (course.memory is) told.tells, out)
-      by (Went run reads written) = absurd (went_not_memory run reads written is)
+      by (Went run reads written) = absurd (went_on run reads written ending.NoMemory is)
 
   -- 5
   cuts : How call course.line → say.WriteFaultsHaveTheirCause call
   cuts (Unasked h) = record {
-    of_notes = λ is. absurd (let no : status.Usage ≡ status.WriteFault sink.Notes = sym h.status ∙ is in cc);
-    of_out = λ is. absurd (let no : status.Usage ≡ status.WriteFault sink.Out = sym h.status ∙ is in cc);
+    of_notes = λ is. absurd (let no : status.Refused refusal.Usage ≡ status.WriteFault sink.Notes = sym h.status ∙ is in cc);
+    of_out = λ is. absurd (let no : status.Refused refusal.Usage ≡ status.WriteFault sink.Out = sym h.status ∙ is in cc);
   }
   cuts (Asked h) = by h.ran
     where
@@ -209,40 +178,42 @@ module _ (call : Call) (course : Course call) where
   refusals : How call course.line → say.RefusalsAreTheVerdict call
   refusals (Unasked h) = record {
     usage = ((λ is. h.words), (λ is. h.status));
-    told = λ r there is.
-        let same : r ≡ refusal.Usage = usage_is r (sym h.status ∙ is) there in
+    told = λ r is.
+        let same : r ≡ refusal.Usage = unasked_is r (sym h.status ∙ is) in
         (h.out, (λ files told. (unasked_verdict call.words files h.words ∙ ap (λ (x : Refusal). Err x) (sym same), line_told h.told files told)));
+    untold = λ file is. absurd (let no : refusal.Missing file ≡ refusal.Usage = unasked_is (refusal.Missing file) (sym h.status ∙ is) in cc);
   }
   refusals (Asked h) = by h.ran
     where
       by : Ran call.status call.store call.out call.notes (verdict call.words) (IsReached call.words) course.line → say.RefusalsAreTheVerdict call
       by (Stopped e s reads out told) = record {
-        usage = ((λ is. absurd (not_usage e s reads is)), (λ is. absurd (h.words is)));
-        told = λ r there is. (out, (λ files is_told. (stopped_verdict e s reads r there is files is_told, line_told told files is_told)));
+        usage = ((λ is. absurd ((by_refusal e s reads refusal.Usage is).2 refl)), (λ is. absurd (h.words is)));
+        told = λ r is. (out, (λ files is_told. ((by_refusal e s reads r is).0 files is_told, line_told told files is_told)));
+        untold = λ file is none. (by_refusal e s reads (refusal.Missing file) is).1 none file refl;
       }
       by (Went run reads written) = record {
-        usage = ((λ is. absurd (went_not_refused run reads written refusal.Usage is)), (λ is. absurd (h.words is)));
-        told = λ r there is. absurd (went_not_refused run reads written r is);
+        usage = ((λ is. absurd (went_on run reads written (ending.Refused refusal.Usage) is)), (λ is. absurd (h.words is)));
+        told = λ r is. absurd (went_on run reads written (ending.Refused r) is);
+        untold = λ file is. absurd (went_on run reads written (ending.Refused (refusal.Missing file)) is);
       }
 
   -- 7
   faults : How call course.line → say.ReadFaultsHaveTheirCause call
   faults (Unasked h) = record {
-    told = λ file is. absurd (let no : status.Usage ≡ status.ReadFault file = sym h.status ∙ is in cc);
-    untold = λ file is. absurd (let no : status.Usage ≡ status.ReadFault file = sym h.status ∙ is in cc);
+    told = λ file is. absurd (let no : status.Refused refusal.Usage ≡ status.ReadFault file = sym h.status ∙ is in cc);
     misses = λ files told missed. h.misses;
   }
   faults (Asked h) = by h.ran
     where
       by : Ran call.status call.store call.out call.notes (verdict call.words) (IsReached call.words) course.line → say.ReadFaultsHaveTheirCause call
       by (Stopped e s reads out told) = record {
-        told = λ file is. (out, (λ files is_told. (fault_told e s reads file is files is_told, line_told told files is_told)));
-        untold = fault_untold e s reads;
+        told = λ file is.
+            let ends = by_fault e s reads file is in
+            (ends.0, out, (λ files is_told. (ends.1 files is_told, line_told told files is_told)));
         misses = reads.misses;
       }
       by (Went run reads written) = record {
-        told = λ file is. absurd (went_not_fault run reads written file is);
-        untold = λ file is. absurd (went_not_fault run reads written file is);
+        told = λ file is. absurd (went_on run reads written (ending.Fault file) is);
         misses = reads.misses;
       }
 

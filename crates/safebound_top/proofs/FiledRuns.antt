@@ -5,9 +5,9 @@ use Rattle.std.proofs.lemmas.List.{get_or-map, length-map}
 use Rattle.base_io.specs.Files.{Files}
 use Rattle.csv_tables.specs.Rows.{Row}
 use Rattle.filed_bounds.proofs.Named.{names_own}
-use Rattle.filed_plans.specs.Plans.{filed_plan}
-use Rattle.filed_plans.specs.declared.errors.FiledPlanError.{FiledPlanError}
-use Rattle.filed_plans.proofs.Answering.{never_under}
+use Rattle.filed_bounds.specs.Plans.{filed_plan}
+use Rattle.filed_bounds.specs.declared.errors.FiledPlanError.{FiledPlanError}
+use Rattle.filed_bounds.proofs.Answering.{never_under}
 use Rattle.filed_stats.specs.Standing.{ShareRows}
 use Rattle.filed_stats.proofs.Standing.{file_stands}
 use Rattle.outcomes.specs.Reads.{◌>>=◌, told}

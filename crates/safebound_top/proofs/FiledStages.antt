@@ -4,12 +4,12 @@ use Rattle.std.specs.Prelude.{IfErr, IfOk}
 use Rattle.base_io.specs.Files.{Files}
 use Rattle.csv_tables.specs.Rows.{Row}
 use Rattle.base_io.specs.Devices.{Reading}
-use Rattle.filed_plans.specs.Plans.{filed_plan}
-use Rattle.filed_plans.specs.declared.errors.FiledPlanError.{FiledPlanError}
-use Rattle.filed_plans.specs.declared.errors.FiledPlanError.TheVariants as error
+use Rattle.filed_bounds.specs.Plans.{filed_plan}
+use Rattle.filed_bounds.specs.declared.errors.FiledPlanError.{FiledPlanError}
+use Rattle.filed_bounds.specs.declared.errors.FiledPlanError.TheVariants as error
 use Rattle.order_search.specs.declared.refusal.PlanError.TheVariants as plan_error
 use Rattle.outcomes.specs.Errors.{stats_ending, stats_refusal}
-use Rattle.outcomes.specs.Reads.{◌>>=◌, AtFile, Reads, Tells, seen, told}
+use Rattle.outcomes.specs.Reads.{◌>>=◌, AtFile, Reads, StopsBy, seen, told}
 use Rattle.outcomes.specs.declared.ending.Ending.{Ending}
 use Rattle.outcomes.specs.declared.ending.Ending.TheVariants as ending
 use Rattle.outcomes.specs.declared.names.FileId.{FileId}
@@ -54,12 +54,12 @@ module _ {store : Reading} (name : List ℕ) (schema : Schema) where
       then_gives store (read file.Stats 67108864 name) (stats_of_text schema) (AtFile file.Stats) (AtFile file.Stats) text stats
       (ap (stats_of_text schema) (sym same) ∙ ap (told stats_refusal) answer) h
 
-  pub stats_refused : (text slice : List ℕ) (e : Ending) → slice ≡ text → Tells (told stats_refusal (stats_answer schema slice)) e
+  pub stats_refused : (text slice : List ℕ) (e : Ending) → slice ≡ text → StopsBy (told stats_refusal (stats_answer schema slice)) e
       → Reads store (read file.Stats 67108864 name) (AtFile file.Stats) (Ok text) → Reads store (stats_stage name schema) (AtFile file.Stats) (Err e)
   unfolding stats_stage
   stats_refused text slice e same tells h =
       then_tells store (read file.Stats 67108864 name) (stats_of_text schema) (AtFile file.Stats) (AtFile file.Stats) text e
-      (subst (λ (t : List ℕ). Tells (stats_of_text schema t) e) same tells) h
+      (subst (λ (t : List ℕ). StopsBy (stats_of_text schema t) e) same tells) h
 
 -- ---- what the reader answers, as the one answer of the text
 
@@ -68,14 +68,14 @@ module _ (schema : Schema) (text : List ℕ) (is : IsValid schema) (bytes : HasB
   stats_read x answers = same_value stats_error.NoMemory (stats_answer schema text) x (stats.only schema text (Ok x) is bytes answers)
 
   tells : (answer : Result StatsFile StatsError) (e : StatsError) → (◌≡◌ {A = Result StatsFile StatsError} (Err e) (Err stats_error.NoMemory)) ⊎ (Err e ≡ answer)
-      → Tells (told stats_refusal answer) (stats_ending e)
+      → StopsBy (told stats_refusal answer) (stats_ending e)
   tells answer stats_error.NoMemory h = tt
   tells answer (stats_error.Syntax line) (inl e) = cc
   tells answer (stats_error.Syntax line) (inr e) = (ap (told stats_refusal) (sym e), (λ file h. cc), (λ h. cc))
   tells answer (stats_error.Rule line) (inl e) = cc
   tells answer (stats_error.Rule line) (inr e) = (ap (told stats_refusal) (sym e), (λ file h. cc), (λ h. cc))
 
-  pub stats_told : (e : StatsError) → Answers schema text (Err e) → Tells (told stats_refusal (stats_answer schema text)) (stats_ending e)
+  pub stats_told : (e : StatsError) → Answers schema text (Err e) → StopsBy (told stats_refusal (stats_answer schema text)) (stats_ending e)
   stats_told e answers = tells (stats_answer schema text) e (stats.only schema text (Err e) is bytes answers)
 
 -- ---- the plan from a file
@@ -90,7 +90,7 @@ module _ (query : Query) (stats : StatsFile) (plan : Plan) (memory : Option ℕ)
   filed_kept fits = kept memory (plan_bytes plan.order plan.scans plan.levels) made_of fits
 
   pub filed_stops : (r : Refusal) → limit_test memory (plan_bytes plan.order plan.scans plan.levels) ≡ Err r
-      → Tells (filed_within query stats plan memory) (ending.Refused r)
+      → StopsBy (filed_within query stats plan memory) (ending.Refused r)
   filed_stops r above = stops memory (plan_bytes plan.order plan.scans plan.levels) made_of r above
 
 module _ (query : Query) (stats : StatsFile) (budget : ℕ) (memory : Option ℕ) where
@@ -102,7 +102,7 @@ module _ (query : Query) (stats : StatsFile) (budget : ℕ) (memory : Option ℕ
   filed_planned plan is = ap (λ (r : Result Plan FiledPlanError). told filed_refusal r >>= within_of) is
 
   filed_tells : (answer : Result Plan FiledPlanError) (e : FiledPlanError) → (e ≡ error.Plan plan_error.NoMemory) ⊎ (answer ≡ Err e)
-      → Tells (told filed_refusal answer >>= within_of) (filed_ending e)
+      → StopsBy (told filed_refusal answer >>= within_of) (filed_ending e)
   filed_tells answer (error.Plan plan_error.NoMemory) h = tt
   filed_tells answer (error.Plan (plan_error.Budget least)) (inl e) = absurd (cc)
   filed_tells answer (error.Plan (plan_error.Budget least)) (inr e) =
@@ -114,7 +114,7 @@ module _ (query : Query) (stats : StatsFile) (budget : ℕ) (memory : Option ℕ
   filed_tells answer (error.Missing from) (inr e) =
       (ap (λ (r : Result Plan FiledPlanError). told filed_refusal r >>= within_of) e, (λ file h. cc), (λ h. cc))
 
-  pub filed_told : (e : FiledPlanError) → (e ≡ error.Plan plan_error.NoMemory) ⊎ (filed_plan query stats budget ≡ Err e) → Tells (filed_plan_stage query stats budget memory) (filed_ending e)
+  pub filed_told : (e : FiledPlanError) → (e ≡ error.Plan plan_error.NoMemory) ⊎ (filed_plan query stats budget ≡ Err e) → StopsBy (filed_plan_stage query stats budget memory) (filed_ending e)
   unfolding filed_plan_stage
   filed_told e h = filed_tells (filed_plan query stats budget) e h
 
@@ -139,7 +139,7 @@ module _ {store : Reading} (name : List ℕ) (budget : ℕ) (memory : Option ℕ
   plan_stops e h = then_stops (stats_stage name schema) (λ stats files. filed_plan_stage query stats budget memory) store C C e (λ files id at. at) h
 
   pub plan_ran : (stats : StatsFile) (result : Result PreparedPlan Ending) → IfOk result (λ made. filed_plan_stage query stats budget memory ≡ Ok (plan_from made))
-      → IfErr result (Tells (filed_plan_stage query stats budget memory)) → Reads store (stats_stage name schema) C (Ok stats)
+      → IfErr result (StopsBy (filed_plan_stage query stats budget memory)) → Reads store (stats_stage name schema) C (Ok stats)
       → Reads store (work_run (PlanFrom name budget memory) schema query) C (seen plan_from result)
   plan_ran stats (Ok made) is tells h = then_gives store (stats_stage name schema) (λ stats. filed_plan_stage query stats budget memory) C C stats (plan_from made) is h
   plan_ran stats (Err e) is tells h = then_tells store (stats_stage name schema) (λ stats. filed_plan_stage query stats budget memory) C C stats e tells h

@@ -33,11 +33,16 @@
 -- Sources of lists
 --
 -- - What a source gives is a value (`sourced`, a record of bounds, scan bounds and lists), and what holds of it is one record
---   (`IsSource`) with an instance of a few lines for each source (`stand` in SourceFacts). Everything above speaks of any value with
---   that record: plans (`plan_fits`, `plan_over`), levels, rooms, texts. So no proof above goes by cases on the source.
--- - `sourced` and `planned_by` are `unfoldable`: goals stay as long as these two names. They are opened in the two instances, in the
---   answers of `given_by` (`rw c.in-Columns.is`, and then the clause of the call is the goal), in ShapeFacts, and where the headline says
---   what each source's scans are (`of_columns`, `of_reduced` in Runs).
+--   (`IsSource`) with a line for each source in each of its three parts (`rows_kept`, `scans_bound`, `known_stand` in SourceFacts).
+--   Everything above speaks of any value with that record: plans (`plan_fits`, `plan_over`), levels, rooms, texts. So no proof above goes
+--   by cases on the source.
+-- - `known_by`, `scans_by`, `lists_by` and `planned_by` are `unfoldable`: goals stay as long as these names. They are opened in SourceFacts,
+--   in the answers of `given_by` (`rw c.in-Columns.is`, and then the clause of the call is the goal), in ShapeFacts, and where the headline
+--   says what each source's scans are (`of_columns`, `of_keyed`, `of_reduced` in Runs). `sourced` itself is transparent, so that its lists are
+--   `lists_by` without a lemma; a prepared run keeps no schema, since lists and scan bounds don't depend on it.
+-- - What a source needs of the tables (`Needs`) is a premise of its bounds alone: rows are kept and scans are bounded whatever the tables. That
+--   declared keys hold comes from the files (KeyFacts): each entry's rows are those in some file of its table (`AreOfFiles` of table_files),
+--   which is a clause of reading and a law of the stage, and one lemma goes from there to keys, for the code and for the verdict.
 -- - Whole scans are lists like any others (`lists_in`): so only where lists are made does the code look whether they are there
 --   (`list_rows`). Rooms, levels and texts are over lists, with one record (`CanJoin`: lists that lose no row, and room for a plan over
 --   them).
@@ -61,13 +66,15 @@
 -- - An answer of either shape is `seen` over the answer of its choice, and `seen_ok` takes a plan out again.
 
 pub mod Answered
+pub mod AppendRuns
+pub mod Found
+pub mod AppendStages
 pub mod Courses
-pub mod DemoFiles
-pub mod DemoWords
 pub mod FiledRuns
 pub mod FiledStages
+pub mod KeptFacts
+pub mod KeyFacts
 pub mod LimitFacts
-pub mod NearRuns
 pub mod Promises
 pub mod Ranges
 pub mod RestTexts
@@ -78,6 +85,5 @@ pub mod ShapeFacts
 pub mod ShopCourses
 pub mod SourceFacts
 pub mod Stages
-pub mod TableErrors
 pub mod TaskFacts
 pub mod TextSteps

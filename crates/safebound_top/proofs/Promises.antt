@@ -34,7 +34,8 @@ use Rattle.table_files.specs.EntryTables.{tables_in}
 use Rattle.table_files.specs.FileNames.{file_name}
 use Rattle.table_files.specs.Stage.{no_table, numbers_of, place_of, rows_by_entry, rows_of_each, table_at, table_rows, tables_of_query, tables_stage}
 use Rattle.table_files.specs.TableFile.{bytes_of, file_rows, read, rows_of_bytes}
-use Rattle.table_files.proofs.EntryLaws.{entries_have, two_steps}
+use Rattle.table_files.proofs.EntryLaws.{two_steps}
+use Rattle.table_files.proofs.StagedFiles.{entries_are, read_ok, table_ok, told_ok}
 use Rattle.reduced_scans.proofs.ByRounds.{reduced_scans_by_rounds}
 use Rattle.plans.specs.declared.left_deep.Plan.{Plan}
 use Rattle.tree_plans.specs.declared.bushy.BushyPlan.{BushyPlan}
@@ -46,17 +47,17 @@ use Rattle.safebound_words.specs.Answer.{command_of}
 use Rattle.safebound_words.specs.Requests.{Run}
 use Rattle.safebound_words.proofs.Readings.{asked_computed}
 use Rattle.safebound_top.specs.Accepted.{BoundsHold, printed}
-use Rattle.safebound_top.specs.Asks.{Ask, PlanOf, ask_for, command_stage, plan_for, request_stage, shape_asked, source_asked}
+use Rattle.safebound_top.specs.Asks.{Ask, OverQuery, PlanOf, ask_for, command_stage, plan_for, request_stage, shape_asked, source_asked}
 use Rattle.safebound_top.specs.Call.{Call}
 use Rattle.safebound_top.specs.Headline.{GrewWhole, Headline}
 use Rattle.safebound_top.specs.Limits.{AreWithin, within_limit}
 use Rattle.safebound_top.specs.Promise.{AreInFile, AreScans, AsksQuery, DeclaresSchema, HoldsAlong, HoldsOver, IsTheOne, PrintsOrder, PrintsPlan, PrintsTree, Promise, RanWhole, choices_over}
 use Rattle.safebound_top.specs.Shapes.{part_rows, planned_by, shape_bytes}
-use Rattle.safebound_top.specs.Sources.{sourced}
+use Rattle.safebound_top.specs.Sources.{lists_by, sourced}
 use Rattle.safebound_top.specs.Outcome.{NoBoundIsTooLow, Outcome, Planned, PrintsTheAnswer}
 use Rattle.safebound_top.specs.OutcomeTexts.{notes_text, out_text}
 use Rattle.safebound_top.specs.Texts.{plan_text, rows_text}
-use Rattle.safebound_top.specs.Verdict.{ask_run, plan_asked, plan_stage, query_of_text, query_run, query_stage, run_asked, schema_of_text, schema_run, schema_stage, verdict}
+use Rattle.safebound_top.specs.Verdict.{aim_run, ask_run, plan_asked, plan_stage, query_of_text, query_stage, run_asked, schema_of_text, schema_stage, verdict, work_run}
 use Rattle.safebound_top.specs.declared.shapes.Shaped.{Shaped}
 use Rattle.safebound_top.specs.declared.shapes.Shaped.TheVariants as shaped
 use Rattle.safebound_top.specs.declared.task.ListSource.{ListSource}
@@ -64,24 +65,6 @@ use Rattle.safebound_top.specs.declared.task.OutText.TheVariants as out_texts
 use Rattle.safebound_top.specs.declared.task.PlanTask.{PlanTask}
 use Rattle.safebound_top.specs.declared.task.Shape.{Shape}
 use Rattle.safebound_top.proofs.LimitFacts.{within_ok}
-
--- ---- values of stages
-
-pub told_ok : {A E : Type 0} (refusal_of : E → Refusal) (r : Result A E) (x : A) → told refusal_of r ≡ Ok x → r ≡ Ok x
-told_ok refusal_of (Ok y) x e = (let same : y ≡ x = cc in ap Ok same)
-told_ok refusal_of (Err s) x e = cc
-
-limited_ok : {A : Type 0} (long : Bool) (r : Refusal) (y x : A) → (if long then Err r else Ok y) ≡ Ok x → y ≡ x
-limited_ok true r y x e = cc
-limited_ok false r y x e = cc
-
--- what was read is the whole file
-read_ok : (id : FileId) (most : ℕ) (name : List ℕ) (files : Files) (bytes : List ℕ) → read id most name files ≡ Ok bytes → file_of files name ≡ Some bytes
-read_ok id most name files bytes e = of_bytes (file_of files name) e where
-  of_bytes : (o : Option (List ℕ)) → bytes_of id most o ≡ Ok bytes → o ≡ Some bytes
-  of_bytes None h = cc
-  of_bytes (Some all) h =
-      ap Some (limited_ok (nat_lt most (length all)) (refusal.Limit limit.FileBytes id (most + 1)) all bytes h)
 
 -- ---- the texts
 
@@ -133,45 +116,15 @@ query_of_schema name files schema query e =
     let steps = two_steps (read file.Query 1048576 name files) (query_of_text schema) query e in
     queries.of_schema schema steps.0 query (told_ok query_refusal (query_answer schema steps.0) query steps.2)
 
--- the rows of a table's file
-table_ok : (number : ℕ) (table : Table) (files : Files) (rows : List Row) → file_rows number table files ≡ Ok rows
-    → (bytes : List ℕ) × (file_of files (file_name table) ≡ Some bytes) × (rows_of_file table bytes ≡ Ok rows)
-unfolding file_rows
-table_ok number table files rows e =
-    let steps = two_steps (read (file.Table number) 67108864 (file_name table) files) (rows_of_bytes number table) rows e in (
-      steps.0,
-      read_ok (file.Table number) 67108864 (file_name table) files steps.0 steps.1,
-      told_ok (table_refusal number) (rows_of_file table steps.0) rows steps.2,
-    )
-
 module _ (schema : Schema) (query : Query) (files : Files) (rows : List (List Row)) (of : IsOf schema query)
     (staged : tables_stage schema query.from files ≡ Ok rows) where
-  one_each : length rows ≡ length query.from
-  unfolding tables_stage
-  one_each =
-      let steps = two_steps (rows_of_each schema (tables_of_query query.from) files) (λ all. Ok (rows_by_entry query.from all)) rows staged in
-      let same : rows_by_entry query.from steps.0 ≡ rows = cc (steps.2) in
-      ap (λ (l : List (List Row)). length l) (sym same)
-      ∙ length-map (numbers_of query.from) (λ number. get_or steps.0 (place_of (tables_of_query query.from) number) [])
-      ∙ length-map query.from (λ (source : Source). source.table)
-
-  -- no entry is past the last one
-  tables_are : (entry : ℕ) → entry < length query.from → get_or rows entry [] ≡ tables_in rows entry
-  tables_are entry low =
-      let there : entry < length rows = omega (arith, one_each) in
-      let same : Some (get_or rows entry []) ≡ Some (tables_in rows entry) =
-      sym (slice_get-get_or rows entry [] there) ∙ slice_get-get_or rows entry (get_or rows 0 []) there in
-      cc
-
   rows_in_files : (entry : ℕ) → entry < length query.from → AreInFile files schema query entry (tables_in rows entry)
   rows_in_files entry low =
       let none : Source = record { table = 0; alias = [] } in
       let source : Source = get_or query.from entry none in
       let number : get_or (numbers_of query.from) entry 0 ≡ source.table = get_or-map (λ (s : Source). s.table) query.from entry none 0 low in
-      let found : table_rows schema (get_or (numbers_of query.from) entry 0) files ≡ Ok (get_or rows entry []) =
-      entries_have schema query.from files rows staged entry low in
       let here : table_rows schema source.table files ≡ Ok (tables_in rows entry) =
-      ap (λ (n : ℕ). table_rows schema n files) (sym number) ∙ found ∙ ap (λ (r : List Row). Ok r) (tables_are entry low) in
+      ap (λ (n : ℕ). table_rows schema n files) (sym number) ∙ entries_are schema query.from files rows staged entry low in
       let read = table_ok source.table (table_at schema source.table) files (tables_in rows entry) here in
       record {
         source = source;
@@ -187,15 +140,16 @@ module _ (schema : Schema) (query : Query) (files : Files) (rows : List (List Ro
 
 module _ (task : PlanTask) (query : Query) (rows : List (List Row)) where
   abbrev lists_over : ListSource → List (List ℕ)
-  lists_over source = (sourced source query (tables_in rows)).lists
+  lists_over source = lists_by source query (tables_in rows)
 
-  scans_are : (reduce : Bool) → AreScans reduce query (tables_in rows) (sourced (source_asked reduce) query (tables_in rows)).lists
-  unfolding sourced
-  scans_are false = refl
-  scans_are true = reduced_scans_by_rounds query (tables_in rows)
+  scans_are : (reduce keys : Bool) → AreScans reduce query (tables_in rows) (lists_by (source_asked reduce keys) query (tables_in rows))
+  unfolding lists_by
+  scans_are false false = refl
+  scans_are false true = refl
+  scans_are true keys = reduced_scans_by_rounds query (tables_in rows)
 
   along : (plan : Plan) → BoundsHold (run_asked task query rows (shaped.Along plan))
-      → HoldsAlong query (tables_in rows) (sourced task.source query (tables_in rows)).lists plan
+      → HoldsAlong query (tables_in rows) (lists_by task.source query (tables_in rows)) plan
   along plan h = record {
     each_entry = h.plan;
     scans_fit = h.scans;
@@ -213,7 +167,7 @@ module _ (task : PlanTask) (query : Query) (rows : List (List Row)) where
     no_leaf k = (let far : length plan.scans ≤ length plan.scans + k = omega arith in grind (arith, nat_tests))
 
     node_fits : (k : ℕ) (join : Join) → slice_get plan.joins k ≡ Some join
-        → length (choices_over query (tables_in rows) (sourced task.source query (tables_in rows)).lists (entries_at plan (length plan.scans + k))) ≤ join.bound
+        → length (choices_over query (tables_in rows) (lists_by task.source query (tables_in rows)) (entries_at plan (length plan.scans + k))) ≤ join.bound
     node_fits k join is =
         let fits : length (part_rows query (tables_in rows) (lists_over task.source) (shaped.Over plan) k) ≤ bound_at plan (length plan.scans + k) =
         h.parts k (slice_get_within plan.joins k join is) in
@@ -222,7 +176,7 @@ module _ (task : PlanTask) (query : Query) (rows : List (List Row)) where
         subst (λ (n : ℕ). length (choices_over query (tables_in rows) (lists_over task.source) (entries_at plan (length plan.scans + k))) ≤ n)
         (node_bound k join is) inner
 
-    over : HoldsOver query (tables_in rows) (sourced task.source query (tables_in rows)).lists plan
+    over : HoldsOver query (tables_in rows) (lists_by task.source query (tables_in rows)) plan
     over = record {
       each_entry = h.plan;
       scans_fit = h.scans;
@@ -237,18 +191,18 @@ seen_ok view (Ok x) y e = (x, cc)
 seen_ok view (Err s) y e = cc
 
 -- the text of a plan of the shape that was asked for
-prints : (bushy : Bool) (task : PlanTask) (query : Query) (rows : List (List Row)) (plan : Shaped) → task.shape ≡ shape_asked bushy
-    → plan_asked task query (tables_in rows) ≡ Ok plan → BoundsHold (run_asked task query rows plan) → AreWithin task.memory (shape_bytes plan)
-    → PrintsPlan bushy task.memory query (tables_in rows) (sourced task.source query (tables_in rows)).lists (plan_text (run_asked task query rows plan))
+prints : (bushy : Bool) (task : PlanTask) (schema : Schema) (query : Query) (rows : List (List Row)) (plan : Shaped) → task.shape ≡ shape_asked bushy
+    → plan_asked task schema query (tables_in rows) ≡ Ok plan → BoundsHold (run_asked task query rows plan) → AreWithin task.memory (shape_bytes plan)
+    → PrintsPlan bushy task.memory query (tables_in rows) (lists_by task.source query (tables_in rows)) (plan_text (run_asked task query rows plan))
 unfolding planned_by
-prints bushy task query rows plan shape made h within =
-    by bushy (subst (λ (s : Shape). planned_by s (sourced task.source query (tables_in rows)) query task.accuracy task.budget ≡ Ok plan) shape made)
+prints bushy task schema query rows plan shape made h within =
+    by bushy (subst (λ (s : Shape). planned_by s (sourced task.source schema query (tables_in rows)) query task.accuracy task.budget ≡ Ok plan) shape made)
   where
-    by : (bushy : Bool) → planned_by (shape_asked bushy) (sourced task.source query (tables_in rows)) query task.accuracy task.budget ≡ Ok plan
-        → PrintsPlan bushy task.memory query (tables_in rows) (sourced task.source query (tables_in rows)).lists (plan_text (run_asked task query rows plan))
+    by : (bushy : Bool) → planned_by (shape_asked bushy) (sourced task.source schema query (tables_in rows)) query task.accuracy task.budget ≡ Ok plan
+        → PrintsPlan bushy task.memory query (tables_in rows) (lists_by task.source query (tables_in rows)) (plan_text (run_asked task query rows plan))
     by false e =
         let found = seen_ok (λ p. shaped.Along p) _ plan e in
-        subst (λ (p : Shaped). PrintsOrder task.memory query (tables_in rows) (sourced task.source query (tables_in rows)).lists (plan_text (run_asked task query rows p))) found.1
+        subst (λ (p : Shaped). PrintsOrder task.memory query (tables_in rows) (lists_by task.source query (tables_in rows)) (plan_text (run_asked task query rows p))) found.1
         (record {
           plan = found.0;
           holds = along task query rows found.0 (subst (λ (p : Shaped). BoundsHold (run_asked task query rows p)) (sym found.1) h);
@@ -257,7 +211,7 @@ prints bushy task query rows plan shape made h within =
         })
     by true e =
         let found = seen_ok (λ p. shaped.Over p) _ plan e in
-        subst (λ (p : Shaped). PrintsTree task.memory query (tables_in rows) (sourced task.source query (tables_in rows)).lists (plan_text (run_asked task query rows p))) found.1
+        subst (λ (p : Shaped). PrintsTree task.memory query (tables_in rows) (lists_by task.source query (tables_in rows)) (plan_text (run_asked task query rows p))) found.1
         (record {
           plan = found.0;
           holds = over task query rows found.0 (subst (λ (p : Shaped). BoundsHold (run_asked task query rows p)) (sym found.1) h);
@@ -275,19 +229,18 @@ pub record Stages (schema_file query_file : List ℕ) (task : PlanTask) (files :
   pub rows : List (List Row)
   pub rows_read : tables_stage schema query.from files ≡ Ok rows
   pub plan : Shaped
-  pub planned : plan_asked task query (tables_in rows) ≡ Ok plan
+  pub planned : plan_asked task schema query (tables_in rows) ≡ Ok plan
   pub within : AreWithin task.memory (shape_bytes plan)
   pub is_run : Planned (run_asked task query rows plan) ≡ outcome
 
 pub stages : (schema_file query_file : List ℕ) (task : PlanTask) (files : Files) (outcome : Outcome)
     → ask_run (ask_for schema_file query_file (PlanOf task)) files ≡ Ok outcome → Stages schema_file query_file task files outcome
-unfolding ask_run schema_run query_run plan_stage
+unfolding ask_run plan_stage
 stages schema_file query_file task files outcome e =
-    let ask : Ask = ask_for schema_file query_file (PlanOf task) in
-    let first = two_steps (schema_stage schema_file files) (λ schema. schema_run ask schema files) outcome e in
-    let second = two_steps (query_stage query_file first.0 files) (λ query. query_run ask first.0 query files) outcome first.2 in
-    let third = two_steps (tables_stage first.0 second.0.from files) (plan_stage task second.0) outcome second.2 in
-    let last = two_steps (told plan_refusal (plan_asked task second.0 (tables_in third.0))) (λ plan. within_limit task.memory (shape_bytes plan) (Planned (run_asked task second.0 third.0 plan))) outcome third.2 in
+    let first = two_steps (schema_stage schema_file files) (λ schema. aim_run (OverQuery query_file (PlanOf task)) schema files) outcome e in
+    let second = two_steps (query_stage query_file first.0 files) (λ query. work_run (PlanOf task) first.0 query files) outcome first.2 in
+    let third = two_steps (tables_stage first.0 second.0.from files) (plan_stage task first.0 second.0) outcome second.2 in
+    let last = two_steps (told plan_refusal (plan_asked task first.0 second.0 (tables_in third.0))) (λ plan. within_limit task.memory (shape_bytes plan) (Planned (run_asked task second.0 third.0 plan))) outcome third.2 in
     let kept = within_ok task.memory (shape_bytes last.0) (Planned (run_asked task second.0 third.0 last.0)) outcome last.2 in
     record {
       schema = first.0;
@@ -297,7 +250,7 @@ stages schema_file query_file task files outcome e =
       rows = third.0;
       rows_read = third.1;
       plan = last.0;
-      planned = told_ok plan_refusal (plan_asked task second.0 (tables_in third.0)) last.0 last.1;
+      planned = told_ok plan_refusal (plan_asked task first.0 second.0 (tables_in third.0)) last.0 last.1;
       within = kept.1;
       is_run = kept.0;
     }
@@ -311,9 +264,9 @@ ok_and P (Err e) h = absurd h
 if_ok : {A E : Type 0} (P : A → Type 0) (r : Result A E) (x : A) → r ≡ Ok x → IfOk r P → P x
 if_ok P r x e h = subst (λ s. IfOk s P) e h
 
-module _ (schema_file query_file : List ℕ) (budget accuracy : ℕ) (reduce bushy : Bool) (memory : Option ℕ) (files : Files) (notes out : Growth) where
+module _ (schema_file query_file : List ℕ) (budget accuracy : ℕ) (reduce bushy keys : Bool) (memory : Option ℕ) (files : Files) (notes out : Growth) where
   abbrev task : PlanTask
-  task = record { budget = budget; accuracy = accuracy; source = source_asked reduce; shape = shape_asked bushy; memory = memory; out = out_texts.Rows }
+  task = record { budget = budget; accuracy = accuracy; source = source_asked reduce keys; shape = shape_asked bushy; memory = memory; out = out_texts.Rows }
 
   ran_whole : (outcome : Outcome) → ask_run (ask_for schema_file query_file (PlanOf task)) files ≡ Ok outcome
       → GrewWhole notes (notes_text outcome) → GrewWhole out (out_text outcome) → NoBoundIsTooLow outcome → PrintsTheAnswer outcome
@@ -328,10 +281,10 @@ module _ (schema_file query_file : List ℕ) (budget accuracy : ℕ) (reduce bus
         asks = asks query_file files s.schema s.query s.query_read;
         tables = tables_in s.rows;
         rows = rows_in_files s.schema s.query files s.rows (query_of_schema query_file files s.schema s.query s.query_read) s.rows_read;
-        scans = (sourced (source_asked reduce) s.query (tables_in s.rows)).lists;
-        are_scans = scans_are task s.query s.rows reduce;
+        scans = lists_by (source_asked reduce keys) s.query (tables_in s.rows);
+        are_scans = scans_are task s.query s.rows reduce keys;
         plan_text = plan_text (run_asked task s.query s.rows s.plan);
-        plan = prints bushy task s.query s.rows s.plan refl s.planned (subst NoBoundIsTooLow back bounds) s.within;
+        plan = prints bushy task s.schema s.query s.rows s.plan refl s.planned (subst NoBoundIsTooLow back bounds) s.within;
         plan_written = subst (λ (o : Outcome). GrewWhole notes (notes_text o)) back noted;
         rows_text = rows_text (run_asked task s.query s.rows s.plan);
         answer = record {
@@ -344,13 +297,13 @@ module _ (schema_file query_file : List ℕ) (budget accuracy : ℕ) (reduce bus
 
 pub keeps_promise : (call : Call) → Headline call → Promise call
 unfolding verdict
-keeps_promise call h schema_file query_file budget accuracy reduce bushy memory files words done told =
-    let command : command_of call.words ≡ Some (Run schema_file query_file budget accuracy reduce bushy memory) =
-    asked_computed call.words (Run schema_file query_file budget accuracy reduce bushy memory) words in
-    let asked : command_stage call.words ≡ Ok (ask_for schema_file query_file (plan_for out_texts.Rows budget accuracy reduce bushy memory)) = ap request_stage command in
+keeps_promise call h schema_file query_file budget accuracy reduce bushy keys memory files words done told =
+    let command : command_of call.words ≡ Some (Run schema_file query_file budget accuracy reduce bushy keys memory) =
+    asked_computed call.words (Run schema_file query_file budget accuracy reduce bushy keys memory) words in
+    let asked : command_stage call.words ≡ Ok (ask_for schema_file query_file (plan_for out_texts.Rows budget accuracy reduce bushy keys memory)) = ap request_stage command in
     let ended = ok_and (λ outcome. GrewWhole call.notes (notes_text outcome) × GrewWhole call.out (out_text outcome)) (verdict call.words files) (h.done_is_exact done files told) in
-    let from_ask : ask_run (ask_for schema_file query_file (plan_for out_texts.Rows budget accuracy reduce bushy memory)) files ≡ Ok ended.0 =
+    let from_ask : ask_run (ask_for schema_file query_file (plan_for out_texts.Rows budget accuracy reduce bushy keys memory)) files ≡ Ok ended.0 =
     sym (ap (λ (r : Result Ask Refusal). r >>= (λ ask. ask_run ask files)) asked) ∙ ended.1 in
-    ran_whole schema_file query_file budget accuracy reduce bushy memory files call.notes call.out ended.0 from_ask ended.2.0 ended.2.1
+    ran_whole schema_file query_file budget accuracy reduce bushy keys memory files call.notes call.out ended.0 from_ask ended.2.0 ended.2.1
     (if_ok NoBoundIsTooLow (verdict call.words files) ended.0 ended.1 (h.every_bound_holds files told))
     (if_ok PrintsTheAnswer (verdict call.words files) ended.0 ended.1 (h.the_rows_are_the_answer files told))

@@ -1,19 +1,19 @@
 -- The values of a command's options are in their ranges.
-use Rattle.std.proofs.Common.{◌≡◌, ◌≤◌, ◌<◌, ◌&&◌, ℕ, Bool, true, false, inl, inr, List, [], ◌∷◌, Option, None, Some, Ok, refl, subst, arith}
+use Rattle.std.proofs.Common.{◌≡◌, ◌≤◌, ◌<◌, ◌&&◌, ◌||◌, ℕ, Bool, true, false, inl, inr, List, [], ◌∷◌, Option, None, Some, Ok, refl, subst, arith}
 use Rattle.std.specs.Prelude.{nat_le, if◌then◌else◌, option_map, ⊤}
 use Rattle.std.proofs.lemmas.Bool.{cases_Bool}
 use Rattle.std.proofs.lemmas.Bool.Decides.{nat_tests}
 use Rattle.safebound_words.specs.Answer.{command_of, reading_of}
 use Rattle.safebound_words.specs.CommandLines.{Reading, requested}
 use Rattle.safebound_words.specs.Numbers.{is_number, number_of, number_within}
-use Rattle.safebound_words.specs.Requests.{Request, Run, Plan, Audit, Stats, PlanStats, Demo}
-use Rattle.safebound_words.specs.Table.{Given, command_row, file_of, from_file, is_set, limit_of, most_budget_of, of_number, of_stats, over_files, over_two, planned_from, stands_alone, value_of, within, ◌>>=◌}
+use Rattle.safebound_words.specs.Requests.{Request, Run, Plan, Audit, Stats, PlanStats, Append, Demo}
+use Rattle.safebound_words.specs.Table.{Given, command_row, file_of, from_file, is_set, keys_alone, limit_of, most_budget_of, of_append, of_number, of_stats, over_files, over_two, planned_from, stands_alone, value_of, within, ◌>>=◌}
 use Rattle.safebound_words.specs.Words.{Word}
 use Rattle.safebound_words.specs.declared.table.CommandName.{CommandName}
 use Rattle.safebound_words.specs.declared.table.CommandName.TheVariants as command
 use Rattle.safebound_words.specs.declared.table.FlagName.TheVariants as flag
 use Rattle.safebound_words.specs.declared.table.OptionName.TheVariants as option
-use Rattle.safebound_top.specs.Asks.{Ask, HasRanges, asks, command_stage, plan_for, request_stage, shape_asked}
+use Rattle.safebound_top.specs.Asks.{Ask, HasRanges, WorkHasRanges, asks, command_stage, plan_for, request_stage, shape_asked}
 use Rattle.safebound_top.specs.Shapes as shapes
 use Rattle.safebound_top.specs.declared.task.OutText.{OutText}
 use Rattle.safebound_top.specs.declared.task.OutText.TheVariants as out_text
@@ -25,11 +25,12 @@ pub record InRange (most budget accuracy : ℕ) : Type 0 where
   pub accuracy_most : accuracy ≤ 64
 
 abbrev AreInRange : Request → Type 0
-AreInRange (Run schema query budget accuracy reduce bushy memory) = InRange (most_budget_of bushy) budget accuracy
-AreInRange (Plan schema query budget accuracy reduce bushy memory) = InRange (most_budget_of bushy) budget accuracy
-AreInRange (Audit schema query budget accuracy reduce bushy memory) = InRange (most_budget_of bushy) budget accuracy
+AreInRange (Run schema query budget accuracy reduce bushy keys memory) = InRange (most_budget_of bushy) budget accuracy
+AreInRange (Plan schema query budget accuracy reduce bushy keys memory) = InRange (most_budget_of bushy) budget accuracy
+AreInRange (Audit schema query budget accuracy reduce bushy keys memory) = InRange (most_budget_of bushy) budget accuracy
 AreInRange (Stats schema query accuracy) = (1 ≤ accuracy) × (accuracy ≤ 64)
 AreInRange (PlanStats schema query file budget memory) = budget ≤ 20000000
+AreInRange (Append schema file table rows) = ⊤
 AreInRange (Demo number) = ⊤
 
 -- ---- one value
@@ -68,6 +69,11 @@ request_if : (test : Bool) (made r : Request) → (if test then Some made else N
 request_if true made r is = (refl, cc)
 request_if false made r is = absurd (cc)
 
+-- a flag that must stand alone
+alone_asks : (beside : Bool) (asked : Option Request) (r : Request) → (if beside then None else asked) ≡ Some r → asked ≡ Some r
+alone_asks true asked r is = absurd (cc)
+alone_asks false asked r is = is
+
 most_if : (most n : ℕ) → nat_le n most ≡ true → n ≤ most
 most_if most n is = grind (arith, nat_tests)
 
@@ -76,32 +82,34 @@ by_value : (value : Option ℕ) (next : ℕ → Option Request) (r : Request) �
 by_value None next r h is = absurd (cc)
 by_value (Some n) next r h is = h n is
 
-module _ (request : Word → Word → ℕ → ℕ → Bool → Bool → Option ℕ → Request)
-    (ranges : (schema query : Word) (budget accuracy : ℕ) (reduce bushy : Bool) (memory : Option ℕ) → InRange (most_budget_of bushy) budget accuracy
-    → AreInRange (request schema query budget accuracy reduce bushy memory)) where
-  values_in : (memory budget accuracy : Option ℕ) (reduce bushy : Option Bool) (schema query : Word) (r : Request) → ((n : ℕ) → accuracy ≡ Some n → (1 ≤ n) × (n ≤ 64))
-      → (budget >>= λ b. accuracy >>= λ a. reduce >>= λ s. bushy >>= λ t. within (most_budget_of t) b (request schema query b a s t memory)) ≡ Some r → AreInRange r
-  values_in memory None accuracy reduce bushy schema query r close is = absurd (cc)
-  values_in memory (Some b) None reduce bushy schema query r close is = absurd (cc)
-  values_in memory (Some b) (Some a) None bushy schema query r close is = absurd (cc)
-  values_in memory (Some b) (Some a) (Some s) None schema query r close is = absurd (cc)
-  values_in memory (Some b) (Some a) (Some s) (Some t) schema query r close is =
-      let made = request_if (nat_le b (most_budget_of t)) (request schema query b a s t memory) r is in
-      subst AreInRange made.1 (ranges schema query b a s t memory (record {
+module _ (request : Word → Word → ℕ → ℕ → Bool → Bool → Bool → Option ℕ → Request)
+    (ranges : (schema query : Word) (budget accuracy : ℕ) (reduce bushy keys : Bool) (memory : Option ℕ) → InRange (most_budget_of bushy) budget accuracy
+    → AreInRange (request schema query budget accuracy reduce bushy keys memory)) where
+  values_in : (memory budget accuracy : Option ℕ) (reduce bushy keys : Option Bool) (schema query : Word) (r : Request) → ((n : ℕ) → accuracy ≡ Some n → (1 ≤ n) × (n ≤ 64))
+      → (budget >>= λ b. accuracy >>= λ a. reduce >>= λ s. bushy >>= λ t. keys >>= λ k. keys_alone s t k (within (most_budget_of t) b (request schema query b a s t k memory))) ≡ Some r → AreInRange r
+  values_in memory None accuracy reduce bushy keys schema query r close is = absurd (cc)
+  values_in memory (Some b) None reduce bushy keys schema query r close is = absurd (cc)
+  values_in memory (Some b) (Some a) None bushy keys schema query r close is = absurd (cc)
+  values_in memory (Some b) (Some a) (Some s) None keys schema query r close is = absurd (cc)
+  values_in memory (Some b) (Some a) (Some s) (Some t) None schema query r close is = absurd (cc)
+  values_in memory (Some b) (Some a) (Some s) (Some t) (Some k) schema query r close is =
+      let alone = alone_asks (k && (s || t)) (within (most_budget_of t) b (request schema query b a s t k memory)) r is in
+      let made = request_if (nat_le b (most_budget_of t)) (request schema query b a s t k memory) r alone in
+      subst AreInRange made.1 (ranges schema query b a s t k memory (record {
         budget_most = most_if (most_budget_of t) b made.0;
         accuracy_least = omega (arith, (close a refl).0);
         accuracy_most = (close a refl).1;
       }))
 
-  abbrev limited : Option ℕ → Word → Word → ℕ → ℕ → Bool → Bool → Request
-  limited memory schema query budget accuracy reduce bushy = request schema query budget accuracy reduce bushy memory
+  abbrev limited : Option ℕ → Word → Word → ℕ → ℕ → Bool → Bool → Bool → Request
+  limited memory schema query budget accuracy reduce bushy keys = request schema query budget accuracy reduce bushy keys memory
 
   two_in : (memory : Option ℕ) (places : List Word) (given : Given) (r : Request) → over_two (limited memory) places given ≡ Some r → AreInRange r
   two_in memory [] given r is = absurd (cc)
   two_in memory (schema ∷ []) given r is = absurd (cc)
   two_in memory (schema ∷ query ∷ []) given r is =
       values_in memory (value_of option.Budget (given.values option.Budget)) (value_of option.Accuracy (given.values option.Accuracy))
-      (is_set (given.times flag.Reduce)) (is_set (given.times flag.Bushy)) schema query r (accuracy_in (given.values option.Accuracy)) is
+      (is_set (given.times flag.Reduce)) (is_set (given.times flag.Bushy)) (is_set (given.times flag.Keys)) schema query r (accuracy_in (given.values option.Accuracy)) is
   two_in memory (schema ∷ query ∷ more ∷ places) given r is = absurd (cc)
 
   files_in : (places : List Word) (given : Given) (r : Request) → over_files request places given ≡ Some r → AreInRange r
@@ -125,7 +133,7 @@ file_in file memory (schema ∷ query ∷ []) given r is =
 file_in file memory (schema ∷ query ∷ more ∷ places) given r is = absurd (cc)
 
 planned_in : (file : Option Word) (places : List Word) (given : Given) (r : Request) → planned_from file places given ≡ Some r → AreInRange r
-planned_in None places given r is = files_in Plan (λ schema query budget accuracy reduce bushy memory h. h) places given r is
+planned_in None places given r is = files_in Plan (λ schema query budget accuracy reduce bushy keys memory h. h) places given r is
 planned_in (Some file) places given r is =
     by_value (value_of option.Memory (given.values option.Memory)) (λ bytes. from_file file (limit_of bytes) places given) r
     (λ bytes h. file_in file (limit_of bytes) places given r h) is
@@ -147,6 +155,15 @@ stats_in (schema ∷ query ∷ []) given r is =
     accuracy_has (value_of option.Accuracy (given.values option.Accuracy)) schema query r (accuracy_in (given.values option.Accuracy)) is
 stats_in (schema ∷ query ∷ more ∷ places) given r is = absurd (cc)
 
+-- new rows of a table
+append_in : (places : List Word) (given : Given) (r : Request) → of_append places given ≡ Some r → AreInRange r
+append_in [] given r is = absurd (cc)
+append_in (schema ∷ []) given r is = absurd (cc)
+append_in (schema ∷ file ∷ []) given r is = absurd (cc)
+append_in (schema ∷ file ∷ table ∷ []) given r is = absurd (cc)
+append_in (schema ∷ file ∷ table ∷ rows ∷ []) given r is = let same : Append schema file table rows ≡ r = cc in subst AreInRange same tt
+append_in (schema ∷ file ∷ table ∷ rows ∷ more ∷ places) given r is = absurd (cc)
+
 number_has : (number : Option ℕ) (r : Request) → option_map Demo number ≡ Some r → AreInRange r
 number_has None r is = absurd (cc)
 number_has (Some n) r is = let same : Demo n ≡ r = cc in subst AreInRange same tt
@@ -157,10 +174,11 @@ demo_in (number ∷ []) given r is = number_has (number_within 0 4294967295 numb
 demo_in (number ∷ more ∷ places) given r is = absurd (cc)
 
 asks_in : (name : CommandName) (places : List Word) (given : Given) (r : Request) → (command_row name).asks places given ≡ Some r → AreInRange r
-asks_in command.Run places given r is = files_in Run (λ schema query budget accuracy reduce bushy memory h. h) places given r is
+asks_in command.Run places given r is = files_in Run (λ schema query budget accuracy reduce bushy keys memory h. h) places given r is
 asks_in command.Plan places given r is = plan_in (file_of (given.values option.Stats)) places given r is
-asks_in command.Audit places given r is = files_in Audit (λ schema query budget accuracy reduce bushy memory h. h) places given r is
+asks_in command.Audit places given r is = files_in Audit (λ schema query budget accuracy reduce bushy keys memory h. h) places given r is
 asks_in command.Stats places given r is = stats_in places given r is
+asks_in command.Append places given r is = append_in places given r is
 asks_in command.Demo places given r is = demo_in places given r is
 
 -- ---- the words
@@ -177,25 +195,26 @@ shape_in : (bushy : Bool) (budget : ℕ) → budget ≤ most_budget_of bushy →
 shape_in false budget h = h
 shape_in true budget h = h
 
-plan_within : (out : OutText) (budget accuracy : ℕ) (reduce bushy : Bool) (memory : Option ℕ) → InRange (most_budget_of bushy) budget accuracy
-    → HasRanges (plan_for out budget accuracy reduce bushy memory)
-plan_within out budget accuracy reduce bushy memory h = record {
+plan_within : (out : OutText) (budget accuracy : ℕ) (reduce bushy keys : Bool) (memory : Option ℕ) → InRange (most_budget_of bushy) budget accuracy
+    → WorkHasRanges (plan_for out budget accuracy reduce bushy keys memory)
+plan_within out budget accuracy reduce bushy keys memory h = record {
   accuracy_least = h.accuracy_least;
   accuracy_most = h.accuracy_most;
   budget = shape_in bushy budget h.budget_most;
 }
 
-asks_within : (r : Request) → AreInRange r → HasRanges (asks r).work
-asks_within (Run schema query budget accuracy reduce bushy memory) h = plan_within out_text.Rows budget accuracy reduce bushy memory h
-asks_within (Plan schema query budget accuracy reduce bushy memory) h = plan_within out_text.Nothing budget accuracy reduce bushy memory h
-asks_within (Audit schema query budget accuracy reduce bushy memory) h = plan_within out_text.Audit budget accuracy reduce bushy memory h
+asks_within : (r : Request) → AreInRange r → HasRanges (asks r).aim
+asks_within (Run schema query budget accuracy reduce bushy keys memory) h = plan_within out_text.Rows budget accuracy reduce bushy keys memory h
+asks_within (Plan schema query budget accuracy reduce bushy keys memory) h = plan_within out_text.Nothing budget accuracy reduce bushy keys memory h
+asks_within (Audit schema query budget accuracy reduce bushy keys memory) h = plan_within out_text.Audit budget accuracy reduce bushy keys memory h
 asks_within (Stats schema query accuracy) h = (omega (arith, h.0), h.1)
 asks_within (PlanStats schema query file budget memory) h = h
+asks_within (Append schema file table rows) h = tt
 asks_within (Demo number) h = record { accuracy_least = omega arith; accuracy_most = omega arith; budget = omega arith }
 
-stage_in : (request : Option Request) (ask : Ask) → ((r : Request) → request ≡ Some r → AreInRange r) → request_stage request ≡ Ok ask → HasRanges ask.work
+stage_in : (request : Option Request) (ask : Ask) → ((r : Request) → request ≡ Some r → AreInRange r) → request_stage request ≡ Ok ask → HasRanges ask.aim
 stage_in None ask h is = absurd (cc)
-stage_in (Some r) ask h is = let same : asks r ≡ ask = cc in subst (λ (a : Ask). HasRanges a.work) same (asks_within r (h r refl))
+stage_in (Some r) ask h is = let same : asks r ≡ ask = cc in subst (λ (a : Ask). HasRanges a.aim) same (asks_within r (h r refl))
 
-pub in_range : (words : List Word) (ask : Ask) → command_stage words ≡ Ok ask → HasRanges ask.work
+pub in_range : (words : List Word) (ask : Ask) → command_stage words ≡ Ok ask → HasRanges ask.aim
 in_range words ask is = stage_in (command_of words) ask (command_in words) is

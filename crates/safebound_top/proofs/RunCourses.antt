@@ -15,16 +15,14 @@ use Rattle.outcomes.specs.declared.refusal.Refusal.TheVariants as refusal
 use Rattle.outcomes.specs.declared.status.Status.{Status}
 use Rattle.outcomes.specs.declared.status.Status.TheVariants as status
 use Rattle.outcomes.proofs.ReadFacts.{Meets, joined, reads_as, then_reads, then_stops}
-use Rattle.printed_texts.specs.Faults.{error_line}
+use Rattle.printed_texts.specs.Faults.{error_line, fault_line}
 use Rattle.safebound_top.specs.Outcome.{Outcome}
-use Rattle.query_types.specs.declared.types.Query.{Query}
 use Rattle.safebound_top.specs.Call.{Call}
 use Rattle.safebound_top.specs.Course.{Asked, Course, Ran, Stopped, Told, Unasked, Went}
-use Rattle.safebound_top.specs.Faults.{fault_text, status_line, where_ok}
+use Rattle.safebound_top.specs.Faults.{fault_text, names_by, status_line, where_ok}
 use Rattle.safebound_top.specs.Headline.{DidNotGrow}
-use Rattle.safebound_top.specs.Asks.{Ask, FileOf, PlanFrom, PlanOf, WorkAsk, command_stage}
-use Rattle.safebound_top.specs.Verdict.{Asked as AskedFor, IsReached, IsFileOf, IsWorkFile, ask_run, query_from, query_read, schema_read, schema_run, schema_stage, verdict}
-use Rattle.safebound_top.proofs.Stages.{AtQueryOrFile}
+use Rattle.safebound_top.specs.Asks.{AimAsk, AppendTo, Ask, OverQuery, command_stage}
+use Rattle.safebound_top.specs.Verdict.{IsAimFile, IsReached, aim_run, ask_run, schema_read, schema_stage, verdict}
 
 -- the line of want of memory names nothing
 memory_line : (ask : Option Ask) (schema : Option Schema) → status_line status.NoMemory ask schema ≡ codes "error memory\n"
@@ -32,11 +30,16 @@ unfolding error_line
 memory_line None schema = refl
 memory_line (Some ask) schema = refl
 
+-- the line of the schema's file names no table
+schema_line : (name : List ℕ) (aim : AimAsk) (schema : Option Schema) → fault_line (status.ReadFault file.Schema) (names_by name aim None) ≡ fault_line (status.ReadFault file.Schema) (names_by name aim schema)
+schema_line name (OverQuery query work) schema = refl
+schema_line name (AppendTo append) schema = refl
+
 pub memory_told : (s : Status) (ask : Option Ask) (schema : Option Schema) → s ≡ status.NoMemory → status_line s ask schema ≡ codes "error memory\n"
 memory_told s ask schema is = ap (λ (x : Status). status_line x ask schema) is ∙ memory_line ask schema
 
 -- words that are no command
-pub course_unasked : (call : Call) → call.status ≡ status.Usage → command_stage call.words ≡ Err refusal.Usage → call.store.misses_after ≡ call.store.misses_before → DidNotGrow call.out
+pub course_unasked : (call : Call) → call.status ≡ status.Refused refusal.Usage → command_stage call.words ≡ Err refusal.Usage → call.store.misses_after ≡ call.store.misses_before → DidNotGrow call.out
     → Told call.notes (status_line call.status None None) → Course call
 course_unasked call is words misses out told = record {
   line = status_line call.status None None;
@@ -45,11 +48,11 @@ course_unasked call is words misses out told = record {
   how = Unasked (record { status = is; words = words; misses = misses; out = out; told = told });
 }
   where
-    by : (ask : Option Ask) (schema : Option Schema) → status_line status.Usage None None ≡ status_line status.Usage ask schema
+    by : (ask : Option Ask) (schema : Option Schema) → status_line (status.Refused refusal.Usage) None None ≡ status_line (status.Refused refusal.Usage) ask schema
     by None schema = refl
     by (Some ask) schema = refl
 
-    same : (files : Files) → status_line status.Usage None None ≡ fault_text status.Usage call.words files
+    same : (files : Files) → status_line (status.Refused refusal.Usage) None None ≡ fault_text (status.Refused refusal.Usage) call.words files
     same files = by (where_ok (command_stage call.words)) (where_ok (schema_read call.words files))
 
 module _ (ask : Ask) (words : List (List ℕ)) (command : command_stage words ≡ Ok ask) where
@@ -61,39 +64,16 @@ module _ (ask : Ask) (words : List (List ℕ)) (command : command_stage words �
   unfolding schema_read
   schema_of files = rw command refl
 
-  query_of : (files : Files) (schema : Schema) → schema_stage ask.schema_file files ≡ Ok schema → query_read words files ≡ query_from ask schema files
-  unfolding query_read
-  query_of files schema is = rw (command, is) refl
-
   pub no_usage : command_stage words ≡ Err refusal.Usage → ⊥
   no_usage is = let no : ◌≡◌ {A = Result Ask Refusal} (Ok ask) (Err refusal.Usage) = sym command ∙ is in cc
 
   -- ---- the verdict comes to these files
 
   reached_schema : (files : Files) (id : FileId) → id ≡ file.Schema → IsReached words files id
-  reached_schema files id at' = subst (IsReached words files) (sym at') (subst IsOk (sym command) refl)
+  reached_schema files id at' = rw command (inl at')
 
-  -- no work reads the schema or the query again
-  no_schema : (work : WorkAsk) (schema : Schema) (query : Query) (files : Files) → IsWorkFile work schema query files file.Schema → ⊥
-  no_schema (PlanOf task) schema query files h = let no : file.Schema ≡ file.Table h.number = h.file in cc
-  no_schema (FileOf accuracy) schema query files h = let no : file.Schema ≡ file.Table h.number = h.file in cc
-  no_schema (PlanFrom name budget memory) schema query files h = cc
-
-  no_query : (work : WorkAsk) (schema : Schema) (query : Query) (files : Files) → IsWorkFile work schema query files file.Query → ⊥
-  no_query (PlanOf task) schema query files h = let no : file.Query ≡ file.Table h.number = h.file in cc
-  no_query (FileOf accuracy) schema query files h = let no : file.Query ≡ file.Table h.number = h.file in cc
-  no_query (PlanFrom name budget memory) schema query files h = cc
-
-  reached_file : (files : Files) (r : Result AskedFor Refusal) (id : FileId) → query_read words files ≡ r → IsFileOf r files id → IsReached words files id
-  reached_file files (Ok asked) (file.Table number) is h = subst (λ (v : Result AskedFor Refusal). IsFileOf v files (file.Table number)) (sym is) h
-  reached_file files (Ok asked) file.Stats is h = subst (λ (v : Result AskedFor Refusal). IsFileOf v files file.Stats) (sym is) h
-  reached_file files (Ok asked) file.Schema is h = absurd (no_schema asked.work asked.schema asked.query files h)
-  reached_file files (Ok asked) file.Query is h = absurd (no_query asked.work asked.schema asked.query files h)
-  reached_file files (Err r) id is h = absurd h
-
-  reached_later : (schema : Schema) (files : Files) (id : FileId) → schema_stage ask.schema_file files ≡ Ok schema → AtQueryOrFile ask schema files id → IsReached words files id
-  reached_later schema files id is (inl at') = subst (IsReached words files) (sym at') (subst IsOk (sym (schema_of files ∙ is)) refl)
-  reached_later schema files id is (inr at') = reached_file files (query_from ask schema files) id (query_of files schema is) at'
+  reached_later : (schema : Schema) (files : Files) (id : FileId) → schema_stage ask.schema_file files ≡ Ok schema → IsAimFile ask.aim schema files id → IsReached words files id
+  reached_later schema files id is at' = rw (command, is) (inr at')
 
   -- ---- the fault text
 
@@ -120,14 +100,14 @@ module _ (ask : Ask) (words : List (List ℕ)) (command : command_stage words �
         by (ending.Refused r) same = line_of s files (Err r) ((ends_as (ending.Refused r) same).0 files told)
         by (ending.Fault id) same =
             let at' : id ≡ file.Schema = (ends_as (ending.Fault id) same).1 files told in
-            any (status.ReadFault file.Schema) (is ∙ ap ended same ∙ ap (λ (x : FileId). status.ReadFault x) at') (λ r. refl)
+            any (status.ReadFault file.Schema) (is ∙ ap ended same ∙ ap (λ (x : FileId). status.ReadFault x) at') (schema_line ask.schema_file ask.aim)
         by ending.NoMemory same = any status.NoMemory (is ∙ ap ended same) (λ r. refl)
 
     stopped_reads : Reads store (verdict words) (IsReached words) (Err e)
     unfolding ask_run
     stopped_reads =
         reads_as store (ask_run ask) (verdict words) (IsReached words) (IsReached words) (Err e) verdict_of (λ files id at'. at')
-        (then_stops (schema_stage ask.schema_file) (schema_run ask) store (AtFile file.Schema) (IsReached words) e reached_schema reads)
+        (then_stops (schema_stage ask.schema_file) (aim_run ask.aim) store (AtFile file.Schema) (IsReached words) e reached_schema reads)
 
     pub course_stopped : DidNotGrow out → Told notes (status_line s (Some ask) None) → Course (record { words = words; status = s; store = store; out = out; notes = notes })
     course_stopped still told = record {
@@ -141,19 +121,19 @@ module _ (ask : Ask) (words : List (List ℕ)) (command : command_stage words �
 
   module _ (s : Status) (first second : Reading) (out notes : Growth) (schema : Schema) (meets : Meets first second)
       (reads : Reads first (schema_stage ask.schema_file) (AtFile file.Schema) (Ok schema)) where
-    ran_reads : (answer : Result Outcome Ending) → Reads second (schema_run ask schema) (AtQueryOrFile ask schema) answer → Reads (joined first second) (verdict words) (IsReached words) answer
+    ran_reads : (answer : Result Outcome Ending) → Reads second (aim_run ask.aim schema) (IsAimFile ask.aim schema) answer → Reads (joined first second) (verdict words) (IsReached words) answer
     unfolding ask_run
     ran_reads answer h =
         reads_as (joined first second) (ask_run ask) (verdict words) (IsReached words) (IsReached words) answer verdict_of (λ files id at'. at')
-        (then_reads (schema_stage ask.schema_file) (schema_run ask) first second (AtFile file.Schema) (AtQueryOrFile ask schema) (IsReached words) schema answer meets
+        (then_reads (schema_stage ask.schema_file) (aim_run ask.aim) first second (AtFile file.Schema) (IsAimFile ask.aim schema) (IsReached words) schema answer meets
         (reached_later schema) reads h)
 
-    ran_so : Ran s second out notes (schema_run ask schema) (AtQueryOrFile ask schema) (status_line s (Some ask) (Some schema))
+    ran_so : Ran s second out notes (aim_run ask.aim schema) (IsAimFile ask.aim schema) (status_line s (Some ask) (Some schema))
         → Ran s (joined first second) out notes (verdict words) (IsReached words) (status_line s (Some ask) (Some schema))
     ran_so (Stopped e is h still told) = Stopped e is (ran_reads (Err e) h) still told
     ran_so (Went outcome h written) = Went outcome (ran_reads (Ok outcome) h) written
 
-    pub course_ran : Ran s second out notes (schema_run ask schema) (AtQueryOrFile ask schema) (status_line s (Some ask) (Some schema))
+    pub course_ran : Ran s second out notes (aim_run ask.aim schema) (IsAimFile ask.aim schema) (status_line s (Some ask) (Some schema))
         → Course (record { words = words; status = s; store = joined first second; out = out; notes = notes })
     course_ran ran = record {
       line = status_line s (Some ask) (Some schema);

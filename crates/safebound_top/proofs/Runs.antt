@@ -30,33 +30,26 @@ use Rattle.join_steps.specs.Lists.{list_at, scans_of}
 use Rattle.join_steps.proofs.WholeScans.{scan_at, size_at}
 use Rattle.reduced_scans.specs.Rounds.{reduced_of}
 use Rattle.safebound_top.specs.Accepted.{Accepted, BoundsHold, IsOverReducedScans, IsOverWholeScans, RowsAreTheAnswer, tables}
-use Rattle.safebound_top.specs.Asks.{Ask, FileOf, HasRanges, IsInRange, PlanFrom, PlanOf, WorkAsk, command_stage}
+use Rattle.safebound_top.specs.Asks.{AimAsk, AppendTo, Ask, FileOf, HasRanges, IsInRange, OverQuery, PlanFrom, PlanOf, WorkAsk, WorkHasRanges, command_stage}
 use Rattle.safebound_top.specs.Filed.{stats_stage}
 use Rattle.safebound_top.specs.Limits.{AreWithin}
-use Rattle.safebound_top.specs.Outcome.{Filed, KeepsItsLimit, NoBoundIsTooLow, Outcome, Planned, PlannedByFile, PrintsTheAnswer}
+use Rattle.safebound_top.specs.Outcome.{Appended, Filed, KeepsItsLimit, NoBoundIsTooLow, Outcome, Planned, PlannedByFile, PrintsTheAnswer}
 use Rattle.safebound_top.specs.Shapes.{joined_entries, part_rows, scan_bounds, shape_bytes}
-use Rattle.safebound_top.specs.Sources.{Sourced, sourced}
+use Rattle.safebound_top.specs.Sources.{Needs, Sourced, lists_by, scans_by, sourced}
 use Rattle.safebound_top.specs.Standing.{IsSource, LoseNoRow}
 use Rattle.safebound_top.specs.declared.task.ListSource.{ListSource}
 use Rattle.safebound_top.specs.declared.task.ListSource.TheVariants as sources
-use Rattle.safebound_top.specs.Verdict.{ask_run, plan_asked, plan_stage, query_of_text, query_run, query_stage, run_asked, schema_of_text, schema_run, schema_stage, verdict, work_run}
+use Rattle.safebound_top.specs.Verdict.{aim_run, ask_run, plan_asked, plan_stage, query_of_text, query_stage, run_asked, schema_of_text, schema_stage, verdict, work_run}
 use Rattle.filed_bounds.proofs.Named.{names_own}
+use Rattle.safebound_top.proofs.AppendRuns.{any_ok, append_holds, then_ok}
 use Rattle.safebound_top.proofs.FiledRuns.{filed_plan_holds, filed_stands, stats_keep}
 use Rattle.safebound_top.specs.declared.shapes.Shaped.{Shaped}
 use Rattle.safebound_top.specs.declared.task.PlanTask.{PlanTask}
 use Rattle.safebound_top.proofs.LimitFacts.{within_so}
 use Rattle.safebound_top.proofs.Ranges.{in_range}
 use Rattle.safebound_top.proofs.ShapeFacts.{Fits, order_is, plan_fits, scan_is_given, whole_part}
+use Rattle.safebound_top.proofs.KeyFacts.{needs_read}
 use Rattle.safebound_top.proofs.SourceFacts.{stand}
-
--- what holds of the first step's value, and then of the second's
-then_ok : {A B : Type 0} (P : A → Type 0) (Q : B → Type 0) (r : Result A Refusal) (f : A → Result B Refusal) → IfOk r P → ((x : A) → P x → IfOk (f x) Q) → IfOk (r >>= f) Q
-then_ok P Q (Ok x) f first next = next x first
-then_ok P Q (Err s) f first next = tt
-
-any_ok : {A B : Type 0} (Q : B → Type 0) (r : Result A Refusal) (f : A → Result B Refusal) → ((x : A) → IfOk (f x) Q) → IfOk (r >>= f) Q
-any_ok Q (Ok x) f next = next x
-any_ok Q (Err s) f next = tt
 
 is_ok : {A : Type 0} (r : Result A Refusal) → IfOk r (λ x. r ≡ Ok x)
 is_ok (Ok x) = refl
@@ -73,7 +66,7 @@ query_ok name schema files =
     any_ok (IsOf schema) (read file.Query 1048576 name files) (query_of_text schema)
     (λ text. ok_so (IsOf schema) query_refusal (query_answer schema text) (λ query e. queries.of_schema schema text query e))
 
-schema_ok : (name : List ℕ) (files : Files) → IfOk (schema_stage name files) IsValid
+pub schema_ok : (name : List ℕ) (files : Files) → IfOk (schema_stage name files) IsValid
 unfolding schema_stage
 schema_ok name files =
     any_ok IsValid (read file.Schema 1048576 name files) schema_of_text
@@ -82,32 +75,33 @@ schema_ok name files =
 -- a query that names its own entries, over the rows that its source gives and by its plan
 pub record IsRun (run : Accepted) : Type 0 where
   pub own : NamesItsEntries run.query
-  pub lists : run.lists ≡ (sourced run.source run.query (tables run)).lists
+  pub lists : run.lists ≡ lists_by run.source run.query (tables run)
   pub rows : LoseNoRow run.query (tables run) run.lists
   pub bounds : Fits run.query (tables run) run.lists run.plan
   pub limit : AreWithin run.memory (shape_bytes run.plan)
-  pub scans : (accuracy : ℕ) × ((entry : ℕ) → get_or (scan_bounds run.plan) entry 0 ≡ get_or ((sourced run.source run.query (tables run)).scans accuracy) entry 0)
+  pub scans : (accuracy : ℕ) × ((entry : ℕ) → get_or (scan_bounds run.plan) entry 0 ≡ get_or (scans_by run.source run.query (tables run) accuracy) entry 0)
 
 -- a plan over tables is such a run, and else what is promised of it holds
 abbrev IsSound : Outcome → Type 0
 IsSound (Planned run) = IsRun run
 IsSound (Filed filed) = NoBoundIsTooLow (Filed filed)
 IsSound (PlannedByFile made) = NoBoundIsTooLow (PlannedByFile made) × KeepsItsLimit (PlannedByFile made)
+IsSound (Appended made) = NoBoundIsTooLow (Appended made)
 
-plan_ok : (task : PlanTask) (query : Query) (rows : List (List Row)) → IsInRange task → 1 ≤ length query.from → length query.from ≤ 12 → NamesItsEntries query → IfOk (plan_stage task query rows) IsSound
+plan_ok : (task : PlanTask) (schema : Schema) (query : Query) (rows : List (List Row)) → Needs task.source schema query (tables_in rows) → IsInRange task → 1 ≤ length query.from → length query.from ≤ 12 → NamesItsEntries query → IfOk (plan_stage task schema query rows) IsSound
 unfolding plan_stage
-plan_ok task query rows range some few own =
-    then_ok IsMade IsSound (told plan_refusal (plan_asked task query (tables_in rows))) _
-    (ok_so IsMade plan_refusal (plan_asked task query (tables_in rows)) made_ok)
+plan_ok task schema query rows needs range some few own =
+    then_ok IsMade IsSound (told plan_refusal (plan_asked task schema query (tables_in rows))) _
+    (ok_so IsMade plan_refusal (plan_asked task schema query (tables_in rows)) made_ok)
     (λ plan is. within_so IsSound task.memory (shape_bytes plan) (Planned (run_asked task query rows plan)) is)
   where
     IsMade : Shaped → Type 0
     IsMade plan = AreWithin task.memory (shape_bytes plan) → IsRun (run_asked task query rows plan)
 
-    made_ok : (plan : Shaped) → plan_asked task query (tables_in rows) ≡ Ok plan → IsMade plan
+    made_ok : (plan : Shaped) → plan_asked task schema query (tables_in rows) ≡ Ok plan → IsMade plan
     made_ok plan made within =
-        let given : Sourced = sourced task.source query (tables_in rows) in
-        let is : IsSource query (tables_in rows) given = stand task.source query (tables_in rows) in
+        let given : Sourced = sourced task.source schema query (tables_in rows) in
+        let is : IsSource query (tables_in rows) given = stand query (tables_in rows) schema task.source needs in
         record {
           own = own;
           lists = refl;
@@ -117,10 +111,10 @@ plan_ok task query rows range some few own =
           scans = (task.accuracy, scan_is_given query (tables_in rows) given is task.accuracy task.budget some few task.shape plan made);
         }
 
-work_ok : (work : WorkAsk) (schema : Schema) (query : Query) (files : Files) → HasRanges work → IsValid schema → IsOf schema query → IfOk (work_run work schema query files) IsSound
+work_ok : (work : WorkAsk) (schema : Schema) (query : Query) (files : Files) → WorkHasRanges work → IsValid schema → IsOf schema query → IfOk (work_run work schema query files) IsSound
 work_ok (PlanOf task) schema query files range valid of =
-    any_ok IsSound (tables_stage schema query.from files) (plan_stage task query)
-    (λ rows. plan_ok task query rows range (omega (arith, of.some)) of.few (names_own schema query of))
+    then_ok (λ rows. tables_stage schema query.from files ≡ Ok rows) IsSound (tables_stage schema query.from files) _ (is_ok (tables_stage schema query.from files))
+    (λ rows is. plan_ok task schema query rows (needs_read task.source schema query files rows of is) range (omega (arith, of.some)) of.few (names_own schema query of))
 work_ok (FileOf accuracy) schema query files range valid of =
     then_ok (λ rows. tables_stage schema query.from files ≡ Ok rows) IsSound (tables_stage schema query.from files) _ (is_ok (tables_stage schema query.from files))
     (λ rows is. filed_stands schema query files accuracy rows is)
@@ -128,20 +122,16 @@ work_ok (PlanFrom name budget memory) schema query files range valid of =
     then_ok (KeepsRules schema) IsSound (stats_stage name schema files) _ (stats_keep name schema files valid)
     (λ stats keeps. filed_plan_holds schema query of stats keeps budget range memory IsSound (λ plan holds within. (holds, within)))
 
-query_run_ok : (ask : Ask) (schema : Schema) (query : Query) (files : Files) → HasRanges ask.work → IsValid schema → IsOf schema query → IfOk (query_run ask schema query files) IsSound
-unfolding query_run
-query_run_ok ask schema query files range valid of = work_ok ask.work schema query files range valid of
+aim_ok : (aim : AimAsk) (schema : Schema) (files : Files) → HasRanges aim → IsValid schema → IfOk (aim_run aim schema files) IsSound
+aim_ok (OverQuery name work) schema files range valid =
+    then_ok (IsOf schema) IsSound (query_stage name schema files) _ (query_ok name schema files)
+    (λ query of. work_ok work schema query files range valid of)
+aim_ok (AppendTo append) schema files range valid = append_holds append schema IsSound (λ made stands. stands) files valid
 
-schema_run_ok : (ask : Ask) (schema : Schema) (files : Files) → HasRanges ask.work → IsValid schema → IfOk (schema_run ask schema files) IsSound
-unfolding schema_run
-schema_run_ok ask schema files range valid =
-    then_ok (IsOf schema) IsSound (query_stage ask.query_file schema files) _ (query_ok ask.query_file schema files)
-    (λ query of. query_run_ok ask schema query files range valid of)
-
-ask_run_ok : (ask : Ask) (files : Files) → HasRanges ask.work → IfOk (ask_run ask files) IsSound
+ask_run_ok : (ask : Ask) (files : Files) → HasRanges ask.aim → IfOk (ask_run ask files) IsSound
 unfolding ask_run
 ask_run_ok ask files range =
-    then_ok IsValid IsSound (schema_stage ask.schema_file files) _ (schema_ok ask.schema_file files) (λ schema valid. schema_run_ok ask schema files range valid)
+    then_ok IsValid IsSound (schema_stage ask.schema_file files) _ (schema_ok ask.schema_file files) (λ schema valid. aim_ok ask.aim schema files range valid)
 
 verdict_ok : (words : List (List ℕ)) (files : Files) → IfOk (verdict words files) IsSound
 unfolding verdict
@@ -152,27 +142,32 @@ verdict_ok words files =
 
 module _ (run : Accepted) (is : IsRun run) where
   abbrev lists_from : ListSource → List (List ℕ)
-  lists_from source = (sourced source run.query (tables run)).lists
+  lists_from source = lists_by source run.query (tables run)
+
+  of_whole : run.lists ≡ scans_of run.query (tables run) → IsOverWholeScans run
+  of_whole whole = record {
+    scans = λ entry low. ap (λ (l : List (List ℕ)). list_at l entry) whole ∙ scan_at run.query (tables run) entry low;
+    parts = λ k low.
+        ap (λ (l : List (List ℕ)). part_rows run.query (tables run) l run.plan k) whole
+        ∙ whole_part run.query (tables run) run.plan is.bounds.plan k low;
+  }
 
   of_columns : run.source ≡ sources.Columns → IsOverWholeScans run
-  unfolding sourced
-  of_columns from' =
-      let whole : run.lists ≡ scans_of run.query (tables run) = is.lists ∙ ap lists_from from' in
-      record {
-        scans = λ entry low. ap (λ (l : List (List ℕ)). list_at l entry) whole ∙ scan_at run.query (tables run) entry low;
-        parts = λ k low.
-            ap (λ (l : List (List ℕ)). part_rows run.query (tables run) l run.plan k) whole
-            ∙ whole_part run.query (tables run) run.plan is.bounds.plan k low;
-      }
+  unfolding lists_by
+  of_columns from' = of_whole (is.lists ∙ ap lists_from from')
+
+  of_keyed : run.source ≡ sources.Keyed → IsOverWholeScans run
+  unfolding lists_by
+  of_keyed from' = of_whole (is.lists ∙ ap lists_from from')
 
   of_reduced : run.source ≡ sources.Reduced → IsOverReducedScans run
-  unfolding sourced
+  unfolding lists_by scans_by
   of_reduced from' =
       let reduced : run.lists ≡ reduced_of run.query (tables run) = is.lists ∙ ap lists_from from' in
       record {
         scans = reduced;
         exact = λ entry low.
-            is.scans.1 entry ∙ ap (λ (source : ListSource). get_or ((sourced source run.query (tables run)).scans is.scans.0) entry 0) from'
+            is.scans.1 entry ∙ ap (λ (source : ListSource). get_or (scans_by source run.query (tables run) is.scans.0) entry 0) from'
             ∙ size_at run.query (reduced_of run.query (tables run)) entry low ∙ ap (λ (l : List (List ℕ)). length (list_at l entry)) (sym reduced);
       }
 
@@ -182,6 +177,7 @@ module _ (run : Accepted) (is : IsRun run) where
     scans = is.bounds.scans;
     parts = is.bounds.parts;
     of_columns = of_columns;
+    of_keyed = of_keyed;
     of_reduced = of_reduced;
   }
 
@@ -198,16 +194,19 @@ no_bound : (outcome : Outcome) → IsSound outcome → NoBoundIsTooLow outcome
 no_bound (Planned run) is = run_bounds run is
 no_bound (Filed filed) is = is
 no_bound (PlannedByFile made) is = is.0
+no_bound (Appended made) is = is
 
 prints : (outcome : Outcome) → IsSound outcome → PrintsTheAnswer outcome
 prints (Planned run) is = run_rows run is
 prints (Filed filed) is = tt
 prints (PlannedByFile made) is = tt
+prints (Appended made) is = tt
 
 keeps : (outcome : Outcome) → IsSound outcome → KeepsItsLimit outcome
 keeps (Planned run) is = is.limit
 keeps (Filed filed) is = tt
 keeps (PlannedByFile made) is = is.1
+keeps (Appended made) is = tt
 
 so : (P : Outcome → Type 0) → ((outcome : Outcome) → IsSound outcome → P outcome) → (r : Result Outcome Refusal) → IfOk r IsSound → IfOk r P
 so P holds (Ok outcome) is = holds outcome is

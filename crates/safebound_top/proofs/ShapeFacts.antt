@@ -44,7 +44,7 @@ use Rattle.safebound_top.specs.declared.task.Shape.TheVariants as shapes
 
 -- ---- an answer with its value seen as another
 
-seen_ok : {A B E : Type 0} (f : A → B) (r : Result A E) (y : B) → seen f r ≡ Ok y → (x : A) × (r ≡ Ok x) × (f x ≡ y)
+pub seen_ok : {A B E : Type 0} (f : A → B) (r : Result A E) (y : B) → seen f r ≡ Ok y → (x : A) × (r ≡ Ok x) × (f x ≡ y)
 seen_ok f (Ok x) y is = (x, refl, cc)
 seen_ok f (Err e) y is = absurd (cc)
 
@@ -52,10 +52,10 @@ never_seen : {A B E : Type 0} (f : A → B) (r : Result A E) (e : E) → r ≢ E
 never_seen f (Ok x) e never is = cc
 never_seen f (Err other) e never is = let same : other ≡ e = cc in never (ap (λ (x : _). Err x) same)
 
-abbrev along : Plan → Shaped
+abbrev pub along : Plan → Shaped
 along plan = shaped.Along plan
 
-abbrev over : BushyPlan → Shaped
+abbrev pub over : BushyPlan → Shaped
 over plan = shaped.Over plan
 
 pub never_wants_memory : (shape : Shape) (given : Sourced) (query : Query) (accuracy budget : ℕ) → planned_by shape given query accuracy budget ≢ Err error.NoMemory

@@ -1,6 +1,6 @@
 -- The stages of the verdict, step by step.
 use Rattle.std.proofs.Common.{◌≡◌, ℕ, ◌⊎◌, inl, inr, List, Result, Ok, Err, ap, sym, ◌∙◌, subst}
-use Rattle.std.specs.Prelude.{IfOk, IfErr}
+use Rattle.std.specs.Prelude.{IfOk, IfErr, IsOkAnd}
 use Rattle.base_io.specs.Files.{Files}
 use Rattle.csv_tables.specs.Rows.{Row}
 use Rattle.query_types.specs.declared.types.Query.{Query}
@@ -9,7 +9,7 @@ use Rattle.text_answers.specs.QueryTexts.{query_answer}
 use Rattle.text_answers.specs.SchemaTexts.{schema_answer}
 use Rattle.base_io.specs.Devices.{Reading}
 use Rattle.outcomes.specs.Errors.{query_refusal, schema_refusal}
-use Rattle.outcomes.specs.Reads.{◌>>=◌, AtFile, Reads, Tells, seen, told}
+use Rattle.outcomes.specs.Reads.{◌>>=◌, AtFile, Reads, StopsBy, seen, told}
 use Rattle.outcomes.specs.declared.ending.Ending.{Ending}
 use Rattle.outcomes.specs.declared.names.FileId.{FileId}
 use Rattle.outcomes.specs.declared.names.FileId.TheVariants as file
@@ -17,10 +17,10 @@ use Rattle.outcomes.specs.declared.refusal.Refusal.{Refusal}
 use Rattle.outcomes.proofs.ReadFacts.{Meets, joined, then_gives, then_reads, then_stops, then_tells}
 use Rattle.table_files.specs.Stage.{tables_stage}
 use Rattle.table_files.specs.TableFile.{read}
-use Rattle.safebound_top.specs.Asks.{Ask, PlanOf, WorkAsk}
+use Rattle.safebound_top.specs.Asks.{AimAsk, OverQuery, PlanOf, WorkAsk}
 use Rattle.safebound_top.specs.Outcome.{Outcome}
 use Rattle.safebound_top.specs.Ready.{planned_from}
-use Rattle.safebound_top.specs.Verdict.{IsFileOf, IsWorkFile, plan_stage, query_from, query_of_text, query_run, query_stage, schema_of_text, schema_run, schema_stage, work_run}
+use Rattle.safebound_top.specs.Verdict.{IsAimFile, IsWorkFile, aim_run, plan_stage, query_of_text, query_stage, schema_of_text, schema_stage, work_run}
 use Rattle.safebound_top.specs.declared.prepare.Prepared.{Prepared}
 use Rattle.safebound_top.specs.declared.task.PlanTask.{PlanTask}
 
@@ -38,12 +38,12 @@ module _ {store : Reading} (name : List ℕ) where
       then_gives store (read file.Schema 1048576 name) schema_of_text (AtFile file.Schema) (AtFile file.Schema) text schema
       (ap schema_of_text (sym same) ∙ ap (told schema_refusal) answer) h
 
-  pub schema_refused : (text slice : List ℕ) (e : Ending) → slice ≡ text → Tells (told schema_refusal (schema_answer slice)) e
+  pub schema_refused : (text slice : List ℕ) (e : Ending) → slice ≡ text → StopsBy (told schema_refusal (schema_answer slice)) e
       → Reads store (read file.Schema 1048576 name) (AtFile file.Schema) (Ok text) → Reads store (schema_stage name) (AtFile file.Schema) (Err e)
   unfolding schema_stage
   schema_refused text slice e same tells h =
       then_tells store (read file.Schema 1048576 name) schema_of_text (AtFile file.Schema) (AtFile file.Schema) text e
-      (subst (λ (t : List ℕ). Tells (schema_of_text t) e) same tells) h
+      (subst (λ (t : List ℕ). StopsBy (schema_of_text t) e) same tells) h
 
 -- ---- the query, from its file's bytes
 
@@ -59,56 +59,54 @@ module _ {store : Reading} (name : List ℕ) (schema : Schema) where
       then_gives store (read file.Query 1048576 name) (query_of_text schema) (AtFile file.Query) (AtFile file.Query) text query
       (ap (query_of_text schema) (sym same) ∙ ap (told query_refusal) answer) h
 
-  pub query_refused : (text slice : List ℕ) (e : Ending) → slice ≡ text → Tells (told query_refusal (query_answer schema slice)) e
+  pub query_refused : (text slice : List ℕ) (e : Ending) → slice ≡ text → StopsBy (told query_refusal (query_answer schema slice)) e
       → Reads store (read file.Query 1048576 name) (AtFile file.Query) (Ok text) → Reads store (query_stage name schema) (AtFile file.Query) (Err e)
   unfolding query_stage
   query_refused text slice e same tells h =
       then_tells store (read file.Query 1048576 name) (query_of_text schema) (AtFile file.Query) (AtFile file.Query) text e
-      (subst (λ (t : List ℕ). Tells (query_of_text schema t) e) same tells) h
+      (subst (λ (t : List ℕ). StopsBy (query_of_text schema t) e) same tells) h
 
 -- ---- what a run is over, from its tables on
 
 module _ {store : Reading} (task : PlanTask) (schema : Schema) (query : Query) (C : Files → FileId → Type 0) where
   pub tables_stop : (e : Ending) → Reads store (tables_stage schema query.from) C (Err e) → Reads store (work_run (PlanOf task) schema query) C (Err e)
-  tables_stop e h = then_stops (tables_stage schema query.from) (λ rows files. plan_stage task query rows) store C C e (λ files id at. at) h
+  tables_stop e h = then_stops (tables_stage schema query.from) (λ rows files. plan_stage task schema query rows) store C C e (λ files id at. at) h
 
-  pub tables_ran : (rows : List (List Row)) (result : Result Prepared Ending) → IfOk result (λ p. plan_stage task query rows ≡ Ok (planned_from p))
-      → IfErr result (Tells (plan_stage task query rows)) → Reads store (tables_stage schema query.from) C (Ok rows)
+  pub tables_ran : (rows : List (List Row)) (result : Result Prepared Ending) → IfOk result (λ p. plan_stage task schema query rows ≡ Ok (planned_from p))
+      → IfErr result (StopsBy (plan_stage task schema query rows)) → Reads store (tables_stage schema query.from) C (Ok rows)
       → Reads store (work_run (PlanOf task) schema query) C (seen planned_from result)
-  tables_ran rows (Ok p) is tells h = then_gives store (tables_stage schema query.from) (plan_stage task query) C C rows (planned_from p) is h
-  tables_ran rows (Err e) is tells h = then_tells store (tables_stage schema query.from) (plan_stage task query) C C rows e tells h
+  tables_ran rows (Ok p) is tells h = then_gives store (tables_stage schema query.from) (plan_stage task schema query) C C rows (planned_from p) is h
+  tables_ran rows (Err e) is tells h = then_tells store (tables_stage schema query.from) (plan_stage task schema query) C C rows e tells h
 
 -- the work that is asked is done
-pub work_done : {store : Reading} (ask : Ask) (work : WorkAsk) (schema : Schema) (query : Query) (answer : Result Outcome Ending) → ask.work ≡ work
+pub work_done : {store : Reading} (asked work : WorkAsk) (schema : Schema) (query : Query) (answer : Result Outcome Ending) → asked ≡ work
     → Reads store (work_run work schema query) (IsWorkFile work schema query) answer
-    → Reads store (query_run ask schema query) (IsWorkFile ask.work schema query) answer
-unfolding query_run
-work_done {store} ask work schema query answer is h =
+    → Reads store (work_run asked schema query) (IsWorkFile asked schema query) answer
+work_done {store} asked work schema query answer is h =
     subst (λ (w : WorkAsk). Reads store (work_run w schema query) (IsWorkFile w schema query) answer) (sym is) h
 
 -- ---- from the schema on
 
-module _ (ask : Ask) (schema : Schema) where
-  abbrev pub AtQueryOrFile : Files → FileId → Type 0
-  AtQueryOrFile files id = (id ≡ file.Query) ⊎ IsFileOf (query_from ask schema files) files id
+module _ (name : List ℕ) (work : WorkAsk) (schema : Schema) where
+  abbrev AtQueryOrFile : Files → FileId → Type 0
+  AtQueryOrFile = IsAimFile (OverQuery name work) schema
 
-  pub schema_not_run : {store : Reading} (e : Ending) → Reads store (query_stage ask.query_file schema) (AtFile file.Query) (Err e)
-      → Reads store (schema_run ask schema) AtQueryOrFile (Err e)
-  unfolding schema_run
-  schema_not_run {store} e h =
-      then_stops (query_stage ask.query_file schema) (query_run ask schema) store (AtFile file.Query) AtQueryOrFile e (λ files id at'. inl at') h
+  pub query_not_run : {store : Reading} (e : Ending) → Reads store (query_stage name schema) (AtFile file.Query) (Err e)
+      → Reads store (aim_run (OverQuery name work) schema) AtQueryOrFile (Err e)
+  query_not_run {store} e h =
+      then_stops (query_stage name schema) (work_run work schema) store (AtFile file.Query) AtQueryOrFile e (λ files id at'. inl at') h
 
-  found_file : (query : Query) (files : Files) (id : FileId) → query_stage ask.query_file schema files ≡ Ok query → IsWorkFile ask.work schema query files id
-      → AtQueryOrFile files id
-  unfolding query_from
-  found_file query files id is at' =
-      inr (subst (λ (r : Result Query Refusal). IsFileOf (r >>= (λ q. Ok (record { work = ask.work; schema = schema; query = q }))) files id) (sym is) at')
+  pub query_ran : (first second : Reading) (query : Query) (answer : Result Outcome Ending) → Meets first second
+      → Reads first (query_stage name schema) (AtFile file.Query) (Ok query)
+      → Reads second (work_run work schema query) (IsWorkFile work schema query) answer
+      → Reads (joined first second) (aim_run (OverQuery name work) schema) AtQueryOrFile answer
+  query_ran first second query answer meets h k =
+      then_reads (query_stage name schema) (work_run work schema) first second (AtFile file.Query) (IsWorkFile work schema query)
+      AtQueryOrFile query answer meets
+      (λ files id is at'. inr (subst (λ (r : Result Query Refusal). IsOkAnd r (λ q. IsWorkFile work schema q files id)) (sym is) at')) h k
 
-  pub schema_ran : (first second : Reading) (query : Query) (answer : Result Outcome Ending) → Meets first second
-      → Reads first (query_stage ask.query_file schema) (AtFile file.Query) (Ok query)
-      → Reads second (query_run ask schema query) (IsWorkFile ask.work schema query) answer
-      → Reads (joined first second) (schema_run ask schema) AtQueryOrFile answer
-  unfolding schema_run
-  schema_ran first second query answer meets h k =
-      then_reads (query_stage ask.query_file schema) (query_run ask schema) first second (AtFile file.Query) (IsWorkFile ask.work schema query)
-      AtQueryOrFile query answer meets (λ files id is at'. found_file query files id is at') h k
+-- what is asked of the schema is done
+pub aim_done : {store : Reading} (asked aim : AimAsk) (schema : Schema) (answer : Result Outcome Ending) → asked ≡ aim
+    → Reads store (aim_run aim schema) (IsAimFile aim schema) answer → Reads store (aim_run asked schema) (IsAimFile asked schema) answer
+aim_done {store} asked aim schema answer is h =
+    subst (λ (a : AimAsk). Reads store (aim_run a schema) (IsAimFile a schema) answer) (sym is) h

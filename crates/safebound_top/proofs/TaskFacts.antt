@@ -23,5 +23,5 @@ module _ (words : List (List ℕ)) where
   pub no_shop : None ≡ command_of words → shop_of words ≡ None
   no_shop is = ap request_shop (sym is)
 
-  pub ranges_within : (task : Task) → command_stage words ≡ Ok (asked task) → HasRanges (asked task).work
+  pub ranges_within : (task : Task) → command_stage words ≡ Ok (asked task) → HasRanges (asked task).aim
   ranges_within task h = in_range words (asked task) h

@@ -7,7 +7,6 @@ use Rattle.base_io.specs.declared.errors.Failed.{Failed}
 use Rattle.base_io.proofs.CountFacts.{later_then_rose, rose_then_later}
 use Rattle.base_io.proofs.SinkFacts.{prefix_of_first}
 use Rattle.base_io.proofs.WriteFacts.{between}
-use Rattle.stats_file.specs.FileText.{file_text}
 use Rattle.outcomes.specs.declared.names.SinkId.{SinkId}
 use Rattle.outcomes.specs.declared.names.SinkId.TheVariants as sink
 use Rattle.outcomes.specs.declared.status.Status.{Status}
@@ -15,8 +14,8 @@ use Rattle.outcomes.specs.declared.status.Status.TheVariants as status
 use Rattle.safebound_top.specs.Accepted.{Accepted}
 use Rattle.safebound_top.specs.Course.{CutInNotes, CutInOut, Ended, Told, Written, WroteIfAny}
 use Rattle.safebound_top.specs.Headline.{DidNotGrow, GrewWhole, WasCut, WasCutAndTold, grown}
-use Rattle.safebound_top.specs.Outcome.{Filed, FiledPlan, FiledTables, Outcome, Planned, PlannedByFile}
-use Rattle.safebound_top.specs.OutcomeTexts.{filed_plan_text, notes_text}
+use Rattle.safebound_top.specs.Outcome.{FiledPlan, Outcome, Planned, PlannedByFile}
+use Rattle.safebound_top.specs.OutcomeTexts.{filed_plan_text, notes_text, out_text}
 use Rattle.safebound_top.specs.Texts.{out_text_of, plan_text}
 
 -- a line that was written, whole or cut, was told
@@ -62,12 +61,15 @@ out_cut t0 t1 o0 o1 f0 f1 g0 g1 run text (Some other) u e is out h k = record {
 
 -- ---- a statistics file, and a plan from one
 
-module _ (out notes : Growth) (filed : FiledTables) (still : DidNotGrow notes) where
-  pub file_wrote : (u : Unit {0}) → Wrote out (file_text filed.schema filed.file) (Ok u) → Written out notes (Filed filed) (Ok tt)
-  file_wrote u h = record { texts = (still, h.ok); later_out = h.later; later_notes = omega (arith, still.1) }
+module _ (out notes : Growth) (outcome : Outcome) (still : DidNotGrow notes) (text : List ℕ) (no_notes : notes_text outcome ≡ None) (its : out_text outcome ≡ Some text) where
+  untouched : GrewWhole notes (notes_text outcome)
+  untouched = subst (GrewWhole notes) (sym no_notes) still
 
-  pub file_cut : (e : Failed) → Wrote out (file_text filed.schema filed.file) (Err e) → Written out notes (Filed filed) (Err sink.Out)
-  file_cut e h = record { texts = (h.failed, still, h.prefix); later_out = h.later; later_notes = omega (arith, still.1) }
+  pub file_wrote : (u : Unit {0}) → Wrote out text (Ok u) → Written out notes outcome (Ok tt)
+  file_wrote u h = record { texts = (untouched, subst (GrewWhole out) (sym its) h.ok); later_out = h.later; later_notes = omega (arith, still.1) }
+
+  pub file_cut : (e : Failed) → Wrote out text (Err e) → Written out notes outcome (Err sink.Out)
+  file_cut e h = record { texts = (h.failed, untouched, subst (WasCut out) (sym its) h.prefix); later_out = h.later; later_notes = omega (arith, still.1) }
 
 module _ (out notes : Growth) (made : FiledPlan) (still : DidNotGrow out) where
   pub plan_wrote : (u : Unit {0}) → Wrote notes (filed_plan_text made) (Ok u) → Written out notes (PlannedByFile made) (Ok tt)

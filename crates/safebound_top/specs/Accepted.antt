@@ -64,6 +64,7 @@ pub record BoundsHold (run : Accepted) : Type 0 where
   pub scans : (entry : ℕ) → entry < length run.query.from → length (scan_rows run entry) ≤ slice_index (scan_bounds run.plan) entry
   pub parts : (k : ℕ) → k < part_count run.plan → length (part_rows run.query (tables run) run.lists run.plan k) ≤ part_bound run.plan k
   pub of_columns : run.source ≡ sources.Columns → IsOverWholeScans run
+  pub of_keyed : run.source ≡ sources.Keyed → IsOverWholeScans run
   pub of_reduced : run.source ≡ sources.Reduced → IsOverReducedScans run
 
 -- the rows printed are the answer of the query, each as often as there

@@ -6,7 +6,7 @@ use Rattle.base_io.specs.Devices.{Growth, Reading}
 use Rattle.outcomes.specs.declared.status.Status.{Status}
 
 -- a sink took a prefix of a text, and all of it where its count of faults didn't rise
-pub record Tells (old new : Option (List ℕ)) (before now : ℕ) (text : List ℕ) : Type 0 where
+pub record GrewOrWasCut (old new : Option (List ℕ)) (before now : ℕ) (text : List ℕ) : Type 0 where
   pub prefix : GrewByPrefix old new text
   pub whole : (Rose before now → ⊥) → new ≡ appended old text
 
@@ -16,7 +16,7 @@ pub record CutThenTold (old new : Option (List ℕ)) (text line : List ℕ) : Ty
   pub cut : GrewByPrefix old mid text
   pub told : GrewByPrefix mid new line
 
--- a call: its words, the store that it read (for `demo` its own), the two sinks that it wrote, and its answer
+-- a call: its words, its status, the store that it read (for `demo` its own), and the two sinks that it wrote
 pub record Call : Type 0 where
   pub words : List (List ℕ)
   pub status : Status
@@ -24,6 +24,6 @@ pub record Call : Type 0 where
   pub out : Growth
   pub notes : Growth
 
--- a sink took exactly the text
+-- a sink took exactly the text; of one that doesn't tell its bytes this says only that it tells none afterwards
 abbrev pub Grew : Growth → List ℕ → Type 0
 Grew sink text = sink.taken_after ≡ appended sink.taken_before text

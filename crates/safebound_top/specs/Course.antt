@@ -15,7 +15,7 @@ use Rattle.outcomes.specs.declared.refusal.Refusal.TheVariants as refusal
 use Rattle.outcomes.specs.declared.status.Status.{Status}
 use Rattle.outcomes.specs.declared.status.Status.TheVariants as status
 use Rattle.safebound_top.specs.Asks.{command_stage}
-use Rattle.safebound_top.specs.Call.{Call, Tells}
+use Rattle.safebound_top.specs.Call.{Call, GrewOrWasCut}
 use Rattle.safebound_top.specs.Faults.{fault_text}
 use Rattle.safebound_top.specs.Headline.{DidNotGrow, FaultsRose, GrewByLine, GrewWhole, WasCut, WasCutAndTold, grown}
 use Rattle.safebound_top.specs.Outcome.{Outcome}
@@ -49,7 +49,7 @@ pub data Ended (s : Status) (out notes : Growth) (outcome : Outcome) (line : Lis
   CutInNotes : s ≡ status.WriteFault sink.Notes → FaultsRose notes → DidNotGrow out
       → WasCutAndTold notes (notes_text outcome) line → Ended s out notes outcome line
   CutInOut : s ≡ status.WriteFault sink.Out → FaultsRose out → WasCut out (out_text outcome)
-      → Tells (grown notes.taken_before (notes_text outcome)) notes.taken_after notes.faults_before notes.faults_after line
+      → GrewOrWasCut (grown notes.taken_before (notes_text outcome)) notes.taken_after notes.faults_before notes.faults_after line
       → Ended s out notes outcome line
 
 -- a stage was read to its end and its texts were handed to the sinks, or its reading ended and that was told
@@ -63,7 +63,7 @@ pub data Ran (s : Status) (store : Reading) (out notes : Growth) (stage : Files 
 
 -- the words are refused: no name was missed, and that was told
 pub record IsUnasked (call : Call) (line : List ℕ) : Type 0 where
-  pub status : call.status ≡ status.Usage
+  pub status : call.status ≡ status.Refused refusal.Usage
   pub words : command_stage call.words ≡ Err refusal.Usage
   pub misses : call.store.misses_after ≡ call.store.misses_before
   pub out : DidNotGrow call.out

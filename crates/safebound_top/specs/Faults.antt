@@ -4,7 +4,7 @@ use Rattle.base_io.specs.Files.{Files}
 use Rattle.schema_types.specs.declared.types.Schema.{Schema}
 use Rattle.outcomes.specs.declared.status.Status.{Status}
 use Rattle.printed_texts.specs.Faults.{Names, fault_line}
-use Rattle.safebound_top.specs.Asks.{Ask, FileOf, PlanFrom, PlanOf, WorkAsk, command_stage}
+use Rattle.safebound_top.specs.Asks.{AimAsk, AppendTo, Ask, FileOf, OverQuery, PlanFrom, PlanOf, WorkAsk, command_stage}
 use Rattle.safebound_top.specs.Verdict.{schema_read}
 
 -- the name of the statistics file that is read, where one is
@@ -13,10 +13,17 @@ stats_file_of (PlanOf task) = []
 stats_file_of (FileOf accuracy) = []
 stats_file_of (PlanFrom file budget memory) = file
 
--- what a line names, where there is a command and a schema: the files of the command, and the schema's tables
+-- what a line names, where there is a command and a schema: the files of the command, and the schema's tables. Where rows are appended the
+-- command names the file of a table's rows
+abbrev pub names_by : List ℕ → AimAsk → Option Schema → Names
+names_by name (OverQuery query work) schema =
+    record { schema_file = name; query_file = query; stats_file = stats_file_of work; rows_file = None; schema = schema }
+names_by name (AppendTo append) schema =
+    record { schema_file = name; query_file = []; stats_file = append.stats_file; rows_file = Some append.rows_file; schema = schema }
+
 abbrev pub names_of : Option Ask → Option Schema → Names
-names_of None schema = record { schema_file = []; query_file = []; stats_file = []; schema = schema }
-names_of (Some ask) schema = record { schema_file = ask.schema_file; query_file = ask.query_file; stats_file = stats_file_of ask.work; schema = schema }
+names_of None schema = record { schema_file = []; query_file = []; stats_file = []; rows_file = None; schema = schema }
+names_of (Some ask) schema = names_by ask.schema_file ask.aim schema
 
 abbrev pub where_ok : {A E : Type 0} → Result A E → Option A
 where_ok (Ok x) = Some x

@@ -3,9 +3,9 @@ use Rattle.std.specs.Prelude.{ℕ, List, Option, Result, Ok}
 use Rattle.limits.specs.Profile.{most_file}
 use Rattle.base_io.specs.Files.{Files}
 use Rattle.csv_tables.specs.Rows.{Row}
-use Rattle.filed_plans.specs.Plans.{filed_plan}
-use Rattle.filed_plans.specs.declared.errors.FiledPlanError.{FiledPlanError}
-use Rattle.filed_plans.specs.declared.errors.FiledPlanError.TheVariants as error
+use Rattle.filed_bounds.specs.Plans.{filed_plan}
+use Rattle.filed_bounds.specs.declared.errors.FiledPlanError.{FiledPlanError}
+use Rattle.filed_bounds.specs.declared.errors.FiledPlanError.TheVariants as error
 use Rattle.filed_stats.specs.Files.{file_of_query}
 use Rattle.outcomes.specs.Errors.{plan_ending, plan_refusal, stats_refusal}
 use Rattle.outcomes.specs.Reads.{◌>>=◌, told}

@@ -2,13 +2,12 @@
 --
 -- Where a sentence speaks of the verdict, the store tells its files: of a store that tells none it says nothing. Where one speaks of
 -- what a stream took, the stream tells that.
-use Rattle.std.specs.Prelude.{ℕ, ◌≡◌, ◌↔◌, ◌⊎◌, List, codes, Option, None, Some, Result, Ok, Err, IfOk, IsOkAnd}
+use Rattle.std.specs.Prelude.{ℕ, ◌≡◌, ◌≢◌, ◌↔◌, ◌⊎◌, List, codes, Option, None, Some, Result, Ok, Err, IfOk, IsOkAnd}
 use Rattle.base_io.specs.Causes.{Rose}
 use Rattle.base_io.specs.Files.{Files}
 use Rattle.base_io.specs.Sinks.{appended, GrewByPrefix}
 use Rattle.base_io.specs.Devices.{Growth}
-use Rattle.outcomes.specs.Reads.{IsOfWhatIsThere, MissesNothing}
-use Rattle.outcomes.specs.Statuses.{refused}
+use Rattle.outcomes.specs.Reads.{MissesNothing}
 use Rattle.outcomes.specs.declared.names.FileId.{FileId}
 use Rattle.outcomes.specs.declared.names.SinkId.{SinkId}
 use Rattle.outcomes.specs.declared.names.SinkId.TheVariants as sink
@@ -17,7 +16,7 @@ use Rattle.outcomes.specs.declared.refusal.Refusal.TheVariants as refusal
 use Rattle.outcomes.specs.declared.status.Status.{Status}
 use Rattle.outcomes.specs.declared.status.Status.TheVariants as status
 use Rattle.safebound_top.specs.Asks.{command_stage}
-use Rattle.safebound_top.specs.Call.{Call, CutThenTold, Grew, Tells}
+use Rattle.safebound_top.specs.Call.{Call, CutThenTold, Grew, GrewOrWasCut}
 use Rattle.safebound_top.specs.Faults.{fault_text}
 use Rattle.safebound_top.specs.Outcome.{KeepsItsLimit, NoBoundIsTooLow, Outcome, PrintsTheAnswer}
 use Rattle.safebound_top.specs.OutcomeTexts.{notes_text, out_text}
@@ -56,11 +55,11 @@ FaultsRose sink = Rose sink.faults_before sink.faults_after
 
 -- a prefix of the line, all of it where the count didn't rise
 abbrev pub GrewByLine : Growth → List ℕ → Type 0
-GrewByLine sink line = Tells sink.taken_before sink.taken_after sink.faults_before sink.faults_after line
+GrewByLine sink line = GrewOrWasCut sink.taken_before sink.taken_after sink.faults_before sink.faults_after line
 
--- 1. Done comes only where the verdict is accepted. The notes grew by exactly its plan text; for `stats` they took nothing. For `run`, out
---    grew by exactly its rows text; for `audit` and `demo`, by exactly its audit text; for `stats`, by exactly the text of its statistics
---    file; for `plan`, out took nothing.
+-- 1. Done comes only where the verdict is accepted. The notes grew by exactly its plan text; for `stats` and `append` they took nothing. For
+--    `run`, out grew by exactly its rows text; for `audit` and `demo`, by exactly its audit text; for `stats` and `append`, by exactly the
+--    text of the statistics file; for `plan`, out took nothing.
 abbrev pub DoneIsExact : Call → Type 0
 DoneIsExact call = call.status ≡ status.Done
     → OverFiles call (λ files v. IsOkAnd v (λ outcome. GrewWhole call.notes (notes_text outcome) × GrewWhole call.out (out_text outcome)))
@@ -68,9 +67,10 @@ DoneIsExact call = call.status ≡ status.Done
 -- 2. Where the verdict is accepted, the scan of each FROM entry and each level of the plan's order have at most as many rows as the plan
 --    text of 1 prints for it; for `plan` too, though they are never listed. With `--bushy` the plan is a join tree, and each of its inner
 --    nodes stands for a level. Scans, levels and nodes are those of the query over whole tables. With `--reduce` a scan is the reduced one,
---    which has exactly as many rows, and the rows of levels and nodes are from these. The audit text of 1 prints the number of rows of each
---    level or inner node beside its bound. With `--stats` scans and levels are those over all tables for which the statistics file stands,
---    whatever wrote it; and the file that `stats` writes stands for the tables that were read.
+--    which has exactly as many rows, and the rows of levels and nodes are from these. `--keys` makes bounds of levels lower, and not their
+--    rows. The audit text of 1 prints the number of rows of each level or inner node beside its bound. With `--stats` scans and levels are
+--    those over all tables for which the statistics file stands, whatever wrote it. The file that `stats` writes stands for the tables that
+--    were read; and for whatever tables a file stands, the one that `append` makes of it stands for these with the new rows after them.
 abbrev pub EveryBoundHolds : Call → Type 0
 EveryBoundHolds call = OverFiles call (λ files v. IfOk v NoBoundIsTooLow)
 
@@ -91,32 +91,30 @@ pub record WriteFaultsHaveTheirCause (call : Call) : Type 0 where
   -- of out: the plan text stands in the notes, where there is one, and then the line; in out a prefix of its text
   pub of_out : call.status ≡ status.WriteFault sink.Out → FaultsRose call.out
       × OverFiles call (λ files v. IsOkAnd v (λ outcome. WasCut call.out (out_text outcome)
-      × Tells (grown call.notes.taken_before (notes_text outcome)) call.notes.taken_after call.notes.faults_before call.notes.faults_after
+      × GrewOrWasCut (grown call.notes.taken_before (notes_text outcome)) call.notes.taken_after call.notes.faults_before call.notes.faults_after
       (fault_text call.status call.words files)))
 
--- 6. Usage, Schema, Query, Table, Stats, Limit, Budget, MemoryLimit and PastBits come only where the verdict is that status with these fields. The notes
---    grew by its line, and out didn't grow. Usage is a matter of the words alone.
+-- 6. A refusal comes only where the verdict is that refusal, with the same fields. The notes grew by its line, and out didn't grow. Usage is
+--    a matter of the words alone.
 pub record RefusalsAreTheVerdict (call : Call) : Type 0 where
-  pub usage : (call.status ≡ status.Usage) ↔ (command_stage call.words ≡ Err refusal.Usage)
-  pub told : (r : Refusal) → IsOfWhatIsThere r → call.status ≡ refused r → DidNotGrow call.out
+  pub usage : (call.status ≡ status.Refused refusal.Usage) ↔ (command_stage call.words ≡ Err refusal.Usage)
+  pub told : (r : Refusal) → call.status ≡ status.Refused r → DidNotGrow call.out
       × OverFiles call (λ files v. (v ≡ Err r) × GrewByLine call.notes (fault_text call.status call.words files))
-
--- 7. A read fault comes only where the verdict is that status, or where the store's count rose and the verdict comes to this file. The
---    notes grew by its line, and out didn't grow. No count of the store that `demo` reads rises.
-pub record ReadFaultsHaveTheirCause (call : Call) : Type 0 where
-  pub told : (file : FileId) → call.status ≡ status.ReadFault file → DidNotGrow call.out
-      × OverFiles call (λ files v. ((v ≡ Err (refusal.Missing file))
-      ⊎ (Rose call.store.faults_before call.store.faults_after × IsReached call.words files file))
-      × GrewByLine call.notes (fault_text call.status call.words files))
   -- a store that doesn't tell its files never answers that one is missing
-  pub untold : (file : FileId) → call.status ≡ status.ReadFault file → call.store.files ≡ None
-      → Rose call.store.faults_before call.store.faults_after
-  -- no name is invented: where the verdict is no read fault, the store's count of misses is as before
+  pub untold : (file : FileId) → call.status ≡ status.Refused (refusal.Missing file) → call.store.files ≢ None
+
+-- 7. A read fault comes only where the store's count rose and the verdict comes to this file. The notes grew by its line, and out didn't
+--    grow. No count of the store that `demo` reads rises.
+pub record ReadFaultsHaveTheirCause (call : Call) : Type 0 where
+  pub told : (file : FileId) → call.status ≡ status.ReadFault file
+      → Rose call.store.faults_before call.store.faults_after × DidNotGrow call.out
+      × OverFiles call (λ files v. IsReached call.words files file × GrewByLine call.notes (fault_text call.status call.words files))
+  -- no name is invented: where the verdict misses no file, the store's count of misses is as before
   pub misses : OverFiles call (λ files v. MissesNothing v → call.store.misses_after ≡ call.store.misses_before)
 
 abbrev pub status_of : Result Outcome Refusal → Status
 status_of (Ok outcome) = status.Done
-status_of (Err r) = refused r
+status_of (Err r) = status.Refused r
 
 -- 8. Nothing is refused without a cause: where the store's count didn't rise, the status is the verdict's, or a write fault, or want of
 --    memory; where no sink's count rose either, it is the verdict's, or want of memory.
@@ -127,8 +125,9 @@ pub record NothingIsRefusedWithoutCause (call : Call) : Type 0 where
   pub by_the_sinks : (Rose call.store.faults_before call.store.faults_after → ⊥) → (FaultsRose call.out → ⊥) → (FaultsRose call.notes → ⊥)
       → OverFiles call (λ files v. (call.status ≡ status_of v) ⊎ (call.status ≡ status.NoMemory))
 
--- 9. Where the verdict is accepted and `--memory N` stands, the bytes that the plan text of 1 prints are those of the plan's buffers, and they
---    are at most N. A plan that takes more is refused as MemoryLimit, behind Budget and PastBits, and before any of it is taken.
+-- 9. Where the verdict is accepted and `--memory N` stands, the bytes that the plan text of 1 prints are those that the plan's buffers take, and
+--    they are at most N. A plan that takes more is refused as MemoryLimit, behind Budget and PastBits. That the buffers of a call that is done
+--    hold exactly these bytes is the clause `buffers` of `safebound_keeping` (specs/Kept.antt).
 abbrev pub EveryLimitIsKept : Call → Type 0
 EveryLimitIsKept call = OverFiles call (λ files v. IfOk v KeepsItsLimit)
 

@@ -1,10 +1,13 @@
 pub mod Accepted
+pub mod Appending
 pub mod Asks
 pub mod Call
+pub mod Counted
 pub mod Course
 pub mod Faults
 pub mod Filed
 pub mod Headline
+pub mod Kept
 pub mod Limits
 pub mod Outcome
 pub mod OutcomeTexts

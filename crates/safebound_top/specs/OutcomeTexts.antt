@@ -4,7 +4,7 @@ use Rattle.printed_texts.specs.Memory.{memory_text}
 use Rattle.printed_texts.specs.Plans.{plan_lines}
 use Rattle.reserve_plan.specs.Memory.{plan_bytes}
 use Rattle.stats_file.specs.FileText.{file_text}
-use Rattle.safebound_top.specs.Outcome.{Filed, FiledPlan, Outcome, Planned, PlannedByFile}
+use Rattle.safebound_top.specs.Outcome.{Appended, Filed, FiledPlan, Outcome, Planned, PlannedByFile}
 use Rattle.safebound_top.specs.Texts.{out_text_of, plan_text}
 
 -- the plan text of a plan from a file, and behind it the line of its bytes, where there is a limit of memory
@@ -17,9 +17,11 @@ abbrev pub notes_text : Outcome → Option (List ℕ)
 notes_text (Planned run) = Some (plan_text run)
 notes_text (Filed filed) = None
 notes_text (PlannedByFile made) = Some (filed_plan_text made)
+notes_text (Appended made) = None
 
 -- the text for out, where there is one
 abbrev pub out_text : Outcome → Option (List ℕ)
 out_text (Planned run) = out_text_of run
 out_text (Filed filed) = Some (file_text filed.schema filed.file)
 out_text (PlannedByFile made) = None
+out_text (Appended made) = Some (file_text made.schema made.file)

@@ -1,11 +1,12 @@
 -- What was read and planned, as what a run is over.
-use Rattle.std.specs.Prelude.{ℕ, ◌≡◌, ◌≤◌, List, length, Option, None, Some, ⊤}
-use Rattle.limits.specs.Profile.{most_conjuncts}
+use Rattle.std.specs.Prelude.{ℕ, ◌≡◌, ◌+◌, List, length, Option, None, Some, ⊤}
 use Rattle.query_types.specs.declared.types.Query.{Query}
 use Rattle.csv_tables.specs.declared.types.Database.{Database}
 use Rattle.join_steps.specs.Lists.{lists_of, scans_of}
 use Rattle.join_steps.specs.Plans.{IsPlanOf}
 use Rattle.bushy_join.specs.Trees.{IsTreePlanOf}
+use Rattle.reserve_plan.specs.Memory.{buffers_bytes, lists_bytes, reserved_bytes}
+use Rattle.tree_rows.specs.Memory.{tree_reserved_bytes}
 use Rattle.tree_rows.specs.Rooms.{HasTreeRooms}
 use Rattle.joined_texts.specs.Printed.{printed_rows}
 use Rattle.planned_joins.specs.PlansOf.{IsReadyFor}
@@ -15,7 +16,7 @@ use Rattle.sql_meaning.specs.Tables.{Tables, tables_of}
 use Rattle.table_files.specs.EntryTables.{entry_rows, tables_in}
 use Rattle.safebound_top.specs.Accepted.{Accepted}
 use Rattle.safebound_top.specs.Shapes.{IsShapedPlan, joined_entries, part_sizes, shape_audits, shape_bytes}
-use Rattle.safebound_top.specs.Sources.{sourced}
+use Rattle.safebound_top.specs.Sources.{lists_by}
 use Rattle.safebound_top.specs.Standing.{LoseNoRow}
 use Rattle.safebound_top.specs.declared.prepare.Prepared.{Prepared}
 use Rattle.safebound_top.specs.declared.prepare.Rest.{Rest}
@@ -46,6 +47,20 @@ abbrev pub plan_in : Room → Shaped
 plan_in (room.Levels plan reserved) = shaped.Along plan
 plan_in (room.Nodes plan reserved) = shaped.Over plan
 
+-- how many bytes the buffers for its parts hold
+abbrev pub held_bytes : Room → ℕ
+held_bytes (room.Levels plan reserved) = reserved_bytes reserved
+held_bytes (room.Nodes plan reserved) = tree_reserved_bytes reserved
+
+-- and those with the lists that are joined
+abbrev pub bytes_held : Joins → ℕ
+bytes_held joins = buffers_bytes joins.lists + held_bytes joins.room
+
+-- lists that are there before the plan is known hold exactly what lists by these bounds take
+abbrev pub HoldExactly : Scans → List ℕ → Type 0
+HoldExactly scans.Whole bounds = ⊤
+HoldExactly (scans.Listed lists) bounds = buffers_bytes lists ≡ lists_bytes bounds
+
 -- a plan over these lists, and buffers with room for each of its parts over them
 abbrev pub IsRoomOver : Query → Tables → List (List ℕ) → Room → Type 0
 IsRoomOver query ts lists (room.Levels plan reserved) = IsPlanOf query ts lists plan × IsReadyFor query ts lists plan.order reserved
@@ -67,6 +82,12 @@ abbrev pub AreListed : List (List ℕ) → Rest → Type 0
 AreListed lists (rest.Rows joins) = lists_of joins.lists.items ≡ lists
 AreListed lists (rest.Audit joins) = lists_of joins.lists.items ≡ lists
 AreListed lists (rest.Nothing plan) = ⊤
+
+-- the lists and buffers of what is left to do hold exactly so many bytes
+abbrev pub HoldsBytes : ℕ → Rest → Type 0
+HoldsBytes bytes (rest.Rows joins) = bytes_held joins ≡ bytes
+HoldsBytes bytes (rest.Audit joins) = bytes_held joins ≡ bytes
+HoldsBytes bytes (rest.Nothing plan) = ⊤
 
 -- the plan of what is left to do
 abbrev pub plan_left : Rest → Shaped
@@ -94,17 +115,17 @@ accepted_of prepared = record {
   rows = entry_rows prepared.db;
   plan = plan_left prepared.rest;
   source = prepared.source;
-  lists = (sourced prepared.source prepared.query (tables_in (entry_rows prepared.db))).lists;
+  lists = lists_by prepared.source prepared.query (tables_in (entry_rows prepared.db));
   memory = prepared.memory;
   out = text_left prepared.rest;
 }
 
--- a query, the database of its tables, a plan for its entries with its bytes, and the room for what is left to do
-pub record IsReady (prepared : Prepared) : Type 0 where
+-- a query, the database of its tables, a plan for its entries with its bytes, and the room for what is left to do, which holds these bytes
+pub record IsPrepared (prepared : Prepared) : Type 0 where
   pub database : IsDatabaseOf prepared.query prepared.db
-  pub few : length prepared.query.conjuncts ≤ most_conjuncts
   pub plan : IsShapedPlan (length prepared.query.from) (plan_left prepared.rest)
   pub bytes : prepared.bytes ≡ shape_bytes (plan_left prepared.rest)
   pub tables : tables_in (entry_rows prepared.db) ≡ tables_of prepared.db
   pub room : HasRoom prepared.query prepared.db prepared.rest
   pub lists : AreListed (accepted_of prepared).lists prepared.rest
+  pub held : HoldsBytes prepared.bytes prepared.rest

@@ -1,8 +1,19 @@
--- What `run` promises, from its words and files and SQL to the two texts, with no stage of the program between.
+-- What `run` promises, stated from its words, its files and SQL alone.
 --
--- Where a call of `run` ends with Done, over files that the store tells: the schema's file declares one schema, the query's file asks one
--- query of it, and each FROM entry has the rows in its table's file. A plan was printed of which no bound is too low, and the rows that were
--- printed are the answer of the query, each as often as there.
+-- Suppose that a call of `run` ends with Done, over files that the store tells. Then the schema's file declares one schema, the query's file
+-- asks one query of it, and each FROM entry has the rows in its table's file. A plan was printed of which no bound is too low. And rows were
+-- printed that are those of the answer, in any order, each as often as in the answer.
+--
+-- - Bounds count rows that are kept, and not those that are tried. A choice of rows counts in a level, or in a node, where every conjunct
+--   holds that names no entry but its own. One that names no entry is asked in each: under `WHERE 1 = 2` every level and node is empty.
+-- - With `--reduce` the text looks as it does without. Its scan lines then speak of the reduced scans, and levels and nodes are over these.
+-- - With `--bushy` there is a line for each inner node. A tree of one FROM entry has none: then the scan's line is the bound of the answer.
+-- - Nothing is said of how high a bound may be. Budget and accuracy decide which plan is printed, and whether one is; the headline says how.
+-- - Of a store that doesn't tell its files nothing is promised. Of a sink that doesn't tell its bytes nothing is said of what it took: then
+--   `Grew` says just that it tells none afterwards. That a read gives the bytes of a told file is the contract of stores (`read_at` of
+--   base_io, by `ReadsAt`). The program's own folder and streams tell nothing; docs/PROVED.md says what is trusted of them.
+-- - Only Done is promised something here, and only of `run`. When a call ends otherwise, and what the other commands print, is in the
+--   headline. That each call keeps the promise is a clause of the top call (`promise` of `safebound`, in src/top_call.rt).
 use Rattle.std.specs.Prelude.{ℕ, ◌≡◌, ◌+◌, ◌<◌, ◌≤◌, ◌++◌, Bool, true, false, List, length, slice_get, slice_index, take, Option, Some, Ok, IsPermutation}
 use Rattle.base_io.specs.Devices.{Growth}
 use Rattle.base_io.specs.Files.{Files, file_of}
@@ -69,13 +80,13 @@ pub record AreInFile (files : Files) (schema : Schema) (query : Query) (entry : 
 
 -- ---- what the plan text says
 
--- the rows that are joined: for each FROM entry those for which every conjunct holds that names just this entry; with `--reduce` the greatest
--- lists of such rows of which each has a partner for every equality
+-- the rows that are joined: for each FROM entry those for which every conjunct holds that names just this entry. With `--reduce` they are the
+-- greatest lists of such rows in which each row has, for every equality of its entry with another, a row of equal value in the other's list
 abbrev pub AreScans : Bool → Query → Tables → List (List ℕ) → Type 0
 AreScans false query tables scans = scans ≡ scans_of query tables
 AreScans true query tables scans = AreReducedScans query tables scans
 
--- the choices of a row of its scan for each of these entries, for which every conjunct holds that names only these
+-- each way to take one row of its scan for each of these entries, such that every conjunct holds that names no other entry
 abbrev pub choices_over : Query → Tables → List (List ℕ) → List ℕ → List (List ℕ)
 choices_over query tables scans entries = level_over (conjuncts_of query tables) (list_at scans) entries
 
@@ -83,14 +94,16 @@ choices_over query tables scans entries = level_over (conjuncts_of query tables)
 abbrev pub ScansFit : Query → List (List ℕ) → List ℕ → Type 0
 ScansFit query scans bounds = (entry : ℕ) → entry < length query.from → length (list_at scans entry) ≤ slice_index bounds entry
 
--- an order of all entries. No scan has more rows than its bound, and no level, of the first k + 1 entries
+-- an order of all entries. No scan has more rows than its bound; and for each k the first k + 1 entries have at most as many choices as the
+-- bound of level k says
 pub record HoldsAlong (query : Query) (tables : Tables) (scans : List (List ℕ)) (plan : Plan) : Type 0 where
   pub each_entry : IsPlan (length query.from) plan
   pub scans_fit : ScansFit query scans plan.scans
   pub levels_fit : (k : ℕ) → k < length query.from
       → length (choices_over query tables scans (take (k + 1) plan.order)) ≤ slice_index plan.levels k
 
--- a join tree of all entries. No scan has more rows than its bound, and no inner node, of the entries at its leaves
+-- a join tree of all entries. No scan has more rows than its bound; and for each inner node the entries at its leaves have at most as many
+-- choices as its bound says
 pub record HoldsOver (query : Query) (tables : Tables) (scans : List (List ℕ)) (plan : BushyPlan) : Type 0 where
   pub each_entry : IsTreePlan (length query.from) plan
   pub scans_fit : ScansFit query scans plan.scans
@@ -117,7 +130,7 @@ PrintsPlan true limit query tables scans text = PrintsTree limit query tables sc
 
 -- ---- what the rows text says
 
--- a header, and then the rows of the answer, each as often as there
+-- a header, and then rows that are those of the answer, in any order, each as often as in the answer
 pub record PrintsAnswer (query : Query) (tables : Tables) (text : List ℕ) : Type 0 where
   pub rows : List Row
   pub is_answer : IsPermutation rows (answer query tables)
@@ -125,7 +138,7 @@ pub record PrintsAnswer (query : Query) (tables : Tables) (text : List ℕ) : Ty
 
 -- ---- the promise
 
--- a run of the query in the one file, over the schema in the other and the tables' files: notes grew by the text of its plan, and out by its
+-- a run of the query in `query_file` over the schema in `schema_file` and the tables' files: notes grew by the text of a plan, and out by the
 -- answer
 pub record RanWhole (files : Files) (schema_file query_file : List ℕ) (reduce bushy : Bool) (limit : Option ℕ) (notes out : Growth) : Type 0 where
   pub schema : Schema
@@ -143,9 +156,10 @@ pub record RanWhole (files : Files) (schema_file query_file : List ℕ) (reduce 
   pub answer : PrintsAnswer query tables rows_text
   pub answer_written : Grew out rows_text
 
--- each call of `run` that ends with Done, whatever its budget and its accuracy
+-- each call of `run` that ends with Done over told files ran so, whatever its budget and its accuracy, and whether conditions are carried
+-- through keys or not
 abbrev pub Promise : Call → Type 0
-Promise call = (schema_file query_file : List ℕ) (budget accuracy : ℕ) (reduce bushy : Bool) (limit : Option ℕ) (files : Files)
-    → AskFor call.words (Run schema_file query_file budget accuracy reduce bushy limit)
+Promise call = (schema_file query_file : List ℕ) (budget accuracy : ℕ) (reduce bushy keys : Bool) (limit : Option ℕ) (files : Files)
+    → AskFor call.words (Run schema_file query_file budget accuracy reduce bushy keys limit)
     → call.status ≡ status.Done → call.store.files ≡ Some files
     → RanWhole files schema_file query_file reduce bushy limit call.notes call.out

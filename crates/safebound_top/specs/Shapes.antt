@@ -5,11 +5,12 @@ use Rattle.std.specs.List.{range_with_len}
 use Rattle.limits.specs.Profile.{most_budget, most_rows}
 use Rattle.order_search.specs.declared.refusal.PlanError.{PlanError}
 use Rattle.plan_answers.specs.PlanAnswer.{plan_answer}
-use Rattle.reserve_plan.specs.Memory.{plan_bytes}
+use Rattle.reserve_plan.specs.Memory.{plan_bytes, rooms_bytes}
+use Rattle.reserve_plan.specs.Rooms.{rooms}
 use Rattle.plans.specs.LeftDeep.{IsPlan}
 use Rattle.tree_answers.specs.TreeAnswer.{tree_answer}
 use Rattle.tree_plans.specs.TreePlans.{IsTreePlan}
-use Rattle.tree_rows.specs.Memory.{tree_bytes}
+use Rattle.tree_rows.specs.Memory.{tree_bytes, tree_rooms_bytes}
 use Rattle.tree_rows.specs.Rooms.{bound_at}
 use Rattle.tree_rows.specs.Trees.{entries_at, node_count}
 use Rattle.query_types.specs.declared.types.Query.{Query}
@@ -74,6 +75,11 @@ joined_entries (shaped.Over plan) = entries_at plan (node_count plan - 1)
 abbrev pub shape_bytes : Shaped → ℕ
 shape_bytes (shaped.Along plan) = plan_bytes plan.order plan.scans plan.levels
 shape_bytes (shaped.Over plan) = tree_bytes plan
+
+-- those of them that aren't lists of rows to be joined
+abbrev pub parts_bytes : Shaped → ℕ
+parts_bytes (shaped.Along plan) = rooms_bytes (rooms plan.order plan.scans plan.levels)
+parts_bytes (shaped.Over plan) = tree_rooms_bytes plan
 
 -- no list and no part over these lists has more rows than its bound, and no bound is above what joins take
 abbrev pub IsPlanOver : Query → Tables → List (List ℕ) → Shaped → Type 0

@@ -3,15 +3,16 @@ use Rattle.std.specs.Prelude.{ℕ, List, Option, None, Some}
 use Rattle.demo_files.specs.Files.{demo_files}
 use Rattle.base_io.specs.Devices.{Reading}
 use Rattle.safebound_words.specs.Answer.{command_of}
-use Rattle.safebound_words.specs.Requests.{Request, Run, Plan, Audit, Stats, PlanStats, Demo}
+use Rattle.safebound_words.specs.Requests.{Request, Run, Plan, Audit, Stats, PlanStats, Append, Demo}
 
 -- one line for each command: `demo` alone makes files, those of the shop with its number
 abbrev pub shop_asked : Request → Option ℕ
-shop_asked (Run schema query budget accuracy reduce bushy memory) = None
-shop_asked (Plan schema query budget accuracy reduce bushy memory) = None
-shop_asked (Audit schema query budget accuracy reduce bushy memory) = None
+shop_asked (Run schema query budget accuracy reduce bushy keys memory) = None
+shop_asked (Plan schema query budget accuracy reduce bushy keys memory) = None
+shop_asked (Audit schema query budget accuracy reduce bushy keys memory) = None
 shop_asked (Stats schema query accuracy) = None
 shop_asked (PlanStats schema query file budget memory) = None
+shop_asked (Append schema file table rows) = None
 shop_asked (Demo number) = Some number
 
 abbrev pub request_shop : Option Request → Option ℕ

@@ -1,4 +1,4 @@
--- What holds of what each source gives (law `sources_stand`).
+-- What holds of what each source gives (safebound_laws, law `sources_stand`).
 use Rattle.std.specs.Prelude.{◌≡◌, ℕ, List, length}
 use Rattle.query_types.specs.Named.{NamesItsEntries}
 use Rattle.query_types.specs.declared.types.Query.{Query}

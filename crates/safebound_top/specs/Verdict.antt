@@ -1,5 +1,6 @@
--- What the words and the files determine, in stages: the words, the schema, the query, the tables or the statistics file, the plan.
-use Rattle.std.specs.Prelude.{ℕ, ◌≡◌, List, Result, Ok, Err, IsOk}
+-- What the words and the files determine, in stages: the words, the schema, the query, the tables or the statistics file, the plan; or behind the
+-- schema the statistics file and new rows of one of its tables.
+use Rattle.std.specs.Prelude.{ℕ, ◌≡◌, ◌⊎◌, List, Result, Ok, IsOkAnd}
 use Rattle.limits.specs.Profile.{most_text}
 use Rattle.base_io.specs.Files.{Files}
 use Rattle.text_answers.specs.SchemaTexts.{schema_answer}
@@ -19,12 +20,13 @@ use Rattle.table_files.specs.Stage.{tables_of_query, tables_stage}
 use Rattle.table_files.specs.Stage.{IsReached as IsTableReached}
 use Rattle.table_files.specs.TableFile.{read}
 use Rattle.safebound_top.specs.Accepted.{Accepted}
-use Rattle.safebound_top.specs.Asks.{Ask, FileOf, PlanFrom, PlanOf, WorkAsk, command_stage}
+use Rattle.safebound_top.specs.Appending.{append_run, section_read}
+use Rattle.safebound_top.specs.Asks.{AimAsk, AppendTo, Ask, FileOf, OverQuery, PlanFrom, PlanOf, WorkAsk, command_stage}
 use Rattle.safebound_top.specs.Filed.{filed_plan_stage, stats_stage, tables_filed}
 use Rattle.safebound_top.specs.Limits.{within_limit}
 use Rattle.safebound_top.specs.Outcome.{Outcome, Planned}
 use Rattle.safebound_top.specs.Shapes.{planned_by, shape_bytes}
-use Rattle.safebound_top.specs.Sources.{sourced}
+use Rattle.safebound_top.specs.Sources.{lists_by, sourced}
 use Rattle.safebound_top.specs.declared.shapes.Shaped.{Shaped}
 use Rattle.safebound_top.specs.declared.task.PlanTask.{PlanTask}
 
@@ -46,9 +48,9 @@ query_stage name schema files = do
   text ← read file.Query most_text name files
   query_of_text schema text
 
--- the plan of a query over its tables, of the shape that is asked for, by what the source gives
-abbrev pub plan_asked : PlanTask → Query → Tables → Result Shaped PlanError
-plan_asked task query ts = planned_by task.shape (sourced task.source query ts) query task.accuracy task.budget
+-- the plan of a query of a schema over its tables, of the shape that is asked for, by what the source gives
+abbrev pub plan_asked : PlanTask → Schema → Query → Tables → Result Shaped PlanError
+plan_asked task schema query ts = planned_by task.shape (sourced task.source schema query ts) query task.accuracy task.budget
 
 -- the run of a plan, over the rows that the source gives
 abbrev pub run_asked : PlanTask → Query → List (List Row) → Shaped → Accepted
@@ -57,23 +59,23 @@ run_asked task query rows plan = record {
   rows = rows;
   plan = plan;
   source = task.source;
-  lists = (sourced task.source query (tables_in rows)).lists;
+  lists = lists_by task.source query (tables_in rows);
   memory = task.memory;
   out = task.out;
 }
 
 -- the plan of a query over its entries' rows: the best order or tree with its bounds, or PastBits, or Budget with the least cost, or
 -- MemoryLimit with the bytes of the plan
-unfoldable pub plan_stage : PlanTask → Query → List (List Row) → Result Outcome Refusal
-plan_stage task query rows = do
-  plan ← told plan_refusal (plan_asked task query (tables_in rows))
+unfoldable pub plan_stage : PlanTask → Schema → Query → List (List Row) → Result Outcome Refusal
+plan_stage task schema query rows = do
+  plan ← told plan_refusal (plan_asked task schema query (tables_in rows))
   within_limit task.memory (shape_bytes plan) (Planned (run_asked task query rows plan))
 
 -- what is done with a query: here alone one work is told from another
 abbrev pub work_run : WorkAsk → Schema → Query → Files → Result Outcome Refusal
 work_run (PlanOf task) schema query files = do
   rows ← tables_stage schema query.from files
-  plan_stage task query rows
+  plan_stage task schema query rows
 work_run (FileOf accuracy) schema query files = do
   rows ← tables_stage schema query.from files
   Ok (tables_filed schema query rows accuracy)
@@ -81,26 +83,23 @@ work_run (PlanFrom name budget memory) schema query files = do
   stats ← stats_stage name schema files
   filed_plan_stage query stats budget memory
 
--- what a run is over, or the first refusal that applies: from the tables on, from the query on, from the schema on, and from the words on
-unfoldable pub query_run : Ask → Schema → Query → Files → Result Outcome Refusal
-query_run ask schema query files = work_run ask.work schema query files
+-- what is done over a schema: something with a query, or new rows are appended
+abbrev pub aim_run : AimAsk → Schema → Files → Result Outcome Refusal
+aim_run (OverQuery name work) schema files = do
+  query ← query_stage name schema files
+  work_run work schema query files
+aim_run (AppendTo append) schema files = append_run append schema files
 
-unfoldable pub schema_run : Ask → Schema → Files → Result Outcome Refusal
-schema_run ask schema files = do
-  query ← query_stage ask.query_file schema files
-  query_run ask schema query files
-
+-- what a run is over, or the first refusal that applies
 unfoldable pub ask_run : Ask → Files → Result Outcome Refusal
 ask_run ask files = do
   schema ← schema_stage ask.schema_file files
-  schema_run ask schema files
+  aim_run ask.aim schema files
 
 unfoldable pub verdict : List (List ℕ) → Files → Result Outcome Refusal
 verdict words files = do
   ask ← command_stage words
   ask_run ask files
-
--- ---- to which files the verdict comes
 
 -- the schema that the verdict reads
 unfoldable pub schema_read : List (List ℕ) → Files → Result Schema Refusal
@@ -108,22 +107,7 @@ schema_read words files = do
   ask ← command_stage words
   schema_stage ask.schema_file files
 
--- the query that it reads, with its schema, and what is done with it
-pub record Asked : Type 0 where
-  pub work : WorkAsk
-  pub schema : Schema
-  pub query : Query
-
-unfoldable pub query_from : Ask → Schema → Files → Result Asked Refusal
-query_from ask schema files = do
-  query ← query_stage ask.query_file schema files
-  Ok (record { work = ask.work; schema = schema; query = query })
-
-unfoldable pub query_read : List (List ℕ) → Files → Result Asked Refusal
-query_read words files = do
-  ask ← command_stage words
-  schema ← schema_stage ask.schema_file files
-  query_from ask schema files
+-- ---- to which files the verdict comes
 
 -- the file is one that is read for the query: one of its tables, and no table before it is refused; or the statistics file
 abbrev pub IsWorkFile : WorkAsk → Schema → Query → Files → FileId → Type 0
@@ -131,13 +115,16 @@ IsWorkFile (PlanOf task) schema query files id = IsTableReached schema (tables_o
 IsWorkFile (FileOf accuracy) schema query files id = IsTableReached schema (tables_of_query query.from) files id
 IsWorkFile (PlanFrom name budget memory) schema query files id = id ≡ file.Stats
 
-abbrev pub IsFileOf : Result Asked Refusal → Files → FileId → Type 0
-IsFileOf (Ok asked) files id = IsWorkFile asked.work asked.schema asked.query files id
-IsFileOf (Err r) files id = ⊥
+-- the file is one that is read over a schema: that of the query, and where it is read those for it; or the statistics file, and where its section
+-- is there the file of new rows
+abbrev pub IsAimFile : AimAsk → Schema → Files → FileId → Type 0
+IsAimFile (OverQuery name work) schema files id =
+    (id ≡ file.Query) ⊎ IsOkAnd (query_stage name schema files) (λ query. IsWorkFile work schema query files id)
+IsAimFile (AppendTo append) schema files id =
+    (id ≡ file.Stats) ⊎ IsOkAnd (section_read append schema files) (λ section. id ≡ file.Table section.table)
 
--- the verdict comes to this file: nothing before it is refused
+-- the verdict comes to this file, and nothing before it is refused: where the words are a command to that of the schema, and where this is
+-- read to those that are read over it
 abbrev pub IsReached : List (List ℕ) → Files → FileId → Type 0
-IsReached words files file.Schema = IsOk (command_stage words)
-IsReached words files file.Query = IsOk (schema_read words files)
-IsReached words files (file.Table number) = IsFileOf (query_read words files) files (file.Table number)
-IsReached words files file.Stats = IsFileOf (query_read words files) files file.Stats
+IsReached words files id = IsOkAnd (command_stage words)
+    (λ ask. (id ≡ file.Schema) ⊎ IsOkAnd (schema_stage ask.schema_file files) (λ schema. IsAimFile ask.aim schema files id))

@@ -1,9 +1,9 @@
 //! Statistics files: one that is read, a plan from it, and one that is made of a query's tables.
 ghost use Rattle.std.specs.Prelude.{◌≡◌, ◌<◌, ◌≤◌, IfErr, IfOk, Ok, length};
-ghost use Rattle.limits.specs.Profile.{most_accuracy, most_budget, most_conjuncts, most_entries};
+ghost use Rattle.limits.specs.Profile.{most_accuracy, most_budget, most_entries};
 ghost use Rattle.base_io.specs.Devices.{reading};
 ghost use Rattle.filed_stats.specs.Databases.{IsReadOver};
-ghost use Rattle.outcomes.specs.Reads.{AtFile, Reads, Tells, seen};
+ghost use Rattle.outcomes.specs.Reads.{AtFile, Reads, StopsBy, seen};
 ghost use Rattle.plans.specs.LeftDeep.{IsPlan};
 ghost use Rattle.query_types.specs.Validity.{IsOf};
 ghost use Rattle.schema_types.specs.Validity.{IsValid};
@@ -20,7 +20,7 @@ ghost use Rattle.safebound_top.specs.Verdict.{work_run};
 use crate::limit::{keep_limit, order_memory};
 use base_io::{NoMemory, Store};
 use csv_tables::Database;
-use filed_plans::{FiledPlanError, plan_from_file};
+use filed_bounds::{FiledPlanError, plan_from_file};
 use filed_stats::stats_of;
 use limits::MOST_FILE;
 use outcomes::{Ending, FileId, Refusal, StatsCause};
@@ -50,8 +50,8 @@ pub struct PreparedPlan {
     pub bytes: u128,
 }
 
-// Reads the statistics file of this name over a schema.
-fn load_stats<S: Store>(
+/// Reads the statistics file of this name over a schema.
+pub(crate) fn load_stats<S: Store>(
     alloc: Global,
     store: &mut S,
     name: &str,
@@ -93,7 +93,7 @@ fn limited(
     requires plan { IsPlan (length query.from) plan }
     ensures plan { IfOk result IsPlanned }
     ensures within { IfOk result (λ made. filed_within query file plan memory ≡ Ok (plan_from made)) }
-    ensures refused { IfErr result (Tells (filed_within query file plan memory)) }
+    ensures refused { IfErr result (StopsBy (filed_within query file plan memory)) }
 {
     let bytes = order_memory(&plan);
     keep_limit(memory, bytes)?;
@@ -116,12 +116,11 @@ fn plan_filed(
     memory: Option<u64>,
 ) -> Result<PreparedPlan, Ending>
     requires query { IsOf schema.now query }
-    requires few { length query.conjuncts ≤ most_conjuncts }
     requires file { KeepsRules schema.now file }
     requires budget { budget ≤ most_budget }
     ensures plan { IfOk result IsPlanned }
     ensures planned { IfOk result (λ made. filed_plan_stage query file budget memory ≡ Ok (plan_from made)) }
-    ensures refused { IfErr result (Tells (filed_plan_stage query file budget memory)) }
+    ensures refused { IfErr result (StopsBy (filed_plan_stage query file budget memory)) }
 {
     match plan_from_file(alloc, &query, &file, budget) {
         Ok(plan) => limited(query, file, plan, memory),
@@ -180,7 +179,6 @@ pub fn prepare_filed<S: Store>(
     requires schema { IsValid schema.now }
     requires bytes { HasByteColumns schema.now }
     requires query { IsOf schema.now query }
-    requires few { length query.conjuncts ≤ most_conjuncts }
     requires budget { budget ≤ most_budget }
     ensures plan { IfOk result IsPlanned }
     ensures reads { Reads (reading S.files S.faults S.misses store.old store.new) (work_run (PlanFrom file.now budget memory) schema.now query)

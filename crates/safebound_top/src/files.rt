@@ -1,6 +1,5 @@
 //! The two texts, from their files.
-ghost use Rattle.std.specs.Prelude.{◌≤◌, IfOk, length};
-ghost use Rattle.limits.specs.Profile.{most_conjuncts};
+ghost use Rattle.std.specs.Prelude.{IfOk};
 ghost use Rattle.base_io.specs.Devices.{reading};
 ghost use Rattle.outcomes.specs.Reads.{AtFile, Reads};
 ghost use Rattle.schema_types.specs.Validity.{IsValid};
@@ -37,7 +36,6 @@ pub fn load_query<S: Store>(
 ) -> Result<Query, Ending>
     requires { IsValid schema.now }
     ensures of_schema { IfOk result (IsOf schema.now) }
-    ensures few { IfOk result (λ query. length query.conjuncts ≤ most_conjuncts) }
     ensures reads { Reads (reading S.files S.faults S.misses store.old store.new) (query_stage name.now schema.now)
         (AtFile FileId.Query) result }
 {

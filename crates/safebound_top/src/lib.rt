@@ -2,7 +2,7 @@
 //!
 //! It only calls the stages in order. `read_task` finds what is asked for; `load_schema` and `prepare` read every file, plan, take all
 //! memory of the run and write nothing; `write_outcome` writes the plan text and then the rows text or the audit text, or the text of a
-//! statistics file, and takes no memory.
+//! statistics file, and takes no memory. `safebound_keeping` hands out the buffers of the joins, too.
 //! On every status but `Done`, `write_fault` tells the status in one line.
 //!
 //! `safebound` has three clauses. `promise` says what a `run` that is done has printed, from its words, its files and SQL alone
@@ -12,10 +12,10 @@
 //! stage of the verdict, and `Ran` and `Course` (in `specs/Course.antt`) compose them.
 #![tactic(auto)]
 
-mod corollaries;
+mod append;
 mod filed;
 mod files;
-mod laws;
+mod joined;
 mod limit;
 mod prepare;
 mod report;
@@ -26,14 +26,12 @@ mod task;
 mod texts;
 mod top_call;
 
-pub use corollaries::{
-    demo_meets_no_read_fault, printed_bounds_are_near, the_headline_keeps_the_promise,
-};
-pub use laws::{demo_is_an_audit, no_reader_wants_memory, run_law, sources_stand};
+pub use joined::Joined;
 pub use outcomes::{
-    FileId, NO_MEMORY, NO_WORDS, QueryCause, SchemaCause, SinkId, StatsCause, Status, TableCause,
+    FileId, NO_MEMORY, NO_WORDS, QueryCause, Refusal, SchemaCause, SinkId, StatsCause, Status,
+    TableCause,
 };
 pub use report::write_fault;
 pub use safebound_words::{Command, WordsError, read_words};
-pub use task::{ListSource, OutText, PlanTask, Shape, Task, Work, read_task};
-pub use top_call::safebound;
+pub use task::{Aim, AppendTask, ListSource, OutText, PlanTask, Shape, Task, Work, read_task};
+pub use top_call::{safebound, safebound_keeping};

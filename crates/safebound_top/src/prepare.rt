@@ -1,9 +1,8 @@
 //! Everything that a run takes memory for, before it writes.
-ghost use Rattle.std.specs.Prelude.{◌≡◌, ◌⊎◌, ◌≤◌, IfErr, IfOk, Ok, length};
-ghost use Rattle.limits.specs.Profile.{most_conjuncts};
+ghost use Rattle.std.specs.Prelude.{◌≡◌, IfErr, IfOk, Ok};
 ghost use Rattle.base_io.specs.Devices.{reading};
-ghost use Rattle.outcomes.specs.Reads.{Reads, Tells, seen};
-ghost use Rattle.planned_joins.specs.PlansOf.{HaveFewRows};
+ghost use Rattle.key_carriers.specs.Keys.{KeysHold};
+ghost use Rattle.outcomes.specs.Reads.{Reads, StopsBy, seen};
 ghost use Rattle.query_types.specs.Validity.{IsOf};
 ghost use Rattle.schema_types.specs.Validity.{IsValid};
 ghost use Rattle.stats_reading.specs.Names.{HasByteColumns};
@@ -11,22 +10,23 @@ ghost use Rattle.sql_meaning.specs.Databases.{IsDatabaseOf};
 ghost use Rattle.sql_meaning.specs.Tables.{tables_of};
 ghost use Rattle.table_files.specs.EntryTables.{entry_rows, tables_in};
 ghost use Rattle.table_files.specs.Stage.{IsReached, tables_of_query};
-ghost use Rattle.safebound_top.specs.Asks.{HasRanges, IsInRange, PlanOf, asked};
-ghost use Rattle.safebound_top.specs.Prepared.{AreListed, HasRoom, IsReady, lists_in, plan_left, text_left};
+ghost use Rattle.safebound_top.specs.Asks.{HasRanges, IsInRange, OverQuery, PlanOf, WorkHasRanges, aim_asked, work_asked};
+ghost use Rattle.safebound_top.specs.Prepared.{AreListed, HasRoom, HoldExactly, HoldsBytes, IsPrepared, lists_in, plan_left, text_left};
 ghost use Rattle.safebound_top.specs.Ready.{CanBeWritten, outcome_of, planned_from};
-ghost use Rattle.safebound_top.specs.Shapes.{IsPlanOver};
+ghost use Rattle.safebound_top.specs.Shapes.{IsPlanOver, scan_bounds, shape_bytes};
 ghost use Rattle.safebound_top.specs.Standing.{LoseNoRow};
-ghost use Rattle.safebound_top.specs.Verdict.{IsFileOf, IsWorkFile, plan_stage, query_from, query_run, schema_run, work_run};
+ghost use Rattle.safebound_top.specs.Verdict.{IsAimFile, IsWorkFile, aim_run, plan_stage, work_run};
 
+use crate::append::{PreparedAppend, prepare_append};
 use crate::filed::{PreparedFile, PreparedPlan, prepare_file, prepare_filed};
 use crate::files::load_query;
 use crate::limit::{keep_limit, memory_of};
 use crate::scans::{Joins, Planned, plan_task, prepare_joins};
 use crate::shapes::Shaped;
-use crate::task::{ListSource, OutText, PlanTask, Task, Work};
+use crate::task::{Aim, ListSource, OutText, PlanTask, Work};
 use base_io::{NoMemory, Store};
 use csv_tables::Database;
-use outcomes::{Ending, FileId};
+use outcomes::Ending;
 use query_types::Query;
 use schema_types::Schema;
 use std::alloc::Global;
@@ -64,14 +64,14 @@ fn make_room(
     db: &Database,
 ) -> Result<Rest, NoMemory>
     requires database { IsDatabaseOf query.now db.now }
-    requires few { length query.now.conjuncts ≤ most_conjuncts }
-    requires few_rows { HaveFewRows (tables_of db.now) (length query.now.from) }
     requires plan { IsPlanOver query.now (tables_of db.now) (lists_in planned.scans query.now (tables_of db.now)) planned.plan }
     requires rows { LoseNoRow query.now (tables_of db.now) (lists_in planned.scans query.now (tables_of db.now)) }
+    requires exact { HoldExactly planned.scans (scan_bounds planned.plan) }
     ensures plan { IfOk result (λ rest. plan_left rest ≡ planned.plan) }
     ensures room { IfOk result (HasRoom query.now db.now) }
     ensures lists { IfOk result (AreListed (lists_in planned.scans query.now (tables_of db.now))) }
     ensures out { IfOk result (λ rest. text_left rest ≡ out) }
+    ensures bytes { IfOk result (HoldsBytes (shape_bytes planned.plan)) }
 {
     match out {
         OutText::Rows => Ok(Rest::Rows(prepare_joins(alloc, planned, query, db)?)),
@@ -89,25 +89,27 @@ pub enum Ready {
     Filed(PreparedFile),
     /// A plan from a statistics file.
     PlannedByFile(PreparedPlan),
+    /// A statistics file with new rows.
+    Appended(PreparedAppend),
 }
 
-// Plans a query over its database, and takes the memory for what is left to do, unless it is above the limit.
+// Plans a query of a schema over its database, and takes the memory for what is left to do, unless it is above the limit.
 fn prepare_plan(
     alloc: Global,
     task: &PlanTask,
+    schema: &Schema,
     query: Query,
     db: Database,
 ) -> Result<Prepared, Ending>
     requires database { IsDatabaseOf query db }
-    requires few { length query.conjuncts ≤ most_conjuncts }
-    requires few_rows { HaveFewRows (tables_of db) (length query.from) }
     requires tables { tables_in (entry_rows db) ≡ tables_of db }
+    requires keys { KeysHold schema.now query (tables_of db) }
     requires ranges { IsInRange task.now }
-    ensures ready { IfOk result IsReady }
-    ensures run { IfOk result (λ p. plan_stage task.now query (entry_rows db) ≡ Ok (planned_from p)) }
-    ensures refused { IfErr result (Tells (plan_stage task.now query (entry_rows db))) }
+    ensures ready { IfOk result IsPrepared }
+    ensures run { IfOk result (λ p. plan_stage task.now schema.now query (entry_rows db) ≡ Ok (planned_from p)) }
+    ensures refused { IfErr result (StopsBy (plan_stage task.now schema.now query (entry_rows db))) }
 {
-    let planned = plan_task(alloc, task, &query, &db)?;
+    let planned = plan_task(alloc, task, schema, &query, &db)?;
     let bytes = memory_of(&planned.plan);
     keep_limit(task.memory, bytes)?;
     let rest = make_room(alloc, task.out, planned, &query, &db)?;
@@ -131,34 +133,32 @@ fn prepare_tables<S: Store>(
 ) -> Result<Prepared, Ending>
     requires schema { IsValid schema.now }
     requires query { IsOf schema.now query }
-    requires few { length query.conjuncts ≤ most_conjuncts }
     requires ranges { IsInRange task.now }
-    ensures ready { IfOk result IsReady }
+    ensures ready { IfOk result IsPrepared }
     ensures reads { Reads (reading S.files S.faults S.misses store.old store.new) (work_run (PlanOf task.now) schema.now query)
         (IsReached schema.now (tables_of_query query.from)) (seen planned_from result) }
 {
     let db = read_tables(alloc, store, schema, &query)?;
-    prepare_plan(alloc, task, query, db)
+    prepare_plan(alloc, task, schema, query, db)
 }
 
 // Reads what the work needs, and does all of it but for what is written.
 fn prepare_query<S: Store>(
     alloc: Global,
     store: &mut S,
-    task: &Task,
+    work: &Work,
     schema: &Schema,
     query: Query,
 ) -> Result<Ready, Ending>
     requires schema { IsValid schema.now }
     requires bytes { HasByteColumns schema.now }
     requires query { IsOf schema.now query }
-    requires few { length query.conjuncts ≤ most_conjuncts }
-    requires ranges { HasRanges (asked task.now).work }
+    requires ranges { WorkHasRanges (work_asked work.now) }
     ensures ready { IfOk result (CanBeWritten schema.now) }
-    ensures reads { Reads (reading S.files S.faults S.misses store.old store.new) (query_run (asked task.now) schema.now query)
-        (IsWorkFile (asked task.now).work schema.now query) (seen (outcome_of schema.now) result) }
+    ensures reads { Reads (reading S.files S.faults S.misses store.old store.new) (work_run (work_asked work.now) schema.now query)
+        (IsWorkFile (work_asked work.now) schema.now query) (seen (outcome_of schema.now) result) }
 {
-    match &task.work {
+    match work {
         Work::Plan(plan) => {
             let prepared = prepare_tables(alloc, store, plan, schema, query)?;
             Ok(Ready::Planned(prepared))
@@ -178,21 +178,45 @@ fn prepare_query<S: Store>(
     }
 }
 
-/// Reads the query and then its tables or the statistics file, plans it, and takes all memory of the run. It writes nothing.
-pub fn prepare<S: Store>(
+// Reads a query, and then what its work needs.
+fn prepare_work<S: Store>(
     alloc: Global,
     store: &mut S,
-    task: &Task,
+    file: &str,
+    work: &Work,
     schema: &Schema,
 ) -> Result<Ready, Ending>
     requires schema { IsValid schema.now }
     requires bytes { HasByteColumns schema.now }
-    requires ranges { HasRanges (asked task.now).work }
+    requires ranges { WorkHasRanges (work_asked work.now) }
     ensures ready { IfOk result (CanBeWritten schema.now) }
-    ensures reads { Reads (reading S.files S.faults S.misses store.old store.new) (schema_run (asked task.now) schema.now)
-        (λ files file. (file ≡ FileId.Query) ⊎ IsFileOf (query_from (asked task.now) schema.now files) files file)
-        (seen (outcome_of schema.now) result) }
+    ensures reads { Reads (reading S.files S.faults S.misses store.old store.new) (aim_run (OverQuery file.now (work_asked work.now)) schema.now)
+        (IsAimFile (OverQuery file.now (work_asked work.now)) schema.now) (seen (outcome_of schema.now) result) }
 {
-    let query = load_query(alloc, store, task.query_file, schema)?;
-    prepare_query(alloc, store, task, schema, query)
+    let query = load_query(alloc, store, file, schema)?;
+    prepare_query(alloc, store, work, schema, query)
+}
+
+/// Reads the query and then its tables or the statistics file, plans it, and takes all memory of the run; or reads a statistics file and new
+/// rows, and makes the file with them. It writes nothing.
+pub fn prepare<S: Store>(
+    alloc: Global,
+    store: &mut S,
+    aim: &Aim,
+    schema: &Schema,
+) -> Result<Ready, Ending>
+    requires schema { IsValid schema.now }
+    requires bytes { HasByteColumns schema.now }
+    requires ranges { HasRanges (aim_asked aim.now) }
+    ensures ready { IfOk result (CanBeWritten schema.now) }
+    ensures reads { Reads (reading S.files S.faults S.misses store.old store.new) (aim_run (aim_asked aim.now) schema.now)
+        (IsAimFile (aim_asked aim.now) schema.now) (seen (outcome_of schema.now) result) }
+{
+    match aim {
+        Aim::Query { file, work } => prepare_work(alloc, store, file, work, schema),
+        Aim::Append(append) => {
+            let made = prepare_append(alloc, store, append, schema)?;
+            Ok(Ready::Appended(made))
+        }
+    }
 }

@@ -2,12 +2,12 @@
 ghost use Rattle.std.specs.Prelude.{◌≡◌, ◌≢◌, option_copied};
 ghost use Rattle.base_io.specs.Devices.{growth};
 ghost use Rattle.base_io.specs.Writes.{Wrote};
-ghost use Rattle.safebound_top.specs.Asks.{ask_of, work_asked};
+ghost use Rattle.safebound_top.specs.Asks.{aim_asked, ask_of, work_asked};
 ghost use Rattle.safebound_top.specs.Course.{Told};
 ghost use Rattle.printed_texts.specs.Words.{named};
-ghost use Rattle.safebound_top.specs.Faults.{names_of as names_told, stats_file_of as stats_file_told, status_line};
+ghost use Rattle.safebound_top.specs.Faults.{names_by as names_in, names_of as names_told, stats_file_of as stats_file_told, status_line};
 
-use crate::task::{Task, Work};
+use crate::task::{Aim, Task, Work};
 use base_io::{Failed, Sink};
 use outcomes::Status;
 use printed_texts::{Named, write_line};
@@ -23,21 +23,39 @@ fn stats_file_of<'a>(work: Work<'a>) -> &'a str
     }
 }
 
+// The files that a command names beside its schema.
+fn names_by<'a>(schema_file: &'a str, aim: Aim<'a>, schema: Option<&'a Schema>) -> Named<'a>
+    ensures { named result ≡ names_in schema_file.now (aim_asked aim.entry) (option_copied schema.entry) }
+{
+    match aim {
+        Aim::Query { file, work } => Named {
+            schema_file,
+            query_file: file,
+            stats_file: stats_file_of(work),
+            rows_file: None,
+            schema,
+        },
+        Aim::Append(append) => Named {
+            schema_file,
+            query_file: "",
+            stats_file: append.stats_file,
+            rows_file: Some(append.rows_file),
+            schema,
+        },
+    }
+}
+
 // The files that a command names.
 fn names_of<'a>(task: Option<&'a Task<'a>>, schema: Option<&'a Schema>) -> Named<'a>
     ensures { named result ≡ names_told (ask_of task.entry) (option_copied schema.entry) }
 {
     match task {
-        Some(task) => Named {
-            schema_file: task.schema_file,
-            query_file: task.query_file,
-            stats_file: stats_file_of(task.work),
-            schema,
-        },
+        Some(task) => names_by(task.schema_file, task.aim, schema),
         None => Named {
             schema_file: "",
             query_file: "",
             stats_file: "",
+            rows_file: None,
             schema,
         },
     }

@@ -1,16 +1,16 @@
 //! The lists of rows that a run joins, and the memory of the joins.
 ghost use Rattle.std.specs.Prelude.{◌≡◌, ◌⊎◌, ◌<◌, ◌≤◌, ℕ, Err, IfErr, IfOk, Ok, length, slice_index};
-ghost use Rattle.limits.specs.Profile.{most_accuracy, most_conjuncts};
+ghost use Rattle.limits.specs.Profile.{most_accuracy};
 ghost use Rattle.order_search.specs.declared.refusal.PlanError.TheVariants as error;
-ghost use Rattle.planned_joins.specs.PlansOf.{HaveFewRows};
+ghost use Rattle.reserve_plan.specs.Memory.{buffers_bytes, lists_bytes};
 ghost use Rattle.sql_meaning.specs.Databases.{IsDatabaseOf};
 ghost use Rattle.sql_meaning.specs.Tables.{tables_of};
 ghost use Rattle.join_steps.specs.Lists.{lists_of, rows_listed, scans_of};
 ghost use Rattle.planning.specs.Gives.{Gives};
 ghost use Rattle.safebound_top.specs.Asks.{IsInRange};
-ghost use Rattle.safebound_top.specs.Prepared.{CanJoin, lists_in, plan_in};
-ghost use Rattle.safebound_top.specs.Shapes.{IsPlanOver};
-ghost use Rattle.safebound_top.specs.Sources.{set_bounds_by, sourced};
+ghost use Rattle.safebound_top.specs.Prepared.{CanJoin, HoldExactly, bytes_held, lists_in, plan_in};
+ghost use Rattle.safebound_top.specs.Shapes.{IsPlanOver, scan_bounds, shape_bytes};
+ghost use Rattle.safebound_top.specs.Sources.{lists_by, scans_by, set_bounds_by, sourced};
 ghost use Rattle.safebound_top.specs.Standing.{LoseNoRow};
 ghost use Rattle.safebound_top.specs.Verdict.{plan_asked};
 
@@ -19,11 +19,13 @@ use crate::task::{ListSource, PlanTask};
 use base_io::NoMemory;
 use csv_tables::Database;
 use join_steps::scan_all;
+use key_bounds::from_keys;
 use order_search::PlanError;
 use planned_joins::reserve_scans;
 use planning::{Known, from_reduced, from_statistics};
 use query_types::Query;
 use row_buf::RowBuf;
+use schema_types::Schema;
 use std::alloc::Global;
 
 /// The rows that are joined.
@@ -56,26 +58,33 @@ pub struct Joins {
     pub room: Room,
 }
 
-// What a source gives of a query over its database. Here alone the code tells one source from another.
+// What a source gives of a query of a schema over its database. Here alone the code tells one source from another.
 fn given_by(
     alloc: Global,
     source: ListSource,
     accuracy: u8,
+    schema: &Schema,
     query: &Query,
     db: &Database,
 ) -> Result<Given, NoMemory>
     requires database { IsDatabaseOf query.now db.now }
-    requires few { length query.now.conjuncts ≤ most_conjuncts }
-    requires few_rows { HaveFewRows (tables_of db.now) (length query.now.from) }
     requires accuracy { (0 < accuracy) × (accuracy ≤ most_accuracy) }
-    ensures known { let given = sourced source query.now (tables_of db.now) in
+    ensures known { let given = sourced source schema.now query.now (tables_of db.now) in
         IfOk result (λ made. Gives (set_bounds_by given query.now accuracy) (given.scans accuracy) made.known) }
     ensures lists { IfOk result (λ made. lists_in made.scans query.now (tables_of db.now)
-        ≡ (sourced source query.now (tables_of db.now)).lists) }
+        ≡ lists_by source query.now (tables_of db.now)) }
+    ensures exact { IfOk result (λ made. HoldExactly made.scans (scans_by source query.now (tables_of db.now) accuracy)) }
 {
     match source {
         ListSource::Columns => {
             let known = from_statistics(alloc, query, db, accuracy)?;
+            Ok(Given {
+                known,
+                scans: Scans::Whole,
+            })
+        }
+        ListSource::Keyed => {
+            let known = from_keys(alloc, schema, query, db, accuracy)?;
             Ok(Given {
                 known,
                 scans: Scans::Whole,
@@ -91,23 +100,23 @@ fn given_by(
     }
 }
 
-/// Plans a query over its database as the task asks.
+/// Plans a query of a schema over its database as the task asks.
 pub fn plan_task(
     alloc: Global,
     task: &PlanTask,
+    schema: &Schema,
     query: &Query,
     db: &Database,
 ) -> Result<Planned, PlanError>
     requires database { IsDatabaseOf query.now db.now }
-    requires few { length query.now.conjuncts ≤ most_conjuncts }
-    requires few_rows { HaveFewRows (tables_of db.now) (length query.now.from) }
     requires ranges { IsInRange task.now }
-    ensures planned { IfOk result (λ p. plan_asked task.now query.now (tables_of db.now) ≡ Ok p.plan) }
+    ensures planned { IfOk result (λ p. plan_asked task.now schema.now query.now (tables_of db.now) ≡ Ok p.plan) }
     ensures lists { IfOk result (λ p. lists_in p.scans query.now (tables_of db.now)
-        ≡ (sourced task.now.source query.now (tables_of db.now)).lists) }
-    ensures refused { IfErr result (λ e. (e ≡ error.NoMemory) ⊎ (plan_asked task.now query.now (tables_of db.now) ≡ Err e)) }
+        ≡ lists_by task.now.source query.now (tables_of db.now)) }
+    ensures exact { IfOk result (λ p. HoldExactly p.scans (scan_bounds p.plan)) }
+    ensures refused { IfErr result (λ e. (e ≡ error.NoMemory) ⊎ (plan_asked task.now schema.now query.now (tables_of db.now) ≡ Err e)) }
 {
-    let Given { known, scans } = given_by(alloc, task.source, task.accuracy, query, db)?;
+    let Given { known, scans } = given_by(alloc, task.source, task.accuracy, schema, query, db)?;
     let plan = plan_by(alloc, task.shape, &known, task.budget)?;
     Ok(Planned { plan, scans })
 }
@@ -120,11 +129,11 @@ fn list_scans(
     bounds: &[u64],
 ) -> Result<Vec<RowBuf<u32>>, NoMemory>
     requires database { IsDatabaseOf query.now db.now }
-    requires few { length query.now.conjuncts ≤ most_conjuncts }
     requires count { length bounds.now ≡ length query.now.from }
     requires fit { (entry : ℕ) → entry < length query.now.from
         → rows_listed (scans_of query.now (tables_of db.now)) entry ≤ slice_index bounds.now entry }
-    ensures { IfOk result (λ lists. lists_of lists.items ≡ scans_of query.now (tables_of db.now)) }
+    ensures lists { IfOk result (λ lists. lists_of lists.items ≡ scans_of query.now (tables_of db.now)) }
+    ensures bytes { IfOk result (λ lists. buffers_bytes lists ≡ lists_bytes bounds.now) }
 {
     let mut lists = reserve_scans(alloc, query, db, bounds)?;
     scan_all(query, db, lists.as_mut_slice());
@@ -140,11 +149,12 @@ fn list_rows(
     bounds: &[u64],
 ) -> Result<Vec<RowBuf<u32>>, NoMemory>
     requires database { IsDatabaseOf query.now db.now }
-    requires few { length query.now.conjuncts ≤ most_conjuncts }
     requires count { length bounds.now ≡ length query.now.from }
     requires fit { (entry : ℕ) → entry < length query.now.from
         → rows_listed (lists_in scans query.now (tables_of db.now)) entry ≤ slice_index bounds.now entry }
-    ensures { IfOk result (λ lists. lists_of lists.items ≡ lists_in scans query.now (tables_of db.now)) }
+    requires exact { HoldExactly scans bounds.now }
+    ensures lists { IfOk result (λ lists. lists_of lists.items ≡ lists_in scans query.now (tables_of db.now)) }
+    ensures bytes { IfOk result (λ lists. buffers_bytes lists ≡ lists_bytes bounds.now) }
 {
     match scans {
         Scans::Whole => list_scans(alloc, query, db, bounds),
@@ -152,7 +162,7 @@ fn list_rows(
     }
 }
 
-/// Takes all memory that the joins of a plan need, and lists the rows that are joined.
+/// Takes all memory that the joins of a plan need, and lists the rows that are joined. Lists and buffers hold exactly the bytes of the plan.
 pub fn prepare_joins(
     alloc: Global,
     planned: Planned,
@@ -160,11 +170,11 @@ pub fn prepare_joins(
     db: &Database,
 ) -> Result<Joins, NoMemory>
     requires database { IsDatabaseOf query.now db.now }
-    requires few { length query.now.conjuncts ≤ most_conjuncts }
-    requires few_rows { HaveFewRows (tables_of db.now) (length query.now.from) }
     requires plan { IsPlanOver query.now (tables_of db.now) (lists_in planned.scans query.now (tables_of db.now)) planned.plan }
     requires rows { LoseNoRow query.now (tables_of db.now) (lists_in planned.scans query.now (tables_of db.now)) }
+    requires exact { HoldExactly planned.scans (scan_bounds planned.plan) }
     ensures plan { IfOk result (λ joins. plan_in joins.room ≡ planned.plan) }
+    ensures bytes { IfOk result (λ joins. bytes_held joins ≡ shape_bytes planned.plan) }
     ensures room { IfOk result (CanJoin query.now db.now) }
     ensures lists { IfOk result (λ joins. lists_of joins.lists.items ≡ lists_in planned.scans query.now (tables_of db.now)) }
 {

@@ -2,11 +2,10 @@
 ghost use Rattle.std.specs.Prelude.{◌≡◌, ◌⊎◌, ◌^◌, ◌≤◌, ℕ, List, Err, IfOk, length};
 ghost use Rattle.limits.specs.Profile.{most_entries};
 ghost use Rattle.order_search.specs.declared.refusal.PlanError.TheVariants as error;
-ghost use Rattle.planned_joins.specs.PlansOf.{HaveFewRows};
 ghost use Rattle.sql_meaning.specs.Databases.{IsDatabaseOf};
 ghost use Rattle.sql_meaning.specs.Tables.{tables_of};
-ghost use Rattle.safebound_top.specs.Prepared.{IsRoomOver, plan_in};
-ghost use Rattle.safebound_top.specs.Shapes.{IsPlanOver, answer_of, most_budget_of, scan_bounds};
+ghost use Rattle.safebound_top.specs.Prepared.{IsRoomOver, held_bytes, plan_in};
+ghost use Rattle.safebound_top.specs.Shapes.{IsPlanOver, answer_of, most_budget_of, parts_bytes, scan_bounds};
 
 use crate::task::Shape;
 use base_io::NoMemory;
@@ -78,9 +77,9 @@ pub fn reserve_room(
     db: &Database,
 ) -> Result<Room, NoMemory>
     requires database { IsDatabaseOf query.now db.now }
-    requires few_rows { HaveFewRows (tables_of db.now) (length query.now.from) }
     requires plan { (lists : List (List ℕ)) × IsPlanOver query.now (tables_of db.now) lists plan }
     ensures plan { IfOk result (λ room. plan_in room ≡ plan) }
+    ensures bytes { IfOk result (λ room. held_bytes room ≡ parts_bytes plan) }
     ensures ready { IfOk result (λ room. (lists : List (List ℕ)) → IsPlanOver query.now (tables_of db.now) lists plan
         → IsRoomOver query.now (tables_of db.now) lists room) }
 {

@@ -2,7 +2,7 @@
 ghost use Rattle.std.specs.Prelude.{◌≡◌, Err, IfSome, MatchOption, None, Ok, map};
 ghost use Rattle.outcomes.specs.declared.refusal.Refusal.TheVariants as refusal;
 ghost use Rattle.safebound_words.specs.Requests.{request_of};
-ghost use Rattle.safebound_top.specs.Asks.{HasRanges, ask_for, asked, asks, command_stage, plan_for, shape_asked, source_asked, work_asked};
+ghost use Rattle.safebound_top.specs.Asks.{HasRanges, append_asked, append_for, ask_for, asked, asks, command_stage, plan_for, shape_asked, source_asked, work_asked};
 ghost use Rattle.safebound_top.specs.Shops.{shop_asked, shop_of};
 
 use limits::{USUAL_ACCURACY, USUAL_BUDGET};
@@ -24,6 +24,8 @@ pub enum OutText {
 pub enum ListSource {
     /// Statistics of whole columns, and whole scans.
     Columns,
+    /// The same statistics, with conditions that are carried through keys, and whole scans.
+    Keyed,
     /// Reduced scans, for both.
     Reduced,
 }
@@ -68,23 +70,39 @@ pub enum Work<'a> {
     },
 }
 
-/// The names of two files, what is done with the query, and the number of the shop whose files are made and read, if one is.
+/// The name of a statistics file, the name of a table, and the name of a file with new rows of it.
+#[derive(Clone, Copy, Debug)]
+pub struct AppendTask<'a> {
+    pub stats_file: &'a str,
+    pub table: &'a str,
+    pub rows_file: &'a str,
+}
+
+/// What is done over a schema.
+#[derive(Clone, Copy, Debug)]
+pub enum Aim<'a> {
+    /// This work is done with the query in the file of this name.
+    Query { file: &'a str, work: Work<'a> },
+    /// The statistics file is written as it is after the new rows.
+    Append(AppendTask<'a>),
+}
+
+/// The name of the schema's file, what is done over the schema, and the number of the shop whose files are made and read, if one is.
 #[derive(Clone, Copy, Debug)]
 pub struct Task<'a> {
     pub schema_file: &'a str,
-    pub query_file: &'a str,
-    pub work: Work<'a>,
+    pub aim: Aim<'a>,
     pub shop: Option<u32>,
 }
 
-// What the flag asks for.
-fn source_of(reduce: bool) -> ListSource
-    ensures { result ≡ source_asked reduce }
+// What the flags ask for.
+fn source_of(reduce: bool, keys: bool) -> ListSource
+    ensures { result ≡ source_asked reduce keys }
 {
-    if reduce {
-        ListSource::Reduced
-    } else {
-        ListSource::Columns
+    match (reduce, keys) {
+        (true, _) => ListSource::Reduced,
+        (false, true) => ListSource::Keyed,
+        (false, false) => ListSource::Columns,
     }
 }
 
@@ -102,29 +120,41 @@ fn plan_of<'a>(
     accuracy: u8,
     reduce: bool,
     bushy: bool,
+    keys: bool,
     memory: Option<u64>,
 ) -> Work<'a>
-    ensures { work_asked result ≡ plan_for out budget accuracy reduce bushy memory }
+    ensures { work_asked result ≡ plan_for out budget accuracy reduce bushy keys memory }
 {
     Work::Plan(PlanTask {
         budget,
         accuracy,
-        source: source_of(reduce),
+        source: source_of(reduce, keys),
         shape: shape_of(bushy),
         memory,
         out,
     })
 }
 
-// The task of two files of the store.
+// The task of a schema and a query in files of the store.
 fn over<'a>(schema: &'a str, query: &'a str, work: Work<'a>) -> Task<'a>
     ensures asked { asked result ≡ ask_for schema.now query.now (work_asked work.entry) }
     ensures shop { result.shop ≡ None }
 {
     Task {
         schema_file: schema,
-        query_file: query,
-        work,
+        aim: Aim::Query { file: query, work },
+        shop: None,
+    }
+}
+
+// The task of new rows of a table, over a schema in a file of the store.
+fn append_over<'a>(schema: &'a str, append: AppendTask<'a>) -> Task<'a>
+    ensures asked { asked result ≡ append_for schema.now (append_asked append.entry) }
+    ensures shop { result.shop ≡ None }
+{
+    Task {
+        schema_file: schema,
+        aim: Aim::Append(append),
         shop: None,
     }
 }
@@ -142,11 +172,12 @@ fn task_of<'a>(command: Command<'a>) -> Task<'a>
             accuracy,
             reduce,
             bushy,
+            keys,
             memory,
         } => over(
             schema,
             query,
-            plan_of(OutText::Rows, budget, accuracy, reduce, bushy, memory),
+            plan_of(OutText::Rows, budget, accuracy, reduce, bushy, keys, memory),
         ),
         Command::Plan {
             schema,
@@ -155,11 +186,20 @@ fn task_of<'a>(command: Command<'a>) -> Task<'a>
             accuracy,
             reduce,
             bushy,
+            keys,
             memory,
         } => over(
             schema,
             query,
-            plan_of(OutText::Nothing, budget, accuracy, reduce, bushy, memory),
+            plan_of(
+                OutText::Nothing,
+                budget,
+                accuracy,
+                reduce,
+                bushy,
+                keys,
+                memory,
+            ),
         ),
         Command::Audit {
             schema,
@@ -168,11 +208,20 @@ fn task_of<'a>(command: Command<'a>) -> Task<'a>
             accuracy,
             reduce,
             bushy,
+            keys,
             memory,
         } => over(
             schema,
             query,
-            plan_of(OutText::Audit, budget, accuracy, reduce, bushy, memory),
+            plan_of(
+                OutText::Audit,
+                budget,
+                accuracy,
+                reduce,
+                bushy,
+                keys,
+                memory,
+            ),
         ),
         Command::Stats {
             schema,
@@ -194,6 +243,19 @@ fn task_of<'a>(command: Command<'a>) -> Task<'a>
                 memory,
             },
         ),
+        Command::Append {
+            schema,
+            stats,
+            table,
+            rows,
+        } => append_over(
+            schema,
+            AppendTask {
+                stats_file: stats,
+                table,
+                rows_file: rows,
+            },
+        ),
         Command::Demo { number } => Task {
             shop: Some(number),
             ..over(
@@ -203,6 +265,7 @@ fn task_of<'a>(command: Command<'a>) -> Task<'a>
                     OutText::Audit,
                     USUAL_BUDGET,
                     USUAL_ACCURACY,
+                    false,
                     false,
                     false,
                     None,
@@ -218,7 +281,7 @@ pub fn read_task<'a>(words: &[&'a str]) -> Option<Task<'a>>
         (λ task. command_stage (map (λ w. w.now) words.now) ≡ Ok (asked task)) }
     ensures shop { MatchOption result (shop_of (map (λ w. w.now) words.now) ≡ None)
         (λ task. shop_of (map (λ w. w.now) words.now) ≡ task.shop) }
-    ensures ranges { IfSome result (λ task. HasRanges (asked task).work) }
+    ensures ranges { IfSome result (λ task. HasRanges (asked task).aim) }
 {
     match read_words(words) {
         Ok(command) => Some(task_of(command)),

@@ -1,187 +1,96 @@
 //! The texts that a run leaves in its two streams. Nothing here takes memory.
-ghost use Rattle.std.specs.Prelude.{◌≤◌, ◌++◌, length};
-ghost use Rattle.limits.specs.Profile.{most_conjuncts};
+ghost use Rattle.std.specs.Prelude.{◌≡◌, ◌++◌, ℕ, List, None, OnOk, Some, length};
 ghost use Rattle.base_io.specs.Devices.{Growth, growth};
 ghost use Rattle.base_io.specs.Writes.{Wrote};
 ghost use Rattle.printed_texts.specs.Memory.{memory_text};
-ghost use Rattle.printed_texts.specs.Plans.{audit_lines, plan_lines};
+ghost use Rattle.printed_texts.specs.Plans.{plan_lines};
 ghost use Rattle.printed_texts.specs.Texts.{rows_lines};
-ghost use Rattle.printed_texts.specs.TreePlans.{tree_audits};
 ghost use Rattle.sql_meaning.specs.Databases.{IsDatabaseOf};
-ghost use Rattle.sql_meaning.specs.Tables.{tables_of};
-ghost use Rattle.bushy_join.specs.Trees.{IsTreePlanOf};
-ghost use Rattle.hash_join.specs.Levels.{list_level_sizes};
-ghost use Rattle.join_steps.specs.Lists.{lists_of};
-ghost use Rattle.join_steps.specs.Plans.{IsPlanOf};
 ghost use Rattle.joined_texts.specs.Printed.{printed_rows};
-ghost use Rattle.planned_joins.specs.PlansOf.{IsReadyFor};
-ghost use Rattle.tree_rows.specs.Rooms.{HasTreeRooms};
 ghost use Rattle.plans.specs.LeftDeep.{IsPlan};
+ghost use Rattle.stats_file.specs.FileText.{file_text};
 ghost use Rattle.stats_file.specs.Rules.{KeepsRules};
 ghost use Rattle.safebound_top.specs.Course.{Written, WroteIfAny};
 ghost use Rattle.safebound_top.specs.Headline.{DidNotGrow};
-ghost use Rattle.safebound_top.specs.Prepared.{CanJoin, HasRoom, IsReady, audit_from, plan_in, plan_left, rows_from, text_from};
-ghost use Rattle.safebound_top.specs.Ready.{CanBeWritten, IsPlanned, file_from, outcome_of, plan_from, planned_from};
-ghost use Rattle.safebound_top.specs.Shapes.{IsShapedPlan, joined_entries, part_sizes, shape_lines};
-ghost use Rattle.safebound_top.specs.Standing.{LoseNoRow};
-ghost use Rattle.safebound_top.specs.declared.shapes.Shaped.TheVariants as shaped;
+ghost use Rattle.safebound_top.specs.Kept.{HasParts, IsJoined, IsKept, IsLeft, counts_in, plan_joined};
+ghost use Rattle.safebound_top.specs.Outcome.{Outcome};
+ghost use Rattle.safebound_top.specs.OutcomeTexts.{notes_text, out_text};
+ghost use Rattle.safebound_top.specs.Prepared.{HasRoom, IsPrepared, plan_in, plan_left, text_from};
+ghost use Rattle.safebound_top.specs.Ready.{CanBeWritten, IsPlanned, outcome_of, plan_from, planned_from};
+ghost use Rattle.safebound_top.specs.Shapes.{IsShapedPlan, joined_entries, shape_audits, shape_lines};
 
-use crate::filed::{PreparedFile, PreparedPlan};
+use crate::filed::PreparedPlan;
+use crate::joined::{Joined, join};
 use crate::prepare::{Prepared, Ready, Rest};
-use crate::scans::Joins;
 use crate::shapes::{Room, Shaped};
 use base_io::{Failed, Sink};
-use bushy_join::execute_bushy;
 use csv_tables::Database;
 use joined_texts::{write_audit, write_rows, write_tree_audit, write_tree_rows};
 use outcomes::SinkId;
-use planned_joins::execute_plan;
-use plans::Plan;
 use printed_texts::{write_memory, write_plan, write_tree};
 use query_types::{Query, Source};
-use reserve_plan::Reserved;
-use row_buf::RowBuf;
 use schema_types::Schema;
-use stats_file::write_stats;
-use tree_plans::BushyPlan;
-use tree_rows::BushyReserved;
+use stats_file::{StatsFile, write_stats};
 
-// Lists the levels of an order, and writes the rows of the last one.
-fn write_last<O: Sink>(
-    plan: &Plan,
-    reserved: Reserved,
-    lists: &[RowBuf<u32>],
-    query: &Query,
-    db: &Database,
-    out: &mut O,
-) -> Result<(), Failed>
-    requires database { IsDatabaseOf query.now db.now }
-    requires few { length query.now.conjuncts ≤ most_conjuncts }
-    requires rows { LoseNoRow query.now (tables_of db.now) (lists_of lists.now) }
-    requires plan { IsPlanOf query.now (tables_of db.now) (lists_of lists.now) plan.now }
-    requires ready { IsReadyFor query.now (tables_of db.now) (lists_of lists.now) plan.now.order reserved }
-    ensures { Wrote (growth O.taken O.faults out.old out.new)
-        (rows_lines query.now.select (printed_rows query.now db.now plan.now.order)) result }
-{
-    let executed = execute_plan(reserved, plan, query, db, lists);
-    write_rows(&executed, plan.order.as_slice(), query, db, out)
-}
-
-// Lists the nodes of a tree, and writes the rows of its root.
-fn write_root<O: Sink>(
-    plan: &BushyPlan,
-    reserved: BushyReserved,
-    lists: Vec<RowBuf<u32>>,
-    query: &Query,
-    db: &Database,
-    out: &mut O,
-) -> Result<(), Failed>
-    requires database { IsDatabaseOf query.now db.now }
-    requires few { length query.now.conjuncts ≤ most_conjuncts }
-    requires rows { LoseNoRow query.now (tables_of db.now) (lists_of lists.items) }
-    requires plan { IsTreePlanOf query.now (tables_of db.now) (lists_of lists.items) plan.now }
-    requires ready { HasTreeRooms plan.now reserved }
-    ensures { Wrote (growth O.taken O.faults out.old out.new)
-        (rows_lines query.now.select (printed_rows query.now db.now (joined_entries (shaped.Over plan.now)))) result }
-{
-    let done = execute_bushy(reserved, lists, plan, query, db);
-    write_tree_rows(&done, query, db, out)
-}
-
-// Joins, and writes the rows for all entries.
+// Writes the rows for all entries, of a plan that was joined.
 fn write_joined<O: Sink>(
-    joins: Joins,
+    joined: &Joined,
     query: &Query,
     db: &Database,
     out: &mut O,
 ) -> Result<(), Failed>
     requires database { IsDatabaseOf query.now db.now }
-    requires few { length query.now.conjuncts ≤ most_conjuncts }
-    requires joins { CanJoin query.now db.now joins }
-    ensures { Wrote (growth O.taken O.faults out.old out.new) (rows_from joins query.now db.now) result }
+    requires joined { (lists : List (List ℕ)) × IsJoined query.now db.now lists joined.now }
+    ensures { Wrote (growth O.taken O.faults out.old out.new)
+        (rows_lines query.now.select (printed_rows query.now db.now (joined_entries (plan_joined joined.now)))) result }
 {
-    let Joins { lists, room } = joins;
-    match room {
-        Room::Levels(plan, reserved) => {
-            write_last(&plan, reserved, lists.as_slice(), query, db, out)
+    match joined {
+        Joined::Levels(plan, _, reserved) => {
+            write_rows(&reserved.levels, plan.order.as_slice(), query, db, out)
         }
-        Room::Nodes(plan, reserved) => write_root(&plan, reserved, lists, query, db, out),
+        Joined::Nodes(_, done) => write_tree_rows(done, query, db, out),
     }
 }
 
-// Lists the levels of an order, and writes how many rows each has.
-fn write_levels<O: Sink>(
-    plan: &Plan,
-    reserved: Reserved,
-    lists: &[RowBuf<u32>],
-    query: &Query,
-    db: &Database,
-    out: &mut O,
-) -> Result<(), Failed>
-    requires database { IsDatabaseOf query.now db.now }
-    requires few { length query.now.conjuncts ≤ most_conjuncts }
-    requires rows { LoseNoRow query.now (tables_of db.now) (lists_of lists.now) }
-    requires plan { IsPlanOf query.now (tables_of db.now) (lists_of lists.now) plan.now }
-    requires ready { IsReadyFor query.now (tables_of db.now) (lists_of lists.now) plan.now.order reserved }
+// Writes how many rows each level or inner node has, of a plan that was joined.
+fn write_sizes<O: Sink>(joined: &Joined, sources: &[Source], out: &mut O) -> Result<(), Failed>
+    requires { HasParts (length sources.now) joined.now }
     ensures { Wrote (growth O.taken O.faults out.old out.new)
-        (audit_lines query.now.from plan.now (list_level_sizes query.now (tables_of db.now) (lists_of lists.now) plan.now.order)) result }
+        (shape_audits sources.now (plan_joined joined.now) (counts_in joined.now)) result }
 {
-    let executed = execute_plan(reserved, plan, query, db, lists);
-    write_audit(&executed, plan, query.from.as_slice(), out)
-}
-
-// Lists the nodes of a tree, and writes how many rows each inner one has.
-fn write_nodes<O: Sink>(
-    plan: &BushyPlan,
-    reserved: BushyReserved,
-    lists: Vec<RowBuf<u32>>,
-    query: &Query,
-    db: &Database,
-    out: &mut O,
-) -> Result<(), Failed>
-    requires database { IsDatabaseOf query.now db.now }
-    requires few { length query.now.conjuncts ≤ most_conjuncts }
-    requires rows { LoseNoRow query.now (tables_of db.now) (lists_of lists.items) }
-    requires plan { IsTreePlanOf query.now (tables_of db.now) (lists_of lists.items) plan.now }
-    requires ready { HasTreeRooms plan.now reserved }
-    ensures { Wrote (growth O.taken O.faults out.old out.new)
-        (tree_audits plan.now (part_sizes query.now (tables_of db.now) (lists_of lists.items) (shaped.Over plan.now))) result }
-{
-    let done = execute_bushy(reserved, lists, plan, query, db);
-    write_tree_audit(&done, plan, out)
-}
-
-// Joins, and writes how many rows each level or inner node has.
-fn write_sizes<O: Sink>(
-    joins: Joins,
-    query: &Query,
-    db: &Database,
-    out: &mut O,
-) -> Result<(), Failed>
-    requires database { IsDatabaseOf query.now db.now }
-    requires few { length query.now.conjuncts ≤ most_conjuncts }
-    requires joins { CanJoin query.now db.now joins }
-    ensures { Wrote (growth O.taken O.faults out.old out.new) (audit_from joins query.now db.now) result }
-{
-    let Joins { lists, room } = joins;
-    match room {
-        Room::Levels(plan, reserved) => {
-            write_levels(&plan, reserved, lists.as_slice(), query, db, out)
-        }
-        Room::Nodes(plan, reserved) => write_nodes(&plan, reserved, lists, query, db, out),
+    match joined {
+        Joined::Levels(plan, _, reserved) => write_audit(&reserved.levels, plan, sources, out),
+        Joined::Nodes(plan, done) => write_tree_audit(done, plan, out),
     }
 }
 
-// Does what is left to do.
-fn write_rest<O: Sink>(rest: Rest, query: &Query, db: &Database, out: &mut O) -> Result<(), Failed>
+// Does what is left to do, and hands out the buffers in which it joined, if it did.
+fn write_rest<O: Sink>(
+    rest: Rest,
+    query: &Query,
+    db: &Database,
+    out: &mut O,
+    kept: &mut Option<Joined>,
+) -> Result<(), Failed>
     requires database { IsDatabaseOf query.now db.now }
-    requires few { length query.now.conjuncts ≤ most_conjuncts }
     requires room { HasRoom query.now db.now rest }
-    ensures { WroteIfAny (growth O.taken O.faults out.old out.new) (text_from rest query.now db.now) result }
+    requires none { kept.old ≡ None }
+    ensures text { WroteIfAny (growth O.taken O.faults out.old out.new) (text_from rest query.now db.now) result }
+    ensures kept { IsLeft query.now db.now rest kept.new }
 {
     match rest {
-        Rest::Rows(joins) => write_joined(joins, query, db, out),
-        Rest::Audit(joins) => write_sizes(joins, query, db, out),
+        Rest::Rows(joins) => {
+            let joined = join(joins, query, db);
+            let result = write_joined(&joined, query, db, out);
+            *kept = Some(joined);
+            result
+        }
+        Rest::Audit(joins) => {
+            let joined = join(joins, query, db);
+            let result = write_sizes(&joined, query.from.as_slice(), out);
+            *kept = Some(joined);
+            result
+        }
         Rest::Nothing(_) => Ok(()),
     }
 }
@@ -236,15 +145,18 @@ fn write_plan_text<N: Sink>(
     write_memory(memory, bytes, notes)
 }
 
-// Writes the plan text to `notes`, and then what is left to do to `out`.
+// Writes the plan text to `notes`, and then what is left to do to `out`, and hands out the buffers of the joins.
 fn write_texts<O: Sink, N: Sink>(
     prepared: Prepared,
     out: &mut O,
     notes: &mut N,
+    kept: &mut Option<Joined>,
 ) -> Result<(), SinkId>
-    requires { IsReady prepared }
-    ensures { Written (growth O.taken O.faults out.old out.new) (growth N.taken N.faults notes.old notes.new)
+    requires ready { IsPrepared prepared }
+    requires none { kept.old ≡ None }
+    ensures texts { Written (growth O.taken O.faults out.old out.new) (growth N.taken N.faults notes.old notes.new)
         (planned_from prepared) result }
+    ensures kept { OnOk result (IsKept (planned_from prepared) kept.new) }
 {
     let Prepared {
         query,
@@ -258,19 +170,19 @@ fn write_texts<O: Sink, N: Sink>(
         Ok(()) => {}
         Err(Failed) => return Err(SinkId::Notes),
     }
-    match write_rest(rest, &query, &db, out) {
+    match write_rest(rest, &query, &db, out, kept) {
         Ok(()) => Ok(()),
         Err(Failed) => Err(SinkId::Out),
     }
 }
 
 // Writes the text of a statistics file to `out`. The notes aren't touched.
-fn write_file<O: Sink>(filed: PreparedFile, schema: &Schema, out: &mut O) -> Result<(), SinkId>
-    requires { KeepsRules schema.now filed.file }
-    ensures { (notes : Growth) → DidNotGrow notes
-        → Written (growth O.taken O.faults out.old out.new) notes (file_from schema.now filed) result }
+fn write_file<O: Sink>(file: &StatsFile, schema: &Schema, out: &mut O) -> Result<(), SinkId>
+    requires { KeepsRules schema.now file.now }
+    ensures { (notes : Growth) (outcome : Outcome) → DidNotGrow notes → notes_text outcome ≡ None
+        → out_text outcome ≡ Some (file_text schema.now file.now) → Written (growth O.taken O.faults out.old out.new) notes outcome result }
 {
-    match write_stats(&filed.file, schema, out) {
+    match write_stats(file, schema, out) {
         Ok(()) => Ok(()),
         Err(_) => Err(SinkId::Out),
     }
@@ -297,20 +209,25 @@ fn write_filed_plan<N: Sink>(made: PreparedPlan, notes: &mut N) -> Result<(), Si
     }
 }
 
-/// Writes the texts of what a run comes to: the one for `notes`, and then the one for `out`, where there are such.
+/// Writes the texts of what a run comes to: the one for `notes`, and then the one for `out`, where there are such. It hands out the buffers in
+/// which it joined, if it did, with the rows in them.
 pub fn write_outcome<O: Sink, N: Sink>(
     ready: Ready,
     schema: &Schema,
     out: &mut O,
     notes: &mut N,
+    kept: &mut Option<Joined>,
 ) -> Result<(), SinkId>
-    requires { CanBeWritten schema.now ready }
-    ensures { Written (growth O.taken O.faults out.old out.new) (growth N.taken N.faults notes.old notes.new)
+    requires ready { CanBeWritten schema.now ready }
+    requires none { kept.old ≡ None }
+    ensures texts { Written (growth O.taken O.faults out.old out.new) (growth N.taken N.faults notes.old notes.new)
         (outcome_of schema.now ready) result }
+    ensures kept { OnOk result (IsKept (outcome_of schema.now ready) kept.new) }
 {
     match ready {
-        Ready::Planned(prepared) => write_texts(prepared, out, notes),
-        Ready::Filed(filed) => write_file(filed, schema, out),
+        Ready::Planned(prepared) => write_texts(prepared, out, notes, kept),
+        Ready::Filed(filed) => write_file(&filed.file, schema, out),
         Ready::PlannedByFile(made) => write_filed_plan(made, notes),
+        Ready::Appended(made) => write_file(&made.file, schema, out),
     }
 }

@@ -1,5 +1,5 @@
 //! The top call, stage by stage.
-ghost use Rattle.std.specs.Prelude.{◌≡◌, ◌⊎◌, IfSome, List, ℕ, Ok, Some, map, option_copied};
+ghost use Rattle.std.specs.Prelude.{◌≡◌, IfSome, List, ℕ, None, Ok, Some, map, option_copied};
 ghost use Rattle.base_io.specs.Devices.{growth, reading};
 ghost use Rattle.outcomes.specs.Statuses.{ended};
 ghost use Rattle.schema_types.specs.Validity.{IsValid};
@@ -8,19 +8,21 @@ ghost use Rattle.safebound_top.specs.Asks.{HasRanges, ask_of, asked, command_sta
 ghost use Rattle.safebound_top.specs.Course.{Course, Ended, Ran, Told};
 ghost use Rattle.safebound_top.specs.Faults.{status_line};
 ghost use Rattle.safebound_top.specs.Headline.{Headline};
+ghost use Rattle.safebound_top.specs.Kept.{IsKept, KeepsItsBuffers};
 ghost use Rattle.safebound_top.specs.Promise.{Promise};
 ghost use Rattle.safebound_top.specs.Ready.{CanBeWritten, outcome_of};
 ghost use Rattle.safebound_top.specs.Shops.{shop_of, shop_store, store_read};
-ghost use Rattle.safebound_top.specs.Verdict.{IsFileOf, query_from, schema_run};
+ghost use Rattle.safebound_top.specs.Verdict.{IsAimFile, aim_run, ask_run, verdict};
 
 use crate::files::load_schema;
+use crate::joined::Joined;
 use crate::prepare::{Ready, prepare};
 use crate::report::report;
 use crate::shop::open_shop;
 use crate::task::{Task, read_task};
 use crate::texts::write_outcome;
 use base_io::{NoMemory, Sink, Store};
-use outcomes::{Ending, FileId, Status};
+use outcomes::{Ending, Refusal, Status};
 use schema_types::Schema;
 use std::alloc::Global;
 
@@ -35,19 +37,22 @@ fn stopped<N: Sink>(ending: Ending, task: &Task, schema: Option<&Schema>, notes:
     status
 }
 
-// Writes the texts of what the run comes to, or tells the stream that couldn't be written.
+// Writes the texts of what the run comes to, and hands out the buffers of its joins; or tells the stream that couldn't be written.
 fn written<O: Sink, N: Sink>(
     ready: Ready,
     task: &Task,
     schema: &Schema,
     out: &mut O,
     notes: &mut N,
+    kept: &mut Option<Joined>,
 ) -> Status
-    requires { CanBeWritten schema.now ready }
-    ensures { Ended result (growth O.taken O.faults out.old out.new) (growth N.taken N.faults notes.old notes.new) (outcome_of schema.now ready)
+    requires ready { CanBeWritten schema.now ready }
+    requires none { kept.old ≡ None }
+    ensures ended { Ended result (growth O.taken O.faults out.old out.new) (growth N.taken N.faults notes.old notes.new) (outcome_of schema.now ready)
         (status_line result (Some (asked task.now)) (Some schema.now)) }
+    ensures kept { result ≡ Status.Done → IsKept (outcome_of schema.now ready) kept.new }
 {
-    match write_outcome(ready, schema, out, notes) {
+    match write_outcome(ready, schema, out, notes, kept) {
         Ok(()) => Status::Done,
         Err(sink) => {
             let status = Status::from(sink);
@@ -65,17 +70,21 @@ fn run_over<S: Store, O: Sink, N: Sink>(
     store: &mut S,
     out: &mut O,
     notes: &mut N,
+    kept: &mut Option<Joined>,
 ) -> Status
     requires schema { IsValid schema.now }
     requires bytes { HasByteColumns schema.now }
-    requires ranges { HasRanges (asked task.now).work }
-    ensures { Ran result (reading S.files S.faults S.misses store.old store.new) (growth O.taken O.faults out.old out.new)
-        (growth N.taken N.faults notes.old notes.new) (schema_run (asked task.now) schema.now)
-        (λ files file. (file ≡ FileId.Query) ⊎ IsFileOf (query_from (asked task.now) schema.now files) files file)
+    requires ranges { HasRanges (asked task.now).aim }
+    requires none { kept.old ≡ None }
+    ensures ran { Ran result (reading S.files S.faults S.misses store.old store.new) (growth O.taken O.faults out.old out.new)
+        (growth N.taken N.faults notes.old notes.new) (aim_run (asked task.now).aim schema.now)
+        (IsAimFile (asked task.now).aim schema.now)
         (status_line result (Some (asked task.now)) (Some schema.now)) }
+    ensures kept { result ≡ Status.Done
+        → KeepsItsBuffers (reading S.files S.faults S.misses store.old store.new) (aim_run (asked task.now).aim schema.now) kept.new }
 {
-    match prepare(alloc, store, task, schema) {
-        Ok(ready) => written(ready, task, schema, out, notes),
+    match prepare(alloc, store, &task.aim, schema) {
+        Ok(ready) => written(ready, task, schema, out, notes, kept),
         Err(ending) => stopped(ending, task, Some(schema), notes),
     }
 }
@@ -87,18 +96,22 @@ fn run<S: Store, O: Sink, N: Sink>(
     store: &mut S,
     out: &mut O,
     notes: &mut N,
+    kept: &mut Option<Joined>,
 ) -> Status
-    requires ranges { HasRanges (asked task.now).work }
-    ensures { (words : List (List ℕ)) → command_stage words ≡ Ok (asked task.now) → Course (record {
+    requires ranges { HasRanges (asked task.now).aim }
+    requires none { kept.old ≡ None }
+    ensures course { (words : List (List ℕ)) → command_stage words ≡ Ok (asked task.now) → Course (record {
       words = words;
       status = result;
       store = reading S.files S.faults S.misses store.old store.new;
       out = growth O.taken O.faults out.old out.new;
       notes = growth N.taken N.faults notes.old notes.new;
     }) }
+    ensures kept { result ≡ Status.Done
+        → KeepsItsBuffers (reading S.files S.faults S.misses store.old store.new) (ask_run (asked task.now)) kept.new }
 {
     match load_schema(alloc, store, task.schema_file) {
-        Ok(schema) => run_over(alloc, task, &schema, store, out, notes),
+        Ok(schema) => run_over(alloc, task, &schema, store, out, notes, kept),
         Err(ending) => stopped(ending, task, None, notes),
     }
 }
@@ -110,18 +123,21 @@ fn run_shop<O: Sink, N: Sink>(
     task: &Task,
     out: &mut O,
     notes: &mut N,
+    kept: &mut Option<Joined>,
 ) -> Status
-    requires ranges { HasRanges (asked task.now).work }
-    ensures { (words : List (List ℕ)) → command_stage words ≡ Ok (asked task.now) → Course (record {
+    requires ranges { HasRanges (asked task.now).aim }
+    requires none { kept.old ≡ None }
+    ensures course { (words : List (List ℕ)) → command_stage words ≡ Ok (asked task.now) → Course (record {
       words = words;
       status = result;
       store = shop_store number;
       out = growth O.taken O.faults out.old out.new;
       notes = growth N.taken N.faults notes.old notes.new;
     }) }
+    ensures kept { result ≡ Status.Done → KeepsItsBuffers (shop_store number) (ask_run (asked task.now)) kept.new }
 {
     match open_shop(alloc, number) {
-        Ok(mut shop) => run(alloc, task, &mut shop, out, notes),
+        Ok(mut shop) => run(alloc, task, &mut shop, out, notes, kept),
         Err(NoMemory) => stopped(Ending::NoMemory, task, None, notes),
     }
 }
@@ -133,8 +149,10 @@ fn run_task<S: Store, O: Sink, N: Sink>(
     store: &mut S,
     out: &mut O,
     notes: &mut N,
+    kept: &mut Option<Joined>,
 ) -> Status
-    requires ranges { HasRanges (asked task.now).work }
+    requires ranges { HasRanges (asked task.now).aim }
+    requires none { kept.old ≡ None }
     ensures course { (words : List (List ℕ)) → command_stage words ≡ Ok (asked task.now) → Course (record {
       words = words;
       status = result;
@@ -143,17 +161,55 @@ fn run_task<S: Store, O: Sink, N: Sink>(
       notes = growth N.taken N.faults notes.old notes.new;
     }) }
     ensures untouched { IfSome task.now.shop (λ number. store.new ≡ store.old) }
+    ensures kept { result ≡ Status.Done
+        → KeepsItsBuffers (store_read task.now.shop (reading S.files S.faults S.misses store.old store.new)) (ask_run (asked task.now)) kept.new }
 {
     match task.shop {
-        Some(number) => run_shop(alloc, number, task, out, notes),
-        None => run(alloc, task, store, out, notes),
+        Some(number) => run_shop(alloc, number, task, out, notes, kept),
+        None => run(alloc, task, store, out, notes, kept),
+    }
+}
+
+/// Runs a command as `safebound` does, and hands out the buffers in which it joined, with the rows in them, once all is written.
+///
+/// Where `run`, `audit` or `demo` is done, these are the buffers of its plan: the rows of each level, or of each inner node, stand in them, and
+/// their capacities times the sizes of items sum to exactly the bytes of the plan. With `--memory N` these bytes are what the plan text prints,
+/// and at most N (sentences 1 and 9 of the headline). No other command takes such buffers.
+pub fn safebound_keeping<S: Store, O: Sink, N: Sink>(
+    alloc: Global,
+    words: &[&str],
+    store: &mut S,
+    out: &mut O,
+    notes: &mut N,
+    kept: &mut Option<Joined>,
+) -> Status
+    requires none { kept.old ≡ None }
+    ensures headline { Headline (record {
+      words = map (λ w. w.now) words.now;
+      status = result;
+      store = store_read (shop_of (map (λ w. w.now) words.now)) (reading S.files S.faults S.misses store.old store.new);
+      out = growth O.taken O.faults out.old out.new;
+      notes = growth N.taken N.faults notes.old notes.new;
+    }) }
+    ensures untouched { IfSome (shop_of (map (λ w. w.now) words.now)) (λ number. store.new ≡ store.old) }
+    ensures buffers { result ≡ Status.Done → KeepsItsBuffers
+        (store_read (shop_of (map (λ w. w.now) words.now)) (reading S.files S.faults S.misses store.old store.new))
+        (verdict (map (λ w. w.now) words.now)) kept.new }
+{
+    match read_task(words) {
+        Some(task) => run_task(alloc, &task, store, out, notes, kept),
+        None => {
+            let status = Status::Refused(Refusal::Usage);
+            report(status, None, None, notes);
+            status
+        }
     }
 }
 
 /// Runs a command: reads the words' files, plans, takes all memory, writes the plan text to `notes` and the rows text or
 /// the audit text, where one is asked for, to `out`; or tells in one line of `notes` why not. `stats` writes a statistics
-/// file to `out` and no plan, and `plan --stats` reads one and no table. `demo` reads files that it makes in memory, and
-/// leaves `store` as it is.
+/// file to `out` and no plan, `plan --stats` reads one and no table, and `append` reads one and new rows and writes it with
+/// these to `out`. `demo` reads files that it makes in memory, and leaves `store` as it is.
 ///
 /// The contract is what `run` promises (`specs/Promise.antt`), and the project's headline, sentence by sentence in `specs/Headline.antt`.
 pub fn safebound<S: Store, O: Sink, N: Sink>(
@@ -179,11 +235,6 @@ pub fn safebound<S: Store, O: Sink, N: Sink>(
     }) }
     ensures untouched { IfSome (shop_of (map (λ w. w.now) words.now)) (λ number. store.new ≡ store.old) }
 {
-    match read_task(words) {
-        Some(task) => run_task(alloc, &task, store, out, notes),
-        None => {
-            report(Status::Usage, None, None, notes);
-            Status::Usage
-        }
-    }
+    let mut kept = None;
+    safebound_keeping(alloc, words, store, out, notes, &mut kept)
 }

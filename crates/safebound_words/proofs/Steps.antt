@@ -12,7 +12,7 @@ use Rattle.safebound_words.specs.Answer.{Kind, Ends, IsPlace, Sets, Wants, Gives
 use Rattle.safebound_words.specs.Collected.{asked_by, asked_from, asked_with, collected, given_of, given_to, given_with, times_of, words_of}
 use Rattle.safebound_words.specs.CommandLines.{Alone, Beside, Item, Joined, Place, given_by, given_in, has_flag, has_option, place_words, same_flag, same_option, set_by}
 use Rattle.safebound_words.specs.Requests.{Request, Audit, Plan, PlanStats, Run, Stats}
-use Rattle.safebound_words.specs.Table.{Given, command_row, file_of, flag_word, from_file, is_set, limit_of, most_budget_of, of_number, of_stats, option_row, over_files, over_two, planned_from, stands_alone, value_of, with_limit, within, ◌>>=◌}
+use Rattle.safebound_words.specs.Table.{Given, command_row, file_of, flag_word, from_file, is_set, keys_alone, limit_of, most_budget_of, of_append, of_number, of_stats, option_row, over_files, over_two, planned_from, stands_alone, value_of, with_limit, within, ◌>>=◌}
 use Rattle.safebound_words.specs.Words.{Word}
 use Rattle.safebound_words.specs.declared.table.CommandName.{CommandName}
 use Rattle.safebound_words.specs.declared.table.CommandName.TheVariants as command
@@ -122,7 +122,7 @@ none_behind (Some a) rest all = all a
 
 -- Where too much is collected, nothing is asked for.
 
-two_at_most : (request : Word → Word → ℕ → ℕ → Bool → Bool → Request) (places : List Word) (given : Given) → 2 < length places → over_two request places given ≡ None
+two_at_most : (request : Word → Word → ℕ → ℕ → Bool → Bool → Bool → Request) (places : List Word) (given : Given) → 4 < length places → over_two request places given ≡ None
 two_at_most request [] given many = absurd (omega arith)
 two_at_most request (a ∷ []) given many = absurd (omega arith)
 two_at_most request (a ∷ b ∷ []) given many = absurd (omega arith)
@@ -139,42 +139,51 @@ two_limits asks places given none = none_first (value_of option.Memory (given.va
 
 -- a request, and its limit
 abbrev With : Type 0
-With = Word → Word → ℕ → ℕ → Bool → Bool → Option ℕ → Request
+With = Word → Word → ℕ → ℕ → Bool → Bool → Bool → Option ℕ → Request
 
-abbrev limited : With → Option ℕ → Word → Word → ℕ → ℕ → Bool → Bool → Request
-limited request limit schema query budget accuracy reduce bushy = request schema query budget accuracy reduce bushy limit
+abbrev limited : With → Option ℕ → Word → Word → ℕ → ℕ → Bool → Bool → Bool → Request
+limited request limit schema query budget accuracy reduce bushy keys = request schema query budget accuracy reduce bushy keys limit
 
-files_of_two : (request : With) (places : List Word) (given : Given) → 2 < length places → over_files request places given ≡ None
+files_of_two : (request : With) (places : List Word) (given : Given) → 4 < length places → over_files request places given ≡ None
 unfolding over_files
 files_of_two request places given many =
     whatever_limit (λ limit. over_two (limited request limit)) places given (λ limit. two_at_most (limited request limit) places given many)
 
-one_at_most : (request : ℕ → Request) (places : List Word) (given : Given) → 2 < length places → of_number request places given ≡ None
+one_at_most : (request : ℕ → Request) (places : List Word) (given : Given) → 4 < length places → of_number request places given ≡ None
 one_at_most request [] given many = absurd (omega arith)
 one_at_most request (a ∷ []) given many = absurd (omega arith)
 one_at_most request (a ∷ b ∷ rest) given many = refl
 
-file_of_two : (file : Word) (limit : Option ℕ) (places : List Word) (given : Given) → 2 < length places → from_file file limit places given ≡ None
+file_of_two : (file : Word) (limit : Option ℕ) (places : List Word) (given : Given) → 4 < length places → from_file file limit places given ≡ None
 file_of_two file limit [] given many = absurd (omega arith)
 file_of_two file limit (a ∷ []) given many = absurd (omega arith)
 file_of_two file limit (a ∷ b ∷ []) given many = absurd (omega arith)
 file_of_two file limit (a ∷ b ∷ d ∷ rest) given many = refl
 
-plan_of_two : (file : Option Word) (places : List Word) (given : Given) → 2 < length places → planned_from file places given ≡ None
+plan_of_two : (file : Option Word) (places : List Word) (given : Given) → 4 < length places → planned_from file places given ≡ None
 plan_of_two None places given many = files_of_two Plan places given many
 plan_of_two (Some file) places given many = whatever_limit (from_file file) places given (λ limit. file_of_two file limit places given many)
 
-stats_of_two : (places : List Word) (given : Given) → 2 < length places → of_stats places given ≡ None
+stats_of_two : (places : List Word) (given : Given) → 4 < length places → of_stats places given ≡ None
 stats_of_two [] given many = absurd (omega arith)
 stats_of_two (a ∷ []) given many = absurd (omega arith)
 stats_of_two (a ∷ b ∷ []) given many = absurd (omega arith)
 stats_of_two (a ∷ b ∷ d ∷ rest) given many = refl
 
-too_many : (name : CommandName) (places : List Word) (given : Given) → 2 < length places → (command_row name).asks places given ≡ None
+append_of_four : (places : List Word) (given : Given) → 4 < length places → of_append places given ≡ None
+append_of_four [] given many = absurd (omega arith)
+append_of_four (a ∷ []) given many = absurd (omega arith)
+append_of_four (a ∷ b ∷ []) given many = absurd (omega arith)
+append_of_four (a ∷ b ∷ d ∷ []) given many = absurd (omega arith)
+append_of_four (a ∷ b ∷ d ∷ e ∷ []) given many = absurd (omega arith)
+append_of_four (a ∷ b ∷ d ∷ e ∷ f ∷ rest) given many = refl
+
+too_many : (name : CommandName) (places : List Word) (given : Given) → 4 < length places → (command_row name).asks places given ≡ None
 too_many command.Run = files_of_two Run
 too_many command.Plan = λ places given many. none_behind (file_of (given.values option.Stats)) (λ file. planned_from file places given) (λ file. plan_of_two file places given many)
 too_many command.Audit = files_of_two Audit
 too_many command.Stats = stats_of_two
+too_many command.Append = append_of_four
 too_many command.Demo = one_at_most _
 
 -- an option to which two words are given has no value
@@ -190,7 +199,7 @@ HasNumbers option.Accuracy = Unit {0}
 HasNumbers option.Memory = ⊥
 HasNumbers option.Stats = ⊥
 
-no_value : (request : Word → Word → ℕ → ℕ → Bool → Bool → Request) (places : List Word) (given : Given) (o : OptionName) → HasNumbers o
+no_value : (request : Word → Word → ℕ → ℕ → Bool → Bool → Bool → Request) (places : List Word) (given : Given) (o : OptionName) → HasNumbers o
     → 1 < length (given.values o) → over_two request places given ≡ None
 no_value request [] given o has many = refl
 no_value request (a ∷ []) given o has many = refl
@@ -219,9 +228,12 @@ set_once (suc zero) many = absurd (omega arith)
 set_once (suc (suc more)) many = refl
 
 -- the stages behind the budget
-module _ (request : Word → Word → ℕ → ℕ → Bool → Bool → Request) (a b : Word) (given : Given) where
+module _ (request : Word → Word → ℕ → ℕ → Bool → Bool → Bool → Request) (a b : Word) (given : Given) where
+  abbrev by_keys : ℕ → ℕ → Bool → Bool → Bool → Option Request
+  by_keys budget accuracy reduce bushy keys = keys_alone reduce bushy keys (within (most_budget_of bushy) budget (request a b budget accuracy reduce bushy keys))
+
   abbrev by_bushy : ℕ → ℕ → Bool → Bool → Option Request
-  by_bushy budget accuracy reduce bushy = within (most_budget_of bushy) budget (request a b budget accuracy reduce bushy)
+  by_bushy budget accuracy reduce bushy = is_set (given.times flag.Keys) >>= λ keys. by_keys budget accuracy reduce bushy keys
 
   abbrev by_reduce : ℕ → ℕ → Bool → Option Request
   by_reduce budget accuracy reduce = is_set (given.times flag.Bushy) >>= λ bushy. by_bushy budget accuracy reduce bushy
@@ -232,18 +244,24 @@ module _ (request : Word → Word → ℕ → ℕ → Bool → Bool → Request)
   abbrev by_budget : ℕ → Option Request
   by_budget budget = value_of option.Accuracy (given.values option.Accuracy) >>= λ accuracy. by_accuracy budget accuracy
 
+  many_keys : (budget accuracy : ℕ) (reduce bushy : Bool) → 1 < given.times flag.Keys → by_bushy budget accuracy reduce bushy ≡ None
+  many_keys budget accuracy reduce bushy many = none_first (is_set (given.times flag.Keys)) (λ keys. by_keys budget accuracy reduce bushy keys) (set_once (given.times flag.Keys) many)
+
   many_flags : (budget accuracy : ℕ) (f : FlagName) → 1 < given.times f → by_accuracy budget accuracy ≡ None
   many_flags budget accuracy flag.Reduce many = none_first (is_set (given.times flag.Reduce)) (λ reduce. by_reduce budget accuracy reduce) (set_once (given.times flag.Reduce) many)
   many_flags budget accuracy flag.Bushy many =
       none_behind (is_set (given.times flag.Reduce)) (λ reduce. by_reduce budget accuracy reduce)
       (λ reduce. none_first (is_set (given.times flag.Bushy)) (λ bushy. by_bushy budget accuracy reduce bushy) (set_once (given.times flag.Bushy) many))
+  many_flags budget accuracy flag.Keys many =
+      none_behind (is_set (given.times flag.Reduce)) (λ reduce. by_reduce budget accuracy reduce)
+      (λ reduce. none_behind (is_set (given.times flag.Bushy)) (λ bushy. by_bushy budget accuracy reduce bushy) (λ bushy. many_keys budget accuracy reduce bushy many))
 
   no_flag_of_two : (f : FlagName) → 1 < given.times f → over_two request (a ∷ b ∷ []) given ≡ None
   no_flag_of_two f many =
       none_behind (value_of option.Budget (given.values option.Budget)) (λ budget. by_budget budget)
       (λ budget. none_behind (value_of option.Accuracy (given.values option.Accuracy)) (λ accuracy. by_accuracy budget accuracy) (λ accuracy. many_flags budget accuracy f many))
 
-no_flag : (request : Word → Word → ℕ → ℕ → Bool → Bool → Request) (places : List Word) (given : Given) (f : FlagName)
+no_flag : (request : Word → Word → ℕ → ℕ → Bool → Bool → Bool → Request) (places : List Word) (given : Given) (f : FlagName)
     → 1 < given.times f → over_two request places given ≡ None
 no_flag request [] given f many = refl
 no_flag request (a ∷ []) given f many = refl
@@ -261,12 +279,18 @@ nowhere : (b : Bool) → (b && false) ≡ false
 nowhere true = refl
 nowhere false = refl
 
-times_twice : (b c : Bool) (n : ℕ) → 1 < n → (b && (n == 0 && c)) ≡ false
-times_twice b c n many = let some : (n == 0) ≡ false = ne_eqb n 0 (λ e. absurd (omega (arith, e, many))) in rw some (nowhere b)
+-- a flag that stands twice is not missing
+flag_twice : (n : ℕ) → 1 < n → (n == 0) ≡ false
+flag_twice n many = ne_eqb n 0 (λ e. absurd (omega (arith, e, many)))
 
-times_twice_behind : (b c : Bool) (n : ℕ) → 1 < n → (b && (c && n == 0)) ≡ false
-times_twice_behind b c n many =
-    let some : (n == 0) ≡ false = ne_eqb n 0 (λ e. absurd (omega (arith, e, many))) in rw some (rw (nowhere c) (nowhere b))
+flags_twice : (given : Given) (f : FlagName) → 1 < given.times f → (given.times flag.Reduce == 0 && (given.times flag.Bushy == 0 && given.times flag.Keys == 0)) ≡ false
+flags_twice given flag.Reduce many = let some = flag_twice (given.times flag.Reduce) many in rw some refl
+flags_twice given flag.Bushy many = let some = flag_twice (given.times flag.Bushy) many in rw some (nowhere (given.times flag.Reduce == 0))
+flags_twice given flag.Keys many =
+    let some = flag_twice (given.times flag.Keys) many in rw some (rw (nowhere (given.times flag.Bushy == 0)) (nowhere (given.times flag.Reduce == 0)))
+
+times_twice : (given : Given) (f : FlagName) → 1 < given.times f → stands_alone given ≡ false
+times_twice given f many = let some = flags_twice given f many in rw some (nowhere (length (given.values option.Accuracy) == 0))
 
 words_twice : (words : List Word) (b : Bool) → 1 < length words → (length words == 0 && b) ≡ false
 words_twice words b many = let some : (length words == 0) ≡ false = ne_eqb (length words) 0 (λ e. absurd (omega (arith, e, many))) in rw some refl
@@ -280,10 +304,7 @@ not_alone file limit schema query given beside =
 file_without_flag : (file : Word) (limit : Option ℕ) (places : List Word) (given : Given) (f : FlagName) → 1 < given.times f → from_file file limit places given ≡ None
 file_without_flag file limit [] given f many = refl
 file_without_flag file limit (a ∷ []) given f many = refl
-file_without_flag file limit (a ∷ b ∷ []) given flag.Reduce many =
-    not_alone file limit a b given (times_twice (length (given.values option.Accuracy) == 0) (given.times flag.Bushy == 0) (given.times flag.Reduce) many)
-file_without_flag file limit (a ∷ b ∷ []) given flag.Bushy many =
-    not_alone file limit a b given (times_twice_behind (length (given.values option.Accuracy) == 0) (given.times flag.Reduce == 0) (given.times flag.Bushy) many)
+file_without_flag file limit (a ∷ b ∷ []) given f many = not_alone file limit a b given (times_twice given f many)
 file_without_flag file limit (a ∷ b ∷ d ∷ rest) given f many = refl
 
 plan_without_flag : (file : Option Word) (places : List Word) (given : Given) (f : FlagName) → 1 < given.times f → planned_from file places given ≡ None
@@ -306,7 +327,7 @@ file_without_accuracy : (file : Word) (limit : Option ℕ) (places : List Word) 
 file_without_accuracy file limit [] given many = refl
 file_without_accuracy file limit (a ∷ []) given many = refl
 file_without_accuracy file limit (a ∷ b ∷ []) given many =
-    not_alone file limit a b given (words_twice (given.values option.Accuracy) (given.times flag.Reduce == 0 && given.times flag.Bushy == 0) many)
+    not_alone file limit a b given (words_twice (given.values option.Accuracy) (given.times flag.Reduce == 0 && (given.times flag.Bushy == 0 && given.times flag.Keys == 0)) many)
 file_without_accuracy file limit (a ∷ b ∷ d ∷ rest) given many = refl
 
 plan_without_accuracy : (file : Option Word) (places : List Word) (given : Given) → 1 < length (given.values option.Accuracy) → planned_from file places given ≡ None
@@ -335,6 +356,7 @@ flag_refused command.Plan f places given has many =
     none_behind (file_of (given.values option.Stats)) (λ file. planned_from file places given) (λ file. plan_without_flag file places given f many)
 flag_refused command.Audit f places given has many = no_file_flag Audit places given f many
 flag_refused command.Stats f places given has many = absurd (false≢true has)
+flag_refused command.Append f places given has many = absurd (false≢true has)
 flag_refused command.Demo f places given has many = absurd (false≢true has)
 
 refused : (name : CommandName) (o : OptionName) (places : List Word) (given : Given) → IsTrue (has_option name o) → 1 < length (given.values o)
@@ -358,15 +380,16 @@ refused command.Stats option.Budget places given has many = absurd (false≢true
 refused command.Stats option.Accuracy places given has many = no_accuracy places given many
 refused command.Stats option.Memory places given has many = absurd (false≢true has)
 refused command.Stats option.Stats places given has many = absurd (false≢true has)
+refused command.Append o places given has many = absurd (false≢true has)
 refused command.Demo o places given has many = absurd (false≢true has)
 
-full_place : (name : CommandName) (line : Line) (word : Word) (parts : Parts) → length (words_of line.places) ≡ 2
+full_place : (name : CommandName) (line : Line) (word : Word) (parts : Parts) → length (words_of line.places) ≡ 4
     → asked_with name line (Place word ∷ parts.0, parts.1) ≡ None
 unfolding asked_with
 full_place name line word parts full =
     too_many name _ _ (omega (arith, length-append (words_of line.places) (word ∷ (flat_map place_words parts.0 ++ parts.1))))
 
-pub full_behind : (name : CommandName) (line : Line) (word : Word) (words : List Word) → length (words_of line.places) ≡ 2
+pub full_behind : (name : CommandName) (line : Line) (word : Word) (words : List Word) → length (words_of line.places) ≡ 4
     → asked_with name line ([], word ∷ words) ≡ None
 unfolding asked_with
 full_behind name line word words full =
@@ -447,7 +470,7 @@ place_step name new old word is places same words =
     rw (read_so name word words IsPlace is)
     (front_asked name new old (Place word) (parts_from name None words) (λ p. one_more_place name new old word p places same))
 
-pub place_refused : (name : CommandName) (line : Line) (word : Word) → IsPlace ≡ kind_of name word → length (words_of line.places) ≡ 2
+pub place_refused : (name : CommandName) (line : Line) (word : Word) → IsPlace ≡ kind_of name word → length (words_of line.places) ≡ 4
     → (words : List Word) → asked_from name line next.Item (word ∷ words) ≡ None
 unfolding asked_from
 place_refused name line word is full words =
@@ -510,7 +533,7 @@ pub behind_step : (name : CommandName) (new old : Line) (word : Word)
 unfolding asked_from
 behind_step name new old word places same words = one_more_behind name new old word words places same
 
-pub behind_refused : (name : CommandName) (line : Line) (word : Word) → length (words_of line.places) ≡ 2
+pub behind_refused : (name : CommandName) (line : Line) (word : Word) → length (words_of line.places) ≡ 4
     → (words : List Word) → asked_from name line next.Place (word ∷ words) ≡ None
 unfolding asked_from
 behind_refused name line word full words = full_behind name line word words full
@@ -545,11 +568,12 @@ start_asked name line words places given times =
 
 -- the line before any word
 abbrev no_words : Line
-no_words = record { places = places.Nothing; budget = None; accuracy = None; memory = None; stats = None; reduce = false; bushy = false }
+no_words = record { places = places.Nothing; budget = None; accuracy = None; memory = None; stats = None; reduce = false; bushy = false; keys = false }
 
 never_set : (f : FlagName) → times_of no_words f ≡ 0
 never_set flag.Reduce = refl
 never_set flag.Bushy = refl
+never_set flag.Keys = refl
 
 pub first_asked : (name : CommandName) (words : List Word) → asked_from name no_words next.Item words ≡ asked_by name words
 first_asked name words = start_asked name no_words words refl (nothing_given no_words refl refl refl refl) never_set

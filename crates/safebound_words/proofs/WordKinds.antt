@@ -24,6 +24,7 @@ names_itself command.Run = refl
 names_itself command.Plan = refl
 names_itself command.Audit = refl
 names_itself command.Stats = refl
+names_itself command.Append = refl
 names_itself command.Demo = refl
 
 -- a flag's word sets it
@@ -31,14 +32,22 @@ pub kind-sets : (name : CommandName) (f : FlagName) → IsTrue (has_flag name f)
 unfolding kind_of
 kind-sets command.Run flag.Reduce has = refl
 kind-sets command.Run flag.Bushy has = refl
+kind-sets command.Run flag.Keys has = refl
 kind-sets command.Plan flag.Reduce has = refl
 kind-sets command.Plan flag.Bushy has = refl
+kind-sets command.Plan flag.Keys has = refl
 kind-sets command.Audit flag.Reduce has = refl
 kind-sets command.Audit flag.Bushy has = refl
+kind-sets command.Audit flag.Keys has = refl
 kind-sets command.Stats flag.Reduce has = absurd (false≢true has)
 kind-sets command.Stats flag.Bushy has = absurd (false≢true has)
+kind-sets command.Stats flag.Keys has = absurd (false≢true has)
+kind-sets command.Append flag.Reduce has = absurd (false≢true has)
+kind-sets command.Append flag.Bushy has = absurd (false≢true has)
+kind-sets command.Append flag.Keys has = absurd (false≢true has)
 kind-sets command.Demo flag.Reduce has = absurd (false≢true has)
 kind-sets command.Demo flag.Bushy has = absurd (false≢true has)
+kind-sets command.Demo flag.Keys has = absurd (false≢true has)
 
 -- an option's word wants a value
 pub kind-wants : (name : CommandName) (o : OptionName) → IsTrue (has_option name o) → kind_of name (option_row o).word ≡ Wants o
@@ -59,6 +68,10 @@ kind-wants command.Stats option.Budget has = absurd (false≢true has)
 kind-wants command.Stats option.Accuracy has = refl
 kind-wants command.Stats option.Memory has = absurd (false≢true has)
 kind-wants command.Stats option.Stats has = absurd (false≢true has)
+kind-wants command.Append option.Budget has = absurd (false≢true has)
+kind-wants command.Append option.Accuracy has = absurd (false≢true has)
+kind-wants command.Append option.Memory has = absurd (false≢true has)
+kind-wants command.Append option.Stats has = absurd (false≢true has)
 kind-wants command.Demo option.Budget has = absurd (false≢true has)
 kind-wants command.Demo option.Accuracy has = absurd (false≢true has)
 kind-wants command.Demo option.Memory has = absurd (false≢true has)
@@ -84,6 +97,10 @@ kind-gives command.Stats option.Budget value has = absurd (false≢true has)
 kind-gives command.Stats option.Accuracy value has = refl
 kind-gives command.Stats option.Memory value has = absurd (false≢true has)
 kind-gives command.Stats option.Stats value has = absurd (false≢true has)
+kind-gives command.Append option.Budget value has = absurd (false≢true has)
+kind-gives command.Append option.Accuracy value has = absurd (false≢true has)
+kind-gives command.Append option.Memory value has = absurd (false≢true has)
+kind-gives command.Append option.Stats value has = absurd (false≢true has)
 kind-gives command.Demo option.Budget value has = absurd (false≢true has)
 kind-gives command.Demo option.Accuracy value has = absurd (false≢true has)
 kind-gives command.Demo option.Memory value has = absurd (false≢true has)
@@ -122,7 +139,7 @@ found_so p q (y ∷ ys) x e = elim (chosen (p y) y x (find p ys) e) [
 -- the name that a word is found to be
 pub named_so : (word : Word) (name : CommandName) → command_named word ≡ Some name → word ≡ (command_row name).word
 named_so word name found =
-    (bytes_eq-Decides word (command_row name).word).0 (found_so (λ n. bytes_eq word (command_row n).word) (λ n. true) (command.Run ∷ command.Plan ∷ command.Audit ∷ command.Stats ∷ command.Demo ∷ []) name found).0
+    (bytes_eq-Decides word (command_row name).word).0 (found_so (λ n. bytes_eq word (command_row n).word) (λ n. true) (command.Run ∷ command.Plan ∷ command.Audit ∷ command.Stats ∷ command.Append ∷ command.Demo ∷ []) name found).0
 
 -- the option that a word is found to be
 option_so : (name : CommandName) (word : Word) (o : OptionName) → option_named name word ≡ Some o → (word ≡ (option_row o).word) × IsTrue (has_option name o)

@@ -13,7 +13,7 @@ use Rattle.safebound_words.specs.declared.table.OptionName.{OptionName}
 
 abbrev pub command_named : Word → Option CommandName
 command_named word = find (λ name. bytes_eq word (command_row name).word)
-    (command.Run ∷ command.Plan ∷ command.Audit ∷ command.Stats ∷ command.Demo ∷ [])
+    (command.Run ∷ command.Plan ∷ command.Audit ∷ command.Stats ∷ command.Append ∷ command.Demo ∷ [])
 
 abbrev pub option_named : CommandName → Word → Option OptionName
 option_named name word = find (λ option. bytes_eq word (option_row option).word) (command_row name).options

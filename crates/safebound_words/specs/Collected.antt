@@ -24,6 +24,8 @@ abbrev pub words_of : Places → List Word
 words_of places.Nothing = []
 words_of (places.One first) = first.now ∷ []
 words_of (places.Two first second) = first.now ∷ second.now ∷ []
+words_of (places.Three first second third) = first.now ∷ second.now ∷ third.now ∷ []
+words_of (places.Four first second third fourth) = first.now ∷ second.now ∷ third.now ∷ fourth.now ∷ []
 
 -- the word that was given to an option, if any
 abbrev pub option_words : Option (Bor (List ℕ)) → List Word
@@ -39,6 +41,7 @@ given_to line option.Stats = option_words line.stats
 abbrev pub times_of : Line → FlagName → ℕ
 times_of line flag.Reduce = if line.reduce then 1 else 0
 times_of line flag.Bushy = if line.bushy then 1 else 0
+times_of line flag.Keys = if line.keys then 1 else 0
 
 abbrev pub given_of : Line → Given
 given_of line = record { values = given_to line; times = times_of line }

@@ -1,9 +1,9 @@
 -- The table of commands, options and flags: a new one is one line here.
-use Rattle.std.specs.Prelude.{ℕ, ◌^◌, ◌-◌, ◌==◌, ◌&&◌, not, nat_le, if◌then◌else◌, suc, zero, Bool, true, false, List, [], ◌∷◌, length, Option, Some, None, codes}
+use Rattle.std.specs.Prelude.{ℕ, ◌^◌, ◌-◌, ◌==◌, ◌&&◌, ◌||◌, not, nat_le, if◌then◌else◌, suc, zero, Bool, true, false, List, [], ◌∷◌, length, Option, Some, None, codes}
 use Rattle.std.specs.Option.{option_map}
 use Rattle.limits.specs.Profile.{least_accuracy, least_budget, most_accuracy, most_budget, most_rows, usual_accuracy, usual_budget}
 use Rattle.safebound_words.specs.Numbers.{number_within}
-use Rattle.safebound_words.specs.Requests.{Request, Run, Plan, Audit, Stats, PlanStats, Demo}
+use Rattle.safebound_words.specs.Requests.{Request, Run, Plan, Audit, Stats, PlanStats, Append, Demo}
 use Rattle.safebound_words.specs.Words.{Word}
 use Rattle.safebound_words.specs.declared.table.CommandName.{CommandName}
 use Rattle.safebound_words.specs.declared.table.CommandName.TheVariants as command
@@ -44,6 +44,7 @@ option_row option.Stats = file_option (codes "--stats")
 abbrev pub flag_word : FlagName → Word
 flag_word flag.Reduce = codes "--reduce"
 flag_word flag.Bushy = codes "--bushy"
+flag_word flag.Keys = codes "--keys"
 
 -- the words that a line gives to each option, in order, and how often each flag stands in it
 pub record Given : Type 0 where
@@ -101,27 +102,33 @@ most_budget_of bushy = if bushy then most_rows else most_budget
 abbrev pub within : ℕ → ℕ → Request → Option Request
 within most number request = if nat_le number most then Some request else None
 
+-- what is asked for, unless `--keys` stands beside another flag
+abbrev pub keys_alone : Bool → Bool → Bool → Option Request → Option Request
+keys_alone reduce bushy keys asked = if keys && (reduce || bushy) then None else asked
+
 -- exactly two place words, SCHEMA and QUERY
-abbrev pub over_two : (Word → Word → ℕ → ℕ → Bool → Bool → Request) → List Word → Given → Option Request
+abbrev pub over_two : (Word → Word → ℕ → ℕ → Bool → Bool → Bool → Request) → List Word → Given → Option Request
 over_two request (schema ∷ query ∷ []) given = do
   budget ← value_of option.Budget (given.values option.Budget)
   accuracy ← value_of option.Accuracy (given.values option.Accuracy)
   reduce ← is_set (given.times flag.Reduce)
   bushy ← is_set (given.times flag.Bushy)
-  within (most_budget_of bushy) budget (request schema query budget accuracy reduce bushy)
+  keys ← is_set (given.times flag.Keys)
+  keys_alone reduce bushy keys (within (most_budget_of bushy) budget (request schema query budget accuracy reduce bushy keys))
 over_two request places given = None
 
 -- the same with a limit of memory, where one stands
 abbrev pub with_limit : (Option ℕ → List Word → Given → Option Request) → List Word → Given → Option Request
 with_limit asks places given = value_of option.Memory (given.values option.Memory) >>= λ bytes. asks (limit_of bytes) places given
 
-unfoldable pub over_files : (Word → Word → ℕ → ℕ → Bool → Bool → Option ℕ → Request) → List Word → Given → Option Request
+unfoldable pub over_files : (Word → Word → ℕ → ℕ → Bool → Bool → Bool → Option ℕ → Request) → List Word → Given → Option Request
 over_files request places given =
-    with_limit (λ limit. over_two (λ schema query budget accuracy reduce bushy. request schema query budget accuracy reduce bushy limit)) places given
+    with_limit (λ limit. over_two (λ schema query budget accuracy reduce bushy keys. request schema query budget accuracy reduce bushy keys limit)) places given
 
 -- beside a statistics file stands no accuracy, which is the file's, and no flag; the budget and a limit of memory may
 abbrev pub stands_alone : Given → Bool
-stands_alone given = length (given.values option.Accuracy) == 0 && (given.times flag.Reduce == 0 && given.times flag.Bushy == 0)
+stands_alone given =
+    length (given.values option.Accuracy) == 0 && (given.times flag.Reduce == 0 && (given.times flag.Bushy == 0 && given.times flag.Keys == 0))
 
 -- a plan from a statistics file: SCHEMA and QUERY, and the budget
 abbrev pub from_file : Word → Option ℕ → List Word → Given → Option Request
@@ -143,6 +150,11 @@ abbrev pub of_stats : List Word → Given → Option Request
 of_stats (schema ∷ query ∷ []) given = option_map (Stats schema query) (value_of option.Accuracy (given.values option.Accuracy))
 of_stats places given = None
 
+-- exactly four place words: SCHEMA, STATS, TABLE and ROWS
+abbrev pub of_append : List Word → Given → Option Request
+of_append (schema ∷ file ∷ table ∷ rows ∷ []) given = Some (Append schema file table rows)
+of_append places given = None
+
 -- exactly one place word, NUMBER
 abbrev pub of_number : (ℕ → Request) → List Word → Given → Option Request
 of_number request (number ∷ []) given = option_map request (number_within 0 (2 ^ 32 - 1) number)
@@ -150,8 +162,9 @@ of_number request places given = None
 
 -- one line for each command
 abbrev pub command_row : CommandName → CommandRow
-command_row command.Run = named (codes "run") (option.Budget ∷ option.Accuracy ∷ option.Memory ∷ []) (flag.Reduce ∷ flag.Bushy ∷ []) (over_files Run)
-command_row command.Plan = named (codes "plan") (option.Budget ∷ option.Accuracy ∷ option.Memory ∷ option.Stats ∷ []) (flag.Reduce ∷ flag.Bushy ∷ []) of_plan
-command_row command.Audit = named (codes "audit") (option.Budget ∷ option.Accuracy ∷ option.Memory ∷ []) (flag.Reduce ∷ flag.Bushy ∷ []) (over_files Audit)
+command_row command.Run = named (codes "run") (option.Budget ∷ option.Accuracy ∷ option.Memory ∷ []) (flag.Reduce ∷ flag.Bushy ∷ flag.Keys ∷ []) (over_files Run)
+command_row command.Plan = named (codes "plan") (option.Budget ∷ option.Accuracy ∷ option.Memory ∷ option.Stats ∷ []) (flag.Reduce ∷ flag.Bushy ∷ flag.Keys ∷ []) of_plan
+command_row command.Audit = named (codes "audit") (option.Budget ∷ option.Accuracy ∷ option.Memory ∷ []) (flag.Reduce ∷ flag.Bushy ∷ flag.Keys ∷ []) (over_files Audit)
 command_row command.Stats = named (codes "stats") (option.Accuracy ∷ []) [] of_stats
+command_row command.Append = named (codes "append") [] [] of_append
 command_row command.Demo = named (codes "demo") [] [] (of_number Demo)

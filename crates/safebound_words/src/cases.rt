@@ -1,35 +1,35 @@
 //! What small command lines ask for.
 ghost use Rattle.std.specs.Prelude.{◌≡◌, Some, None, [], ◌∷◌, codes, false, true};
 ghost use Rattle.safebound_words.specs.Answer.{command_of};
-ghost use Rattle.safebound_words.specs.Requests.{Run, Plan, Audit, Stats, PlanStats, Demo};
+ghost use Rattle.safebound_words.specs.Requests.{Run, Plan, Audit, Stats, PlanStats, Append, Demo};
 
 /// Commands and their place words. It does nothing.
 pub fn small_commands()
-    ensures run { command_of (codes "run" ∷ codes "s" ∷ codes "q" ∷ []) ≡ Some (Run (codes "s") (codes "q") 1000000 1 false false None) }
-    ensures audit { command_of (codes "audit" ∷ codes "s" ∷ codes "q" ∷ []) ≡ Some (Audit (codes "s") (codes "q") 1000000 1 false false None) }
-    ensures dash { command_of (codes "plan" ∷ codes "-" ∷ codes "q" ∷ []) ≡ Some (Plan (codes "-") (codes "q") 1000000 1 false false None) }
-    ensures empty { command_of (codes "plan" ∷ [] ∷ codes "q" ∷ []) ≡ Some (Plan [] (codes "q") 1000000 1 false false None) }
+    ensures run { command_of (codes "run" ∷ codes "s" ∷ codes "q" ∷ []) ≡ Some (Run (codes "s") (codes "q") 1000000 1 false false false None) }
+    ensures audit { command_of (codes "audit" ∷ codes "s" ∷ codes "q" ∷ []) ≡ Some (Audit (codes "s") (codes "q") 1000000 1 false false false None) }
+    ensures dash { command_of (codes "plan" ∷ codes "-" ∷ codes "q" ∷ []) ≡ Some (Plan (codes "-") (codes "q") 1000000 1 false false false None) }
+    ensures empty { command_of (codes "plan" ∷ [] ∷ codes "q" ∷ []) ≡ Some (Plan [] (codes "q") 1000000 1 false false false None) }
     ensures number { command_of (codes "demo" ∷ codes "7" ∷ []) ≡ Some (Demo 7) }
     ensures zeros { command_of (codes "demo" ∷ codes "007" ∷ []) ≡ Some (Demo 7) }
     ensures last_number { command_of (codes "demo" ∷ codes "4294967295" ∷ []) ≡ Some (Demo 4294967295) }
 
     // Behind `--` every word is a place word, a second `--` too.
     ensures behind { command_of (codes "run" ∷ codes "--" ∷ codes "--budget" ∷ codes "--" ∷ [])
-        ≡ Some (Run (codes "--budget") (codes "--") 1000000 1 false false None) }
+        ≡ Some (Run (codes "--budget") (codes "--") 1000000 1 false false false None) }
     ensures value_behind { command_of (codes "run" ∷ codes "--budget" ∷ codes "5" ∷ codes "--" ∷ codes "--budget" ∷ codes "6" ∷ [])
-        ≡ Some (Run (codes "--budget") (codes "6") 5 1 false false None) }
+        ≡ Some (Run (codes "--budget") (codes "6") 5 1 false false false None) }
     ensures number_behind { command_of (codes "demo" ∷ codes "--" ∷ codes "7" ∷ []) ≡ Some (Demo 7) }
 {}
 
 /// Options and their values. It does nothing.
 pub fn small_options()
     ensures joined { command_of (codes "run" ∷ codes "--budget=12" ∷ codes "--" ∷ codes "s" ∷ codes "q" ∷ [])
-        ≡ Some (Run (codes "s") (codes "q") 12 1 false false None) }
+        ≡ Some (Run (codes "s") (codes "q") 12 1 false false false None) }
     ensures beside { command_of (codes "plan" ∷ codes "s" ∷ codes "--accuracy" ∷ codes "64" ∷ codes "q" ∷ codes "--budget" ∷ codes "007"
         ∷ [])
-        ≡ Some (Plan (codes "s") (codes "q") 7 64 false false None) }
+        ≡ Some (Plan (codes "s") (codes "q") 7 64 false false false None) }
     ensures most { command_of (codes "audit" ∷ codes "s" ∷ codes "q" ∷ codes "--budget" ∷ codes "20000000" ∷ [])
-        ≡ Some (Audit (codes "s") (codes "q") 20000000 1 false false None) }
+        ≡ Some (Audit (codes "s") (codes "q") 20000000 1 false false false None) }
     ensures past_most { command_of (codes "audit" ∷ codes "s" ∷ codes "q" ∷ codes "--budget" ∷ codes "20000001" ∷ []) ≡ None }
     ensures no_rows { command_of (codes "run" ∷ codes "s" ∷ codes "q" ∷ codes "--budget" ∷ codes "0" ∷ []) ≡ None }
     ensures least { command_of (codes "run" ∷ codes "s" ∷ codes "q" ∷ codes "--accuracy=0" ∷ []) ≡ None }
@@ -64,13 +64,13 @@ pub fn small_refusals()
 /// Words with `--reduce`. It does nothing.
 pub fn small_flags()
     ensures behind { command_of (codes "run" ∷ codes "s" ∷ codes "q" ∷ codes "--reduce" ∷ [])
-        ≡ Some (Run (codes "s") (codes "q") 1000000 1 true false None) }
+        ≡ Some (Run (codes "s") (codes "q") 1000000 1 true false false None) }
     ensures in_front { command_of (codes "plan" ∷ codes "--reduce" ∷ codes "s" ∷ codes "q" ∷ codes "--budget" ∷ codes "5" ∷ [])
-        ≡ Some (Plan (codes "s") (codes "q") 5 1 true false None) }
+        ≡ Some (Plan (codes "s") (codes "q") 5 1 true false false None) }
     ensures between { command_of (codes "audit" ∷ codes "s" ∷ codes "--accuracy=8" ∷ codes "--reduce" ∷ codes "q" ∷ [])
-        ≡ Some (Audit (codes "s") (codes "q") 1000000 8 true false None) }
+        ≡ Some (Audit (codes "s") (codes "q") 1000000 8 true false false None) }
     ensures a_place_word { command_of (codes "run" ∷ codes "--" ∷ codes "--reduce" ∷ codes "q" ∷ [])
-        ≡ Some (Run (codes "--reduce") (codes "q") 1000000 1 false false None) }
+        ≡ Some (Run (codes "--reduce") (codes "q") 1000000 1 false false false None) }
     ensures twice { command_of (codes "run" ∷ codes "--reduce" ∷ codes "s" ∷ codes "q" ∷ codes "--reduce" ∷ []) ≡ None }
     ensures value { command_of (codes "run" ∷ codes "s" ∷ codes "q" ∷ codes "--reduce=1" ∷ []) ≡ None }
     ensures value_behind { command_of (codes "run" ∷ codes "s" ∷ codes "q" ∷ codes "--reduce" ∷ codes "1" ∷ []) ≡ None }
@@ -82,17 +82,36 @@ pub fn small_flags()
 /// Words with `--bushy`. It does nothing.
 pub fn small_trees()
     ensures behind { command_of (codes "run" ∷ codes "s" ∷ codes "q" ∷ codes "--bushy" ∷ [])
-        ≡ Some (Run (codes "s") (codes "q") 1000000 1 false true None) }
+        ≡ Some (Run (codes "s") (codes "q") 1000000 1 false true false None) }
     ensures reduced { command_of (codes "audit" ∷ codes "--bushy" ∷ codes "s" ∷ codes "--reduce" ∷ codes "q" ∷ [])
-        ≡ Some (Audit (codes "s") (codes "q") 1000000 1 true true None) }
+        ≡ Some (Audit (codes "s") (codes "q") 1000000 1 true true false None) }
     ensures most { command_of (codes "plan" ∷ codes "--bushy" ∷ codes "s" ∷ codes "q" ∷ codes "--budget=4000000" ∷ [])
-        ≡ Some (Plan (codes "s") (codes "q") 4000000 1 false true None) }
+        ≡ Some (Plan (codes "s") (codes "q") 4000000 1 false true false None) }
     ensures past_most { command_of (codes "plan" ∷ codes "--budget=4000001" ∷ codes "s" ∷ codes "q" ∷ codes "--bushy" ∷ []) ≡ None }
     ensures of_orders { command_of (codes "plan" ∷ codes "--budget=4000001" ∷ codes "s" ∷ codes "q" ∷ [])
-        ≡ Some (Plan (codes "s") (codes "q") 4000001 1 false false None) }
+        ≡ Some (Plan (codes "s") (codes "q") 4000001 1 false false false None) }
     ensures twice { command_of (codes "run" ∷ codes "--bushy" ∷ codes "s" ∷ codes "q" ∷ codes "--bushy" ∷ []) ≡ None }
     ensures value { command_of (codes "run" ∷ codes "s" ∷ codes "q" ∷ codes "--bushy=1" ∷ []) ≡ None }
     ensures of_demo { command_of (codes "demo" ∷ codes "7" ∷ codes "--bushy" ∷ []) ≡ None }
+{}
+
+/// Words with `--keys`. It does nothing.
+pub fn small_keys()
+    ensures behind { command_of (codes "run" ∷ codes "s" ∷ codes "q" ∷ codes "--keys" ∷ [])
+        ≡ Some (Run (codes "s") (codes "q") 1000000 1 false false true None) }
+    ensures in_front { command_of (codes "plan" ∷ codes "--keys" ∷ codes "s" ∷ codes "q" ∷ codes "--budget=20000000" ∷ [])
+        ≡ Some (Plan (codes "s") (codes "q") 20000000 1 false false true None) }
+    ensures between { command_of (codes "audit" ∷ codes "s" ∷ codes "--accuracy=8" ∷ codes "--keys" ∷ codes "q" ∷ codes "--memory=9" ∷ [])
+        ≡ Some (Audit (codes "s") (codes "q") 1000000 8 false false true (Some 9)) }
+    ensures twice { command_of (codes "run" ∷ codes "--keys" ∷ codes "s" ∷ codes "q" ∷ codes "--keys" ∷ []) ≡ None }
+    ensures value { command_of (codes "run" ∷ codes "s" ∷ codes "q" ∷ codes "--keys=1" ∷ []) ≡ None }
+    ensures of_demo { command_of (codes "demo" ∷ codes "7" ∷ codes "--keys" ∷ []) ≡ None }
+    ensures of_stats { command_of (codes "stats" ∷ codes "s" ∷ codes "q" ∷ codes "--keys" ∷ []) ≡ None }
+
+    // It stands beside no other way to a plan.
+    ensures reduced { command_of (codes "run" ∷ codes "--keys" ∷ codes "s" ∷ codes "q" ∷ codes "--reduce" ∷ []) ≡ None }
+    ensures tree { command_of (codes "plan" ∷ codes "--bushy" ∷ codes "s" ∷ codes "q" ∷ codes "--keys" ∷ []) ≡ None }
+    ensures of_a_file { command_of (codes "plan" ∷ codes "s" ∷ codes "q" ∷ codes "--stats=f" ∷ codes "--keys" ∷ []) ≡ None }
 {}
 
 /// `stats`, and `plan` with `--stats`. It does nothing.
@@ -123,13 +142,13 @@ pub fn small_statistics()
 /// `--memory`. It does nothing.
 pub fn small_limits()
     ensures run { command_of (codes "run" ∷ codes "s" ∷ codes "q" ∷ codes "--memory" ∷ codes "556" ∷ [])
-        ≡ Some (Run (codes "s") (codes "q") 1000000 1 false false (Some 556)) }
+        ≡ Some (Run (codes "s") (codes "q") 1000000 1 false false false (Some 556)) }
     ensures joined { command_of (codes "plan" ∷ codes "--memory=0556" ∷ codes "s" ∷ codes "q" ∷ codes "--bushy" ∷ [])
-        ≡ Some (Plan (codes "s") (codes "q") 1000000 1 false true (Some 556)) }
+        ≡ Some (Plan (codes "s") (codes "q") 1000000 1 false true false (Some 556)) }
     ensures least { command_of (codes "audit" ∷ codes "s" ∷ codes "q" ∷ codes "--memory" ∷ codes "1" ∷ codes "--reduce" ∷ [])
-        ≡ Some (Audit (codes "s") (codes "q") 1000000 1 true false (Some 1)) }
+        ≡ Some (Audit (codes "s") (codes "q") 1000000 1 true false false (Some 1)) }
     ensures most { command_of (codes "run" ∷ codes "s" ∷ codes "q" ∷ codes "--memory" ∷ codes "1099511627776" ∷ [])
-        ≡ Some (Run (codes "s") (codes "q") 1000000 1 false false (Some 1099511627776)) }
+        ≡ Some (Run (codes "s") (codes "q") 1000000 1 false false false (Some 1099511627776)) }
     ensures past_most { command_of (codes "run" ∷ codes "s" ∷ codes "q" ∷ codes "--memory" ∷ codes "1099511627777" ∷ []) ≡ None }
     ensures no_byte { command_of (codes "run" ∷ codes "s" ∷ codes "q" ∷ codes "--memory" ∷ codes "0" ∷ []) ≡ None }
     ensures twice { command_of (codes "run" ∷ codes "--memory=5" ∷ codes "s" ∷ codes "q" ∷ codes "--memory=5" ∷ []) ≡ None }
@@ -138,4 +157,21 @@ pub fn small_limits()
         ≡ Some (PlanStats (codes "s") (codes "q") (codes "f") 1000000 (Some 5)) }
     ensures of_stats { command_of (codes "stats" ∷ codes "s" ∷ codes "q" ∷ codes "--memory=5" ∷ []) ≡ None }
     ensures of_demo { command_of (codes "demo" ∷ codes "7" ∷ codes "--memory=5" ∷ []) ≡ None }
+{}
+
+/// `append`. It does nothing.
+pub fn small_appends()
+    ensures append { command_of (codes "append" ∷ codes "s" ∷ codes "f" ∷ codes "T" ∷ codes "n" ∷ [])
+        ≡ Some (Append (codes "s") (codes "f") (codes "T") (codes "n")) }
+    ensures empty { command_of (codes "append" ∷ codes "s" ∷ codes "-" ∷ [] ∷ codes "n" ∷ []) ≡ Some (Append (codes "s") (codes "-") [] (codes "n")) }
+    ensures behind { command_of (codes "append" ∷ codes "s" ∷ codes "--" ∷ codes "-f" ∷ codes "--" ∷ codes "n" ∷ [])
+        ≡ Some (Append (codes "s") (codes "-f") (codes "--") (codes "n")) }
+
+    // Four place words, and nothing else.
+    ensures of_three { command_of (codes "append" ∷ codes "s" ∷ codes "f" ∷ codes "T" ∷ []) ≡ None }
+    ensures a_fifth { command_of (codes "append" ∷ codes "s" ∷ codes "f" ∷ codes "T" ∷ codes "n" ∷ codes "m" ∷ []) ≡ None }
+    ensures accuracy { command_of (codes "append" ∷ codes "s" ∷ codes "f" ∷ codes "T" ∷ codes "n" ∷ codes "--accuracy=1" ∷ []) ≡ None }
+    ensures file { command_of (codes "append" ∷ codes "s" ∷ codes "T" ∷ codes "n" ∷ codes "--stats=f" ∷ []) ≡ None }
+    ensures flag { command_of (codes "append" ∷ codes "s" ∷ codes "f" ∷ codes "T" ∷ codes "n" ∷ codes "--reduce" ∷ []) ≡ None }
+    ensures of_run { command_of (codes "run" ∷ codes "s" ∷ codes "q" ∷ codes "T" ∷ codes "n" ∷ []) ≡ None }
 {}

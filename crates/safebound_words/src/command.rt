@@ -11,6 +11,7 @@ pub enum Command<'a> {
         accuracy: u8,
         reduce: bool,
         bushy: bool,
+        keys: bool,
         memory: Option<u64>,
     },
     /// Prints the plan of a query alone.
@@ -21,6 +22,7 @@ pub enum Command<'a> {
         accuracy: u8,
         reduce: bool,
         bushy: bool,
+        keys: bool,
         memory: Option<u64>,
     },
     /// Lists the rows, and prints beside each level's bound how many it has, in the place of the rows.
@@ -31,6 +33,7 @@ pub enum Command<'a> {
         accuracy: u8,
         reduce: bool,
         bushy: bool,
+        keys: bool,
         memory: Option<u64>,
     },
     /// Writes the statistics of a query's tables.
@@ -46,6 +49,13 @@ pub enum Command<'a> {
         stats: &'a str,
         budget: u64,
         memory: Option<u64>,
+    },
+    /// Writes a file of statistics as it is after new rows of one of its tables.
+    Append {
+        schema: &'a str,
+        stats: &'a str,
+        table: &'a str,
+        rows: &'a str,
     },
     /// Audits the query of a shop that is made from a number.
     Demo {

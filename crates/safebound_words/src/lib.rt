@@ -19,8 +19,8 @@ mod table;
 mod words;
 
 pub use cases::{
-    small_commands, small_flags, small_limits, small_options, small_refusals, small_statistics,
-    small_trees,
+    small_appends, small_commands, small_flags, small_keys, small_limits, small_options,
+    small_refusals, small_statistics, small_trees,
 };
 pub use command::{Command, WordsError};
 pub use laws::{one_command, one_reading};

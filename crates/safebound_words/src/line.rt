@@ -8,12 +8,14 @@ use crate::command::WordsError;
 use crate::kind::{Kind, kind_of};
 use crate::table::{CommandName, FlagName, OptionName};
 
-/// The place words so far. No command has more than two.
+/// The place words so far. No command has more than four.
 #[derive(Clone, Copy)]
 pub(crate) enum Places<'a> {
     Nothing,
     One(&'a str),
     Two(&'a str, &'a str),
+    Three(&'a str, &'a str, &'a str),
+    Four(&'a str, &'a str, &'a str, &'a str),
 }
 
 /// What the next word is: an item, an option's value, or, behind `--`, a place word.
@@ -34,6 +36,7 @@ pub(crate) struct Line<'a> {
     pub stats: Option<&'a str>,
     pub reduce: bool,
     pub bushy: bool,
+    pub keys: bool,
 }
 
 // Puts a word where there is none.
@@ -61,17 +64,19 @@ fn mark(marked: &mut bool) -> Result<(), WordsError>
 }
 
 impl<'a> Line<'a> {
-    // One place word more, where there are fewer than two.
+    // One place word more, where there are fewer than four.
     fn add_place(&mut self, word: &'a str) -> Result<(), WordsError>
         ensures ok { OnOk result (words_of self.new.places ≡ words_of self.old.places ++ word.now ∷ []) }
         ensures given { (option : OptionName) → given_to self.new option ≡ given_to self.old option }
         ensures times { (flag : FlagName) → times_of self.new flag ≡ times_of self.old flag }
-        ensures full { OnErr result (length (words_of self.old.places) ≡ 2) }
+        ensures full { OnErr result (length (words_of self.old.places) ≡ 4) }
     {
         self.places = match self.places {
             Places::Nothing => Places::One(word),
             Places::One(first) => Places::Two(first, word),
-            Places::Two(_, _) => return Err(WordsError::Usage),
+            Places::Two(first, second) => Places::Three(first, second, word),
+            Places::Three(first, second, third) => Places::Four(first, second, third, word),
+            Places::Four(_, _, _, _) => return Err(WordsError::Usage),
         };
         Ok(())
     }
@@ -103,6 +108,7 @@ impl<'a> Line<'a> {
         match flag {
             FlagName::Reduce => mark(&mut self.reduce),
             FlagName::Bushy => mark(&mut self.bushy),
+            FlagName::Keys => mark(&mut self.keys),
         }
     }
 
@@ -167,6 +173,7 @@ pub(crate) fn read_line<'a>(name: CommandName, words: &[&'a str]) -> Result<Line
         stats: None,
         reduce: false,
         bushy: false,
+        keys: false,
     };
     let mut next = Next::Item;
     'words: for word in words {

@@ -3,7 +3,7 @@ ghost use Rattle.std.specs.Prelude.{◌≡◌, ◌≤◌, ℕ, Bool, IfSome, Opt
 ghost use Rattle.std.specs.Option.{option_map};
 ghost use Rattle.safebound_words.specs.Collected.{collected, given_of, option_words, words_of};
 ghost use Rattle.safebound_words.specs.Requests.{Audit, Request, Run, request_of};
-ghost use Rattle.safebound_words.specs.Table.{is_file, limit_of, most_budget_of, of_number as asked_of_number, of_plan, of_stats, option_row, over_files as asked_over_files, planned_from, value_of as option_value};
+ghost use Rattle.safebound_words.specs.Table.{is_file, limit_of, most_budget_of, of_append as asked_of_append, of_number as asked_of_number, of_plan, of_stats, option_row, over_files as asked_over_files, planned_from, value_of as option_value};
 ghost use Rattle.safebound_words.specs.Words.{Word};
 ghost use Rattle.safebound_words.specs.declared.table.OptionName.TheVariants as option;
 
@@ -22,6 +22,7 @@ struct OverFiles<'a> {
     accuracy: u8,
     reduce: bool,
     bushy: bool,
+    keys: bool,
     memory: Option<u64>,
 }
 
@@ -59,8 +60,8 @@ fn most_budget(bushy: bool) -> u64
 // SCHEMA and QUERY, where these are the place words, and where each option has a value.
 #[tactic(auto, unfolding(crate::specs::Table::over_files))]
 fn over_files<'a>(line: &Line<'a>) -> Option<OverFiles<'a>>
-    ensures { (request : Word → Word → ℕ → ℕ → Bool → Bool → Option ℕ → Request) →
-        option_map (λ files. request files.schema.now files.query.now files.budget files.accuracy files.reduce files.bushy files.memory) result
+    ensures { (request : Word → Word → ℕ → ℕ → Bool → Bool → Bool → Option ℕ → Request) →
+        option_map (λ files. request files.schema.now files.query.now files.budget files.accuracy files.reduce files.bushy files.keys files.memory) result
         ≡ asked_over_files request (words_of line.now.places) (given_of line.now) }
 {
     let memory = limit_in(line)?;
@@ -69,6 +70,9 @@ fn over_files<'a>(line: &Line<'a>) -> Option<OverFiles<'a>>
     };
     let budget = value_of(OptionName::Budget, line.budget)?;
     let accuracy = value_of(OptionName::Accuracy, line.accuracy)?;
+    if line.keys && (line.reduce || line.bushy) {
+        return None;
+    }
     if budget > most_budget(line.bushy) {
         return None;
     }
@@ -79,6 +83,7 @@ fn over_files<'a>(line: &Line<'a>) -> Option<OverFiles<'a>>
         accuracy: accuracy as u8,
         reduce: line.reduce,
         bushy: line.bushy,
+        keys: line.keys,
         memory,
     })
 }
@@ -102,7 +107,7 @@ fn plan_from<'a>(line: &Line<'a>, stats: &'a str) -> Option<Command<'a>>
         return None;
     };
     let budget = value_of(OptionName::Budget, line.budget)?;
-    if line.accuracy.is_some() || line.reduce || line.bushy {
+    if line.accuracy.is_some() || line.reduce || line.bushy || line.keys {
         return None;
     }
     Some(Command::PlanStats {
@@ -127,6 +132,7 @@ fn plan_of<'a>(line: &Line<'a>) -> Option<Command<'a>>
             accuracy: files.accuracy,
             reduce: files.reduce,
             bushy: files.bushy,
+            keys: files.keys,
             memory: files.memory,
         });
     };
@@ -148,6 +154,21 @@ fn stats_of<'a>(line: &Line<'a>) -> Option<Command<'a>>
         schema,
         query,
         accuracy: accuracy as u8,
+    })
+}
+
+// New rows of a table: SCHEMA, STATS, TABLE and ROWS.
+fn append_of<'a>(line: &Line<'a>) -> Option<Command<'a>>
+    ensures { option_map request_of result ≡ asked_of_append (words_of line.now.places) (given_of line.now) }
+{
+    let Places::Four(schema, stats, table, rows) = line.places else {
+        return None;
+    };
+    Some(Command::Append {
+        schema,
+        stats,
+        table,
+        rows,
     })
 }
 
@@ -175,6 +196,7 @@ fn run_of<'a>(line: &Line<'a>) -> Option<Command<'a>>
         accuracy: files.accuracy,
         reduce: files.reduce,
         bushy: files.bushy,
+        keys: files.keys,
         memory: files.memory,
     })
 }
@@ -191,6 +213,7 @@ fn audit_of<'a>(line: &Line<'a>) -> Option<Command<'a>>
         accuracy: files.accuracy,
         reduce: files.reduce,
         bushy: files.bushy,
+        keys: files.keys,
         memory: files.memory,
     })
 }
@@ -204,6 +227,7 @@ pub(crate) fn command_of<'a>(name: CommandName, line: &Line<'a>) -> Option<Comma
         CommandName::Plan => plan_of(line),
         CommandName::Stats => stats_of(line),
         CommandName::Audit => audit_of(line),
+        CommandName::Append => append_of(line),
         CommandName::Demo => {
             let number = of_number(line)?;
             Some(Command::Demo { number })

@@ -19,6 +19,7 @@ pub enum CommandName {
     Plan,
     Audit,
     Stats,
+    Append,
     Demo,
 }
 
@@ -36,6 +37,7 @@ pub enum OptionName {
 pub enum FlagName {
     Reduce,
     Bushy,
+    Keys,
 }
 
 /// The least and the greatest value of an option, and its value where it doesn't stand.
@@ -90,6 +92,8 @@ pub(crate) fn command_named(word: &str) -> Option<CommandName>
         Some(CommandName::Audit)
     } else if word == "stats" {
         Some(CommandName::Stats)
+    } else if word == "append" {
+        Some(CommandName::Append)
     } else if word == "demo" {
         Some(CommandName::Demo)
     } else {
@@ -148,6 +152,8 @@ fn any_flag_named(word: &str) -> Option<FlagName>
         Some(FlagName::Reduce)
     } else if word == "--bushy" {
         Some(FlagName::Bushy)
+    } else if word == "--keys" {
+        Some(FlagName::Keys)
     } else {
         None
     }
@@ -161,7 +167,7 @@ pub(crate) fn option_named(name: CommandName, word: &str) -> Option<OptionName>
         CommandName::Run | CommandName::Audit => number_named(word),
         CommandName::Plan => any_option_named(word),
         CommandName::Stats => accuracy_named(word),
-        CommandName::Demo => None,
+        CommandName::Append | CommandName::Demo => None,
     }
 }
 
@@ -169,7 +175,10 @@ pub(crate) fn option_named(name: CommandName, word: &str) -> Option<OptionName>
 pub(crate) fn flag_named(name: CommandName, word: &str) -> Option<FlagName>
     ensures flag { result ≡ named_flag name word.now }
 {
-    if matches!(name, CommandName::Stats | CommandName::Demo) {
+    if matches!(
+        name,
+        CommandName::Stats | CommandName::Append | CommandName::Demo
+    ) {
         return None;
     }
     any_flag_named(word)

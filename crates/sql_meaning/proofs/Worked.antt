@@ -1,5 +1,5 @@
 -- Worked examples, by computation.
-use Rattle.std.proofs.Common.{◌≡◌, ℕ, zero, suc, ◌<◌, ◌^◌, Bool, Some, option_map, lit<, not, ◌&&◌, ◌||◌, true, false, List, [], ◌∷◌, length, map, slice_index, pos, refl, ap, ◌∙◌, arith}
+use Rattle.std.proofs.Common.{◌≡◌, ℕ, zero, suc, ◌<◌, ◌≤◌, ◌^◌, Bool, Some, option_map, lit≤, not, ◌&&◌, ◌||◌, true, false, List, [], ◌∷◌, length, map, slice_index, pos, refl, ap, ◌∙◌, arith}
 use Rattle.std.specs.List.{filter, range_with_len, slice_get, All}
 use Rattle.std.proofs.lemmas.List.Elements.{All-from_recursion, filter_agree}
 use Rattle.csv_tables.specs.Values.{Int}
@@ -100,16 +100,23 @@ in_order : (first second : List ℕ) → length first ≡ 3 → length second �
     → AreCells [] (three_rows first second)
 in_order first second h k small others = (record { height = h; cells = small }, (record { height = k; cells = others }, tt))
 
+few_in_triangle : (entry : ℕ) → entry < 3 → row_counts (tables_of triangle_tables) entry ≤ 4000000
+few_in_triangle zero low = omega arith
+few_in_triangle (suc zero) low = omega arith
+few_in_triangle (suc (suc zero)) low = omega arith
+few_in_triangle (suc (suc (suc entry))) low = absurd (omega arith)
+
 pub triangle_fits : IsDatabaseOf triangle triangle_tables
 triangle_fits = record {
   some = omega arith;
   few = omega arith;
-  few_conjuncts = lit< tt;
+  few_conjuncts = lit≤ tt;
   entries = refl;
   tables = record {
     cells = All-from_recursion (AreCells []) triangle_tables.cells (in_order (1 ∷ 1 ∷ 2 ∷ []) (1 ∷ 2 ∷ 1 ∷ []) refl refl (few 1 1 2 (omega arith) (omega arith) (omega arith)) (few 1 2 1 (omega arith) (omega arith) (omega arith)), (in_order (1 ∷ 1 ∷ 2 ∷ []) (1 ∷ 2 ∷ 1 ∷ []) refl refl (few 1 1 2 (omega arith) (omega arith) (omega arith)) (few 1 2 1 (omega arith) (omega arith) (omega arith)), (in_order (1 ∷ 2 ∷ 1 ∷ []) (1 ∷ 1 ∷ 2 ∷ []) refl refl (few 1 2 1 (omega arith) (omega arith) (omega arith)) (few 1 1 2 (omega arith) (omega arith) (omega arith)), tt)));
     slots = All-from_recursion (λ slot. slot < 3) (0 ∷ 1 ∷ 2 ∷ []) (omega arith, (omega arith, (omega arith, tt)));
   };
+  few_rows = few_in_triangle;
   one_place = λ i j low high same. same;
   conjuncts = All-from_recursion (IsAskable triangle_tables) triangle.conjuncts (
     equality 0 0 1 0 (omega arith) (omega arith) (omega arith) (omega arith),

@@ -1,5 +1,6 @@
 -- When a database is of a query.
-use Rattle.std.specs.Prelude.{◌≡◌, ℕ, ◌<◌, ◌≤◌, ◌^◌, Bool, true, false, List, length, map, All, Some, option_map, slice_get, slice_index, ⊤}
+use Rattle.std.specs.Prelude.{◌≡◌, ℕ, ◌<◌, ◌≤◌, Bool, true, false, List, length, map, All, Some, option_map, slice_get, slice_index, ⊤}
+use Rattle.limits.specs.Profile.{most_conjuncts, most_rows}
 use Rattle.csv_tables.specs.Cells.{AreColumns}
 use Rattle.csv_tables.specs.declared.types.Cells.{Cells}
 use Rattle.csv_tables.specs.declared.types.Database.{Database}
@@ -11,7 +12,7 @@ use Rattle.query_types.specs.declared.types.Cond.{Cond, every-Cond}
 use Rattle.query_types.specs.declared.types.Cond.TheOpen.{Cond-F}
 use Rattle.query_types.specs.declared.types.Cond.TheOpen as layer
 use Rattle.query_types.specs.declared.types.Query.{Query}
-use Rattle.sql_meaning.specs.Tables.{cells_of}
+use Rattle.sql_meaning.specs.Tables.{cells_of, row_counts, tables_of}
 
 -- cells of which each column has one for each row, and each cell of a text is the number of one in the pool
 abbrev pub AreCells : List (List ℕ) → Cells → Type 0
@@ -60,14 +61,15 @@ pub record AreTables (db : Database) : Type 0 where
   pub cells : All (AreCells db.pool) db.cells
   pub slots : All (λ slot. slot < length db.cells) db.slots
 
--- the database is of the query: it has a table for each FROM entry, one for entries of one table, and all columns
--- that the query names, with the kinds that its comparisons need
+-- the database is of the query: it has a table for each FROM entry, one for entries of one table and none of too many
+-- rows, and all columns that the query names, with the kinds that its comparisons need
 pub record IsDatabaseOf (query : Query) (db : Database) : Type 0 where
   pub some : 0 < length query.from
   pub few : length query.from ≤ 12
-  pub few_conjuncts : length query.conjuncts < 2 ^ 32
+  pub few_conjuncts : length query.conjuncts ≤ most_conjuncts
   pub entries : length db.slots ≡ length query.from
   pub tables : AreTables db
+  pub few_rows : (entry : ℕ) → entry < length query.from → row_counts (tables_of db) entry ≤ most_rows
   pub one_place : (i j : ℕ) → i < length query.from → j < length query.from
       → slice_index (map (λ source. source.table) query.from) i ≡ slice_index (map (λ source. source.table) query.from) j
       → slice_index db.slots i ≡ slice_index db.slots j

@@ -1,5 +1,5 @@
 -- A query that a text may be answered with is a query of the schema.
-use Rattle.std.proofs.Common.{◌≡◌, inl, inr, ℕ, ◌≤◌, List, [], ◌∷◌, ◌++◌, length, Result, Ok, Err, subst, sym, refl, arith}
+use Rattle.std.proofs.Common.{◌≡◌, inl, inr, ℕ, ◌≤◌, List, [], ◌∷◌, ◌++◌, length, Result, Ok, Err, subst, sym, refl}
 use Rattle.std.specs.Prelude.{IfOk}
 use Rattle.limits.specs.Profile.{most_conjuncts, most_entries, most_outputs}
 use Rattle.ll_grammars.specs.declared.lexeme.Lexeme.{Lexeme}
@@ -53,9 +53,9 @@ bound_of_schema schema text tokens tree query spelled is =
     let first_three : (many_entries ++ lists) ++ many_conjuncts ≡ [] = none_before ((many_entries ++ lists) ++ many_conjuncts) many_outputs limits in
     let first_two : many_entries ++ lists ≡ [] = none_before (many_entries ++ lists) many_conjuncts first_three in
     let few : length from ≤ 12 = not_over limit.FromEntries most_entries (length from) (none_before many_entries lists first_two) in
-    let few_conjuncts : length (conjuncts schema text from tree) ≤ 256 = not_over limit.Conjuncts most_conjuncts (length (conjuncts schema text from tree)) (none_behind (many_entries ++ lists) many_conjuncts first_three) in
+    let few_conjuncts : length (conjuncts schema text from tree) ≤ most_conjuncts = not_over limit.Conjuncts most_conjuncts (length (conjuncts schema text from tree)) (none_behind (many_entries ++ lists) many_conjuncts first_three) in
     subst (IsOf schema) parts.1
-    (of_schema schema text tree (some_entries schema text tokens tree spelled) few (omega arith)
+    (of_schema schema text tree (some_entries schema text tokens tree spelled) few few_conjuncts
     (no_place name_error (name_offences schema text from tree) (none_before names kinds bad))
     (no_place kind_error (all_kind_offences schema text from tree) (none_behind names kinds bad)))
 

@@ -1,9 +1,10 @@
 -- A query without offences against names and kinds is a query of the schema.
-use Rattle.std.proofs.Common.{◌≡◌, ℕ, suc, ◌+◌, ◌^◌, ◌<◌, ◌≤◌, false, List, [], ◌∷◌, ◌++◌, All, length, map, Option, Some, None, ap, subst, sym, ◌∙◌, refl, arith}
+use Rattle.std.proofs.Common.{◌≡◌, ℕ, suc, ◌+◌, ◌<◌, ◌≤◌, false, List, [], ◌∷◌, ◌++◌, All, length, map, Option, Some, None, ap, subst, sym, ◌∙◌, refl, arith}
 use Rattle.std.specs.Prelude.{is_none, slice_get, unwrap_or}
 use Rattle.std.specs.List.{flat_map}
 use Rattle.std.proofs.lemmas.List.{length-map}
 use Rattle.std.proofs.lemmas.List.Elements.{All-nil, All-cons, All-append}
+use Rattle.limits.specs.Profile.{most_conjuncts}
 use Rattle.ll_grammars.specs.declared.lexeme.Lexeme.{Lexeme}
 use Rattle.sql_tokens.specs.Words.{name_of}
 use Rattle.query_grammar.specs.declared.tree.ColumnText.{ColumnText}
@@ -118,7 +119,7 @@ from_are schema text query none = sources_of_schema schema text [] (sources quer
 
 module _ (schema : Schema) (text : List ℕ) (query : QueryText) where
   pub of_schema : 0 < length (entries schema text query) → length (entries schema text query) ≤ 12
-      → length (conjuncts schema text (entries schema text query) query) < 2 ^ 32
+      → length (conjuncts schema text (entries schema text query) query) ≤ most_conjuncts
       → name_offences schema text (entries schema text query) query ≡ [] → all_kind_offences schema text (entries schema text query) query ≡ []
       → IsOf schema (query_of schema text query)
   unfolding name_offences query_of

@@ -27,6 +27,7 @@ use Rattle.sql_meaning.specs.Tables.{cells_of}
 use Rattle.sql_meaning.proofs.ConditionFacts.{every_and, every_or, every_not, every_compare}
 use Rattle.table_files.specs.EntryTables.{AreCellsOfEach, HasCells}
 use Rattle.table_files.specs.Stage.{different, no_table, numbers_of, place_of, table_at, tables_of_query}
+use Rattle.table_files.proofs.FewRows.{HasFewRows, tables_are_few}
 use Rattle.table_files.proofs.EntryRows.{db, each_long, each_sound, has_cells, place_low, slot_is}
 use Rattle.table_files.proofs.PlaceFacts.{different_all, different_short}
 
@@ -106,7 +107,7 @@ module _ (schema : Schema) (query : Query) (d : Database) (has : HasCells schema
 -- ---- the database
 
 module _ (schema : Schema) (query : Query) (texts : List (List ℕ)) (cells : List Cells) (is_of : valid.IsOf schema query)
-    (are : AreCellsOfEach schema texts (tables_of_query query.from) cells) where
+    (are : AreCellsOfEach schema texts (tables_of_query query.from) cells) (few : All HasFewRows cells) where
   abbrev d : Database
   d = db schema query.from texts cells
 
@@ -127,6 +128,7 @@ module _ (schema : Schema) (query : Query) (texts : List (List ℕ)) (cells : Li
       cells = All-from_recursion (asked.AreCells texts) cells (each_sound schema texts (tables_of_query query.from) cells are);
       slots = slots_low;
     };
+    few_rows = λ entry low. tables_are_few d few entry;
     one_place = λ i j lowi lowj same. slot_is schema query.from texts cells i lowi ∙ ap (place_of (tables_of_query query.from)) same
         ∙ sym (slot_is schema query.from texts cells j lowj);
     conjuncts = λ i e low. askable schema query d (has_cells schema query.from texts cells are) long_slots (get_or query.conjuncts i e) (is_of.conjuncts i e low);

@@ -19,9 +19,9 @@ use Rattle.outcomes.specs.declared.names.FileId.{FileId}
 use Rattle.outcomes.specs.declared.names.FileId.TheVariants as file
 use Rattle.outcomes.specs.declared.refusal.Refusal.{Refusal}
 use Rattle.outcomes.proofs.ReadFacts.{Meets, joined, reads_as, then_gives, then_reads, then_stops}
-use Rattle.table_files.specs.EntryTables.{AreCellsOfEach, rows_of_tables}
+use Rattle.table_files.specs.EntryTables.{AreCellsOfEach, AreOfAFile, AreOfFilesEach, rows_of_tables}
 use Rattle.table_files.specs.Stage.{IsReached, no_table, rows_of_each, table_at, table_rows}
-use Rattle.table_files.specs.TableFile.{file_rows}
+use Rattle.table_files.specs.TableFile.{file_rows, rows_in}
 
 abbrev AllRows : Type 0
 AllRows = Result (List (List Row)) Refusal
@@ -118,12 +118,20 @@ rows-push : (texts : List (List ℕ)) (found : List Cells) (c : Cells) → rows_
 rows-push texts [] c = refl
 rows-push texts (d ∷ ds) c = ap (λ (others : List (List Row)). rows_of_cells texts d ∷ others) (rows-push texts ds c)
 
+files-push : (schema : Schema) (numbers : List ℕ) (rows : List (List Row)) (n : ℕ) (r : List Row) → AreOfFilesEach schema numbers rows → AreOfAFile (table_at schema n) r
+    → AreOfFilesEach schema (numbers ++ n ∷ []) (rows ++ r ∷ [])
+files-push schema [] [] n r h k = (k, tt)
+files-push schema [] (s ∷ rows) n r h k = absurd h
+files-push schema (m ∷ ms) [] n r h k = absurd h
+files-push schema (m ∷ ms) (s ∷ rows) n r h k = (h.0, files-push schema ms rows n r h.1 k)
+
 -- ---- the loop over the tables
 
 -- the tables before place i are read
 pub record SoFar (schema : Schema) (numbers : List ℕ) (store : Reading) (i : ℕ) (texts : List (List ℕ)) (found : List Cells) : Type 0 where
   pub cells : AreCellsOfEach schema texts (take i numbers) found
   pub reads : Reads store (rows_of_each schema (take i numbers)) Anywhere (Ok (rows_of_tables texts found))
+  pub files : AreOfFilesEach schema (take i numbers) (rows_of_tables texts found)
   pub few : length texts ≤ i * 256000000
 
 parts_at : (numbers : List ℕ) (i n : ℕ) → i < length numbers → n ≡ get_or numbers i 0 → take i numbers ++ (n ∷ drop (i + 1) numbers) ≡ numbers
@@ -140,7 +148,15 @@ module _ (schema : Schema) (n : ℕ) (t : Table) (declared : slice_get schema.ta
       → Reads store (table_rows schema n) (AtFile (file.Table n)) answer
   named_rows store answer k = subst (λ (u : Table). Reads store (file_rows n u) (AtFile (file.Table n)) answer) same_table k
 
-  named_cells : (texts : List (List ℕ)) (c : Cells) → AreCellsOf t texts c → AreCellsOf (table_at schema n) texts c
+  -- its rows in a file of another name
+  pub rows_named : (name : List ℕ) (store : Reading) (answer : Result (List Row) Ending) → Reads store (rows_in n t name) (AtFile (file.Table n)) answer
+      → Reads store (rows_in n (table_at schema n) name) (AtFile (file.Table n)) answer
+  rows_named name store answer k = subst (λ (u : Table). Reads store (rows_in n u name) (AtFile (file.Table n)) answer) same_table k
+
+  named_file : (rows : List Row) → AreOfAFile t rows → AreOfAFile (table_at schema n) rows
+  named_file rows h = subst (λ (u : Table). AreOfAFile u rows) same_table h
+
+  pub named_cells : (texts : List (List ℕ)) (c : Cells) → AreCellsOf t texts c → AreCellsOf (table_at schema n) texts c
   named_cells texts c h = subst (λ (u : Table). AreCellsOf u texts c) same_table h
 
 module _ (schema : Schema) (numbers : List ℕ) (first second : Reading) (meets : Meets first second) (i n : ℕ) (a : List (List ℕ)) (found : List Cells)
@@ -153,9 +169,9 @@ module _ (schema : Schema) (numbers : List ℕ) (first second : Reading) (meets 
   taken : take (i + 1) numbers ≡ take i numbers ++ n ∷ []
   taken = take_more numbers i 0 lt ∙ ap (λ (m : ℕ). take i numbers ++ m ∷ []) (sym is)
 
-  pub next_read : (b : List (List ℕ)) (c : Cells) → BeginsWith a b → length b ≤ length a + 256000000 → AreCellsOf t b c
+  pub next_read : (b : List (List ℕ)) (c : Cells) → BeginsWith a b → length b ≤ length a + 256000000 → AreCellsOf t b c → AreOfAFile t (rows_of_cells b c)
       → Reads second (file_rows n t) (AtFile (file.Table n)) (Ok (rows_of_cells b c)) → SoFar schema numbers (joined first second) (i + 1) b (found ++ c ∷ [])
-  next_read b c begins more cells k =
+  next_read b c begins more cells file k =
       let rows : rows_of_tables a found ++ rows_of_cells b c ∷ [] ≡ rows_of_tables b (found ++ c ∷ []) =
       ap (λ (l : List (List Row)). l ++ rows_of_cells b c ∷ []) (sym (each_rows-grown schema a b begins (take i numbers) found so_far.cells)) ∙ sym (rows-push b found c) in
       record {
@@ -164,5 +180,8 @@ module _ (schema : Schema) (numbers : List ℕ) (first second : Reading) (meets 
         reads = subst (λ (l : List ℕ). Reads (joined first second) (rows_of_each schema l) Anywhere (Ok (rows_of_tables b (found ++ c ∷ [])))) (sym taken)
             (subst (λ (v : List (List Row)). Reads (joined first second) (rows_of_each schema (take i numbers ++ n ∷ [])) Anywhere (Ok v)) rows
             (each_more schema first second meets (take i numbers) n (rows_of_tables a found) so_far.reads (rows_of_cells b c) (named_rows schema n t declared second (Ok (rows_of_cells b c)) k)));
+        files = subst (λ (l : List ℕ). AreOfFilesEach schema l (rows_of_tables b (found ++ c ∷ []))) (sym taken)
+            (subst (λ (v : List (List Row)). AreOfFilesEach schema (take i numbers ++ n ∷ []) v) rows
+            (files-push schema (take i numbers) (rows_of_tables a found) n (rows_of_cells b c) so_far.files (named_file schema n t declared (rows_of_cells b c) file)));
         few = omega (arith, so_far.few, more);
       }

@@ -14,7 +14,7 @@ use Rattle.csv_tables.specs.declared.types.Database.{Database}
 use Rattle.query_types.specs.declared.types.Source.{Source}
 use Rattle.sql_meaning.specs.Databases.{AreCells}
 use Rattle.sql_meaning.specs.Tables.{cells_of, no_cells, tables_of}
-use Rattle.table_files.specs.EntryTables.{AreCellsOfEach, HasCells, entry_rows, rows_of_tables}
+use Rattle.table_files.specs.EntryTables.{AreCellsOfEach, AreOfAFile, AreOfFiles, AreOfFilesEach, HasCells, entry_rows, rows_of_tables}
 use Rattle.table_files.specs.Stage.{different, numbers_of, place_of, rows_by_entry, table_at, tables_of_query}
 use Rattle.table_files.proofs.PlaceFacts.{at_place, has_different, has_each, has_place}
 
@@ -49,6 +49,13 @@ each_at schema texts [] cells k h lt = absurd (omega arith)
 each_at schema texts (n ∷ ns) [] k h lt = absurd h
 each_at schema texts (n ∷ ns) (c ∷ cs) zero h lt = h.0
 each_at schema texts (n ∷ ns) (c ∷ cs) (suc k) h lt = each_at schema texts ns cs k h.1 (omega arith)
+
+file_at : (schema : Schema) (numbers : List ℕ) (rows : List (List Row)) (k : ℕ) → AreOfFilesEach schema numbers rows → k < length numbers
+    → AreOfAFile (table_at schema (get_or numbers k 0)) (get_or rows k [])
+file_at schema [] rows k h lt = absurd (omega arith)
+file_at schema (n ∷ ns) [] k h lt = absurd h
+file_at schema (n ∷ ns) (r ∷ rs) zero h lt = h.0
+file_at schema (n ∷ ns) (r ∷ rs) (suc k) h lt = file_at schema ns rs k h.1 (omega arith)
 
 -- ---- the database of the tables of a query
 
@@ -86,3 +93,16 @@ module _ (schema : Schema) (from : List Source) (texts : List (List ℕ)) (cells
       map_same (λ number. get_or (rows_of_tables texts cells) (place_of Numbers number) []) (λ number. rows_at (place_of Numbers number))
       (λ number. listn.get_or-map (rows_of_cells texts) cells (place_of Numbers number) no_cells) (numbers_of from)
       ∙ sym (map-map rows_at (place_of Numbers) (numbers_of from)) ∙ sym (each_place rows_at db.slots)
+
+  -- each entry has the rows of a file of its table
+  pub has_files : AreOfFilesEach schema Numbers (rows_of_tables texts cells) → AreOfFiles schema from (tables_of db)
+  has_files are entry lt =
+      let number : ℕ = get_or (numbers_of from) entry 0 in
+      let place : ℕ = place_of Numbers number in
+      let here : AreOfAFile (table_at schema (get_or Numbers place 0)) (get_or (rows_of_tables texts cells) place []) =
+      file_at schema Numbers (rows_of_tables texts cells) place are (place_low entry lt) in
+      let named : AreOfAFile (table_at schema number) (get_or (rows_of_tables texts cells) place []) =
+      subst (λ (m : ℕ). AreOfAFile (table_at schema m) (get_or (rows_of_tables texts cells) place [])) (at_place Numbers number (place_low entry lt)) here in
+      let rows : get_or (rows_of_tables texts cells) place [] ≡ tables_of db entry =
+      listn.get_or-map (rows_of_cells texts) cells place no_cells ∙ ap (λ (slot : ℕ). rows_of_cells texts (get_or cells slot no_cells)) (sym (slot_is entry lt)) in
+      subst (AreOfAFile (table_at schema number)) rows named

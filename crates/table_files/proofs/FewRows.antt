@@ -47,15 +47,15 @@ few_records columns places width number (fields ∷ records) rows low is =
 
 -- ---- the steps of a file
 
-then_ok : {A B : Type 0} (r : Result A TableError) (f : A → Result B TableError) (y : B) → (r >>= f) ≡ Ok y → (x : A) × (r ≡ Ok x) × (f x ≡ Ok y)
+pub then_ok : {A B : Type 0} (r : Result A TableError) (f : A → Result B TableError) (y : B) → (r >>= f) ≡ Ok y → (x : A) × (r ≡ Ok x) × (f x ≡ Ok y)
 then_ok (Ok x) f y is = (x, refl, is)
 then_ok (Err e) f y is = absurd cc
 
-not_refused : {A : Type 0} (test : Bool) (e : TableError) (next : Result A TableError) (y : A) → refuse_if test e next ≡ Ok y → next ≡ Ok y
+pub not_refused : {A : Type 0} (test : Bool) (e : TableError) (next : Result A TableError) (y : A) → refuse_if test e next ≡ Ok y → next ≡ Ok y
 not_refused true e next y is = absurd cc
 not_refused false e next y is = is
 
-with_keys : (keys : List (List ℕ)) (rows found : List Row) → rows_with_keys keys rows ≡ Ok found → rows ≡ found
+pub with_keys : (keys : List (List ℕ)) (rows found : List Row) → rows_with_keys keys rows ≡ Ok found → rows ≡ found
 with_keys [] rows found is = cc
 with_keys (key ∷ keys) rows found is =
     (elim (first_repeat key rows) as (λ repeat. or_rows rows repeat (rows_with_keys keys rows) ≡ Ok found → rows ≡ found) [

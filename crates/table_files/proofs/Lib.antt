@@ -3,8 +3,10 @@ pub mod EachTable
 pub mod EntryLaws
 pub mod EntryRows
 pub mod FewRows
+pub mod FileKeys
 pub mod Loads
 pub mod OneTable
 pub mod PlaceFacts
 pub mod SameTables
 pub mod StageFacts
+pub mod StagedFiles

@@ -1,5 +1,6 @@
 -- The stage of a query's tables, from the reading of each.
 use Rattle.std.proofs.Common.{◌≡◌, ℕ, List, map, Result, Ok, Err, ap, sym, ◌∙◌, subst}
+use Rattle.std.specs.Prelude.{All}
 use Rattle.base_io.specs.Files.{Files}
 use Rattle.schema_types.specs.declared.types.Schema.{Schema}
 use Rattle.csv_tables.specs.Rows.{Row}
@@ -9,16 +10,18 @@ use Rattle.query_types.specs.Validity.{IsOf}
 use Rattle.query_types.specs.declared.types.Query.{Query}
 use Rattle.query_types.specs.declared.types.Source.{Source}
 use Rattle.sql_meaning.specs.Databases.{IsDatabaseOf}
+use Rattle.sql_meaning.specs.Tables.{tables_of}
 use Rattle.base_io.specs.Devices.{Reading}
 use Rattle.outcomes.specs.Reads.{Reads}
 use Rattle.outcomes.specs.declared.ending.Ending.{Ending}
 use Rattle.outcomes.specs.declared.names.FileId.{FileId}
 use Rattle.outcomes.specs.declared.refusal.Refusal.{Refusal}
 use Rattle.outcomes.proofs.ReadFacts.{then_gives, then_stops}
-use Rattle.table_files.specs.EntryTables.{AreCellsOfEach, HasCells, entry_rows, rows_of_tables}
+use Rattle.table_files.specs.EntryTables.{AreCellsOfEach, AreOfFiles, AreOfFilesEach, HasCells, entry_rows, rows_of_tables}
 use Rattle.table_files.specs.Stage.{IsReached, numbers_of, place_of, rows_by_entry, rows_of_each, tables_of_query, tables_stage}
+use Rattle.table_files.proofs.FewRows.{HasFewRows}
 use Rattle.table_files.proofs.Asked.{database_is}
-use Rattle.table_files.proofs.EntryRows.{db, has_cells, rows_by_place}
+use Rattle.table_files.proofs.EntryRows.{db, has_cells, has_files, rows_by_place}
 
 -- a database by its parts
 abbrev pub made : List (List ℕ) → List Cells → List ℕ → Database
@@ -54,8 +57,12 @@ module _ (schema : Schema) (from : List Source) where
     found_cells are = subst (HasCells schema from) made_is
         (has_cells schema from texts cells (subst (λ (ns : List ℕ). AreCellsOfEach schema texts ns cells) named are))
 
+    pub found_files : AreOfFilesEach schema numbers (rows_of_tables texts cells) → AreOfFiles schema from (tables_of (made texts cells slots))
+    found_files are = subst (λ (d : Database). AreOfFiles schema from (tables_of d)) made_is
+        (has_files schema from texts cells (subst (λ (ns : List ℕ). AreOfFilesEach schema ns (rows_of_tables texts cells)) named are))
+
 pub found_database : (schema : Schema) (query : Query) (texts : List (List ℕ)) (cells : List Cells) (slots numbers : List ℕ) → numbers ≡ tables_of_query query.from
-    → slots ≡ map (place_of numbers) (numbers_of query.from) → IsOf schema query → AreCellsOfEach schema texts numbers cells → IsDatabaseOf query (made texts cells slots)
-found_database schema query texts cells slots numbers named placed is_of are =
+    → slots ≡ map (place_of numbers) (numbers_of query.from) → IsOf schema query → AreCellsOfEach schema texts numbers cells → All HasFewRows cells → IsDatabaseOf query (made texts cells slots)
+found_database schema query texts cells slots numbers named placed is_of are few =
     subst (IsDatabaseOf query) (made_is schema query.from texts cells slots numbers named placed)
-    (database_is schema query texts cells is_of (subst (λ (ns : List ℕ). AreCellsOfEach schema texts ns cells) named are))
+    (database_is schema query texts cells is_of (subst (λ (ns : List ℕ). AreCellsOfEach schema texts ns cells) named are) few)

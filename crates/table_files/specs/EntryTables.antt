@@ -1,14 +1,17 @@
 -- What was read, as rows.
-use Rattle.std.specs.Prelude.{ℕ, ◌<◌, List, [], ◌∷◌, length, map, slice_index, slice_index_or, ⊤}
+use Rattle.std.specs.Prelude.{ℕ, ◌≡◌, ◌<◌, List, [], ◌∷◌, length, map, slice_index, slice_index_or, Ok, ⊤}
 use Rattle.std.specs.List.{range_with_len}
 use Rattle.schema_types.specs.declared.types.Schema.{Schema}
+use Rattle.schema_types.specs.declared.types.Table.{Table}
 use Rattle.csv_tables.specs.Cells.{AreCellsOf, rows_of_cells}
+use Rattle.csv_tables.specs.Files.{rows_of_file}
 use Rattle.csv_tables.specs.Rows.{Row}
 use Rattle.csv_tables.specs.declared.types.Cells.{Cells}
 use Rattle.csv_tables.specs.declared.types.Database.{Database}
 use Rattle.query_types.specs.declared.types.Source.{Source}
 use Rattle.sql_meaning.specs.Tables.{Tables, cells_of, tables_of}
 use Rattle.table_files.specs.Stage.{numbers_of, table_at}
+use Rattle.table_files.specs.declared.rows.TableRows.{TableRows}
 
 -- for each FROM entry of a database the rows of its table
 abbrev pub entry_rows : Database → List (List Row)
@@ -34,3 +37,24 @@ AreCellsOfEach schema texts (number ∷ numbers) (cells ∷ others) =
 -- the rows of the cells of tables
 abbrev pub rows_of_tables : List (List ℕ) → List Cells → List (List Row)
 rows_of_tables texts tables = map (rows_of_cells texts) tables
+
+-- the rows of one table
+abbrev pub rows_of_read : TableRows → List Row
+rows_of_read read = rows_of_cells read.pool read.cells
+
+-- ---- files
+
+-- the rows are those in some file of the table
+abbrev pub AreOfAFile : Table → List Row → Type 0
+AreOfAFile table rows = (bytes : List ℕ) × (rows_of_file table bytes ≡ Ok rows)
+
+-- each FROM entry has the rows in some file of its table
+abbrev pub AreOfFiles : Schema → List Source → Tables → Type 0
+AreOfFiles schema from tables = (entry : ℕ) → entry < length from → AreOfAFile (table_at schema (slice_index (numbers_of from) entry)) (tables entry)
+
+-- these are rows in some files of the tables with these numbers, one after the other
+abbrev pub AreOfFilesEach : Schema → List ℕ → List (List Row) → Type 0
+AreOfFilesEach schema [] [] = ⊤
+AreOfFilesEach schema [] (rows ∷ others) = ⊥
+AreOfFilesEach schema (number ∷ numbers) [] = ⊥
+AreOfFilesEach schema (number ∷ numbers) (rows ∷ others) = AreOfAFile (table_at schema number) rows × AreOfFilesEach schema numbers others

@@ -26,8 +26,12 @@ read id most name files = bytes_of id most (file_of files name)
 abbrev pub rows_of_bytes : ℕ → Table → List ℕ → Result (List Row) Refusal
 rows_of_bytes number table bytes = told (table_refusal number) (rows_of_file table bytes)
 
--- the rows of that table: its file is absent, too long, or refused for what it holds, or these are its rows
-unfoldable pub file_rows : ℕ → Table → Files → Result (List Row) Refusal
-file_rows number table files = do
-  bytes ← read (file.Table number) most_file (file_name table) files
+-- rows of that table in the file of this name: it is absent, too long, or refused for what it holds, or these are its rows
+abbrev pub rows_in : ℕ → Table → List ℕ → Files → Result (List Row) Refusal
+rows_in number table name files = do
+  bytes ← read (file.Table number) most_file name files
   rows_of_bytes number table bytes
+
+-- the rows of that table, in its own file
+unfoldable pub file_rows : ℕ → Table → Files → Result (List Row) Refusal
+file_rows number table files = rows_in number table (file_name table) files

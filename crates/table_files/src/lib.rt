@@ -14,10 +14,12 @@ mod examples;
 mod laws;
 mod load;
 mod numbers;
+mod rows;
 mod stage;
 mod table;
 
 pub use examples::{absences, orders};
 pub use laws::entries_have_their_rows;
 pub use load::load_file;
+pub use rows::{TableRows, read_rows};
 pub use stage::read_tables;

@@ -1,14 +1,13 @@
 //! The tables of a query.
-ghost use Rattle.std.specs.Prelude.{◌≡◌, ◌<◌, ◌≤◌, ℕ, All, IfOk, IsUtf8, length};
-ghost use Rattle.limits.specs.Profile.{most_rows};
+ghost use Rattle.std.specs.Prelude.{◌≡◌, ◌<◌, All, IfOk, IsUtf8, length};
 ghost use Rattle.csv_tables.specs.Pools.{AreDifferent};
 ghost use Rattle.base_io.specs.Devices.{reading};
 ghost use Rattle.outcomes.specs.Reads.{Reads, seen};
 ghost use Rattle.query_types.specs.Validity.{IsOf};
 ghost use Rattle.schema_types.specs.Validity.{IsValid};
 ghost use Rattle.sql_meaning.specs.Databases.{IsDatabaseOf};
-ghost use Rattle.sql_meaning.specs.Tables.{row_counts, tables_of};
-ghost use Rattle.table_files.specs.EntryTables.{HasCells, entry_rows, tables_in};
+ghost use Rattle.sql_meaning.specs.Tables.{tables_of};
+ghost use Rattle.table_files.specs.EntryTables.{AreOfFiles, HasCells, entry_rows, tables_in};
 ghost use Rattle.table_files.specs.Stage.{IsReached, tables_of_query, tables_stage};
 
 use crate::each::read_each;
@@ -41,12 +40,12 @@ pub fn read_tables<S: Store>(
     // Each table of the query has one place.
     ensures once { IfOk result (λ db. length db.cells ≡ length (tables_of_query query.now.from)) }
 
-    // No table has more rows than a file may have.
-    ensures few_rows { IfOk result (λ db. (entry : ℕ) → entry < length query.now.from → row_counts (tables_of db) entry ≤ most_rows) }
-
     // Its texts are UTF-8, and no two are equal.
     ensures texts { IfOk result (λ db. All IsUtf8 db.pool) }
     ensures different { IfOk result (λ db. AreDifferent db.pool) }
+
+    // Its tables are those in some files, whose columns and keys were found to be as the schema declares.
+    ensures files { IfOk result (λ db. AreOfFiles schema.now query.now.from (tables_of db)) }
 
     // Its tables are those of its rows.
     ensures tables { IfOk result (λ db. tables_in (entry_rows db) ≡ tables_of db) }

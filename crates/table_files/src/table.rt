@@ -6,8 +6,9 @@ ghost use Rattle.csv_tables.specs.Pools.{BeginsWith};
 ghost use Rattle.base_io.specs.Devices.{reading};
 ghost use Rattle.outcomes.specs.Reads.{AtFile, Reads, seen};
 ghost use Rattle.schema_types.specs.Validity.{IsValidTable};
+ghost use Rattle.table_files.specs.EntryTables.{AreOfAFile};
 ghost use Rattle.table_files.specs.FileNames.{file_name};
-ghost use Rattle.table_files.specs.TableFile.{file_rows};
+ghost use Rattle.table_files.specs.TableFile.{file_rows, rows_in};
 
 use crate::load::load_file;
 use base_io::{NoMemory, Store};
@@ -26,7 +27,35 @@ fn table_file_name(alloc: Global, table: &Table) -> Result<String, NoMemory>
     Ok(name)
 }
 
-/// Reads the file of the table with this number in the schema. Its bytes are let go once its cells stand.
+/// Reads rows of the table with this number in the schema from the file of this name. Its bytes are let go once its cells stand.
+pub(crate) fn load_rows<S: Store>(
+    alloc: Global,
+    store: &mut S,
+    number: u32,
+    table: &Table,
+    name: &str,
+    pool: &mut Pool,
+) -> Result<Cells, Ending>
+    requires valid { IsValidTable table.now }
+    requires room { length pool.old ≤ 4000000000 }
+    ensures cells { IfOk result (AreCellsOf table.now pool.new) }
+    ensures few { IfOk result (λ cells. cells.rows ≤ most_rows) }
+    ensures file { IfOk result (λ cells. AreOfAFile table.now (rows_of_cells pool.new cells)) }
+    ensures begins { IfOk result (λ _. BeginsWith pool.old pool.new) }
+    ensures more { IfOk result (λ _. length pool.new ≤ length pool.old + 256000000) }
+    ensures reads { Reads (reading S.files S.faults S.misses store.old store.new) (rows_in number table.now name.now)
+        (AtFile (FileId.Table number))
+        (seen (rows_of_cells pool.new) result) }
+{
+    let file = FileId::Table(number);
+    let bytes = load_file(alloc, store, file, name, MOST_FILE)?;
+    match read_table(alloc, table, bytes.as_slice(), pool) {
+        Ok(cells) => Ok(cells),
+        Err(error) => Err(table_ending(number, error)),
+    }
+}
+
+/// Reads the file of the table with this number in the schema.
 pub(crate) fn load_table<S: Store>(
     alloc: Global,
     store: &mut S,
@@ -38,6 +67,7 @@ pub(crate) fn load_table<S: Store>(
     requires room { length pool.old ≤ 4000000000 }
     ensures cells { IfOk result (AreCellsOf table.now pool.new) }
     ensures few { IfOk result (λ cells. cells.rows ≤ most_rows) }
+    ensures file { IfOk result (λ cells. AreOfAFile table.now (rows_of_cells pool.new cells)) }
     ensures begins { IfOk result (λ _. BeginsWith pool.old pool.new) }
     ensures more { IfOk result (λ _. length pool.new ≤ length pool.old + 256000000) }
     ensures reads { Reads (reading S.files S.faults S.misses store.old store.new) (file_rows number table.now)
@@ -47,10 +77,5 @@ pub(crate) fn load_table<S: Store>(
     let Ok(name) = table_file_name(alloc, table) else {
         return Err(Ending::NoMemory);
     };
-    let file = FileId::Table(number);
-    let bytes = load_file(alloc, store, file, name.as_str(), MOST_FILE)?;
-    match read_table(alloc, table, bytes.as_slice(), pool) {
-        Ok(cells) => Ok(cells),
-        Err(error) => Err(table_ending(number, error)),
-    }
+    load_rows(alloc, store, number, table, name.as_str(), pool)
 }

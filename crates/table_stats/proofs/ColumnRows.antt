@@ -1,7 +1,7 @@
 -- The columns of an entry's table, row by row.
-use Rattle.std.proofs.Common.{◌≡◌, ℕ, ◌<◌, true, List, length, map, get_or, pos, refl, ap, ◌∙◌, arith}
+use Rattle.std.proofs.Common.{◌≡◌, ◌↔◌, ℕ, ◌<◌, true, List, length, map, get_or, pos, refl, ap, sym, ◌∙◌, subst, arith}
 use Rattle.std.specs.List.{range_with_len, zip}
-use Rattle.std.proofs.lemmas.List.FromFn.{get_or-map-range_with_len, length-map-range_with_len}
+use Rattle.std.proofs.lemmas.List.FromFn.{fill_by_all, get_or-map-range_with_len, length-map-range_with_len}
 use Rattle.std.proofs.lemmas.List.{length-map}
 use Rattle.csv_tables.specs.Values.{Value, Int}
 use Rattle.cond_stats.specs.Rows.{filter_values}
@@ -9,9 +9,28 @@ use Rattle.filtered_lists.specs.Standing.{value_in_row}
 use Rattle.level_bounds.proofs.Lists.{map_both}
 use Rattle.renamed_lists.proofs.Rows.{columns_are}
 use Rattle.sql_meaning.specs.Tables.{Tables, row_counts}
+use Rattle.table_stats.specs.Keys.{TellsListed, TellsValues}
 use Rattle.table_stats.specs.Columns.{column_values, first_row, numbered, paired, value_of_row}
 use Rattle.table_stats.proofs.EqualValues.{equal_itself, is_equal}
 use Rattle.table_stats.proofs.FirstRows.{first_has, first_there, same_first}
+
+-- ---- a list of values, one for each row
+
+module _ (values : List Value) where
+  -- the number of a row's value
+  abbrev pub listed_number : ℕ → ℕ
+  listed_number row = first_row values (value_of_row values row)
+
+  pub listed_numbers : numbered values ≡ map listed_number (range_with_len 0 (length values))
+  listed_numbers =
+      ap (map (first_row values)) (fill_by_all (value_of_row values) values (length values) (Int (pos 0)) refl (λ row low. refl))
+      ∙ map_both (first_row values) (value_of_row values) listed_number (λ row. refl) (range_with_len 0 (length values))
+
+  -- a row's value has a first row
+  pub listed_below : (row : ℕ) → row < length values → listed_number row < length values
+  listed_below row low = first_there values (value_of_row values row) row (Int (pos 0)) low (equal_itself (value_of_row values row))
+
+-- ---- the columns of an entry
 
 module _ (tables : Tables) (entry : ℕ) where
   abbrev pub row_count : ℕ
@@ -37,6 +56,9 @@ module _ (tables : Tables) (entry : ℕ) where
     pub numbers_are : numbered values ≡ map number_at rows
     numbers_are = map_both (first_row values) value_at number_at (λ row. refl) rows
 
+    pub there : (row : ℕ) → row < row_count → value_of_row values row ≡ value_at row
+    there row low = get_or-map-range_with_len value_at 0 row_count row row (Int (pos 0)) low (omega arith)
+
     pub here : (row : ℕ) → row < row_count → is_equal (get_or values row (Int (pos 0))) (value_at row) ≡ true
     here row low =
         ap (λ (v : Value). is_equal v (value_at row)) (get_or-map-range_with_len value_at 0 row_count row row (Int (pos 0)) low (omega arith))
@@ -53,18 +75,31 @@ module _ (tables : Tables) (entry : ℕ) where
     pub same_number : (row other : ℕ) → is_equal (value_at row) (value_at other) ≡ true → number_at row ≡ number_at other
     same_number row other h = same_first values (value_at row) (value_at other) h
 
-  pub pairs_are : (column joined : ℕ) → paired (values column) (values joined) ≡ zip (map (number_at column) rows) (map (number_at joined) rows)
-  pairs_are column joined =
-      ap (λ (s : List ℕ). zip s (numbered (values joined))) (numbers_are column)
-      ∙ ap (λ (s : List ℕ). zip (map (number_at column) rows) s) (numbers_are joined)
+  -- with a list of values beside them, one for each row
+  module _ (joined : List Value) (long : length joined ≡ row_count) where
+    pub listed_numbers_are : numbered joined ≡ map (listed_number joined) rows
+    listed_numbers_are = listed_numbers joined ∙ ap (λ (n : ℕ). map (listed_number joined) (range_with_len 0 n)) long
 
-  pub filter_numbers : (column joined : ℕ) → filter_values (paired (values column) (values joined)) ≡ numbered (values column)
-  filter_numbers column joined =
-      (columns_are (numbered (values column)) (numbered (values joined))
-      (omega (
-        arith,
-        length-map (values column) (first_row (values column)),
-        length-map (values joined) (first_row (values joined)),
-        height column,
-        height joined,
-      ))).0
+    pub pairs_are : (column : ℕ) → paired (values column) joined ≡ zip (map (number_at column) rows) (map (listed_number joined) rows)
+    pairs_are column =
+        ap (λ (s : List ℕ). zip s (numbered joined)) (numbers_are column)
+        ∙ ap (λ (s : List ℕ). zip (map (number_at column) rows) s) listed_numbers_are
+
+    pub filter_numbers : (column : ℕ) → filter_values (paired (values column) joined) ≡ numbered (values column)
+    filter_numbers column =
+        (columns_are (numbered (values column)) (numbered joined)
+        (omega (
+          arith,
+          length-map (values column) (first_row (values column)),
+          length-map joined (first_row joined),
+          height column,
+          long,
+        ))).0
+
+  -- keys that tell the values of a column tell those of its list
+  pub listed_tell : (column : ℕ) (key : ℕ → ℕ) → TellsValues tables entry column key → TellsListed (values column) key
+  listed_tell column key tells row other low also =
+      let below : row < row_count = omega (arith, low, height column) in
+      let beside : other < row_count = omega (arith, also, height column) in
+      subst (λ (v : Value). (key row ≡ key other) ↔ (is_equal v (value_of_row (values column) other) ≡ true)) (sym (there column row below))
+      (subst (λ (v : Value). (key row ≡ key other) ↔ (is_equal (value_at column row) v ≡ true)) (sym (there column other beside)) (tells row other below beside))

@@ -1,5 +1,5 @@
 -- The lists of a joined column dominate its keys, over the rows that they stand for.
-use Rattle.std.proofs.Common.{◌≡◌, ◌↔◌, ℕ, ◌+◌, ◌<◌, ◌≤◌, Bool, true, eqb, List, map, Option, None, Some, refl, ap, sym, ◌∙◌, subst, arith}
+use Rattle.std.proofs.Common.{◌≡◌, ◌↔◌, ℕ, ◌+◌, ◌<◌, ◌≤◌, Bool, true, eqb, List, length, map, Option, None, Some, refl, ap, sym, ◌∙◌, subst, arith}
 use Rattle.std.specs.Prelude.{unwrap_or}
 use Rattle.std.specs.List.{filter}
 use Rattle.std.proofs.lemmas.Bool.{and_parts, eq-eqb}
@@ -21,11 +21,11 @@ use Rattle.level_bounds.proofs.Lists.{range_within}
 use Rattle.renamed_lists.specs.Renaming.{AreEqualAlike}
 use Rattle.renamed_lists.proofs.Dominated.{passing_dominated}
 use Rattle.renamed_lists.proofs.Rows.{of_rows}
-use Rattle.sql_meaning.specs.Tables.{Tables}
-use Rattle.table_stats.specs.Columns.{first_row, numbered, paired, row_le, value_of_row}
-use Rattle.table_stats.specs.Keys.{TellsValues}
-use Rattle.table_stats.specs.Statistics.{column_lists, end_leaf}
-use Rattle.table_stats.proofs.ColumnRows.{filter_numbers, number_at, number_below, number_has, numbers_are, pairs_are, row_count, rows, same_number, value_at, values}
+use Rattle.sql_meaning.specs.Tables.{Tables, row_counts}
+use Rattle.table_stats.specs.Columns.{column_values, first_row, numbered, paired, row_le, value_of_row}
+use Rattle.table_stats.specs.Keys.{TellsListed, TellsValues}
+use Rattle.table_stats.specs.Statistics.{column_lists, end_leaf, lists_over}
+use Rattle.table_stats.proofs.ColumnRows.{filter_numbers, height, listed_below, listed_number, listed_numbers_are, listed_tell, number_at, number_has, pairs_are, row_count, rows, value_at, values}
 use Rattle.table_stats.proofs.EqualValues.{alike_le, equal_itself, is_equal, le_from_ge}
 use Rattle.table_stats.proofs.FirstRows.{equal_firsts, same_first}
 use Rattle.table_stats.proofs.FewerRows.{PassesBoth, all_in_range, fewer_dominated}
@@ -72,57 +72,57 @@ module _ (filter : List Value) where
     in_their_node low high from to =
         node_between (first_leaf low) (last_leaf high) (leaf_at number) (first-small low) (last-small high) (from_first low from) (up_to_last high to)
 
--- ---- an entry's table
+-- ---- an entry's table, and a list of joined values, one for each of its rows
 
-module _ (tables : Tables) (accuracy entry joined : ℕ) where
+module _ (tables : Tables) (accuracy entry : ℕ) (joined : List Value) (long : length joined ≡ row_count tables entry) where
   -- the rows of which a list speaks, by the numbers of the joined column
   abbrev pub joined_rows : (ℕ → Bool) → List ℕ
-  joined_rows test = map (number_at tables entry joined) (filter test (rows tables entry))
+  joined_rows test = map (listed_number joined) (filter test (rows tables entry))
 
-  whole_dominates : DominatesKeys (compressed_degrees accuracy (numbered (values tables entry joined))) (joined_rows (λ row. true))
+  whole_dominates : DominatesKeys (compressed_degrees accuracy (numbered joined)) (joined_rows (λ row. true))
   whole_dominates =
-      subst (DominatesKeys (compressed_degrees accuracy (numbered (values tables entry joined))))
-      (numbers_are tables entry joined ∙ ap (map (number_at tables entry joined)) (sym (all_pass (λ row. true) (rows tables entry))))
-      (compressed_dominates accuracy (numbered (values tables entry joined)))
+      subst (DominatesKeys (compressed_degrees accuracy (numbered joined)))
+      (listed_numbers_are tables entry joined long ∙ ap (map (listed_number joined)) (sym (all_pass (λ row. true) (rows tables entry))))
+      (compressed_dominates accuracy (numbered joined))
 
   pairs_where : (column : ℕ) (passes : ℕ → Bool)
-      → keys_where passes (paired (values tables entry column) (values tables entry joined)) ≡ joined_rows (λ row. passes (number_at tables entry column row))
+      → keys_where passes (paired (values tables entry column) joined) ≡ joined_rows (λ row. passes (number_at tables entry column row))
   pairs_where column passes =
-      ap (keys_where passes) (pairs_are tables entry column joined)
-      ∙ of_rows (number_at tables entry column) (number_at tables entry joined) (rows tables entry)
+      ap (keys_where passes) (pairs_are tables entry joined long column)
+      ∙ of_rows (number_at tables entry column) (listed_number joined) (rows tables entry)
       (λ row. passes (number_at tables entry column row)) passes (λ row has. refl)
 
   abbrev has_number : ℕ → ℕ → ℕ → Bool
   has_number column number row = eqb (number_at tables entry column row) number
 
   equal_dominates : (column number : ℕ)
-      → DominatesKeys (list_of_value accuracy (paired (values tables entry column) (values tables entry joined)) (Some number)) (joined_rows (has_number column number))
+      → DominatesKeys (list_of_value accuracy (paired (values tables entry column) joined) (Some number)) (joined_rows (has_number column number))
   equal_dominates column number =
-      subst (DominatesKeys (list_of_value accuracy (paired (values tables entry column) (values tables entry joined)) (Some number)))
+      subst (DominatesKeys (list_of_value accuracy (paired (values tables entry column) joined) (Some number)))
       (pairs_where column (λ other. eqb other number))
-      (value_dominates accuracy (paired (values tables entry column) (values tables entry joined)) number)
+      (value_dominates accuracy (paired (values tables entry column) joined) number)
 
   abbrev in_leaves : ℕ → ℕ → ℕ → ℕ → Bool
   in_leaves column first last row = in_node (node_size first last) first (leaf_at (values tables entry column) (number_at tables entry column row))
 
   leaves_dominate : (column first last : ℕ)
-      → DominatesKeys (list_of_node (row_le (values tables entry column)) accuracy (paired (values tables entry column) (values tables entry joined)) (node_size first last) first)
+      → DominatesKeys (list_of_node (row_le (values tables entry column)) accuracy (paired (values tables entry column) joined) (node_size first last) first)
       (joined_rows (in_leaves column first last))
   unfolding list_of_node
   leaves_dominate column first last =
       let at_most : ℕ → ℕ → Bool = row_le (values tables entry column) in
-      let pairs : List (ℕ × ℕ) = paired (values tables entry column) (values tables entry joined) in
+      let pairs : List (ℕ × ℕ) = paired (values tables entry column) joined in
       let passes : List ℕ → ℕ → Bool = λ numbers number. in_node (node_size first last) first (leaf_of at_most numbers number) in
       subst (DominatesKeys (compressed_degrees accuracy (keys_where (passes (filter_values pairs)) pairs)))
       (pairs_where column (passes (filter_values pairs)) ∙ ap (λ (numbers : List ℕ). joined_rows (λ row. passes numbers (number_at tables entry column row)))
-      (filter_numbers tables entry column joined))
+      (filter_numbers tables entry joined long column))
       (compressed_dominates accuracy (keys_where (passes (filter_values pairs)) pairs))
 
   -- ---- any keys that are equal where the numbers of the joined column are
 
   module _ (key : ℕ → ℕ) (alike : (row other : ℕ) → row < row_count tables entry → other < row_count tables entry
-      → (number_at tables entry joined row ≡ number_at tables entry joined other) ↔ (key row ≡ key other)) where
-    are_alike : AreEqualAlike (number_at tables entry joined) key (rows tables entry)
+      → (listed_number joined row ≡ listed_number joined other) ↔ (key row ≡ key other)) where
+    are_alike : AreEqualAlike (listed_number joined) key (rows tables entry)
     are_alike row other has also =
         let low : row < 0 + row_count tables entry = (range_within 0 (row_count tables entry) row has).1 in
         let low_too : other < 0 + row_count tables entry = (range_within 0 (row_count tables entry) other also).1 in
@@ -131,30 +131,30 @@ module _ (tables : Tables) (accuracy entry joined : ℕ) where
     by_keys : (s : List ℕ) (p q : ℕ → Bool) → ((row : ℕ) → row < row_count tables entry → p row ≡ true → q row ≡ true)
         → DominatesKeys s (joined_rows q) → DominatesKeys s (map key (filter p (rows tables entry)))
     by_keys s p q passes dominates =
-        (passing_dominated s (number_at tables entry joined) key (rows tables entry) p are_alike).0
-        (fewer_dominated (number_at tables entry joined) p q s (rows tables entry)
-        (all_in_range (PassesBoth (number_at tables entry joined) p q) 0 (row_count tables entry) (λ row low. passes row (omega arith))) dominates)
+        (passing_dominated s (listed_number joined) key (rows tables entry) p are_alike).0
+        (fewer_dominated (listed_number joined) p q s (rows tables entry)
+        (all_in_range (PassesBoth (listed_number joined) p q) 0 (row_count tables entry) (λ row low. passes row (omega arith))) dominates)
 
-    pub whole_for_keys : DominatesKeys (column_lists tables accuracy entry joined).whole (map key (rows tables entry))
+    pub whole_for_keys : DominatesKeys (lists_over accuracy (values tables entry) joined).whole (map key (rows tables entry))
     whole_for_keys =
-        subst (DominatesKeys (column_lists tables accuracy entry joined).whole) (ap (map key) (all_pass (λ row. true) (rows tables entry)))
-        (by_keys (column_lists tables accuracy entry joined).whole (λ row. true) (λ row. true) (λ row low h. h) whole_dominates)
+        subst (DominatesKeys (lists_over accuracy (values tables entry) joined).whole) (ap (map key) (all_pass (λ row. true) (rows tables entry)))
+        (by_keys (lists_over accuracy (values tables entry) joined).whole (λ row. true) (λ row. true) (λ row low h. h) whole_dominates)
 
     pub equal_for_keys : (column : ℕ) (value : Value)
-        → DominatesKeys ((column_lists tables accuracy entry joined).equal column value) (map key (rows_where tables entry (has_value tables entry column value)))
+        → DominatesKeys ((lists_over accuracy (values tables entry) joined).equal column value) (map key (rows_where tables entry (has_value tables entry column value)))
     equal_for_keys column value =
         let filter_values : List Value = values tables entry column in
-        by_keys ((column_lists tables accuracy entry joined).equal column value) (has_value tables entry column value) (has_number column (first_row filter_values value))
+        by_keys ((lists_over accuracy (values tables entry) joined).equal column value) (has_value tables entry column value) (has_number column (first_row filter_values value))
         (λ row low h. eq-eqb (number_at tables entry column row) (first_row filter_values value) (same_first filter_values (value_at tables entry column row) value h))
         (equal_dominates column (first_row filter_values value))
 
     pub range_for_keys : (range : Range)
-        → DominatesKeys ((column_lists tables accuracy entry joined).range range) (map key (rows_where tables entry (is_in_range tables entry range)))
+        → DominatesKeys ((lists_over accuracy (values tables entry) joined).range range) (map key (rows_where tables entry (is_in_range tables entry range)))
     range_for_keys range =
         let filter_values : List Value = values tables entry range.column in
         let first : ℕ = first_leaf filter_values range.low in
         let last : ℕ = last_leaf filter_values range.high in
-        by_keys ((column_lists tables accuracy entry joined).range range) (is_in_range tables entry range) (in_leaves range.column first last)
+        by_keys ((lists_over accuracy (values tables entry) joined).range range) (is_in_range tables entry range) (in_leaves range.column first last)
         (λ row low h.
         let parts = and_parts (is_from range.low (value_at tables entry range.column row)) (is_up_to range.high (value_at tables entry range.column row)) h in
         in_their_node filter_values (number_at tables entry range.column row) (value_at tables entry range.column row) (number_has tables entry range.column row low)
@@ -163,20 +163,24 @@ module _ (tables : Tables) (accuracy entry joined : ℕ) where
 
 -- ---- keys that tell values
 
--- equal numbers of the joined column are equal values, and so are equal keys
-keys_tell : (tables : Tables) (entry column : ℕ) (key : ℕ → ℕ) → TellsValues tables entry column key
-    → (row other : ℕ) → row < row_count tables entry → other < row_count tables entry
-    → (number_at tables entry column row ≡ number_at tables entry column other) ↔ (key row ≡ key other)
-keys_tell tables entry column key tells row other low also = (
-  (λ same. (tells row other low also).1
-      (equal_firsts (values tables entry column) (value_at tables entry column row) (value_at tables entry column other) (number_below tables entry column row low) same)),
-  (λ same. same_number tables entry column row other ((tells row other low also).0 same)),
+-- equal numbers of the joined values are equal values, and so are equal keys
+keys_tell : (joined : List Value) (key : ℕ → ℕ) → TellsListed joined key
+    → (row other : ℕ) → row < length joined → other < length joined → (listed_number joined row ≡ listed_number joined other) ↔ (key row ≡ key other)
+keys_tell joined key tells row other low also = (
+  (λ same. (tells row other low also).1 (equal_firsts joined (value_of_row joined row) (value_of_row joined other) (listed_below joined row low) same)),
+  (λ same. same_first joined (value_of_row joined row) (value_of_row joined other) ((tells row other low also).0 same)),
 )
+
+pub listed_stand : (tables : Tables) (accuracy entry : ℕ) (joined : List Value) (key : ℕ → ℕ) → length joined ≡ row_counts tables entry → TellsListed joined key
+    → ListsStandFor (lists_over accuracy (column_values tables entry) joined) tables entry key
+listed_stand tables accuracy entry joined key long tells =
+    let alike : (row other : ℕ) → row < row_count tables entry → other < row_count tables entry → (listed_number joined row ≡ listed_number joined other) ↔ (key row ≡ key other) =
+    λ row other low also. keys_tell joined key tells row other (omega (arith, low, long)) (omega (arith, also, long)) in record {
+      whole = whole_for_keys tables accuracy entry joined long key alike;
+      equal = equal_for_keys tables accuracy entry joined long key alike;
+      range = range_for_keys tables accuracy entry joined long key alike;
+    }
 
 pub lists_stand : (tables : Tables) (accuracy entry column : ℕ) (key : ℕ → ℕ) → TellsValues tables entry column key → ListsStandFor (column_lists tables accuracy entry column) tables entry key
 lists_stand tables accuracy entry column key tells =
-    let alike = keys_tell tables entry column key tells in record {
-      whole = whole_for_keys tables accuracy entry column key alike;
-      equal = equal_for_keys tables accuracy entry column key alike;
-      range = range_for_keys tables accuracy entry column key alike;
-    }
+    listed_stand tables accuracy entry (values tables entry column) key (height tables entry column) (listed_tell tables entry column key tells)

@@ -15,12 +15,13 @@ use Rattle.degree_sequences.specs.Falling.{IsFalling}
 use Rattle.degree_sequences.proofs.CompressedLists.{IsFalling-compressed}
 use Rattle.degree_sequences.proofs.DegreeLists.{IsFalling-degree_list, places_fit}
 use Rattle.degree_sequences.specs.Domination.{DominatesKeys}
+use Rattle.filtered_lists.specs.Lists.{ColumnLists}
 use Rattle.filtered_lists.specs.Ranges.{Range}
 use Rattle.filtered_lists.specs.Standing.{CountsStandFor, ListsFall, SumTo, has_value, is_in_range, rows_where}
-use Rattle.sql_meaning.specs.Tables.{Tables}
+use Rattle.sql_meaning.specs.Tables.{Tables, row_counts}
 use Rattle.table_stats.specs.Columns.{first_row, numbered, paired, row_le}
-use Rattle.table_stats.specs.Statistics.{column_lists, count_with, entry_counts}
-use Rattle.table_stats.proofs.ColumnRows.{filter_numbers, height, number_at, values}
+use Rattle.table_stats.specs.Statistics.{column_lists, count_with, entry_counts, lists_over}
+use Rattle.table_stats.proofs.ColumnRows.{filter_numbers, height, listed_number, values}
 use Rattle.table_stats.proofs.Dominating.{equal_for_keys, first_leaf, last_leaf, range_for_keys}
 
 -- ---- lists fall
@@ -43,13 +44,13 @@ unfolding list_of_node
 node-falls at_most accuracy pairs size leaf =
     compressed-falls accuracy (keys_where (λ value. in_node size leaf (leaf_of at_most (filter_values pairs) value)) pairs)
 
-module _ (tables : Tables) (accuracy entry joined : ℕ) where
+module _ (tables : Tables) (accuracy entry : ℕ) (joined : List Value) where
   abbrev pairs : ℕ → List (ℕ × ℕ)
-  pairs column = paired (values tables entry column) (values tables entry joined)
+  pairs column = paired (values tables entry column) joined
 
-  pub lists_fall : ListsFall (column_lists tables accuracy entry joined)
-  lists_fall = record {
-    whole = compressed-falls accuracy (numbered (values tables entry joined));
+  pub listed_fall : ListsFall (lists_over accuracy (values tables entry) joined)
+  listed_fall = record {
+    whole = compressed-falls accuracy (numbered joined);
     equal = λ column value. value-falls accuracy (pairs column) (first_row (values tables entry column) value);
     range = λ range. node-falls (row_le (values tables entry range.column)) accuracy (pairs range.column)
         (node_size (first_leaf (values tables entry range.column) range.low) (last_leaf (values tables entry range.column) range.high))
@@ -64,56 +65,71 @@ module _ (tables : Tables) (accuracy entry joined : ℕ) where
   abbrev count_of : List ℕ → ℕ → ℕ
   count_of numbers number = cond (list_any (λ other. eqb other number) (frequent numbers)) (degree numbers number) (remaining_count numbers)
 
-  equal_sum : (column : ℕ) (value : Value) → sum ((column_lists tables accuracy entry joined).equal column value) ≡ count_with (values tables entry column) value
-  equal_sum column value =
-      let number : ℕ = first_row (values tables entry column) value in
-      sum-list_of_value accuracy (pairs column) number
-      ∙ ap (λ (n : ℕ). cond (is_frequent (pairs column) number) (degree (filter_values (pairs column)) number) n) (sum-rest accuracy (pairs column))
-      ∙ ap (λ (numbers : List ℕ). count_of numbers number) (filter_numbers tables entry column joined)
+  module _ (long : length joined ≡ row_counts tables entry) where
+    equal_sum : (column : ℕ) (value : Value) → sum ((lists_over accuracy (values tables entry) joined).equal column value) ≡ count_with (values tables entry column) value
+    equal_sum column value =
+        let number : ℕ = first_row (values tables entry column) value in
+        sum-list_of_value accuracy (pairs column) number
+        ∙ ap (λ (n : ℕ). cond (is_frequent (pairs column) number) (degree (filter_values (pairs column)) number) n) (sum-rest accuracy (pairs column))
+        ∙ ap (λ (numbers : List ℕ). count_of numbers number) (filter_numbers tables entry joined long column)
 
-  range_sum : (range : Range) → sum ((column_lists tables accuracy entry joined).range range) ≡ (entry_counts tables entry).range range
-  range_sum range =
-      let at_most : ℕ → ℕ → Bool = row_le (values tables entry range.column) in
-      let first : ℕ = first_leaf (values tables entry range.column) range.low in
-      let size : ℕ = node_size first (last_leaf (values tables entry range.column) range.high) in
-      sum-list_of_node at_most accuracy (pairs range.column) size first
-      ∙ ap (λ (numbers : List ℕ). count_by (λ number. in_node size first (leaf_of at_most numbers number)) numbers) (filter_numbers tables entry range.column joined)
+    range_sum : (range : Range) → sum ((lists_over accuracy (values tables entry) joined).range range) ≡ (entry_counts tables entry).range range
+    range_sum range =
+        let at_most : ℕ → ℕ → Bool = row_le (values tables entry range.column) in
+        let first : ℕ = first_leaf (values tables entry range.column) range.low in
+        let size : ℕ = node_size first (last_leaf (values tables entry range.column) range.high) in
+        sum-list_of_node at_most accuracy (pairs range.column) size first
+        ∙ ap (λ (numbers : List ℕ). count_by (λ number. in_node size first (leaf_of at_most numbers number)) numbers) (filter_numbers tables entry joined long range.column)
 
-  pub lists_sum : SumTo (column_lists tables accuracy entry joined) (entry_counts tables entry)
-  lists_sum = record {
-    whole = sum-compressed_degrees accuracy (numbered (values tables entry joined))
-        ∙ length-map (values tables entry joined) (first_row (values tables entry joined)) ∙ height tables entry joined;
-    equal = equal_sum;
-    range = range_sum;
-  }
+    pub listed_sum : SumTo (lists_over accuracy (values tables entry) joined) (entry_counts tables entry)
+    listed_sum = record {
+      whole = sum-compressed_degrees accuracy (numbered joined)
+          ∙ length-map joined (first_row joined) ∙ long;
+      equal = equal_sum;
+      range = range_sum;
+    }
+
+-- ---- of an entry's columns
+
+pub lists_fall : (tables : Tables) (accuracy entry joined : ℕ) → ListsFall (column_lists tables accuracy entry joined)
+lists_fall tables accuracy entry joined = listed_fall tables accuracy entry (values tables entry joined)
+
+pub lists_sum : (tables : Tables) (accuracy entry joined : ℕ) → SumTo (column_lists tables accuracy entry joined) (entry_counts tables entry)
+lists_sum tables accuracy entry joined = listed_sum tables accuracy entry (values tables entry joined) (height tables entry joined)
 
 -- ---- numbers of rows are enough
 
 module _ (tables : Tables) (entry : ℕ) where
   -- the rows in question, by the numbers of any column
-  fits : (s : List ℕ) (test : ℕ → Bool) → DominatesKeys s (map (number_at tables entry 0) (rows_where tables entry test)) → length (rows_where tables entry test) ≤ sum s
+  abbrev first_column : List Value
+  first_column = values tables entry 0
+
+  abbrev first_lists : ColumnLists
+  first_lists = lists_over 1 (values tables entry) first_column
+
+  fits : (s : List ℕ) (test : ℕ → Bool) → DominatesKeys s (map (listed_number first_column) (rows_where tables entry test)) → length (rows_where tables entry test) ≤ sum s
   fits s test dominates =
       omega (
         arith,
-        places_fit s (map (number_at tables entry 0) (rows_where tables entry test)) dominates,
-        length-map (rows_where tables entry test) (number_at tables entry 0),
+        places_fit s (map (listed_number first_column) (rows_where tables entry test)) dominates,
+        length-map (rows_where tables entry test) (listed_number first_column),
       )
 
   pub counts_stand : CountsStandFor (entry_counts tables entry) tables entry
   counts_stand = record {
     whole = omega arith;
-    equal = λ column value. let lists = column_lists tables 1 entry 0 in
+    equal = λ column value.
         omega (
           arith,
-          fits (lists.equal column value) (has_value tables entry column value)
-              (equal_for_keys tables 1 entry 0 (number_at tables entry 0) (λ row other low also. ((λ same. same), (λ same. same))) column value),
-          equal_sum tables 1 entry 0 column value,
+          fits (first_lists.equal column value) (has_value tables entry column value)
+              (equal_for_keys tables 1 entry first_column (height tables entry 0) (listed_number first_column) (λ row other low also. ((λ same. same), (λ same. same))) column value),
+          equal_sum tables 1 entry first_column (height tables entry 0) column value,
         );
-    range = λ range. let lists = column_lists tables 1 entry 0 in
+    range = λ range.
         omega (
           arith,
-          fits (lists.range range) (is_in_range tables entry range)
-              (range_for_keys tables 1 entry 0 (number_at tables entry 0) (λ row other low also. ((λ same. same), (λ same. same))) range),
-          range_sum tables 1 entry 0 range,
+          fits (first_lists.range range) (is_in_range tables entry range)
+              (range_for_keys tables 1 entry first_column (height tables entry 0) (listed_number first_column) (λ row other low also. ((λ same. same), (λ same. same))) range),
+          range_sum tables 1 entry first_column (height tables entry 0) range,
         );
   }

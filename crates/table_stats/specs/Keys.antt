@@ -1,11 +1,17 @@
 -- Numbers that tell which values of a column are equal.
-use Rattle.std.specs.Prelude.{◌≡◌, ◌↔◌, ℕ, ◌<◌, true}
+use Rattle.std.specs.Prelude.{◌≡◌, ◌↔◌, ℕ, ◌<◌, List, true, length}
 use Rattle.std.specs.Ordering.{is_eq}
-use Rattle.csv_tables.specs.Values.{value_cmp}
+use Rattle.csv_tables.specs.Values.{Value, value_cmp}
 use Rattle.filtered_lists.specs.Standing.{value_in_row}
 use Rattle.sql_meaning.specs.Tables.{Tables, row_counts}
+use Rattle.table_stats.specs.Columns.{value_of_row}
 
 -- two rows of an entry's table have one key exactly where their values in the column are equal
 abbrev pub TellsValues : Tables → ℕ → ℕ → (ℕ → ℕ) → Type 0
 TellsValues tables entry column key = (row other : ℕ) → row < row_counts tables entry → other < row_counts tables entry
     → (key row ≡ key other) ↔ (is_eq (value_cmp (value_in_row tables entry column row) (value_in_row tables entry column other)) ≡ true)
+
+-- the same of a list of values, row by row
+abbrev pub TellsListed : List Value → (ℕ → ℕ) → Type 0
+TellsListed values key = (row other : ℕ) → row < length values → other < length values
+    → (key row ≡ key other) ↔ (is_eq (value_cmp (value_of_row values row) (value_of_row values other)) ≡ true)

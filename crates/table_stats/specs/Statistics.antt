@@ -26,13 +26,17 @@ abbrev pub list_between : ℕ → List Value → List Value → Option Value →
 list_between accuracy filter joined low high =
     list_of_range (row_le filter) accuracy (paired filter joined) (end_leaf filter low) (end_leaf filter high)
 
--- what is known of a joined column of an entry, at an accuracy
-abbrev pub column_lists : Tables → ℕ → ℕ → ℕ → ColumnLists
-column_lists tables accuracy entry joined = record {
-  whole = compressed_degrees accuracy (numbered (column_values tables entry joined));
-  equal = λ column value. list_with accuracy (column_values tables entry column) (column_values tables entry joined) value;
-  range = λ range. list_between accuracy (column_values tables entry range.column) (column_values tables entry joined) range.low range.high;
+-- what is known of a joined column, at an accuracy, where these are the values of each filter column in the same rows
+abbrev pub lists_over : ℕ → (ℕ → List Value) → List Value → ColumnLists
+lists_over accuracy filters joined = record {
+  whole = compressed_degrees accuracy (numbered joined);
+  equal = λ column value. list_with accuracy (filters column) joined value;
+  range = λ range. list_between accuracy (filters range.column) joined range.low range.high;
 }
+
+-- of a joined column of an entry
+abbrev pub column_lists : Tables → ℕ → ℕ → ℕ → ColumnLists
+column_lists tables accuracy entry joined = lists_over accuracy (column_values tables entry) (column_values tables entry joined)
 
 -- ---- numbers of rows
 

@@ -1,5 +1,5 @@
 //! What holds of the statistics of tables: no law computes anything, and the contract is the law.
-ghost use Rattle.std.specs.Prelude.{◌≡◌, ℕ, List, Option};
+ghost use Rattle.std.specs.Prelude.{◌≡◌, ℕ, List, Option, length};
 ghost use Rattle.std.specs.List.{zip};
 ghost use Rattle.berge_tree.specs.declared.edges.Edge.{Edge};
 ghost use Rattle.csv_tables.specs.Values.{Value};
@@ -10,16 +10,21 @@ ghost use Rattle.cond_stats.specs.Lists.{compressed_degrees, list_of_value};
 ghost use Rattle.filtered_lists.specs.Standing.{CountsStandFor, ListsFall, ListsStandFor, SumTo};
 ghost use Rattle.level_bounds.specs.Keys.{AreKeys, HaveDifferentCharacters, Keys};
 ghost use Rattle.sql_meaning.specs.Databases.{AreTables, IsColumnOf};
-ghost use Rattle.sql_meaning.specs.Tables.{Tables, tables_of};
+ghost use Rattle.sql_meaning.specs.Tables.{Tables, row_counts, tables_of};
 ghost use Rattle.table_stats.specs.Cells.{StandsFor, cells_of_column, kind_of_column};
-ghost use Rattle.table_stats.specs.Keys.{TellsValues};
-ghost use Rattle.table_stats.specs.Statistics.{column_lists, entry_counts};
+ghost use Rattle.table_stats.specs.Columns.{column_values};
+ghost use Rattle.table_stats.specs.Keys.{TellsListed, TellsValues};
+ghost use Rattle.table_stats.specs.Statistics.{column_lists, entry_counts, lists_over};
 
 /// The lists and the numbers of rows stand for the tables, over any keys that tell the joined column's values.
 pub fn statistics_stand_for_tables()
     ensures lists { (tables : Tables) (accuracy entry column : ℕ) (key : ℕ → ℕ) → TellsValues tables entry column key
         → ListsStandFor (column_lists tables accuracy entry column) tables entry key }
     ensures counts { (tables : Tables) (entry : ℕ) → CountsStandFor (entry_counts tables entry) tables entry }
+    // the same where the joined values are not of the table, but stand beside its rows
+    ensures beside { (tables : Tables) (accuracy entry : ℕ) (joined : List Value) (key : ℕ → ℕ)
+        → length joined ≡ row_counts tables entry → TellsListed joined key
+        → ListsStandFor (lists_over accuracy (column_values tables entry) joined) tables entry key }
 {}
 
 /// Each list falls and sums to its number of rows, which is the same for every joined column.
@@ -27,6 +32,10 @@ pub fn lists_sum_to_counts()
     ensures sums { (tables : Tables) (accuracy entry column : ℕ)
         → SumTo (column_lists tables accuracy entry column) (entry_counts tables entry) }
     ensures falls { (tables : Tables) (accuracy entry column : ℕ) → ListsFall (column_lists tables accuracy entry column) }
+    ensures sums_beside { (tables : Tables) (accuracy entry : ℕ) (joined : List Value) → length joined ≡ row_counts tables entry
+        → SumTo (lists_over accuracy (column_values tables entry) joined) (entry_counts tables entry) }
+    ensures falls_beside { (tables : Tables) (accuracy entry : ℕ) (joined : List Value)
+        → ListsFall (lists_over accuracy (column_values tables entry) joined) }
 {}
 
 /// Values have keys: numbers for the rows of all tables in all columns, that are equal exactly where the values are.

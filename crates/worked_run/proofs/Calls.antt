@@ -2,8 +2,6 @@
 use Rattle.std.proofs.Common.{◌≡◌, ◌⊎◌, inl, inr, ℕ, List, Option, None, Some, Ok, Err, refl, ap, ◌∙◌, subst}
 use Rattle.std.specs.Fmt.{digits}
 use Rattle.std.specs.Prelude.{codes, IsOkAnd}
-use Rattle.outcomes.specs.Reads.{IsOfWhatIsThere}
-use Rattle.outcomes.specs.Statuses.{refused}
 use Rattle.outcomes.specs.declared.refusal.Refusal.{Refusal}
 use Rattle.outcomes.specs.declared.refusal.Refusal.TheVariants as refusal
 use Rattle.outcomes.specs.declared.status.Status.TheVariants as status
@@ -16,7 +14,7 @@ use Rattle.safebound_top.specs.Outcome.{Planned}
 use Rattle.safebound_top.specs.OutcomeTexts.{notes_text, out_text}
 use Rattle.safebound_top.specs.Texts.{out_text_of, plan_text}
 use Rattle.safebound_top.specs.Verdict.{verdict}
-use Rattle.worked_run.specs.Calls.{Answers, Ended, IsFaultless}
+use Rattle.worked_run.specs.Calls.{EachCallEnds, Ended, IsFaultless}
 use Rattle.worked_run.specs.TwoTables.{small_files}
 
 module _ (call : Call) (head : Headline call) (told : call.store.files ≡ Some small_files) (sound : IsFaultless call) where
@@ -37,14 +35,14 @@ module _ (call : Call) (head : Headline call) (told : call.store.files ≡ Some 
     by (inr memory) = inr memory
 
   -- a refusal is told in its line
-  turned_away : (r : Refusal) (line : List ℕ) → IsOfWhatIsThere r → verdict call.words small_files ≡ Err r
-      → fault_text (refused r) call.words small_files ≡ line → Ended call (refused r) line None ⊎ (call.status ≡ status.NoMemory)
-  turned_away r line there is text = by (head.nothing_is_refused_without_cause.by_the_sinks sound.store sound.out sound.notes small_files told) where
+  turned_away : (r : Refusal) (line : List ℕ) → verdict call.words small_files ≡ Err r
+      → fault_text (status.Refused r) call.words small_files ≡ line → Ended call (status.Refused r) line None ⊎ (call.status ≡ status.NoMemory)
+  turned_away r line is text = by (head.nothing_is_refused_without_cause.by_the_sinks sound.store sound.out sound.notes small_files told) where
     by : (call.status ≡ status_of (verdict call.words small_files)) ⊎ (call.status ≡ status.NoMemory)
-        → Ended call (refused r) line None ⊎ (call.status ≡ status.NoMemory)
+        → Ended call (status.Refused r) line None ⊎ (call.status ≡ status.NoMemory)
     by (inl same) =
-        let refusing : call.status ≡ refused r = same ∙ ap status_of is in
-        let says = head.refusals_are_the_verdict.told r there refusing in
+        let refusing : call.status ≡ status.Refused r = same ∙ ap status_of is in
+        let says = head.refusals_are_the_verdict.told r refusing in
         let grown = (says.1 small_files told).1.whole sound.notes in
         inl (record {
           status = refusing;
@@ -55,36 +53,30 @@ module _ (call : Call) (head : Headline call) (told : call.store.files ≡ Some 
 
 -- each call with these words ends so where their verdict is accepted with these texts
 pub answers_done : (words : List (List ℕ)) (run : Accepted) (notes : List ℕ) (out : Option (List ℕ)) → verdict words small_files ≡ Ok (Planned run)
-    → plan_text run ≡ notes → out_text_of run ≡ out → Answers words status.Done notes out
+    → plan_text run ≡ notes → out_text_of run ≡ out → EachCallEnds words status.Done notes out
 answers_done words run notes out is left right call head same told sound =
     subst (λ n. Ended call status.Done n out ⊎ (call.status ≡ status.NoMemory)) left
     (subst (λ o. Ended call status.Done (plan_text run) o ⊎ (call.status ≡ status.NoMemory)) right
     (accepted call head told sound run (ap (λ w. verdict w small_files) same ∙ is)))
 
-budget_there : (least : ℕ) → IsOfWhatIsThere (refusal.Budget least)
-budget_there least file e = cc
-
-budget_line : (words : List (List ℕ)) → fault_text (status.Budget 12) words small_files ≡ codes "error budget 12\n"
+budget_line : (words : List (List ℕ)) → fault_text (status.Refused (refusal.Budget 12)) words small_files ≡ codes "error budget 12\n"
 unfolding error_line digits
 budget_line words = refl
 
 -- and where it is refused, since the plan costs 12
 pub answers_budget : (words : List (List ℕ)) → verdict words small_files ≡ Err (refusal.Budget 12)
-    → Answers words (status.Budget 12) (codes "error budget 12\n") None
+    → EachCallEnds words (status.Refused (refusal.Budget 12)) (codes "error budget 12\n") None
 answers_budget words is call head same told sound =
-    turned_away call head told sound (refusal.Budget 12) (codes "error budget 12\n") (budget_there 12)
+    turned_away call head told sound (refusal.Budget 12) (codes "error budget 12\n")
     (ap (λ w. verdict w small_files) same ∙ is) (budget_line call.words)
 
-limit_there : (bytes : ℕ) → IsOfWhatIsThere (refusal.MemoryLimit bytes)
-limit_there bytes file e = cc
-
-limit_line : (words : List (List ℕ)) → fault_text (status.MemoryLimit 556) words small_files ≡ codes "error memory-limit 556\n"
+limit_line : (words : List (List ℕ)) → fault_text (status.Refused (refusal.MemoryLimit 556)) words small_files ≡ codes "error memory-limit 556\n"
 unfolding error_line digits
 limit_line words = refl
 
 -- and where it is refused for its bytes
 pub answers_limit : (words : List (List ℕ)) → verdict words small_files ≡ Err (refusal.MemoryLimit 556)
-    → Answers words (status.MemoryLimit 556) (codes "error memory-limit 556\n") None
+    → EachCallEnds words (status.Refused (refusal.MemoryLimit 556)) (codes "error memory-limit 556\n") None
 answers_limit words is call head same told sound =
-    turned_away call head told sound (refusal.MemoryLimit 556) (codes "error memory-limit 556\n") (limit_there 556)
+    turned_away call head told sound (refusal.MemoryLimit 556) (codes "error memory-limit 556\n")
     (ap (λ w. verdict w small_files) same ∙ is) (limit_line call.words)

@@ -19,7 +19,7 @@ use Rattle.printed_texts.specs.Texts.{rows_lines}
 use Rattle.table_files.specs.EntryTables.{tables_in}
 use Rattle.safebound_top.specs.Accepted.{part_counts}
 use Rattle.safebound_top.specs.Shapes.{shape_audits}
-use Rattle.safebound_top.specs.Sources.{sourced}
+use Rattle.safebound_top.specs.Sources.{lists_by}
 use Rattle.safebound_top.specs.Texts.{out_text_of, plan_text}
 use Rattle.safebound_top.specs.declared.task.ListSource.TheVariants as sources
 use Rattle.safebound_top.specs.declared.task.OutText.{OutText}
@@ -46,8 +46,8 @@ second_scan : scan (conjuncts_of pair T) (row_counts T) 1 ≡ 0 ∷ 1 ∷ 2 ∷ 
 second_scan = filter_agree (passes_own (conjuncts_of pair T) 1) (λ row. true)
     (λ row. rw (entries_compare op.Eq (column_operand 0 0) (column_operand 1 0)) refl) (all_rows (row_counts T) 1)
 
-pub lists_found : (sourced sources.Columns pair T).lists ≡ small_lists
-unfolding sourced
+pub lists_found : lists_by sources.Columns pair T ≡ small_lists
+unfolding lists_by
 lists_found = ap (λ (rows : List ℕ). rows ∷ scan (conjuncts_of pair T) (row_counts T) 1 ∷ []) first_scan
     ∙ ap (λ (rows : List ℕ). (0 ∷ 1 ∷ 2 ∷ 3 ∷ 4 ∷ 5 ∷ []) ∷ rows ∷ []) second_scan
 

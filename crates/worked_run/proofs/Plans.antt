@@ -19,8 +19,9 @@ use Rattle.sql_meaning.proofs.ConditionFacts.{entries_compare}
 use Rattle.query_bounds.specs.Examples.{pair}
 use Rattle.planning.specs.Bounds.{scan_bounds_of, set_bounds_of}
 use Rattle.table_files.specs.EntryTables.{tables_in}
+use Rattle.table_files.specs.Examples.{two_tables}
 use Rattle.safebound_top.specs.Shapes.{answer_of, planned_by}
-use Rattle.safebound_top.specs.Sources.{sourced}
+use Rattle.safebound_top.specs.Sources.{known_by, scans_by, sourced}
 use Rattle.safebound_top.specs.declared.shapes.Shaped.{Shaped}
 use Rattle.safebound_top.specs.declared.shapes.Shaped.TheVariants as shaped
 use Rattle.safebound_top.specs.declared.task.ListSource.TheVariants as sources
@@ -46,9 +47,9 @@ tree_chosen : tree_answer (1 ∷ 6 ∷ 5 ∷ 12 ∷ []) (6 ∷ 5 ∷ []) 1000000
 unfolding best_tree tree_answer
 tree_chosen = refl
 
-over_these : (shape : Shape) (budget : ℕ) → planned_by shape (sourced sources.Columns pair (tables_in small_rows)) pair 1 budget
+over_these : (shape : Shape) (budget : ℕ) → planned_by shape (sourced sources.Columns two_tables pair (tables_in small_rows)) pair 1 budget
     ≡ answer_of shape (1 ∷ 6 ∷ 5 ∷ 12 ∷ []) (6 ∷ 5 ∷ []) budget
-unfolding planned_by sourced
+unfolding planned_by known_by scans_by
 over_these shape budget =
     ap (λ (bounds : List ℕ). answer_of shape bounds (scan_bounds_of pair (tables_in small_rows) 1) budget) sets
     ∙ ap (λ (bounds : List ℕ). answer_of shape (1 ∷ 6 ∷ 5 ∷ 12 ∷ []) bounds budget) scans
@@ -59,13 +60,13 @@ along answer = seen (λ plan. shaped.Along plan) answer
 abbrev over : Result BushyPlan PlanError → Result Shaped PlanError
 over answer = seen (λ plan. shaped.Over plan) answer
 
-pub plan_found : planned_by shapes.Order (sourced sources.Columns pair (tables_in small_rows)) pair 1 1000000
+pub plan_found : planned_by shapes.Order (sourced sources.Columns two_tables pair (tables_in small_rows)) pair 1 1000000
     ≡ Ok (shaped.Along (plan_of (1 ∷ 0 ∷ []) (6 ∷ 5 ∷ []) (5 ∷ 12 ∷ [])))
 plan_found = over_these shapes.Order 1000000 ∙ ap along chosen
 
-pub tree_found : planned_by shapes.Tree (sourced sources.Columns pair (tables_in small_rows)) pair 1 1000000
+pub tree_found : planned_by shapes.Tree (sourced sources.Columns two_tables pair (tables_in small_rows)) pair 1 1000000
     ≡ Ok (shaped.Over (tree_of (join 0 1 12 ∷ []) (6 ∷ 5 ∷ []) 12))
 tree_found = over_these shapes.Tree 1000000 ∙ ap over tree_chosen
 
-pub plan_refused : planned_by shapes.Order (sourced sources.Columns pair (tables_in small_rows)) pair 1 11 ≡ Err (error.Budget 12)
+pub plan_refused : planned_by shapes.Order (sourced sources.Columns two_tables pair (tables_in small_rows)) pair 1 11 ≡ Err (error.Budget 12)
 plan_refused = over_these shapes.Order 11 ∙ ap along refused

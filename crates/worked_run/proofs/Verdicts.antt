@@ -19,11 +19,11 @@ use Rattle.table_files.specs.EntryTables.{tables_in}
 use Rattle.table_files.specs.Stage.{tables_stage}
 use Rattle.table_files.specs.TableFile.{file_rows}
 use Rattle.safebound_top.specs.Accepted.{Accepted}
-use Rattle.safebound_top.specs.Asks.{Ask, PlanOf, ask_for, command_stage}
+use Rattle.safebound_top.specs.Asks.{Ask, OverQuery, PlanOf, ask_for, command_stage}
 use Rattle.safebound_top.specs.Limits.{within_limit}
 use Rattle.safebound_top.specs.Outcome.{Planned}
 use Rattle.safebound_top.specs.Shapes.{shape_bytes}
-use Rattle.safebound_top.specs.Verdict.{ask_run, plan_asked, plan_stage, query_run, query_stage, run_asked, schema_run, schema_stage, verdict}
+use Rattle.safebound_top.specs.Verdict.{aim_run, ask_run, plan_asked, plan_stage, query_stage, run_asked, schema_stage, verdict, work_run}
 use Rattle.safebound_top.specs.declared.shapes.Shaped.{Shaped}
 use Rattle.safebound_top.specs.declared.task.ListSource.TheVariants as sources
 use Rattle.safebound_top.specs.declared.task.OutText.{OutText}
@@ -116,8 +116,8 @@ found out shape memory plan = ap (λ (lists : List (List ℕ)). record {
   out = out;
 }) lists_found
 
-made : (out : OutText) (shape : Shape) (memory : Option ℕ) (plan : Shaped) → plan_asked (task out shape 1000000 memory) pair (tables_in small_rows) ≡ Ok plan
-    → plan_stage (task out shape 1000000 memory) pair small_rows
+made : (out : OutText) (shape : Shape) (memory : Option ℕ) (plan : Shaped) → plan_asked (task out shape 1000000 memory) two_tables pair (tables_in small_rows) ≡ Ok plan
+    → plan_stage (task out shape 1000000 memory) two_tables pair small_rows
     ≡ within_limit memory (shape_bytes plan) (Planned (run_asked (task out shape 1000000 memory) pair small_rows plan))
 unfolding plan_stage
 made out shape memory plan is =
@@ -126,35 +126,35 @@ made out shape memory plan is =
 
 -- the order, behind a limit of memory
 plan_within : (out : OutText) (memory : Option ℕ)
-    → plan_stage (task out shapes.Order 1000000 memory) pair small_rows ≡ within_limit memory 556 (Planned (two_tables_run out memory))
+    → plan_stage (task out shapes.Order 1000000 memory) two_tables pair small_rows ≡ within_limit memory 556 (Planned (two_tables_run out memory))
 plan_within out memory =
     let plan : Shaped = (two_tables_run out memory).plan in
     made out shapes.Order memory plan plan_found ∙ ap (λ (run : Accepted). within_limit memory 556 (Planned run)) (found out shapes.Order memory plan)
 
-plan_made : (out : OutText) → plan_stage (task out shapes.Order 1000000 None) pair small_rows ≡ Ok (Planned (two_tables_run out None))
+plan_made : (out : OutText) → plan_stage (task out shapes.Order 1000000 None) two_tables pair small_rows ≡ Ok (Planned (two_tables_run out None))
 plan_made out = plan_within out None
 
-tree_made : (out : OutText) → plan_stage (task out shapes.Tree 1000000 None) pair small_rows ≡ Ok (Planned (two_tables_tree out None))
+tree_made : (out : OutText) → plan_stage (task out shapes.Tree 1000000 None) two_tables pair small_rows ≡ Ok (Planned (two_tables_tree out None))
 tree_made out =
     let plan : Shaped = (two_tables_tree out None).plan in
     made out shapes.Tree None plan tree_found ∙ ap (λ (run : Accepted). Ok (Planned run)) (found out shapes.Tree None plan)
 
-plan_too_dear : plan_stage (task out_text.Rows shapes.Order 11 None) pair small_rows ≡ Err (refusal.Budget 12)
+plan_too_dear : plan_stage (task out_text.Rows shapes.Order 11 None) two_tables pair small_rows ≡ Err (refusal.Budget 12)
 unfolding plan_stage
 plan_too_dear = ap (λ (plan : Result Shaped PlanError). told plan_refusal plan
     >>= λ plan. Ok (Planned (run_asked (task out_text.Rows shapes.Order 11 None) pair small_rows plan))) plan_refused
 
 -- ---- one stage after the other
 
-of_files : (out : OutText) (shape : Shape) (budget : ℕ) (memory : Option ℕ) → ask_run (ask out shape budget memory) small_files ≡ plan_stage (task out shape budget memory) pair small_rows
-unfolding ask_run schema_run query_run
+of_files : (out : OutText) (shape : Shape) (budget : ℕ) (memory : Option ℕ) → ask_run (ask out shape budget memory) small_files ≡ plan_stage (task out shape budget memory) two_tables pair small_rows
+unfolding ask_run
 of_files out shape budget memory =
-    ap (λ (schema : Result Schema Refusal). schema >>= λ s. schema_run (ask out shape budget memory) s small_files) schema_found
-    ∙ ap (λ (query : Result Query Refusal). query >>= λ q. query_run (ask out shape budget memory) two_tables q small_files) query_found
-    ∙ ap (λ (rows : Result (List (List Row)) Refusal). rows >>= plan_stage (task out shape budget memory) pair) tables_found
+    ap (λ (schema : Result Schema Refusal). schema >>= λ s. aim_run (OverQuery (codes "query.sql") (PlanOf (task out shape budget memory))) s small_files) schema_found
+    ∙ ap (λ (query : Result Query Refusal). query >>= λ q. work_run (PlanOf (task out shape budget memory)) two_tables q small_files) query_found
+    ∙ ap (λ (rows : Result (List (List Row)) Refusal). rows >>= plan_stage (task out shape budget memory) two_tables pair) tables_found
 
 of_words : (words : List (List ℕ)) (out : OutText) (shape : Shape) (budget : ℕ) (memory : Option ℕ) → command_stage words ≡ Ok (ask out shape budget memory)
-    → verdict words small_files ≡ plan_stage (task out shape budget memory) pair small_rows
+    → verdict words small_files ≡ plan_stage (task out shape budget memory) two_tables pair small_rows
 unfolding verdict
 of_words words out shape budget memory asked =
     ap (λ (a : Result Ask Refusal). a >>= λ a. ask_run a small_files) asked ∙ of_files out shape budget memory

@@ -21,6 +21,6 @@ pub record Ended (call : Call) (s : Status) (note_text : List ℕ) (out_text : O
 
 -- each call with these words, over a store that tells the small files, that keeps the headline and of which no device failed, ended so,
 -- or memory was wanting
-abbrev pub Answers : List (List ℕ) → Status → List ℕ → Option (List ℕ) → Type 0
-Answers words s note_text out_text = (call : Call) → Headline call → call.words ≡ words → call.store.files ≡ Some small_files
+abbrev pub EachCallEnds : List (List ℕ) → Status → List ℕ → Option (List ℕ) → Type 0
+EachCallEnds words s note_text out_text = (call : Call) → Headline call → call.words ≡ words → call.store.files ≡ Some small_files
     → IsFaultless call → Ended call s note_text out_text ⊎ (call.status ≡ status.NoMemory)

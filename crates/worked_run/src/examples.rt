@@ -6,7 +6,7 @@ ghost use Rattle.safebound_top.specs.declared.task.OutText.TheVariants as out_te
 ghost use Rattle.safebound_top.specs.Outcome.{Planned};
 ghost use Rattle.safebound_top.specs.Texts.{out_text_of, plan_text};
 ghost use Rattle.safebound_top.specs.Verdict.{verdict};
-ghost use Rattle.worked_run.specs.Calls.{Answers};
+ghost use Rattle.worked_run.specs.Calls.{EachCallEnds};
 ghost use Rattle.worked_run.specs.TwoTables.{audit_words, limited_words, narrow_words, run_words, small_files, thrifty_words, tree_words};
 ghost use Rattle.worked_run.specs.Meaning.{two_tables_run, two_tables_tree};
 
@@ -16,7 +16,7 @@ pub fn joined()
     ensures verdict { verdict run_words small_files ≡ Ok (Planned (two_tables_run out_text.Rows None)) }
     ensures notes { plan_text (two_tables_run out_text.Rows None) ≡ codes "scan R 6\nscan S 5\nlevel 1 S 5\nlevel 2 R 12\n" }
     ensures out { out_text_of (two_tables_run out_text.Rows None) ≡ Some (codes "X\r\n1\r\n1\r\n1\r\n1\r\n1\r\n1\r\n") }
-    ensures call { Answers run_words status.Done (codes "scan R 6\nscan S 5\nlevel 1 S 5\nlevel 2 R 12\n")
+    ensures call { EachCallEnds run_words status.Done (codes "scan R 6\nscan S 5\nlevel 1 S 5\nlevel 2 R 12\n")
         (Some (codes "X\r\n1\r\n1\r\n1\r\n1\r\n1\r\n1\r\n")) }
 {}
 
@@ -24,7 +24,7 @@ pub fn joined()
 pub fn audited()
     ensures verdict { verdict audit_words small_files ≡ Ok (Planned (two_tables_run out_text.Audit None)) }
     ensures out { out_text_of (two_tables_run out_text.Audit None) ≡ Some (codes "level 1 S 5 5\nlevel 2 R 12 6\n") }
-    ensures call { Answers audit_words status.Done (codes "scan R 6\nscan S 5\nlevel 1 S 5\nlevel 2 R 12\n")
+    ensures call { EachCallEnds audit_words status.Done (codes "scan R 6\nscan S 5\nlevel 1 S 5\nlevel 2 R 12\n")
         (Some (codes "level 1 S 5 5\nlevel 2 R 12 6\n")) }
 {}
 
@@ -32,13 +32,13 @@ pub fn audited()
 pub fn joined_by_a_tree()
     ensures verdict { verdict tree_words small_files ≡ Ok (Planned (two_tables_tree out_text.Audit None)) }
     ensures out { out_text_of (two_tables_tree out_text.Audit None) ≡ Some (codes "node 2 0 1 12 6\n") }
-    ensures call { Answers tree_words status.Done (codes "scan R 6\nscan S 5\nnode 2 0 1 12\n") (Some (codes "node 2 0 1 12 6\n")) }
+    ensures call { EachCallEnds tree_words status.Done (codes "scan R 6\nscan S 5\nnode 2 0 1 12\n") (Some (codes "node 2 0 1 12 6\n")) }
 {}
 
 /// `run schema.sql query.sql --budget 11`: no order costs less than 12.
 pub fn refused()
     ensures verdict { verdict thrifty_words small_files ≡ Err (refusal.Budget 12) }
-    ensures call { Answers thrifty_words (status.Budget 12) (codes "error budget 12\n") None }
+    ensures call { EachCallEnds thrifty_words (status.Refused (refusal.Budget 12)) (codes "error budget 12\n") None }
 {}
 
 /// `run schema.sql query.sql --memory 556`: the plan takes just so many bytes, and its text tells them.
@@ -50,5 +50,5 @@ pub fn joined_within_a_limit()
 /// `run schema.sql query.sql --memory 555`: the plan takes a byte more.
 pub fn above_its_limit()
     ensures verdict { verdict narrow_words small_files ≡ Err (refusal.MemoryLimit 556) }
-    ensures call { Answers narrow_words (status.MemoryLimit 556) (codes "error memory-limit 556\n") None }
+    ensures call { EachCallEnds narrow_words (status.Refused (refusal.MemoryLimit 556)) (codes "error memory-limit 556\n") None }
 {}

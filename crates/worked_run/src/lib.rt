@@ -22,7 +22,7 @@
 //! ```
 //!
 //! What the words and files determine is computed stage by stage (`proofs/`), and the headline carries it to each call that
-//! keeps it (`Answers` in `specs/Calls.antt`). Nothing here does anything when it runs.
+//! keeps it (`EachCallEnds` in `specs/Calls.antt`). Nothing here does anything when it runs.
 #![tactic(auto)]
 
 mod examples;

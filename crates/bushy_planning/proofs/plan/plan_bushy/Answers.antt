@@ -43,5 +43,5 @@ returns c =
       plan = is;
       never_under = ok_so (IsTreePlanOf query tables lists) (tree_answer sets scans budget) answer is (λ plan made.
           over_lists query tables lists sets scans budget plan (told_bound query tables c.args.accuracy) (omega (arith, c.requires.database.some))
-          (omega (arith, c.requires.database.few)) made (told_levels query tables c.args.accuracy) c.requires.budget c.requires.few_rows);
+          (omega (arith, c.requires.database.few)) made (told_levels query tables c.args.accuracy) c.requires.budget c.requires.database.few_rows);
     }

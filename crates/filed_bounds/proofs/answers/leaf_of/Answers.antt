@@ -4,7 +4,7 @@ use Rattle.predicate_bounds.specs.Steps.{value_of as literal_value}
 use Rattle.stats_file.specs.declared.types.Datum.{Datum}
 use Rattle.filed_stats.specs.Data.{value_of}
 use Rattle.filed_stats.specs.Standing.{cut_at}
-use Rattle.filed_bounds.proofs.Leaves.{all_leaves, cut_here, leaf_below, one_more_leaf}
+use Rattle.filed_stats.proofs.Leaves.{all_leaves, cut_here, leaf_below, one_more_leaf}
 use Rattle.filed_bounds.proofs.answers.leaf_of.Goals as goal
 use Rattle.filed_bounds.proofs.answers.leaf_of.Goals.{then-is_at_most, else-is_at_most}
 

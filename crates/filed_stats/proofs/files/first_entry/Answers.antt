@@ -1,6 +1,6 @@
 use Rattle.std.proofs.Common.{◌==◌, length, ap, sym, ◌∙◌, inl, inr, arith}
 use Rattle.std.proofs.lemmas.Bool.{cases_eq, eq-eqb, ne_eqb}
-use Rattle.needed_pairs.specs.Needs.{table_of}
+use Rattle.filed_stats.specs.Needs.{table_of}
 use Rattle.filed_stats.proofs.Finding.{first_found, none_found}
 use Rattle.filed_stats.proofs.files.first_entry.Goals as goal
 

@@ -1,5 +1,5 @@
 use Rattle.std.proofs.Common.{◌≡◌, ◌==◌, ℕ, ◌<◌, false}
-use Rattle.needed_pairs.specs.Needs.{table_of}
+use Rattle.filed_stats.specs.Needs.{table_of}
 use Rattle.filed_stats.proofs.files.first_entry.Given as goal
 
 abbrev pub invariant-loop-entry : goal.invariant-loop-entry

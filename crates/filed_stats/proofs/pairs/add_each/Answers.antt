@@ -1,5 +1,5 @@
 use Rattle.std.proofs.Common.{◌++◌, ◌∷◌, [], ap, ◌∙◌, arith}
-use Rattle.needed_pairs.proofs.Adding.{one_pair_more}
+use Rattle.filed_stats.proofs.Adding.{one_pair_more}
 use Rattle.filed_stats.specs.Pairs.{pair_in_cells}
 use Rattle.filed_stats.proofs.Made.{are_its, column_in, columns_many, its_cells, its_height, its_kind}
 use Rattle.filed_stats.proofs.pairs.add_each.Goals as goal

@@ -1,6 +1,6 @@
 use Rattle.std.proofs.Common.{◌<◌, ℕ, List, length, ap, sym, subst, ◌∙◌}
 use Rattle.std.specs.List.{All, list_any}
-use Rattle.needed_pairs.specs.Pairs.{is_pair}
+use Rattle.filed_stats.specs.ColumnPairs.{is_pair}
 use Rattle.filed_stats.specs.Files.{joined_with}
 use Rattle.filed_stats.proofs.Walks.{kept_below}
 use Rattle.filed_stats.proofs.pairs.add_pairs.Goals as goal

@@ -1,6 +1,6 @@
 use Rattle.std.proofs.Common.{sym, ◌∙◌}
 use Rattle.std.specs.List.{list_any}
-use Rattle.needed_pairs.specs.Pairs.{is_pair}
+use Rattle.filed_stats.specs.ColumnPairs.{is_pair}
 use Rattle.filed_stats.proofs.Walks.{one_kept, one_passed_over}
 use Rattle.filed_stats.proofs.pairs.joined_with.Goals as goal
 use Rattle.filed_stats.proofs.pairs.joined_with.Goals.{then-has+in_ok-push, else-has}

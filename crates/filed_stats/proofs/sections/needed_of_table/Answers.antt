@@ -1,6 +1,6 @@
 use Rattle.std.proofs.Common.{◌==◌, sym, ◌∙◌}
 use Rattle.std.proofs.lemmas.Bool.{eq-eqb, ne_eqb}
-use Rattle.needed_pairs.specs.Needs.{needed, table_of}
+use Rattle.filed_stats.specs.Needs.{needed, table_of}
 use Rattle.filed_stats.proofs.Walks.{none_if, one_if}
 use Rattle.filed_stats.proofs.sections.needed_of_table.Goals as goal
 use Rattle.filed_stats.proofs.sections.needed_of_table.Goals.{then-table_of-table+in_ok-add_needed, else-table_of-table}

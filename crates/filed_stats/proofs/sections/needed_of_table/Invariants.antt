@@ -1,7 +1,7 @@
 use Rattle.std.proofs.Common.{◌≡◌, ◌==◌, []}
 use Rattle.std.specs.Prelude.{if◌then◌else◌}
 use Rattle.std.specs.List.{flat_map, range_with_len}
-use Rattle.needed_pairs.specs.Needs.{needed, table_of}
+use Rattle.filed_stats.specs.Needs.{needed, table_of}
 use Rattle.filed_stats.proofs.sections.needed_of_table.Given as goal
 
 abbrev pub invariant-loop-entry : goal.invariant-loop-entry

@@ -34,5 +34,5 @@ execute_bushy-done-requires-clause-plan c =
 
 pub returns : goal.returns
 returns c =
-    has_nodes (length c.args.query.now.from) c.in_ok-plan.plan c.execute_bushy-done.result c.in_ok-plan.ensures.never_under.for_each_entry
+    has_nodes (length c.args.query.now.from) c.in_ok-plan.plan c.execute_bushy-done.result.nodes c.in_ok-plan.ensures.never_under.for_each_entry
     c.execute_bushy-done.ensures.count c.execute_bushy-done.ensures.entries

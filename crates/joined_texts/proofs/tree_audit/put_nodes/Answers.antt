@@ -15,13 +15,13 @@ no_join = record { left = 0; right = 0; bound = 0 }
 pub nodes-init : goal.nodes-init
 nodes-init g c =
     let start : c.args.first + 0 ≡ c.args.first = omega arith in
-    record { done = []; left = ap (λ (k : ℕ). node_audits k c.args.joins.now (node_counts c.args.first c.args.done.now)) start; put = put_none _ _ _ }
+    record { done = []; left = ap (λ (k : ℕ). node_audits k c.args.joins.now (node_counts c.args.first c.args.done.now.nodes)) start; put = put_none _ _ _ }
 
 pub returns-in_err-put_node : goal.returns-in_err-put_node
 returns-in_err-put_node g c =
     let p = err_from_is_err_and c.from_residual.result c.from_residual.ensures.1 in
     let joins = c.args.joins.now in
-    let nodes = c.args.done.now in
+    let nodes = c.args.done.now.nodes in
     let i : ℕ = c.nodes.i in
     let k : ℕ = c.args.first + i in
     let counts = node_counts c.args.first nodes in
@@ -34,7 +34,7 @@ returns-in_err-put_node g c =
 pub nodes-preserved : goal.nodes-preserved
 nodes-preserved g c =
     let joins = c.args.joins.now in
-    let nodes = c.args.done.now in
+    let nodes = c.args.done.now.nodes in
     let i : ℕ = c.nodes.i in
     let k : ℕ = c.args.first + i in
     let counts = node_counts c.args.first nodes in

@@ -8,6 +8,6 @@ use Rattle.joined_texts.proofs.tree_audit.put_nodes.Given as goal
 abbrev pub invariant-nodes : goal.invariant-nodes
 invariant-nodes g l = record {
   done : List ℕ;
-  left : done ++ node_audits (l.first + l.i) (drop l.i l.joins) (drop l.i (node_counts l.first l.fn.done)) ≡ node_audits l.first l.joins (node_counts l.first l.fn.done);
+  left : done ++ node_audits (l.first + l.i) (drop l.i l.joins) (drop l.i (node_counts l.first l.fn.done.nodes)) ≡ node_audits l.first l.joins (node_counts l.first l.fn.done.nodes);
   put : Put (growth g.N.Sink.taken g.N.Sink.faults l.initial.sink l.sink) l.initial.buffer l.buffer done (Ok tt);
 }

@@ -20,7 +20,7 @@ reserve-requires c =
       entries = subst (λ (order : List ℕ). All (λ entry. entry < length c.as_slice-2.result.now) order) (sym c.as_slice.ensures)
           (subst (λ (scans : List ℕ). All (λ entry. entry < length scans) plan.order) (sym c.as_slice-2.ensures) (entries_have_scans query db plan is.for_each_entry));
       few_levels = omega (arith, ap (λ (s : List ℕ). length s) c.as_slice-3.ensures, few_levels query db plan is.for_each_entry c.requires.database);
-      small_lists = subst (All (λ rows. rows ≤ most_rows)) (sym c.as_slice-2.ensures) (small_scans query db plan is.for_each_entry is.within_tables c.requires.few_rows);
+      small_lists = subst (All (λ rows. rows ≤ most_rows)) (sym c.as_slice-2.ensures) (small_scans query db plan is.for_each_entry is.within_tables c.requires.database.few_rows);
       small_levels = subst (All (λ rows. rows ≤ most_budget)) (sym c.as_slice-3.ensures) (small_levels query db plan is.for_each_entry is.within_budget);
     }
 

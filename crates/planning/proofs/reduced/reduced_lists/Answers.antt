@@ -32,5 +32,5 @@ returns-clause-lists c =
     let query = c.args.query.now in
     let db = c.args.db.now in
     IfOk-weaker c.reduce_scans.result (λ lists. AreReducedScans query (tables_of db) (lists_of lists.items)) (λ lists. AreListsOf db lists.items)
-    (λ lists are. lists_of_db query db lists.items c.requires.database are.consistent.is_family c.requires.few_rows)
+    (λ lists are. lists_of_db query db lists.items c.requires.database are.consistent.is_family)
     c.reduce_scans.ensures.reduced

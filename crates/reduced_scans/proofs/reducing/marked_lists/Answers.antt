@@ -30,9 +30,11 @@ lists-preserved c =
     let has_no_spare : Rows ℕ → Type 0 = λ list. list.spare ≡ 0 in
     record {
       lists =
-          marked_more (marked c.args.marks.now.items) c.args.scans.now c.lists.lists.items c.push.new.self.items c.lists.entry c.first_item-first.result c.in_ok-rows.rows c.as_slice.result.now low c.in_ok-push.ensures.items
+          marked_more (marked c.args.marks.now.items) c.args.scans.now c.lists.lists.items c.push_reserved.new.self.items c.lists.entry c.first_item-first.result c.in_ok-rows.rows c.as_slice.result.now low c.push_reserved.ensures.items
           c.first_item-first.ensures.first (c.as_slice.ensures ∙ read_list c.args.scans.now c.lists.entry c.index-scans-entry.result low c.index-scans-entry.is) c.in_ok-rows.ensures.rows c.lists.invariant.lists;
-      no_spare = subst HaveNoSpare (sym c.in_ok-push.ensures.items)
+      no_spare = subst HaveNoSpare (sym c.push_reserved.ensures.items)
           (All-append has_no_spare c.lists.lists.items (c.in_ok-rows.rows ∷ []) c.lists.invariant.no_spare
           (All-from_recursion has_no_spare (c.in_ok-rows.rows ∷ []) (c.in_ok-rows.ensures.no_spare, tt)));
+      count = omega (arith, c.push_reserved.ensures.len, c.lists.invariant.count);
+      capacity = c.push_reserved.ensures.capacity ∙ c.lists.invariant.capacity;
     }

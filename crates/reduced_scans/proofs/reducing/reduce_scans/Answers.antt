@@ -18,7 +18,7 @@ use Rattle.reduced_scans.proofs.Wired.{few_items}
 use Rattle.reduced_scans.proofs.reducing.reduce_scans.Goals as goal
 
 pub sifted-requires-clause-lists : goal.sifted-requires-clause-lists
-sifted-requires-clause-lists c = are_lists c.args.query.now c.args.db.now c.args.scans.now c.requires.database c.requires.count c.requires.scans c.requires.sizes
+sifted-requires-clause-lists c = are_lists c.args.query.now c.args.db.now c.args.scans.now c.requires.database c.requires.count c.requires.scans
 
 pub sifted-requires-clause-columns : goal.sifted-requires-clause-columns
 sifted-requires-clause-columns c =
@@ -33,7 +33,7 @@ marks_of-requires-clause-columns c =
 
 pub marks_of-requires-clause-few : goal.marks_of-requires-clause-few
 marks_of-requires-clause-few c =
-    omega (arith, ap (λ (l : List Edge). length l) c.requires.equalities, few_equalities c.args.query.now, c.requires.few)
+    omega (arith, ap (λ (l : List Edge). length l) c.requires.equalities, few_equalities c.args.query.now, c.requires.database.few_conjuncts)
 
 pub marked_lists-requires-clause-sizes : goal.marked_lists-requires-clause-sizes
 marked_lists-requires-clause-sizes c =

@@ -1,7 +1,7 @@
 use Rattle.std.proofs.Common.{◌≡◌, Ok, Result, sym, subst}
 use Rattle.std.specs.Prelude.{IfErr, IfOk}
 use Rattle.filed_bounds.proofs.Named.{names_own}
-use Rattle.outcomes.specs.Reads.{Tells}
+use Rattle.outcomes.specs.Reads.{StopsBy}
 use Rattle.outcomes.specs.declared.refusal.Refusal.{Refusal}
 use Rattle.safebound_top.specs.Outcome.{Outcome}
 use Rattle.safebound_top.specs.Ready.{plan_from}
@@ -21,7 +21,7 @@ returns-in-Ok-clause-planned c =
 
 pub returns-in-Ok-clause-refused : goal.returns-in-Ok-clause-refused
 returns-in-Ok-clause-refused c =
-    subst (λ (s : Result Outcome Refusal). IfErr c.limited.result (Tells s))
+    subst (λ (s : Result Outcome Refusal). IfErr c.limited.result (StopsBy s))
     (sym (filed_planned c.args.query c.args.file c.args.budget c.args.memory c.in-Ok.plan c.in-Ok.ensures.planned)) c.limited.ensures.refused
 
 pub returns-in-Err-clause-refused : goal.returns-in-Err-clause-refused

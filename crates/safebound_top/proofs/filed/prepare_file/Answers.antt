@@ -13,7 +13,6 @@ file_tables-requires-clause-over g c = record {
   query_is = c.requires.query;
   database = c.in_ok-db.ensures.database;
   cells = c.in_ok-db.ensures.cells;
-  few_rows = c.in_ok-db.ensures.few_rows;
 }
 
 pub returns-in_err-filed-clause-reads : goal.returns-in_err-filed-clause-reads

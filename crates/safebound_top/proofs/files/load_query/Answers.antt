@@ -1,5 +1,4 @@
 use Rattle.std.proofs.lemmas.Result.{err_from_is_err_and}
-use Rattle.text_answers.proofs.QueryLimits.{answer_keeps}
 use Rattle.safebound_top.proofs.Answered.{query_read, query_told}
 use Rattle.safebound_top.proofs.Stages.{query_refused, query_spelled, query_stops}
 use Rattle.safebound_top.proofs.files.load_query.Goals as goal
@@ -19,6 +18,3 @@ pub returns-clause-reads : goal.returns-clause-reads
 returns-clause-reads g c =
     query_spelled c.args.name.now c.args.schema.now _ c.as_slice.result.now c.in_ok-query.query c.as_slice.ensures
     (query_read c.args.schema.now c.as_slice.result.now c.in_ok-query.query c.in_ok-query.ensures.meaning) c.in_ok-text.ensures.reads
-
-pub returns-clause-few : goal.returns-clause-few
-returns-clause-few g c = (answer_keeps c.args.schema.now c.as_slice.result.now c.in_ok-query.query c.in_ok-query.ensures.meaning).conjuncts

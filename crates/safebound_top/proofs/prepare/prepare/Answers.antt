@@ -1,17 +1,23 @@
-use Rattle.std.proofs.Common.{refl}
+use Rattle.std.proofs.Common.{Err, Ok, ap}
 use Rattle.std.proofs.lemmas.Result.{err_from_is_err_and}
 use Rattle.outcomes.specs.Reads.{seen}
-use Rattle.safebound_top.specs.Asks.{asked}
-use Rattle.safebound_top.specs.Ready.{outcome_of}
-use Rattle.safebound_top.proofs.Stages.{schema_not_run, schema_ran}
+use Rattle.safebound_top.specs.Asks.{AppendTo, OverQuery, aim_asked, append_asked, work_asked}
+use Rattle.safebound_top.specs.Ready.{appended_from, outcome_of}
+use Rattle.safebound_top.proofs.Stages.{aim_done}
 use Rattle.safebound_top.proofs.prepare.prepare.Goals as goal
 
-pub returns-in_err-query-clause-reads : goal.returns-in_err-query-clause-reads
-returns-in_err-query-clause-reads g c =
-    let p = err_from_is_err_and c.from_residual.result c.from_residual.ensures.1 in
-    rw (p.1, p.2) (schema_not_run (asked c.args.task.now) c.args.schema.now c.in_err-query.field-0.0 c.in_err-query.ensures.reads)
+pub returns-in-Query-clause-reads : goal.returns-in-Query-clause-reads
+returns-in-Query-clause-reads g c =
+    aim_done (aim_asked c.args.aim.now) (OverQuery c.in-Query.file.now (work_asked c.in-Query.work)) c.args.schema.now (seen (outcome_of c.args.schema.now) c.prepare_work.result)
+    (ap aim_asked c.in-Query.is) c.prepare_work.ensures.reads
 
-pub returns-clause-reads : goal.returns-clause-reads
-returns-clause-reads g c =
-    schema_ran (asked c.args.task.now) c.args.schema.now _ _ c.in_ok-query.query (seen (outcome_of c.args.schema.now) c.prepare_query.result) (record { files = refl; faults = refl; misses = refl })
-    c.in_ok-query.ensures.reads c.prepare_query.ensures.reads
+pub returns-in_err-made-in-Append-clause-reads : goal.returns-in_err-made-in-Append-clause-reads
+returns-in_err-made-in-Append-clause-reads g c =
+    let p = err_from_is_err_and c.from_residual.result c.from_residual.ensures.1 in
+    rw (p.1, p.2) (aim_done (aim_asked c.args.aim.now) (AppendTo (append_asked c.in-Append.append)) c.args.schema.now (Err c.in_err-made-in-Append.field-0.0) (ap aim_asked c.in-Append.is)
+    c.in_err-made-in-Append.ensures.reads)
+
+pub returns-in_ok-made-in-Append-clause-reads : goal.returns-in_ok-made-in-Append-clause-reads
+returns-in_ok-made-in-Append-clause-reads g c =
+    aim_done (aim_asked c.args.aim.now) (AppendTo (append_asked c.in-Append.append)) c.args.schema.now (Ok (appended_from c.args.schema.now c.in_ok-made-in-Append.made)) (ap aim_asked c.in-Append.is)
+    c.in_ok-made-in-Append.ensures.reads

@@ -1,4 +1,7 @@
 use Rattle.std.proofs.lemmas.Result.{err_from_is_err_and}
+use Rattle.sql_meaning.specs.Tables.{tables_of}
+use Rattle.filed_bounds.proofs.Named.{names_own}
+use Rattle.safebound_top.proofs.KeyFacts.{keys_hold}
 use Rattle.safebound_top.proofs.Stages.{tables_ran, tables_stop}
 use Rattle.safebound_top.proofs.prepare.prepare_tables.Goals as goal
 
@@ -10,3 +13,7 @@ returns-in_err-db-clause-reads g c =
 pub returns-clause-reads : goal.returns-clause-reads
 returns-clause-reads g c =
     tables_ran c.args.task.now c.args.schema.now c.args.query _ _ c.prepare_plan.result c.prepare_plan.ensures.run c.prepare_plan.ensures.refused c.in_ok-db.ensures.reads
+
+pub prepare_plan-requires-clause-keys : goal.prepare_plan-requires-clause-keys
+prepare_plan-requires-clause-keys g c =
+    keys_hold c.args.schema.now c.args.query (tables_of c.in_ok-db.db) (names_own c.args.schema.now c.args.query c.requires.query) c.in_ok-db.ensures.files

@@ -1,12 +1,14 @@
-use Rattle.std.proofs.Common.{◌≡◌, length, arith, sym, ◌∙◌}
+use Rattle.std.proofs.Common.{◌≡◌, length, arith, sym, subst, ◌∙◌}
 use Rattle.std.proofs.lemmas.Result.{err_from_is_err_and}
 use Rattle.sql_meaning.specs.Tables.{tables_of}
 use Rattle.planning.proofs.Giving.{known_long, known_many}
+use Rattle.safebound_top.specs.Prepared.{HoldExactly}
 use Rattle.safebound_top.specs.Shapes.{answer_of}
 use Rattle.safebound_top.specs.Sources.{Sourced, sourced}
 use Rattle.safebound_top.proofs.Answered.{was_made, was_refused}
+use Rattle.safebound_top.proofs.KeptFacts.{scans_given}
 use Rattle.safebound_top.proofs.ShapeFacts.{planned_known}
-use Rattle.safebound_top.proofs.SourceFacts.{stand}
+use Rattle.safebound_top.proofs.SourceFacts.{scans_bound}
 use Rattle.safebound_top.proofs.scans.plan_task.Goals as goal
 
 pub plan_by-requires : goal.plan_by-requires
@@ -14,9 +16,9 @@ plan_by-requires c =
     let task = c.args.task.now in
     let query = c.args.query.now in
     let tables = tables_of c.args.db.now in
-    let given : Sourced = sourced task.source query tables in
+    let given : Sourced = sourced task.source c.args.schema.now query tables in
     let known = c.in_ok-known.field-0.known in
-    let one_each = ((stand task.source query tables).of_scans task.accuracy).one_each in
+    let one_each = (scans_bound query tables task.source task.accuracy).one_each in
     let long : length known.scans ≡ length query.from = known_long query (given.bounds task.accuracy) (given.scans task.accuracy) known c.in_ok-known.ensures.known one_each in
     record {
       some = omega (arith, long, c.requires.database.some);
@@ -32,7 +34,7 @@ returns-in_err-plan-clause-refused c =
     let tables = tables_of c.args.db.now in
     let known = c.in_ok-known.field-0.known in
     let p = err_from_is_err_and c.from_residual-in_err-plan.result c.from_residual-in_err-plan.ensures.1 in
-    rw (p.1, p.2, ← planned_known task.shape (sourced task.source query tables) query task.accuracy task.budget known c.in_ok-known.ensures.known)
+    rw (p.1, p.2, ← planned_known task.shape (sourced task.source c.args.schema.now query tables) query task.accuracy task.budget known c.in_ok-known.ensures.known)
     (was_refused (answer_of task.shape known.sets known.scans task.budget) c.in_err-plan.field-0.0 c.in_err-plan.ensures)
 
 pub returns-clause-planned : goal.returns-clause-planned
@@ -41,5 +43,13 @@ returns-clause-planned c =
     let query = c.args.query.now in
     let tables = tables_of c.args.db.now in
     let known = c.in_ok-known.field-0.known in
-    sym (planned_known task.shape (sourced task.source query tables) query task.accuracy task.budget known c.in_ok-known.ensures.known)
+    sym (planned_known task.shape (sourced task.source c.args.schema.now query tables) query task.accuracy task.budget known c.in_ok-known.ensures.known)
     ∙ was_made (answer_of task.shape known.sets known.scans task.budget) c.in_ok-plan.plan c.in_ok-plan.ensures
+
+pub returns-clause-exact : goal.returns-clause-exact
+returns-clause-exact c =
+    let task = c.args.task.now in
+    let query = c.args.query.now in
+    let tables = tables_of c.args.db.now in
+    subst (HoldExactly c.in_ok-known.field-0.scans) (sym (scans_given query tables (sourced task.source c.args.schema.now query tables) task.accuracy task.budget (scans_bound query tables task.source task.accuracy)
+    c.requires.database.some c.requires.database.few task.shape c.in_ok-plan.plan (returns-clause-planned c))) c.in_ok-known.ensures.exact

@@ -1,9 +1,11 @@
-use Rattle.std.proofs.Common.{ℕ, List, sym, subst}
+use Rattle.std.proofs.Common.{ℕ, ◌+◌, List, ap, sym, ◌∙◌, subst}
+use Rattle.reserve_plan.specs.Memory.{lists_bytes}
 use Rattle.sql_meaning.specs.Tables.{tables_of}
 use Rattle.join_steps.specs.Lists.{lists_of}
-use Rattle.safebound_top.specs.Prepared.{lists_in}
-use Rattle.safebound_top.specs.Shapes.{IsPlanOver}
+use Rattle.safebound_top.specs.Prepared.{held_bytes, lists_in}
+use Rattle.safebound_top.specs.Shapes.{IsPlanOver, scan_bounds}
 use Rattle.safebound_top.specs.Standing.{LoseNoRow}
+use Rattle.safebound_top.proofs.KeptFacts.{all_bytes}
 use Rattle.safebound_top.proofs.ShapeFacts.{over_fits}
 use Rattle.safebound_top.proofs.scans.prepare_joins.Goals as goal
 
@@ -29,8 +31,17 @@ returns-clause-room c =
     let planned = c.args.planned in
     let query = c.args.query.now in
     let tables = tables_of c.args.db.now in
-    let its = subst (λ (l : List (List ℕ)). IsPlanOver query tables l planned.plan) (sym c.in_ok-lists.ensures) c.requires.plan in
+    let its = subst (λ (l : List (List ℕ)). IsPlanOver query tables l planned.plan) (sym c.in_ok-lists.ensures.lists) c.requires.plan in
     record {
-      rows = subst (λ (l : List (List ℕ)). LoseNoRow query tables l) (sym c.in_ok-lists.ensures) c.requires.rows;
+      rows = subst (λ (l : List (List ℕ)). LoseNoRow query tables l) (sym c.in_ok-lists.ensures.lists) c.requires.rows;
       room = c.in_ok-room.ensures.ready (lists_of c.in_ok-lists.lists.items) its;
     }
+
+pub list_rows-requires-clause-exact : goal.list_rows-requires-clause-exact
+list_rows-requires-clause-exact c = rw c.bounds_of_scans.ensures c.requires.exact
+
+pub returns-clause-bytes : goal.returns-clause-bytes
+returns-clause-bytes c =
+    let plan = c.args.planned.plan in
+    ap (λ (n : ℕ). n + held_bytes c.in_ok-room.room) (rw c.bounds_of_scans.ensures at c.in_ok-lists.ensures.bytes)
+    ∙ ap (λ (n : ℕ). lists_bytes (scan_bounds plan) + n) c.in_ok-room.ensures.bytes ∙ all_bytes plan

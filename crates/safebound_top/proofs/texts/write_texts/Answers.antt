@@ -6,6 +6,7 @@ use Rattle.safebound_top.specs.Prepared.{accepted_of, plan_left}
 use Rattle.safebound_top.specs.Shapes.{shape_bytes, shape_lines}
 use Rattle.safebound_top.specs.Texts.{plan_text}
 use Rattle.safebound_top.specs.declared.prepare.Prepared.{Prepared}
+use Rattle.safebound_top.proofs.KeptFacts.{kept_is}
 use Rattle.safebound_top.proofs.RestTexts.{rest_is}
 use Rattle.safebound_top.proofs.TextSteps.{both_wrote, notes_cut, out_cut}
 use Rattle.safebound_top.proofs.texts.write_texts.Goals as goal
@@ -18,21 +19,27 @@ text_is p from bytes =
     ∙ ap (λ (b : ℕ). shape_lines p.query.from (plan_left p.rest) ++ memory_text p.memory b) bytes
 
 pub write_plan_text-requires : goal.write_plan_text-requires
-write_plan_text-requires g c = rw c.as_slice.ensures c.requires.plan
+write_plan_text-requires g c = rw c.as_slice.ensures c.requires.ready.plan
 
-pub returns-in-Err : goal.returns-in-Err
-returns-in-Err g c =
+pub returns-in-Err-clause-texts : goal.returns-in-Err-clause-texts
+returns-in-Err-clause-texts g c =
     let p = c.args.prepared in
-    notes_cut _ _ _ _ _ _ (accepted_of p) _ _ (text_is p c.as_slice.ensures c.requires.bytes) c.in-Err.ensures
+    notes_cut _ _ _ _ _ _ (accepted_of p) _ _ (text_is p c.as_slice.ensures c.requires.ready.bytes) c.in-Err.ensures
 
-pub returns-in-Ok-write_rest : goal.returns-in-Ok-write_rest
-returns-in-Ok-write_rest g c =
+pub returns-in-Ok-write_rest-clause-texts : goal.returns-in-Ok-write_rest-clause-texts
+returns-in-Ok-write_rest-clause-texts g c =
     let p = c.args.prepared in
-    both_wrote _ _ _ _ _ _ _ _ (accepted_of p) _ _ tt tt (text_is p c.as_slice.ensures c.requires.bytes)
-    (rest_is p.query p.db p.source (accepted_of p).lists p.memory p.rest (own_entries p.query p.db c.requires.database) c.requires.plan c.requires.tables c.requires.room c.requires.lists) c.in-Ok.ensures c.in-Ok-write_rest.ensures
+    both_wrote _ _ _ _ _ _ _ _ (accepted_of p) _ _ tt tt (text_is p c.as_slice.ensures c.requires.ready.bytes)
+    (rest_is p.query p.db p.source (accepted_of p).lists p.memory p.rest (own_entries p.query p.db c.requires.ready.database) c.requires.ready.plan c.requires.ready.tables c.requires.ready.room c.requires.ready.lists) c.in-Ok.ensures c.in-Ok-write_rest.ensures.text
 
-pub returns : goal.returns
-returns g c =
+pub returns-clause-texts : goal.returns-clause-texts
+returns-clause-texts g c =
     let p = c.args.prepared in
-    out_cut _ _ _ _ _ _ _ _ (accepted_of p) _ _ tt _ (text_is p c.as_slice.ensures c.requires.bytes)
-    (rest_is p.query p.db p.source (accepted_of p).lists p.memory p.rest (own_entries p.query p.db c.requires.database) c.requires.plan c.requires.tables c.requires.room c.requires.lists) c.in-Ok.ensures c.in-Err-write_rest.ensures
+    out_cut _ _ _ _ _ _ _ _ (accepted_of p) _ _ tt _ (text_is p c.as_slice.ensures c.requires.ready.bytes)
+    (rest_is p.query p.db p.source (accepted_of p).lists p.memory p.rest (own_entries p.query p.db c.requires.ready.database) c.requires.ready.plan c.requires.ready.tables c.requires.ready.room c.requires.ready.lists) c.in-Ok.ensures c.in-Err-write_rest.ensures.text
+
+pub returns-in-Ok-write_rest-clause-kept : goal.returns-in-Ok-write_rest-clause-kept
+returns-in-Ok-write_rest-clause-kept g c =
+    let p = c.args.prepared in
+    let ready = c.requires.ready in
+    kept_is p.query p.db p.source (accepted_of p).lists p.memory ready.tables p.bytes p.rest _ ready.lists ready.held ready.bytes c.in-Ok-write_rest.ensures.kept

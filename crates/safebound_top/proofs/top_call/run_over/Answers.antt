@@ -1,10 +1,22 @@
-use Rattle.std.proofs.Common.{refl}
+use Rattle.std.proofs.Common.{Result, refl, sym, ◌∙◌, subst}
+use Rattle.std.specs.Prelude.{IsOkAnd}
+use Rattle.outcomes.specs.declared.refusal.Refusal.{Refusal}
+use Rattle.outcomes.proofs.StatusFacts.{ended_not_done}
 use Rattle.safebound_top.specs.Course.{Stopped, Went}
+use Rattle.safebound_top.specs.Kept.{IsKept}
+use Rattle.safebound_top.specs.Outcome.{Outcome}
 use Rattle.safebound_top.specs.Ready.{outcome_of}
 use Rattle.safebound_top.proofs.top_call.run_over.Goals as goal
 
-pub returns-in-Ok : goal.returns-in-Ok
-returns-in-Ok g c = Went (outcome_of c.args.schema.now c.in-Ok.ready) c.in-Ok.ensures.reads c.written.ensures
+pub returns-in-Ok-clause-ran : goal.returns-in-Ok-clause-ran
+returns-in-Ok-clause-ran g c = Went (outcome_of c.args.schema.now c.in-Ok.ready) c.in-Ok.ensures.reads c.written.ensures.ended
 
-pub returns-in-Err : goal.returns-in-Err
-returns-in-Err g c = Stopped c.in-Err.ending c.stopped.ensures.status c.in-Err.ensures.reads (refl, refl) c.stopped.ensures.told
+pub returns-in-Ok-clause-kept : goal.returns-in-Ok-clause-kept
+returns-in-Ok-clause-kept g c done files told =
+    subst (λ (r : Result Outcome Refusal). IsOkAnd r (λ outcome. IsKept outcome c.written.new.kept)) (sym (c.in-Ok.ensures.reads.gives files told)) (c.written.ensures.kept done)
+
+pub returns-in-Err-clause-ran : goal.returns-in-Err-clause-ran
+returns-in-Err-clause-ran g c = Stopped c.in-Err.ending c.stopped.ensures.status c.in-Err.ensures.reads (refl, refl) c.stopped.ensures.told
+
+pub returns-in-Err-clause-kept : goal.returns-in-Err-clause-kept
+returns-in-Err-clause-kept g c done = absurd (ended_not_done c.in-Err.ending (sym c.stopped.ensures.status ∙ done))

@@ -1,4 +1,4 @@
-use Rattle.table_stats.proofs.Dominating.{lists_stand}
+use Rattle.table_stats.proofs.Dominating.{listed_stand, lists_stand}
 use Rattle.table_stats.proofs.Summing.{counts_stand}
 use Rattle.table_stats.proofs.laws.statistics_stand_for_tables.Goals as goal
 
@@ -7,3 +7,6 @@ returns-clause-lists c = lists_stand
 
 pub returns-clause-counts : goal.returns-clause-counts
 returns-clause-counts c = counts_stand
+
+pub returns-clause-beside : goal.returns-clause-beside
+returns-clause-beside c = λ tables accuracy entry joined key long tells. listed_stand tables accuracy entry joined key long tells

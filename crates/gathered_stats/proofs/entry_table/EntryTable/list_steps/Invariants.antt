@@ -4,10 +4,11 @@ use Rattle.filtered_lists.specs.Lists.{ColumnLists}
 use Rattle.predicate_bounds.specs.ListRuns.{listed}
 use Rattle.gathered_stats.specs.Columns.{HaveLists}
 use Rattle.gathered_stats.specs.Rests.{IsRestOf}
+use Rattle.gathered_stats.specs.Seen.{seen}
 use Rattle.gathered_stats.proofs.entry_table.EntryTable.list_steps.Given as goal
 
 abbrev pub invariant-loop-step : goal.invariant-loop-step
 invariant-loop-step l = (l.gathered.column ≡ l.column)
-    × ((lists : ColumnLists) → HaveLists l.self.pool.now l.self.cells.now l.self.accuracy l.keys lists
+    × ((lists : ColumnLists) → HaveLists l.self.pool.now (seen l.self) l.self.accuracy l.keys lists
     → l.gathered.steps ≡ map (listed lists) (take l.step-index l.steps))
     × All (IsRestOf l.self l.keys) l.rests

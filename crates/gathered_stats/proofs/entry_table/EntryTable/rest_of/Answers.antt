@@ -1,5 +1,6 @@
 use Rattle.std.proofs.Common.{List, ap, sym, ◌∙◌}
 use Rattle.gathered_stats.specs.declared.rests.RestList.{RestList}
+use Rattle.gathered_stats.specs.Seen.{seen}
 use Rattle.gathered_stats.specs.Rests.{is_kept}
 use Rattle.gathered_stats.proofs.Asking.{as_high}
 use Rattle.gathered_stats.proofs.Kept.{one_kept}
@@ -7,7 +8,7 @@ use Rattle.gathered_stats.proofs.entry_table.EntryTable.rest_of.Goals as goal
 
 pub rest-requires-clause-joined : goal.rest-requires-clause-joined
 rest-requires-clause-joined c =
-    as_high c.args.self.now.pool.now c.args.self.now.cells.now c.requires.ready.cells c.args.column c.args.sorted.now c.args.keys.now c.requires.column c.requires.keys
+    as_high c.args.self.now.pool.now (seen c.args.self.now) c.requires.ready.cells c.args.column c.args.sorted.now c.args.keys.now c.requires.column c.requires.keys
 
 pub returns-clause-rests : goal.returns-clause-rests
 returns-clause-rests c =

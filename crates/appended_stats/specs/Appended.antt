@@ -1,0 +1,40 @@
+-- A file of statistics after rows were appended to one of its tables.
+use Rattle.std.specs.Prelude.{ℕ, ◌+◌, ◌==◌, if◌then◌else◌, List, length, map}
+use Rattle.csv_tables.specs.Rows.{Row}
+use Rattle.csv_tables.specs.Values.{Value}
+use Rattle.sql_meaning.specs.Tables.{Tables}
+use Rattle.stats_file.specs.declared.types.Pair.{Pair}
+use Rattle.stats_file.specs.declared.types.StatsFile.{StatsFile}
+use Rattle.stats_file.specs.declared.types.TableStats.{TableStats}
+use Rattle.table_stats.specs.Columns.{column_values, paired, value_of_row}
+use Rattle.filed_stats.specs.Pairs.{pair_in_table}
+use Rattle.appended_stats.specs.Grown.{grown_pair}
+
+-- the new rows as the table of every entry
+abbrev pub alone : List Row → Tables
+alone rows entry = rows
+
+-- their values in a column
+abbrev pub values_in : List Row → ℕ → List Value
+values_in rows column = column_values (alone rows) 0 column
+
+-- a pair of a table that had so many rows: without rows it is made from the new ones alone
+abbrev pub pair_after : ℕ → ℕ → List Row → Pair → Pair
+pair_after accuracy before rows pair =
+    if before == 0 then pair_in_table (alone rows) accuracy 0 pair.filter pair.joined
+    else grown_pair (value_of_row (values_in rows pair.filter)) accuracy (paired (values_in rows pair.filter) (values_in rows pair.joined)) pair
+
+-- a section of the table
+abbrev pub section_after : ℕ → List Row → TableStats → TableStats
+section_after accuracy rows section = record {
+  table = section.table;
+  rows = section.rows + length rows;
+  pairs = map (pair_after accuracy section.rows rows) section.pairs;
+}
+
+-- the file: the section of the table with the rows after it, and all others as they were
+abbrev pub file_after : StatsFile → ℕ → List Row → StatsFile
+file_after file table rows = record {
+  accuracy = file.accuracy;
+  tables = map (λ (section : TableStats). if section.table == table then section_after file.accuracy rows section else section) file.tables;
+}

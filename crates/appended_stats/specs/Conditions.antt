@@ -1,0 +1,58 @@
+-- When rows may be appended to a table of a file.
+use Rattle.std.specs.Prelude.{ℕ, ◌≡◌, ◌+◌, ◌^◌, ◌<◌, ◌≤◌, ◌==◌, if◌then◌else◌, ◌++◌, All, List, length, sum}
+use Rattle.std.specs.Str.{IsUtf8}
+use Rattle.limits.specs.Profile.{most_rows}
+use Rattle.csv_tables.specs.Cells.{AreCellsOf}
+use Rattle.csv_tables.specs.Rows.{Row}
+use Rattle.csv_tables.specs.declared.types.Cells.{Cells}
+use Rattle.level_bounds.specs.Keys.{HaveDifferentCharacters}
+use Rattle.query_types.specs.declared.types.Query.{Query}
+use Rattle.schema_types.specs.declared.types.Schema.{Schema}
+use Rattle.sql_meaning.specs.Tables.{Tables}
+use Rattle.stats_file.specs.declared.types.Datum.{Datum}
+use Rattle.stats_file.specs.declared.types.Pair.{Pair}
+use Rattle.stats_file.specs.declared.types.StatsFile.{StatsFile}
+use Rattle.stats_file.specs.declared.types.TableStats.{TableStats}
+use Rattle.stats_file.specs.Rules.{KeepsRules}
+use Rattle.filed_stats.specs.Needs.{table_of}
+use Rattle.filed_stats.specs.Files.{table_at}
+
+-- a section of the table would have no more rows than a table may have
+abbrev pub HasRoom : ℕ → ℕ → TableStats → Type 0
+HasRoom table more section = section.table ≡ table → section.rows + more ≤ most_rows
+
+-- the file keeps the rules, the cells are those of the table, with their texts in UTF-8 and no two of the same characters, and there is room for
+-- the new rows
+pub record MayAppend (schema : Schema) (file : StatsFile) (table : ℕ) (texts : List (List ℕ)) (cells : Cells) : Type 0 where
+  pub rules : KeepsRules schema file
+  pub cells_are : AreCellsOf (table_at schema table) texts cells
+  pub utf8 : All IsUtf8 texts
+  pub differ : HaveDifferentCharacters texts
+  pub room : All (HasRoom table cells.rows) file.tables
+
+-- a pair of a table that had so many rows: its columns are those of cells that have few rows, it has 32 cuts at most, 63 nodes where there were
+-- rows, and each of its lists has as few rows
+pub record MayGrow (cells : Cells) (before : ℕ) (pair : Pair) : Type 0 where
+  pub filter : pair.filter < length cells.kinds
+  pub joined : pair.joined < length cells.kinds
+  pub rows : cells.rows < 2 ^ 32
+  pub cuts : length pair.cuts ≤ 32
+  pub whole : sum pair.whole < 2 ^ 32
+  pub rest : sum pair.rest < 2 ^ 32
+  pub frequent : All (λ (found : Datum × List ℕ). sum found.1 < 2 ^ 32) pair.frequent
+  pub nodes : All (λ (list : List ℕ). sum list < 2 ^ 32) pair.nodes
+  pub nodes_many : 0 < before → length pair.nodes ≡ 63
+
+-- the same of a section, where it is one of the table
+pub record SectionMayGrow (cells : Cells) (section : TableStats) : Type 0 where
+  pub room : section.rows + cells.rows < 2 ^ 32
+  pub pairs : All (MayGrow cells section.rows) section.pairs
+
+abbrev pub MayGrowWhere : ℕ → Cells → TableStats → Type 0
+MayGrowWhere table cells section = section.table ≡ table → SectionMayGrow cells section
+
+-- the tables of a query before and after new rows of one of them: its entries have these rows behind the others, and all other entries have
+-- the rows that they had
+abbrev pub HasNewRows : Query → ℕ → List Row → Tables → Tables → Type 0
+HasNewRows query table rows tables after =
+    (entry : ℕ) → entry < length query.from → after entry ≡ (if table_of query entry == table then tables entry ++ rows else tables entry)

@@ -1,0 +1,26 @@
+-- Pairs of worked examples, and what they are after an append.
+use Rattle.std.specs.Prelude.{ℕ, List, [], ◌∷◌}
+use Rattle.csv_tables.specs.Rows.{Row}
+use Rattle.stats_file.specs.declared.types.Pair.{Pair}
+use Rattle.filed_stats.specs.Examples.{rows_of}
+use Rattle.filed_stats.specs.Pairs.{pair_in_table}
+use Rattle.appended_stats.specs.Appended.{pair_after}
+
+-- new rows of one column
+abbrev pub new_rows : List ℕ → List Row
+new_rows column = rows_of column 0
+
+-- a column with itself, and after so many new rows
+abbrev pub of_itself : List ℕ → Pair
+of_itself column = pair_in_table (rows_of column) 1 0 0 0
+
+abbrev pub of_six : Pair
+of_six = of_itself (1 ∷ 1 ∷ 1 ∷ 2 ∷ 2 ∷ 3 ∷ [])
+
+-- 1, 1, 1, 2, 2, 3, and then 1 and 4
+abbrev pub of_eight : Pair
+of_eight = pair_after 1 6 (new_rows (1 ∷ 4 ∷ [])) of_six
+
+-- 1, 2, 3, and then 99
+abbrev pub of_four : Pair
+of_four = pair_after 1 3 (new_rows (99 ∷ [])) (of_itself (1 ∷ 2 ∷ 3 ∷ []))

@@ -1,0 +1,125 @@
+//! A file after rows were appended to one of its tables.
+ghost use Rattle.std.specs.Prelude.{◌≡◌, ◌+◌, ◌<◌, ◌≤◌, ◌^◌, All, IfOk, length, map};
+ghost use Rattle.csv_tables.specs.Cells.{rows_of_cells};
+ghost use Rattle.sql_meaning.specs.Databases.{AreCells};
+ghost use Rattle.stats_file.specs.Rules.{KeepsRules};
+ghost use Rattle.appended_stats.specs.Appended.{file_after};
+ghost use Rattle.appended_stats.specs.Cells.{one_by_cells, pair_by_cells, section_by_cells};
+ghost use Rattle.appended_stats.specs.Conditions.{MayAppend, MayGrow, MayGrowWhere, SectionMayGrow};
+
+use crate::pair::pair_after;
+use base_io::{NoMemory, Seq};
+use csv_tables::{Cells, Pool};
+use piece_math::Pieces;
+use schema_types::Schema;
+use stats_file::{Pair, StatsFile, TableStats};
+use std::alloc::Global;
+
+// A pair that holds the place of another while that one is changed. It takes no memory.
+fn no_pair(alloc: Global) -> Pair {
+    Pair {
+        filter: 0,
+        joined: 0,
+        whole: Pieces::empty(alloc),
+        frequent: Seq::new(alloc),
+        rest: Pieces::empty(alloc),
+        cuts: Seq::new(alloc),
+        nodes: Seq::new(alloc),
+    }
+}
+
+// The pairs of a table that had so many rows.
+fn pairs_after(
+    alloc: Global,
+    pairs: Seq<Pair>,
+    before: u32,
+    pool: &Pool,
+    cells: &Cells,
+    accuracy: u8,
+) -> Result<Seq<Pair>, NoMemory>
+    requires cells { AreCells pool.now cells.now }
+    requires pairs { All (MayGrow cells.now before) pairs }
+    requires accuracy { (0 < accuracy) × (accuracy ≤ 64) }
+    ensures { IfOk result (λ after. after ≡ map (pair_by_cells pool.now cells.now accuracy before) pairs) }
+{
+    let mut after = pairs;
+    for i in 0..after.len() {
+        let pair = after.replace(i, no_pair(alloc));
+        let grown = pair_after(alloc, pair, before, pool, cells, accuracy)?;
+        let _ = after.replace(i, grown);
+    }
+    Ok(after)
+}
+
+// A section of the table.
+fn section_after(
+    alloc: Global,
+    section: TableStats,
+    pool: &Pool,
+    cells: &Cells,
+    accuracy: u8,
+) -> Result<TableStats, NoMemory>
+    requires cells { AreCells pool.now cells.now }
+    requires section { SectionMayGrow cells.now section }
+    requires accuracy { (0 < accuracy) × (accuracy ≤ 64) }
+    ensures { IfOk result (λ after. after ≡ section_by_cells pool.now cells.now accuracy section) }
+{
+    let TableStats { table, rows, pairs } = section;
+    let pairs = pairs_after(alloc, pairs, rows, pool, cells, accuracy)?;
+    Ok(TableStats {
+        table,
+        rows: rows + cells.rows,
+        pairs,
+    })
+}
+
+// The sections, of which that of the table is grown.
+fn sections_after(
+    alloc: Global,
+    sections: Seq<TableStats>,
+    table: u32,
+    pool: &Pool,
+    cells: &Cells,
+    accuracy: u8,
+) -> Result<Seq<TableStats>, NoMemory>
+    requires cells { AreCells pool.now cells.now }
+    requires sections { All (MayGrowWhere table cells.now) sections }
+    requires accuracy { (0 < accuracy) × (accuracy ≤ 64) }
+    ensures { IfOk result (λ after. after ≡ map (one_by_cells pool.now cells.now accuracy table) sections) }
+{
+    let mut after = sections;
+    for i in 0..after.len() {
+        if after.get(i).table == table {
+            let none = TableStats {
+                table,
+                rows: 0,
+                pairs: Seq::new(alloc),
+            };
+            let section = after.replace(i, none);
+            let grown = section_after(alloc, section, pool, cells, accuracy)?;
+            let _ = after.replace(i, grown);
+        }
+    }
+    Ok(after)
+}
+
+/// The file of statistics after rows were appended to a table of its schema: in that table's section the number of rows grows, and each list
+/// becomes its rank-wise sum with the compressed list of the new rows that it stands for. Cuts and frequent values stay; a table that had no
+/// rows has the statistics of the new ones. All other sections stay. Where memory is wanting nothing is kept.
+pub fn append_rows(
+    alloc: Global,
+    _schema: &Schema,
+    file: StatsFile,
+    table: u32,
+    cells: &Cells,
+    pool: &Pool,
+) -> Result<StatsFile, NoMemory>
+    requires { MayAppend _schema.now file table pool.now cells.now }
+    ensures file { IfOk result (λ after. after ≡ file_after file table (rows_of_cells pool.now cells.now)) }
+    // it may be written
+    ensures rules { IfOk result (KeepsRules _schema.now) }
+{
+    let StatsFile { accuracy, tables } = file;
+    let tables = sections_after(alloc, tables, table, pool, cells, accuracy)?;
+    Ok(StatsFile { accuracy, tables })
+}

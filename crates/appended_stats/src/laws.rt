@@ -1,0 +1,35 @@
+//! What a file after an append is good for: no law computes anything, and the contract is the law.
+ghost use Rattle.std.specs.Prelude.{◌≡◌, ◌≢◌, ◌++◌, ◌<◌, ◌≤◌, ℕ, List, [], Some};
+ghost use Rattle.csv_tables.specs.Rows.{Row};
+ghost use Rattle.query_types.specs.declared.types.Query.{Query};
+ghost use Rattle.schema_types.specs.declared.types.Schema.{Schema};
+ghost use Rattle.sql_meaning.specs.Tables.{Tables};
+ghost use Rattle.stats_file.specs.declared.types.StatsFile.{StatsFile};
+ghost use Rattle.stats_file.specs.declared.types.TableStats.{TableStats};
+ghost use Rattle.stats_file.specs.Rules.{IsSection, KeepsRules};
+ghost use Rattle.cond_stats.specs.Frequency.{remaining};
+ghost use Rattle.cond_stats.specs.Lists.{rest};
+ghost use Rattle.cond_stats.specs.Rows.{filter_values};
+ghost use Rattle.filed_stats.specs.Standing.{SectionStandsFor, StandsFor};
+ghost use Rattle.appended_stats.specs.Appended.{file_after, section_after};
+ghost use Rattle.appended_stats.specs.Conditions.{HasNewRows};
+ghost use Rattle.appended_stats.specs.Grown.{list_of_any};
+
+/// Where a section stood for the rows of a table, it stands for these and the new rows after them.
+pub fn sections_still_stand()
+    ensures { (schema : Schema) (section : TableStats) (accuracy : ℕ) (tables after : Tables) (entry : ℕ) (rows : List Row)
+        → IsSection schema section → SectionStandsFor section tables entry → after entry ≡ tables entry ++ rows
+        → SectionStandsFor (section_after accuracy rows section) after entry }
+{}
+
+/// Where a file stood for the tables of a query, it stands for them with the new rows after those of the one table.
+pub fn files_still_stand()
+    ensures { (schema : Schema) (query : Query) (file : StatsFile) (tables after : Tables) (table : ℕ) (rows : List Row)
+        → KeepsRules schema file → StandsFor query file tables → HasNewRows query table rows tables after
+        → StandsFor query (file_after file table rows) after }
+{}
+
+/// The list that new rows give to a value that isn't frequent is made as the rest list of a column is.
+pub fn the_rest_list_is_one_of_them()
+    ensures { (accuracy : ℕ) (rows : List (ℕ × ℕ)) → rest accuracy rows ≡ list_of_any accuracy rows (remaining (filter_values rows)) }
+{}

@@ -1,0 +1,86 @@
+//! A pair after new rows of its table.
+ghost use Rattle.std.specs.Prelude.{◌≡◌, ◌<◌, ◌≤◌, ◌^◌, IfOk, length};
+ghost use Rattle.limits.specs.Profile.{most_rows};
+ghost use Rattle.sql_meaning.specs.Databases.{AreCells};
+ghost use Rattle.filed_stats.specs.Pairs.{pair_in_cells};
+ghost use Rattle.appended_stats.specs.Cells.{grown_by_cells, pair_by_cells};
+ghost use Rattle.appended_stats.specs.Conditions.{MayGrow};
+
+use crate::lists::{added, grown_frequent};
+use crate::nodes::{all_added, leaves, lists_of_nodes};
+use crate::rest::list_of_others;
+use base_io::NoMemory;
+use cond_stats::whole_list;
+use csv_tables::{Cells, Pool};
+use filed_stats::pair_of_columns;
+use stats_file::Pair;
+use std::alloc::Global;
+
+// A pair of a table that had rows.
+fn grown_pair(
+    alloc: Global,
+    pair: Pair,
+    pool: &Pool,
+    cells: &Cells,
+    accuracy: u8,
+) -> Result<Pair, NoMemory>
+    requires cells { AreCells pool.now cells.now }
+    requires pair { MayGrow cells.now 1 pair }
+    requires accuracy { (0 < accuracy) × (accuracy ≤ 64) }
+    ensures { IfOk result (λ grown. grown ≡ grown_by_cells pool.now cells.now accuracy pair) }
+{
+    let kind = *cells.kinds.get(pair.filter as usize);
+    let values = cells.columns.get(pair.filter as usize).as_slice();
+    let keys = cells.columns.get(pair.joined as usize).as_slice();
+    let whole = added(&pair.whole, &whole_list(alloc, keys, accuracy)?)?;
+    let others = list_of_others(
+        alloc,
+        pool,
+        kind,
+        values,
+        keys,
+        pair.frequent.as_slice(),
+        accuracy,
+    )?;
+    let rest = added(&pair.rest, &others)?;
+    let leaves = leaves(alloc, &pair, pool, kind, values)?;
+    let more = lists_of_nodes(alloc, leaves.as_slice(), keys, accuracy)?;
+    let nodes = all_added(alloc, pair.nodes.as_slice(), more.as_slice())?;
+    let Pair {
+        filter,
+        joined,
+        frequent,
+        cuts,
+        ..
+    } = pair;
+    let frequent = grown_frequent(alloc, frequent, pool, kind, values, keys, accuracy)?;
+    Ok(Pair {
+        filter,
+        joined,
+        whole,
+        frequent,
+        rest,
+        cuts,
+        nodes,
+    })
+}
+
+/// A pair of a table that had so many rows: without rows it is made from the new ones alone.
+pub(crate) fn pair_after(
+    alloc: Global,
+    pair: Pair,
+    before: u32,
+    pool: &Pool,
+    cells: &Cells,
+    accuracy: u8,
+) -> Result<Pair, NoMemory>
+    requires cells { AreCells pool.now cells.now }
+    requires pair { MayGrow cells.now before pair }
+    requires accuracy { (0 < accuracy) × (accuracy ≤ 64) }
+    ensures { IfOk result (λ after. after ≡ pair_by_cells pool.now cells.now accuracy before pair) }
+{
+    if before == 0 {
+        return pair_of_columns(alloc, pool, cells, pair.filter, pair.joined, accuracy);
+    }
+    grown_pair(alloc, pair, pool, cells, accuracy)
+}

@@ -1,0 +1,130 @@
+//! The list of the new rows for any value that isn't frequent.
+ghost use Rattle.std.specs.Prelude.{◌≡◌, ◌++◌, ◌∷◌, [], ◌<◌, ◌≤◌, ◌^◌, All, IfOk, OnOk, not, length, map, nat_eq, slice_index_or, slice_set};
+ghost use Rattle.std.specs.List.{IsDistinct, filter, sum, zip};
+ghost use Rattle.csv_tables.specs.Cells.{IsCell, value_of_cell};
+ghost use Rattle.cond_stats.specs.Lists.{greatest, keys_with, maxima};
+ghost use Rattle.degree_sequences.specs.Compression.{compressed};
+ghost use Rattle.degree_sequences.specs.Degrees.{degree_list, different};
+ghost use Rattle.degree_sequences.specs.RunningSums.{cut_at};
+ghost use Rattle.appended_stats.specs.Grown.{is_frequent, list_of_any, other_values};
+
+use crate::compare::is_frequent;
+use base_io::{NoMemory, Seq};
+use csv_tables::Pool;
+use degree_lists::falling;
+use indexmap::IndexSet;
+use piece_compress::compress_runs;
+use piece_math::Pieces;
+use schema_types::Kind;
+use stats_file::Datum;
+use std::alloc::Global;
+
+// The different cells whose values aren't among the frequent ones, in the order in which they were first seen.
+fn other_cells(
+    alloc: Global,
+    pool: &Pool,
+    kind: Kind,
+    cells: &[u64],
+    frequent: &[(Datum, Pieces)],
+) -> Result<IndexSet<u64>, NoMemory>
+    requires cells { All (IsCell pool.now kind) cells.now }
+    ensures { IfOk result (λ others. others.keys ≡
+        different (filter (λ cell. not (is_frequent frequent.now (value_of_cell pool.now kind cell))) cells.now)) }
+{
+    let mut others: IndexSet<u64> = IndexSet::new(alloc);
+    for cell in cells {
+        if !is_frequent(frequent, pool, kind, *cell) {
+            others.insert(*cell)?;
+        }
+    }
+    Ok(others)
+}
+
+// So many groups without keys.
+fn empty_groups(alloc: Global, count: usize) -> Result<Seq<Seq<u64>>, NoMemory>
+    ensures many { IfOk result (λ groups. length groups ≡ count) }
+    ensures empty { IfOk result (λ groups. All (λ keys. keys ≡ []) groups) }
+{
+    let mut groups = Seq::new(alloc);
+    for i in 0..count {
+        prove!(i < count);
+        groups.push(Seq::new(alloc))?;
+    }
+    Ok(groups)
+}
+
+// Adds a key to a group.
+fn add_key(
+    alloc: Global,
+    groups: &mut Seq<Seq<u64>>,
+    place: usize,
+    key: u64,
+) -> Result<(), NoMemory>
+    requires { place < length groups.old }
+    ensures { OnOk result (groups.new ≡ slice_set groups.old place (slice_index_or groups.old place [] ++ key ∷ [])) }
+{
+    let mut keys = groups.replace(place, Seq::new(alloc));
+    keys.push(key)?;
+    let _ = groups.replace(place, keys);
+    Ok(())
+}
+
+// The joined keys of the rows of each of these cells.
+fn grouped(
+    alloc: Global,
+    cells: &[u64],
+    joined: &[u64],
+    others: &IndexSet<u64>,
+) -> Result<Seq<Seq<u64>>, NoMemory>
+    requires joined { length joined.now ≡ length cells.now }
+    requires different { IsDistinct nat_eq others.now.keys }
+    ensures { IfOk result (λ groups. groups ≡ map (λ cell. keys_with cell (zip cells.now joined.now)) others.now.keys) }
+{
+    let mut groups = empty_groups(alloc, others.len())?;
+    for (i, cell) in cells.iter().enumerate() {
+        if let Some(place) = others.get_index_of(cell) {
+            add_key(alloc, &mut groups, place, joined[i])?;
+        }
+    }
+    Ok(groups)
+}
+
+// The rank-wise maximum of the degree lists of groups, with no more rows than the largest of them, compressed.
+fn list_of_groups(alloc: Global, groups: &[Seq<u64>], accuracy: u8) -> Result<Pieces, NoMemory>
+    requires groups { All (λ keys. length keys < 2 ^ 32) groups.now }
+    requires accuracy { (0 < accuracy) × (accuracy ≤ 64) }
+    ensures { IfOk result (λ list. list ≡
+        compressed accuracy (cut_at (maxima (map degree_list groups.now)) (greatest (map (λ keys. length keys) groups.now)))) }
+{
+    let mut maxima = Pieces::empty(alloc);
+    let mut most: u64 = 0;
+    for keys in groups {
+        let degrees = falling(alloc, keys.as_slice())?;
+        let degrees = Pieces::from_list(alloc, degrees.as_slice())?;
+        maxima = maxima.greater(&degrees)?;
+        most = most.max(keys.len() as u64);
+    }
+    compress_runs(alloc, &maxima.cap(most)?, accuracy)
+}
+
+/// The list of the rows of any value that isn't among the frequent ones.
+pub(crate) fn list_of_others(
+    alloc: Global,
+    pool: &Pool,
+    kind: Kind,
+    cells: &[u64],
+    joined: &[u64],
+    frequent: &[(Datum, Pieces)],
+    accuracy: u8,
+) -> Result<Pieces, NoMemory>
+    requires cells { All (IsCell pool.now kind) cells.now }
+    requires joined { length joined.now ≡ length cells.now }
+    requires rows { length cells.now < 2 ^ 32 }
+    requires accuracy { (0 < accuracy) × (accuracy ≤ 64) }
+    ensures list { IfOk result (λ list. list ≡ list_of_any accuracy (zip cells.now joined.now)
+        (other_values (value_of_cell pool.now kind) (zip cells.now joined.now) frequent.now)) }
+{
+    let others = other_cells(alloc, pool, kind, cells, frequent)?;
+    let groups = grouped(alloc, cells, joined, &others)?;
+    list_of_groups(alloc, groups.as_slice(), accuracy)
+}

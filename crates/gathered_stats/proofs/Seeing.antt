@@ -1,0 +1,49 @@
+-- A table's cells at rows.
+use Rattle.std.proofs.Common.{◌≡◌, ℕ, ◌<◌, Bool, true, false, cond, List, [], ◌∷◌, length, map, get_or, refl, ap, sym, subst, arith}
+use Rattle.std.specs.List.{All}
+use Rattle.std.proofs.lemmas.List.{get_or-map, length-map}
+use Rattle.schema_types.specs.declared.types.Kind.{Kind}
+use Rattle.csv_tables.specs.declared.types.Cells.{Cells}
+use Rattle.csv_tables.specs.Cells.{AreColumns, IsCell, IsColumn}
+use Rattle.sql_meaning.specs.Databases.{AreCells}
+use Rattle.gathered_stats.specs.declared.entry_table.EntryTable.{EntryTable}
+use Rattle.gathered_stats.specs.Seen.{AreRowsOf, cells_at, picked, seen}
+
+-- rows have the kinds of their table
+pub seen_kinds : (table : EntryTable) → (seen table).kinds ≡ table.cells.now.kinds
+seen_kinds table = by table.whole
+  where
+    by : (b : Bool) → (cond b table.cells.now (cells_at table.rows.now table.cells.now)).kinds ≡ table.cells.now.kinds
+    by true = refl
+    by false = refl
+
+-- a whole table shows its own cells
+pub whole_seen : (table : EntryTable) → table.whole ≡ true → seen table ≡ table.cells.now
+whole_seen table whole = ap (λ (b : Bool). cond b table.cells.now (cells_at table.rows.now table.cells.now)) whole
+
+pub rows_seen : (table : EntryTable) → table.whole ≡ false → seen table ≡ cells_at table.rows.now table.cells.now
+rows_seen table rows = ap (λ (b : Bool). cond b table.cells.now (cells_at table.rows.now table.cells.now)) rows
+
+-- ---- cells at rows are in order
+
+pub picked_cells : (texts : List (List ℕ)) (kind : Kind) (column : List ℕ) → All (IsCell texts kind) column → (rows : List ℕ) → All (λ row. row < length column) rows
+    → All (IsCell texts kind) (picked rows column)
+picked_cells texts kind column are rows low k d within =
+    let here : k < length rows = omega (arith, within, length-map rows (λ (row : ℕ). get_or column row 0)) in
+    subst (IsCell texts kind) (sym (get_or-map (λ (row : ℕ). get_or column row 0) rows k 0 d here)) (are (get_or rows k 0) 0 (low k 0 here))
+
+columns_at : (texts : List (List ℕ)) (count : ℕ) (kinds : List Kind) (columns : List (List ℕ)) → AreColumns texts count kinds columns → (rows : List ℕ) → All (λ row. row < count) rows
+    → AreColumns texts (length rows) kinds (map (picked rows) columns)
+columns_at texts count [] [] are rows low = tt
+columns_at texts count [] (column ∷ columns) are rows low = absurd are
+columns_at texts count (kind ∷ kinds) [] are rows low = absurd are
+columns_at texts count (kind ∷ kinds) (column ∷ columns) are rows low = (
+  record {
+    height = length-map rows (λ (row : ℕ). get_or column row 0);
+    cells = picked_cells texts kind column are.0.cells rows (subst (λ (n : ℕ). All (λ row. row < n) rows) (sym are.0.height) low);
+  },
+  columns_at texts count kinds columns are.1 rows low,
+)
+
+pub are_cells_at : (texts : List (List ℕ)) (cells : Cells) (rows : List ℕ) → AreCells texts cells → AreRowsOf cells rows → AreCells texts (cells_at rows cells)
+are_cells_at texts cells rows are low = columns_at texts cells.rows cells.kinds cells.columns are rows low

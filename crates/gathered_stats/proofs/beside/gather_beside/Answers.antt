@@ -1,0 +1,74 @@
+use Rattle.std.proofs.Common.{◌≡◌, ◌<◌, ℕ, List, length, ap, sym, ◌∙◌, subst, arith}
+use Rattle.std.proofs.lemmas.Result.{IfOk-weaker}
+use Rattle.berge_tree.specs.declared.edges.Edge.{Edge}
+use Rattle.csv_tables.specs.declared.types.Cells.{Cells}
+use Rattle.predicate_bounds.specs.declared.columns.EntryStats.{EntryStats}
+use Rattle.predicate_bounds.specs.declared.steps.Step.{Step}
+use Rattle.sql_meaning.specs.Databases.{AreCells}
+use Rattle.gathered_stats.specs.declared.entry_table.EntryTable.{EntryTable}
+use Rattle.gathered_stats.specs.declared.filters.Filter.{Filter}
+use Rattle.gathered_stats.specs.Asked.{joined_columns}
+use Rattle.gathered_stats.specs.Beside.{AreGatheredBeside, AreStepsBeside, IsGatheredBeside}
+use Rattle.gathered_stats.specs.Filters.{Serve}
+use Rattle.gathered_stats.specs.Seen.{AreRowsOf, cells_at, seen}
+use Rattle.gathered_stats.proofs.Entries.{cells_sound, steps_sound}
+use Rattle.gathered_stats.proofs.Joined.{columns_exist}
+use Rattle.gathered_stats.proofs.Picking.{beside_gathered, serve_each}
+use Rattle.gathered_stats.proofs.Seeing.{are_cells_at}
+use Rattle.gathered_stats.proofs.beside.gather_beside.Goals as goal
+
+pub cells_in_entry-cells-requires-clause-cells : goal.cells_in_entry-cells-requires-clause-cells
+cells_in_entry-cells-requires-clause-cells c =
+    c.requires.database.tables.slots c.args.beside.now.entry 0 (omega (arith, c.requires.entry, c.requires.database.entries))
+
+pub cells_in_entry-requires-clause-cells : goal.cells_in_entry-requires-clause-cells
+cells_in_entry-requires-clause-cells c =
+    c.requires.database.tables.slots c.args.beside.now.other 0 (omega (arith, c.requires.other, c.requires.database.entries))
+
+pub picked_columns-requires-clause-cells : goal.picked_columns-requires-clause-cells
+picked_columns-requires-clause-cells c =
+    cells_sound c.args.query.now c.args.db.now c.requires.database c.args.beside.now.entry c.cells_in_entry-cells.result.now c.requires.entry c.cells_in_entry-cells.ensures
+
+pub picked_columns-requires-clause-exist : goal.picked_columns-requires-clause-exist
+picked_columns-requires-clause-exist c =
+    steps_sound c.args.query.now c.args.db.now c.requires.database c.args.beside.now.entry c.cells_in_entry-cells.result.now c.in_ok-steps.steps c.as_slice-steps.result.now
+    c.cells_in_entry-cells.ensures c.in_ok-steps.ensures c.as_slice-steps.ensures
+
+pub picked_columns-requires-clause-rows : goal.picked_columns-requires-clause-rows
+picked_columns-requires-clause-rows c = subst (λ (cells : Cells). AreRowsOf cells c.args.beside.now.rows.now) (sym c.cells_in_entry-cells.ensures) c.requires.rows
+
+pub gather_others-requires-clause-ready : goal.gather_others-requires-clause-ready
+gather_others-requires-clause-ready c = record {
+  cells = are_cells_at c.args.db.now.pool c.cells_in_entry-cells.result.now c.args.beside.now.rows.now
+      (cells_sound c.args.query.now c.args.db.now c.requires.database c.args.beside.now.entry c.cells_in_entry-cells.result.now c.requires.entry c.cells_in_entry-cells.ensures)
+      (subst (λ (cells : Cells). AreRowsOf cells c.args.beside.now.rows.now) (sym c.cells_in_entry-cells.ensures) c.requires.rows);
+  rows = c.requires.few;
+  filters = c.in_ok-filters.ensures.filters;
+  accuracy = c.requires.accuracy;
+}
+
+pub gather_others-requires-clause-served : goal.gather_others-requires-clause-served
+gather_others-requires-clause-served c = serve_each c.in_ok-picked.picked c.as_slice.result.now c.as_slice.ensures c.in_ok-filters.filters c.as_slice-steps.result.now c.in_ok-picked.ensures.served c.in_ok-filters.ensures.served
+
+pub gather_others-requires-clause-rows : goal.gather_others-requires-clause-rows
+gather_others-requires-clause-rows c = subst (λ (cells : Cells). AreRowsOf cells c.args.beside.now.other_rows.now) (sym c.cells_in_entry.ensures) c.requires.other_rows
+
+pub gather_others-requires-clause-cells : goal.gather_others-requires-clause-cells
+gather_others-requires-clause-cells c =
+    cells_sound c.args.query.now c.args.db.now c.requires.database c.args.beside.now.other c.cells_in_entry.result.now c.requires.other c.cells_in_entry.ensures
+
+pub gather_others-requires-clause-columns : goal.gather_others-requires-clause-columns
+gather_others-requires-clause-columns c =
+    columns_exist c.args.query.now c.args.db.now c.requires.database c.args.beside.now.other c.cells_in_entry.result.now c.args.parts.now.equalities c.as_slice-2.result.now c.in_ok-columns.columns
+    c.as_slice-3.result.now c.cells_in_entry.ensures c.requires.equalities c.as_slice-2.ensures c.in_ok-columns.ensures c.as_slice-3.ensures
+
+pub returns : goal.returns
+returns c =
+    let filters : List Filter = c.in_ok-filters.filters in
+    IfOk-weaker c.gather_others.result _ (IsGatheredBeside c.args.query.now c.args.db.now c.args.accuracy c.args.beside.now.entry c.args.beside.now.rows.now c.args.beside.now.other c.args.beside.now.other_rows.now)
+    (λ stats made.
+    beside_gathered c.args.query.now c.args.db.now c.args.accuracy c.args.beside.now.entry c.args.beside.now.rows.now c.args.beside.now.other c.args.beside.now.other_rows.now
+    c.cells_in_entry-cells.result.now c.cells_in_entry.result.now c.args.parts.now.equalities c.as_slice-2.result.now c.in_ok-columns.columns c.as_slice-3.result.now c.in_ok-steps.steps
+    c.as_slice-steps.result.now stats c.cells_in_entry-cells.ensures c.cells_in_entry.ensures c.requires.equalities c.as_slice-2.ensures c.in_ok-columns.ensures c.as_slice-3.ensures c.in_ok-steps.ensures
+    c.as_slice-steps.ensures made.columns_are made.steps_are)
+    c.gather_others.ensures

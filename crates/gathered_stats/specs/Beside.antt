@@ -1,0 +1,50 @@
+-- Filter columns at rows, and what is gathered for columns that stand beside these rows.
+use Rattle.std.specs.Prelude.{◌≡◌, ℕ, ◌==◌, ◌<◌, true, List, [], All, IfSome, length, map, slice_index_or}
+use Rattle.std.specs.List.{list_any}
+use Rattle.schema_types.specs.declared.types.Kind.{Kind}
+use Rattle.csv_tables.specs.declared.types.Cells.{Cells}
+use Rattle.csv_tables.specs.declared.types.Database.{Database}
+use Rattle.query_types.specs.declared.types.Query.{Query}
+use Rattle.join_graph.specs.Conjuncts.{equalities_of}
+use Rattle.filtered_lists.specs.Lists.{ColumnLists}
+use Rattle.predicate_bounds.specs.declared.columns.ColumnSteps.{ColumnSteps}
+use Rattle.predicate_bounds.specs.declared.columns.EntryStats.{EntryStats}
+use Rattle.predicate_bounds.specs.declared.steps.Step.{Step}
+use Rattle.predicate_bounds.specs.ListRuns.{listed}
+use Rattle.predicate_bounds.specs.Steps.{steps_of}
+use Rattle.sql_meaning.specs.Tables.{cells_of}
+use Rattle.gathered_stats.specs.declared.beside.PickedColumn.{PickedColumn}
+use Rattle.gathered_stats.specs.declared.entry_table.EntryTable.{EntryTable}
+use Rattle.gathered_stats.specs.Asked.{column_asked, joined_columns}
+use Rattle.gathered_stats.specs.Columns.{HaveLists, cells_in, kind_in}
+use Rattle.gathered_stats.specs.Seen.{cells_at, picked, seen}
+
+-- a column of a table at rows
+pub record IsPicked (cells : Cells) (rows : List ℕ) (column : ℕ) (one : PickedColumn) : Type 0 where
+  pub exists : column < length cells.kinds
+  pub number : one.column ≡ column
+  pub kind : one.kind ≡ kind_in cells column
+  pub cells_are : one.cells.items ≡ picked rows (cells_in cells column)
+
+abbrev pub ArePicked : Cells → List ℕ → List PickedColumn → Type 0
+ArePicked cells rows columns = All (λ one. IsPicked cells rows one.column one) columns
+
+-- the column that a step asks for is there
+abbrev pub ServeColumns : List PickedColumn → Step → Type 0
+ServeColumns columns step = IfSome (column_asked step) (λ column. list_any (λ other. other.column == column) columns ≡ true)
+
+-- the steps over cells at rows, for a column of other cells at rows beside them: each with its list among those of the column's cells there
+abbrev pub AreStepsBeside : List (List ℕ) → Cells → ℕ → Cells → List ℕ → List Step → ColumnSteps → Type 0
+AreStepsBeside texts cells accuracy beside rows steps gathered = (lists : ColumnLists)
+    → HaveLists texts cells accuracy (picked rows (cells_in beside gathered.column)) lists → gathered.steps ≡ map (listed lists) steps
+
+-- for each of these columns, over the cells that a table shows
+pub record AreGatheredBeside (table : EntryTable) (beside : Cells) (rows : List ℕ) (steps : List Step) (columns : List ℕ) (stats : EntryStats) : Type 0 where
+  pub columns_are : map (λ gathered. gathered.column) stats.columns ≡ columns
+  pub steps_are : All (AreStepsBeside table.pool.now (seen table) table.accuracy beside rows steps) stats.columns
+
+-- an entry's own steps over rows of its table, for each joined column of another entry at rows beside them
+pub record IsGatheredBeside (query : Query) (db : Database) (accuracy entry : ℕ) (rows : List ℕ) (other : ℕ) (other_rows : List ℕ) (stats : EntryStats) : Type 0 where
+  pub columns_are : map (λ gathered. gathered.column) stats.columns ≡ joined_columns other (equalities_of query)
+  pub steps_are : All (AreStepsBeside db.pool (cells_at rows (cells_of db entry)) accuracy (cells_of db other) other_rows (steps_of entry query.conjuncts))
+      stats.columns

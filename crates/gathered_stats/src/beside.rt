@@ -1,0 +1,228 @@
+//! The steps of an entry's own conjuncts over rows of its table, for columns of another entry that stand beside these rows.
+ghost use Rattle.std.specs.Prelude.{◌≡◌, ◌==◌, ◌<◌, ◌≤◌, ◌^◌, All, length, map, slice_index, false, IfOk, OnOk};
+ghost use Rattle.std.specs.List.{list_any};
+ghost use Rattle.join_graph.specs.Conjuncts.{equalities_of, local_of};
+ghost use Rattle.predicate_bounds.specs.declared.steps.Step.{Step};
+ghost use Rattle.sql_meaning.specs.Databases.{AreCells, IsDatabaseOf};
+ghost use Rattle.sql_meaning.specs.Tables.{cells_of};
+ghost use Rattle.gathered_stats.specs.Asked.{AsksWithin, column_asked};
+ghost use Rattle.gathered_stats.specs.Beside.{ArePicked, AreGatheredBeside, IsGatheredBeside, IsPicked, ServeColumns};
+ghost use Rattle.gathered_stats.specs.Filters.{IsFilterOf, IsReady, Serve};
+ghost use Rattle.gathered_stats.specs.Seen.{AreRowsOf, cells_at};
+
+use crate::columns::joined_columns;
+use crate::entry_table::{EntryTable, cells_in_entry};
+use crate::filters::{Filter, column_asked};
+use base_io::{NoMemory, Seq};
+use cond_stats::FilterColumn;
+use csv_tables::{Cells, Database, Pool};
+use join_graph::Parts;
+use join_steps::load_cells;
+use predicate_bounds::{EntryStats, Step, read_steps};
+use query_types::Query;
+use row_buf::RowBuf;
+use schema_types::Kind;
+use std::alloc::Global;
+
+/// A filter column at rows, by its number in its table.
+#[derive(Drop)]
+pub(crate) struct PickedColumn {
+    pub column: u32,
+    pub kind: Kind,
+    pub cells: RowBuf<u64>,
+}
+
+// The cells of a column at these rows.
+fn picked(alloc: Global, cells: &[u64], rows: &[u32]) -> Result<RowBuf<u64>, NoMemory>
+    requires { All (λ row. row < length cells.now) rows.now }
+    ensures { IfOk result (λ keys. keys.items ≡ map (slice_index cells.now) rows.now) }
+{
+    let mut keys = RowBuf::new(alloc);
+    keys.reserve(rows.len() as u64)?;
+    load_cells(cells, rows, &mut keys);
+    Ok(keys)
+}
+
+fn is_picked(columns: &[PickedColumn], column: u32) -> bool
+    ensures { result ≡ list_any (λ other. other.column == column) columns.now }
+{
+    columns.iter().any(|other| other.column == column)
+}
+
+// A filter column at these rows.
+fn pick(
+    alloc: Global,
+    pool: &Pool,
+    cells: &Cells,
+    rows: &[u32],
+    column: u32,
+) -> Result<PickedColumn, NoMemory>
+    requires cells { AreCells pool.now cells.now }
+    requires exists { column < length cells.now.kinds }
+    requires rows { AreRowsOf cells.now rows.now }
+    ensures { IfOk result (IsPicked cells.now rows.now column) }
+{
+    let at = column as usize;
+    let kind = *cells.kinds.get(at);
+    let at_rows = picked(alloc, cells.columns.get(at).as_slice(), rows)?;
+    Ok(PickedColumn {
+        column,
+        kind,
+        cells: at_rows,
+    })
+}
+
+// Adds the column of a step at these rows, if the step asks for one and it isn't there yet.
+fn add_picked(
+    alloc: Global,
+    pool: &Pool,
+    cells: &Cells,
+    rows: &[u32],
+    step: &Step,
+    columns: &mut Seq<PickedColumn>,
+) -> Result<(), NoMemory>
+    requires cells { AreCells pool.now cells.now }
+    requires exists { AsksWithin cells.now step.now }
+    requires rows { AreRowsOf cells.now rows.now }
+    requires columns { ArePicked cells.now rows.now columns.old }
+    ensures columns { OnOk result (ArePicked cells.now rows.now columns.new) }
+    ensures served { OnOk result (ServeColumns columns.new step.now) }
+    ensures kept { OnOk result ((other : Step) → ServeColumns columns.old other → ServeColumns columns.new other) }
+{
+    let Some(column) = column_asked(step) else {
+        return Ok(());
+    };
+    if is_picked(columns.as_slice(), column) {
+        return Ok(());
+    }
+    columns.push(pick(alloc, pool, cells, rows, column)?)
+}
+
+// The columns that steps compare with literals, at these rows.
+fn picked_columns(
+    alloc: Global,
+    pool: &Pool,
+    cells: &Cells,
+    rows: &[u32],
+    steps: &[Step],
+) -> Result<Seq<PickedColumn>, NoMemory>
+    requires cells { AreCells pool.now cells.now }
+    requires exist { All (AsksWithin cells.now) steps.now }
+    requires rows { AreRowsOf cells.now rows.now }
+    ensures columns { IfOk result (ArePicked cells.now rows.now) }
+    ensures served { IfOk result (λ columns. All (ServeColumns columns) steps.now) }
+{
+    let mut columns = Seq::new(alloc);
+    for step in steps {
+        add_picked(alloc, pool, cells, rows, step, &mut columns)?;
+    }
+    Ok(columns)
+}
+
+// The same, each sorted.
+fn sorted_columns<'a>(
+    alloc: Global,
+    pool: &'a Pool,
+    cells: &Cells,
+    rows: &[u32],
+    columns: &'a [PickedColumn],
+) -> Result<Seq<Filter<'a>>, NoMemory>
+    requires cells { AreCells pool.now cells.now }
+    requires rows { AreRowsOf cells.now rows.now }
+    requires few { length rows.now < 2 ^ 32 }
+    requires columns { ArePicked cells.now rows.now columns.now }
+    ensures filters { IfOk result (λ filters. All (IsFilterOf pool.now (cells_at rows.now cells.now)) filters) }
+    ensures served { IfOk result (λ filters. (step : Step) → ServeColumns columns.now step → Serve filters step) }
+{
+    let mut filters = Seq::new(alloc);
+    for one in columns {
+        let sorted = FilterColumn::new(alloc, pool, one.kind, one.cells.as_slice())?;
+        filters.push(Filter {
+            column: one.column,
+            sorted,
+        })?;
+    }
+    Ok(filters)
+}
+
+/// Rows of an entry's table, and beside each a row of another entry's table.
+#[derive(Clone, Copy)]
+pub struct Beside<'a> {
+    pub entry: u8,
+    pub rows: &'a [u32],
+    pub other: u8,
+    pub other_rows: &'a [u32],
+}
+
+// The steps of each joined column of the other entry.
+fn gather_others(
+    alloc: Global,
+    table: &EntryTable<'_>,
+    steps: &[Step],
+    cells: &Cells,
+    rows: &[u32],
+    columns: &[u32],
+) -> Result<EntryStats, NoMemory>
+    requires ready { IsReady table.now }
+    requires served { All (Serve table.now.filters) steps.now }
+    requires rows { AreRowsOf cells.now rows.now }
+    requires beside { length rows.now ≡ length table.now.rows.now }
+    requires at_rows { table.now.whole ≡ false }
+    requires cells { AreCells table.now.pool.now cells.now }
+    requires columns { All (λ column. column < length cells.now.kinds) columns.now }
+    ensures { IfOk result (AreGatheredBeside table.now cells.now rows.now steps.now columns.now) }
+{
+    let mut gathered = Seq::new(alloc);
+    for column in columns {
+        let keys = picked(alloc, cells.columns.get(*column as usize).as_slice(), rows)?;
+        gathered.push(table.list_steps(alloc, keys.as_slice(), *column, steps)?)?;
+    }
+    Ok(EntryStats { columns: gathered })
+}
+
+/// The steps of an entry's own conjuncts over rows of its table, each with its list, for each joined column of another entry, whose rows stand
+/// beside them (SafeBound, SIGMOD 2023: the statistics of a dimension's filters for the columns of a fact table). The parts are those of
+/// `split`. No row is copied but the cells of the columns that are asked for.
+pub fn gather_beside(
+    alloc: Global,
+    query: &Query,
+    parts: &Parts,
+    db: &Database,
+    beside: &Beside<'_>,
+    accuracy: u8,
+) -> Result<EntryStats, NoMemory>
+    requires local { parts.now.local ≡ local_of query.now }
+    requires equalities { parts.now.equalities ≡ equalities_of query.now }
+    requires database { IsDatabaseOf query.now db.now }
+    requires entry { beside.now.entry < length query.now.from }
+    requires other { beside.now.other < length query.now.from }
+    requires rows { AreRowsOf (cells_of db.now beside.now.entry) beside.now.rows.now }
+    requires other_rows { AreRowsOf (cells_of db.now beside.now.other) beside.now.other_rows.now }
+    requires as_many { length beside.now.other_rows.now ≡ length beside.now.rows.now }
+    requires few { length beside.now.rows.now < 2 ^ 32 }
+    requires accuracy { (0 < accuracy) × (accuracy ≤ 64) }
+    ensures { IfOk result (IsGatheredBeside query.now db.now accuracy beside.now.entry beside.now.rows.now beside.now.other beside.now.other_rows.now) }
+{
+    let steps = read_steps(alloc, query, parts, beside.entry)?;
+    let steps = steps.as_slice();
+    let cells = cells_in_entry(db, beside.entry);
+    let picked = picked_columns(alloc, &db.pool, cells, beside.rows, steps)?;
+    let filters = sorted_columns(alloc, &db.pool, cells, beside.rows, picked.as_slice())?;
+    let table = EntryTable {
+        pool: &db.pool,
+        cells,
+        whole: false,
+        rows: beside.rows,
+        filters,
+        accuracy,
+    };
+    let columns = joined_columns(alloc, parts.equalities.as_slice(), beside.other)?;
+    gather_others(
+        alloc,
+        &table,
+        steps,
+        cells_in_entry(db, beside.other),
+        beside.other_rows,
+        columns.as_slice(),
+    )
+}

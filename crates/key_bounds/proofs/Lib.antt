@@ -1,0 +1,14 @@
+pub mod Lower
+pub mod Least
+pub mod Taking
+pub mod Standing
+pub mod AtMost
+pub mod InParts
+pub mod Made
+pub mod Keying
+pub mod CellsBeside
+pub mod CarriedOver
+pub mod FirstLists
+pub mod Plans
+pub mod SmallShops
+pub mod SmallBounds

@@ -1,0 +1,65 @@
+use Rattle.std.proofs.Common.{◌≡◌, ◌<◌, ℕ, List, length, refl, ap, sym, ◌∙◌, subst, arith}
+use Rattle.limits.specs.Profile.{most_rows}
+use Rattle.sql_meaning.specs.Tables.{cells_of, row_counts, tables_of}
+use Rattle.gathered_stats.specs.Beside.{IsGatheredBeside}
+use Rattle.gathered_stats.specs.Seen.{AreRowsOf}
+use Rattle.key_carriers.specs.Widened.{referred, referring}
+use Rattle.key_carriers.proofs.Referring.{as_many, few_referring}
+use Rattle.key_bounds.proofs.CarriedOver.{as_widened, entries_add_up, entries_told, left_low, of_one_kind, right_low, rows_of_left, rows_of_right}
+use Rattle.key_bounds.proofs.carrying.carried_over.Goals as goal
+
+pub widened_rows-requires-clause-kinds : goal.widened_rows-requires-clause-kinds
+widened_rows-requires-clause-kinds c = of_one_kind c.args.query.now c.args.db.now c.requires.database c.args.edge c.requires.joined
+
+pub widened_rows-requires-clause-rows : goal.widened_rows-requires-clause-rows
+widened_rows-requires-clause-rows c = c.requires.few_rows c.args.edge.left.entry (left_low c.args.query.now c.args.db.now c.requires.database c.args.edge c.requires.joined)
+
+pub widened_rows-requires-clause-few : goal.widened_rows-requires-clause-few
+widened_rows-requires-clause-few c = c.requires.few_rows c.args.edge.right.entry (right_low c.args.query.now c.args.db.now c.requires.database c.args.edge c.requires.joined)
+
+pub gather_beside-requires-clause-entry : goal.gather_beside-requires-clause-entry
+gather_beside-requires-clause-entry c = right_low c.args.query.now c.args.db.now c.requires.database c.args.edge c.requires.joined
+
+pub gather_beside-requires-clause-other : goal.gather_beside-requires-clause-other
+gather_beside-requires-clause-other c = left_low c.args.query.now c.args.db.now c.requires.database c.args.edge c.requires.joined
+
+pub gather_beside-requires-clause-rows : goal.gather_beside-requires-clause-rows
+gather_beside-requires-clause-rows c =
+    subst (AreRowsOf (cells_of c.args.db.now c.args.edge.right.entry)) (sym (c.as_slice-others.ensures.value ∙ c.in_ok-widened.ensures.others))
+    (rows_of_right c.args.query.now c.args.db.now c.requires.database c.args.edge c.requires.joined)
+
+pub gather_beside-requires-clause-other_rows : goal.gather_beside-requires-clause-other_rows
+gather_beside-requires-clause-other_rows c =
+    subst (AreRowsOf (cells_of c.args.db.now c.args.edge.left.entry)) (sym (c.as_slice-rows.ensures.value ∙ c.in_ok-widened.ensures.rows))
+    (rows_of_left c.args.query.now c.args.db.now c.requires.database c.args.edge c.requires.joined)
+
+pub gather_beside-requires-clause-as_many : goal.gather_beside-requires-clause-as_many
+gather_beside-requires-clause-as_many c =
+    ap (λ (s : List ℕ). length s) (c.as_slice-rows.ensures.value ∙ c.in_ok-widened.ensures.rows) ∙ as_many (tables_of c.args.db.now) c.args.edge
+    ∙ sym (ap (λ (s : List ℕ). length s) (c.as_slice-others.ensures.value ∙ c.in_ok-widened.ensures.others))
+
+pub gather_beside-requires-clause-few : goal.gather_beside-requires-clause-few
+gather_beside-requires-clause-few c =
+    omega (
+      arith,
+      ap (λ (s : List ℕ). length s) (c.as_slice-others.ensures.value ∙ c.in_ok-widened.ensures.others),
+      as_many (tables_of c.args.db.now) c.args.edge,
+      few_referring (tables_of c.args.db.now) c.args.edge,
+      c.requires.few_rows c.args.edge.left.entry (left_low c.args.query.now c.args.db.now c.requires.database c.args.edge c.requires.joined),
+    )
+
+pub first_lists-requires : goal.first_lists-requires
+first_lists-requires c =
+    entries_add_up c.args.query.now c.args.db.now c.requires.database c.args.edge c.requires.joined c.characters_differ.ensures
+    (c.requires.few_rows c.args.edge.left.entry (left_low c.args.query.now c.args.db.now c.requires.database c.args.edge c.requires.joined)) c.args.accuracy c.in_ok-gathered.gathered
+    (as_widened c.args.query.now c.args.db.now c.args.accuracy c.args.edge c.as_slice-others.result.now c.as_slice-rows.result.now c.in_ok-gathered.gathered
+    (c.as_slice-others.ensures.value ∙ c.in_ok-widened.ensures.others) (c.as_slice-rows.ensures.value ∙ c.in_ok-widened.ensures.rows) c.in_ok-gathered.ensures)
+    c.in_ok-entries.entries c.in_ok-entries.ensures
+
+pub returns-clause-tells : goal.returns-clause-tells
+returns-clause-tells c =
+    entries_told c.args.query.now c.args.db.now c.requires.database c.args.edge c.requires.joined c.characters_differ.ensures
+    (c.requires.few_rows c.args.edge.left.entry (left_low c.args.query.now c.args.db.now c.requires.database c.args.edge c.requires.joined)) c.args.accuracy c.in_ok-gathered.gathered
+    (as_widened c.args.query.now c.args.db.now c.args.accuracy c.args.edge c.as_slice-others.result.now c.as_slice-rows.result.now c.in_ok-gathered.gathered
+    (c.as_slice-others.ensures.value ∙ c.in_ok-widened.ensures.others) (c.as_slice-rows.ensures.value ∙ c.in_ok-widened.ensures.rows) c.in_ok-gathered.ensures)
+    c.in_ok-entries.entries c.in_ok-entries.ensures c.in_ok-lists.lists c.in_ok-lists.ensures.rows c.in_ok-lists.ensures.lists

@@ -1,0 +1,82 @@
+-- What is known of entries in a set, from what is known of them by themselves and what is carried to them.
+use Rattle.std.specs.Prelude.{◌≡◌, ℕ, Bool, ◌&&◌, ◌==◌, min, ◌<◌, ◌≤◌, ◌^◌, nat_lt, if◌then◌else◌, List, [], filter, map, All, None, Some, option_map, unwrap_or, IsSome}
+use Rattle.std.specs.List.{AllByRecursion}
+use Rattle.limits.specs.Profile.{most_entries}
+use Rattle.degree_sequences.specs.RunningSums.{lesser}
+use Rattle.berge_tree.specs.declared.edges.Edge.{Edge}
+use Rattle.berge_tree.specs.declared.edges.Place.{Place}
+use Rattle.berge_tree.specs.Equalities.{places_of}
+use Rattle.join_graph.specs.Kept.{joins_within}
+use Rattle.tree_bounds.specs.Columns.{EachNamedColumn}
+use Rattle.tree_bounds.specs.TreeBounds.{EntryBounds}
+use Rattle.bound_fold.specs.declared.lists.EntryLists.{EntryLists}
+use Rattle.bound_fold.specs.Lists.{list_of, rows_of}
+use Rattle.bound_fold.specs.Sets.{HaveLists}
+use Rattle.key_stats.specs.declared.carried.Carried.{Carried}
+use Rattle.key_bounds.specs.declared.key_lists.KeyLists.{KeyLists}
+use Rattle.key_bounds.specs.Bounds.{least_list, least_rows}
+
+-- ---- what is carried to an entry within a set
+
+abbrev pub carried_to : List Carried → ℕ → ℕ → List Carried
+carried_to carried subset entry = filter (λ c. c.edge.left.entry == entry) (filter (λ c. joins_within subset c.edge) carried)
+
+abbrev pub rows_carried : ℕ → Carried → ℕ
+rows_carried entry c = unwrap_or (rows_of c.lists entry) 0
+
+abbrev pub list_carried : ℕ → ℕ → Carried → List ℕ
+list_carried entry column c = unwrap_or (list_of c.lists entry column) []
+
+-- the least of a row bound and of those that are carried to the entry, and the same of a list
+abbrev pub rows_within : List Carried → ℕ → ℕ → ℕ → ℕ
+rows_within carried subset entry rows = least_rows rows (map (rows_carried entry) (carried_to carried subset entry))
+
+abbrev pub list_within : List Carried → ℕ → ℕ → ℕ → List ℕ → List ℕ
+list_within carried subset entry column list = least_list list (map (list_carried entry column) (carried_to carried subset entry))
+
+-- ---- the same, one after another
+
+abbrev pub is_carried : ℕ → ℕ → Carried → Bool
+is_carried subset entry c = joins_within subset c.edge && c.edge.left.entry == entry
+
+abbrev pub fewer_by : ℕ → ℕ → Carried → ℕ → ℕ
+fewer_by subset entry c rows = if is_carried subset entry c then min rows (rows_carried entry c) else rows
+
+abbrev pub narrowed_by : ℕ → ℕ → ℕ → Carried → List ℕ → List ℕ
+narrowed_by subset entry column c list = if is_carried subset entry c then lesser list (list_carried entry column c) else list
+
+-- ---- as bounds of entries
+
+abbrev pub known_by_keys : KeyLists → ℕ → EntryBounds
+known_by_keys keys subset = record {
+  rows = λ entry. if nat_lt entry keys.count then rows_within keys.carried subset entry (unwrap_or (rows_of keys.own entry) 0) else 0;
+  list = λ entry column. unwrap_or (option_map (list_within keys.carried subset entry column) (list_of keys.own entry column)) [];
+}
+
+-- ---- what a set needs of it
+
+-- where something is carried to the entry of a column, the list of this column is among it
+abbrev pub CarriesTo : Place → Carried → Type 0
+CarriesTo place c = c.edge.left.entry ≡ place.entry → IsSome (list_of c.lists place.entry place.column)
+
+-- along an equality lists are carried for each column of the left entry that these equalities name
+abbrev pub CarriesLists : List Edge → Carried → Type 0
+CarriesLists es c = AllByRecursion (λ place. CarriesTo place c) (places_of es)
+
+-- each of the entries has its row bound, each column that these equalities name its list, and so has what is carried; and the set is of
+-- these entries
+pub record AreKeyed (keys : KeyLists) (es : List Edge) (subset : ℕ) : Type 0 where
+  pub few : keys.count ≤ most_entries
+  pub fits : subset < 2 ^ keys.count
+  pub rows : (entry : ℕ) → entry < keys.count → IsSome (rows_of keys.own entry)
+  pub lists : All (HaveLists keys.own) es
+  pub entries : EachNamedColumn (λ entry column. entry < keys.count) es
+  pub carried : All (CarriesLists es) keys.carried
+
+-- ---- as it is put together
+
+-- the row bound of each of the first so many entries is there, and no other one; and each list that is there is that of its column
+pub record IsPartOf (bounds : EntryBounds) (count : ℕ) (lists : EntryLists) : Type 0 where
+  pub rows : (entry : ℕ) → entry < count → rows_of lists entry ≡ Some (bounds.rows entry)
+  pub past : (entry : ℕ) → count ≤ entry → rows_of lists entry ≡ None
+  pub columns : (entry column : ℕ) (list : List ℕ) → list_of lists entry column ≡ Some list → list ≡ bounds.list entry column

@@ -1,0 +1,23 @@
+-- What statistics of entries and carried lists tell together.
+use Rattle.std.specs.Prelude.{ℕ, List}
+use Rattle.schema_types.specs.declared.types.Schema.{Schema}
+use Rattle.query_types.specs.declared.types.Query.{Query}
+use Rattle.sql_meaning.specs.Tables.{Tables}
+use Rattle.predicate_bounds.specs.declared.columns.QueryStats.{QueryStats}
+use Rattle.query_bounds.specs.Statistics.{Tells}
+use Rattle.gathered_stats.specs.Statistics.{statistics_of}
+use Rattle.key_carriers.specs.Carriers.{carriers}
+use Rattle.key_stats.specs.declared.carried.Carried.{Carried}
+use Rattle.key_stats.specs.Carrying.{TellAlong}
+
+-- the statistics of tables, and what is carried along the references of a schema
+pub record TellByKeys (schema : Schema) (query : Query) (tables : Tables) (accuracy : ℕ) (stats : QueryStats) (carried : List Carried) : Type 0 where
+  pub own : Tells query stats (statistics_of tables accuracy)
+  pub along : TellAlong query tables accuracy (carriers schema query) carried
+
+-- there are tables and a schema of which they tell
+pub record AreTold (query : Query) (stats : QueryStats) (carried : List Carried) : Type 0 where
+  pub schema : Schema
+  pub tables : Tables
+  pub accuracy : ℕ
+  pub tell : TellByKeys schema query tables accuracy stats carried

@@ -1,0 +1,99 @@
+//! What is carried along the references of a schema, from a query's tables.
+ghost use Rattle.std.specs.Prelude.{◌≡◌, ◌<◌, ◌≤◌, ℕ, All, IfOk, Some, length};
+ghost use Rattle.limits.specs.Profile.{most_accuracy, most_rows};
+ghost use Rattle.bound_fold.specs.Lists.{list_of, rows_of};
+ghost use Rattle.join_graph.specs.Conjuncts.{equalities_of, local_of};
+ghost use Rattle.predicate_bounds.specs.Told.{columns_of, list_told, rows_told};
+ghost use Rattle.sql_meaning.specs.Databases.{IsDatabaseOf};
+ghost use Rattle.sql_meaning.specs.Tables.{row_counts, tables_of};
+ghost use Rattle.key_stats.specs.Carrying.{TellAlong, TellsCarried};
+ghost use Rattle.key_bounds.specs.Carrying.{AddUp, IsJoined};
+
+use base_io::{NoMemory, Seq};
+use berge_tree::Edge;
+use bound_fold::EntryLists;
+use csv_tables::Database;
+use gathered_stats::{Beside, characters_differ, gather_beside};
+use join_graph::Parts;
+use key_carriers::widened_rows;
+use key_stats::Carried;
+use predicate_bounds::QueryStats;
+use query_types::Query;
+use std::alloc::Global;
+
+// The row bound of an entry and its lists, as statistics tell them of their first entry.
+fn first_lists(alloc: Global, stats: &QueryStats, entry: u8) -> Result<EntryLists, NoMemory>
+    requires { AddUp stats.now }
+    ensures rows { IfOk result (λ made. rows_of made entry ≡ Some (rows_told stats.now 0)) }
+    ensures lists { IfOk result (λ made. All (λ joined. list_of made entry joined.column ≡ Some (list_told stats.now 0 joined.column)) (columns_of stats.now 0)) }
+{
+    let mut made = EntryLists::new(alloc);
+    let rows = stats.row_bound(alloc, 0)?;
+    made.set_rows(entry, rows)?;
+    let first = stats.entries.get(0);
+    for joined in first.columns.as_slice() {
+        let list = stats.bound_list(alloc, 0, joined.column)?;
+        made.add(entry, joined.column, list)?;
+    }
+    Ok(made)
+}
+
+// What is carried along an equality: the right entry's own conjuncts say which rows of the widened table are left.
+fn carried_over(
+    alloc: Global,
+    query: &Query,
+    parts: &Parts,
+    db: &Database,
+    edge: Edge,
+    accuracy: u8,
+) -> Result<Carried, NoMemory>
+    requires local { parts.now.local ≡ local_of query.now }
+    requires equalities { parts.now.equalities ≡ equalities_of query.now }
+    requires database { IsDatabaseOf query.now db.now }
+    requires few_rows { (entry : ℕ) → entry < length query.now.from → row_counts (tables_of db.now) entry ≤ most_rows }
+    requires joined { IsJoined query.now edge }
+    requires accuracy { (0 < accuracy) × (accuracy ≤ most_accuracy) }
+    ensures edge { IfOk result (λ made. made.edge ≡ edge) }
+    ensures tells { IfOk result (TellsCarried query.now (tables_of db.now) accuracy) }
+{
+    characters_differ(&db.pool);
+    let widened = widened_rows(alloc, db, edge)?;
+    let rows = widened.rows.as_slice();
+    let others = widened.others.as_slice();
+    let beside = Beside {
+        entry: edge.right.entry,
+        rows: others,
+        other: edge.left.entry,
+        other_rows: rows,
+    };
+    let gathered = gather_beside(alloc, query, parts, db, &beside, accuracy)?;
+    let entries = Seq::one(alloc, gathered)?;
+    let stats = QueryStats { entries };
+    let lists = first_lists(alloc, &stats, edge.left.entry)?;
+    Ok(Carried { edge, lists })
+}
+
+/// What is carried along each of these equalities, which are some of the query's, either way round. The parts are those of `split`.
+pub(crate) fn carried_along(
+    alloc: Global,
+    query: &Query,
+    parts: &Parts,
+    db: &Database,
+    edges: &[Edge],
+    accuracy: u8,
+) -> Result<Seq<Carried>, NoMemory>
+    requires local { parts.now.local ≡ local_of query.now }
+    requires equalities { parts.now.equalities ≡ equalities_of query.now }
+    requires database { IsDatabaseOf query.now db.now }
+    requires few_rows { (entry : ℕ) → entry < length query.now.from → row_counts (tables_of db.now) entry ≤ most_rows }
+    requires joined { All (IsJoined query.now) edges.now }
+    requires accuracy { (0 < accuracy) × (accuracy ≤ most_accuracy) }
+    ensures { IfOk result (TellAlong query.now (tables_of db.now) accuracy edges.now) }
+{
+    let mut carried = Seq::new(alloc);
+    'edges: for number in 0..edges.len() {
+        let one = carried_over(alloc, query, parts, db, edges[number], accuracy)?;
+        carried.push(one)?;
+    }
+    Ok(carried)
+}

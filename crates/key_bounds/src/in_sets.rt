@@ -1,0 +1,197 @@
+//! What is known of the entries of a set: of what is known of each by itself, and of what is carried to it within the set, the least.
+ghost use Rattle.std.specs.Prelude.{◌≡◌, ◌<◌, ◌≤◌, ◌^◌, ℕ, All, IfOk, IsSome, MatchBool, None, OnOk, Some};
+ghost use Rattle.std.specs.List.{sum};
+ghost use Rattle.bound_fold.specs.Lists.{list_of, rows_of};
+ghost use Rattle.bound_fold.specs.Sets.{HaveLists};
+ghost use Rattle.tree_bounds.specs.Columns.{EachNamedColumn};
+ghost use Rattle.key_bounds.specs.InSets.{AreKeyed, CarriesLists, CarriesTo, IsPartOf, fewer_by, is_carried, known_by_keys, list_within, narrowed_by, rows_within};
+
+use crate::key_lists::KeyLists;
+use base_io::NoMemory;
+use berge_tree::{Edge, Place};
+use bound_fold::EntryLists;
+use entry_sets::EntrySet;
+use join_graph::{Parts, joins_within};
+use key_stats::Carried;
+use piece_math::Pieces;
+use set_bounds::{KnownInSets, folded_bound};
+use std::alloc::Global;
+
+// Whether something is carried to an entry within a set.
+fn is_carried(carried: &Carried, subset: EntrySet, entry: u8) -> bool
+    ensures { result ≡ is_carried subset entry carried.now }
+{
+    if !joins_within(subset, carried.edge) {
+        return false;
+    }
+    carried.edge.left.entry == entry
+}
+
+// A row bound, narrowed by what is carried.
+fn fewer(rows: u64, one: &Carried, subset: EntrySet, entry: u8) -> u64
+    ensures { result ≡ fewer_by subset entry one.now rows }
+{
+    if is_carried(one, subset, entry) {
+        return rows.min(one.lists.rows(entry).unwrap_or(0));
+    }
+    rows
+}
+
+// The row bound of an entry in a set, where this is its own.
+fn least_rows(carried: &[Carried], subset: EntrySet, entry: u8, own: u64) -> u64
+    ensures { result ≡ rows_within carried.now subset entry own }
+{
+    let mut rows = own;
+    for one in carried {
+        rows = fewer(rows, one, subset, entry);
+    }
+    rows
+}
+
+// The list of a column that is there.
+fn list_at(lists: &EntryLists, place: Place) -> &Pieces
+    requires { IsSome (list_of lists.now place.entry place.column) }
+    ensures list { list_of lists.now place.entry place.column ≡ Some result.now }
+    ensures small { sum result.now < 2 ^ 64 }
+{
+    match lists.list(place.entry, place.column) {
+        Some(list) => list,
+        None => unreachable!(),
+    }
+}
+
+// A list, narrowed by what is carried.
+fn narrowed(list: Pieces, one: &Carried, subset: EntrySet, place: Place) -> Result<Pieces, NoMemory>
+    requires small { sum list < 2 ^ 64 }
+    requires carries { CarriesTo place one.now }
+    ensures list { IfOk result (λ made. made ≡ narrowed_by subset place.entry place.column one.now list) }
+    ensures small { IfOk result (λ made. sum made < 2 ^ 64) }
+{
+    if is_carried(one, subset, place.entry) {
+        return list.lesser(list_at(&one.lists, place));
+    }
+    Ok(list)
+}
+
+// The list of a column in a set, where this is its own.
+fn least_list(
+    own: &Pieces,
+    carried: &[Carried],
+    subset: EntrySet,
+    place: Place,
+) -> Result<Pieces, NoMemory>
+    requires small { sum own.now < 2 ^ 64 }
+    requires carried { All (CarriesTo place) carried.now }
+    ensures { IfOk result (λ list. list ≡ list_within carried.now subset place.entry place.column own.now) }
+{
+    let mut list = own.copy()?;
+    for one in carried {
+        list = narrowed(list, one, subset, place)?;
+    }
+    Ok(list)
+}
+
+// The row bound of each entry in a set.
+fn with_rows(alloc: Global, keys: &KeyLists, subset: EntrySet) -> Result<EntryLists, NoMemory>
+    ensures rows { IfOk result (λ made. ((entry : ℕ) → entry < keys.now.count → rows_of made entry ≡ Some ((known_by_keys keys.now subset).rows entry))
+        × ((entry : ℕ) → keys.now.count ≤ entry → rows_of made entry ≡ None)) }
+    ensures lists { IfOk result (λ made. (entry column : ℕ) → list_of made entry column ≡ None) }
+{
+    let mut made = EntryLists::new(alloc);
+    for entry in 0..keys.count {
+        let own = keys.own.rows(entry).unwrap_or(0);
+        made.set_rows(
+            entry,
+            least_rows(keys.carried.as_slice(), subset, entry, own),
+        )?;
+    }
+    Ok(made)
+}
+
+// Adds the list of a column in a set, which isn't there yet.
+fn add_new(
+    keys: &KeyLists,
+    subset: EntrySet,
+    place: Place,
+    made: &mut EntryLists,
+) -> Result<(), NoMemory>
+    requires own { IsSome (list_of keys.now.own place.entry place.column) }
+    requires entry { place.entry < keys.now.count }
+    requires carried { All (CarriesTo place) keys.now.carried }
+    requires part { IsPartOf (known_by_keys keys.now subset) keys.now.count made.old }
+    requires new { list_of made.old place.entry place.column ≡ None }
+    ensures part { OnOk result (IsPartOf (known_by_keys keys.now subset) keys.now.count made.new) }
+    ensures there { OnOk result (IsSome (list_of made.new place.entry place.column)) }
+    ensures kept { OnOk result ((entry column : ℕ) → IsSome (list_of made.old entry column) → IsSome (list_of made.new entry column)) }
+{
+    let own = list_at(&keys.own, place);
+    let list = least_list(own, keys.carried.as_slice(), subset, place)?;
+    made.add(place.entry, place.column, list)?;
+    Ok(())
+}
+
+fn is_there(made: &EntryLists, place: Place) -> bool
+    ensures { MatchBool result (IsSome (list_of made.now place.entry place.column)) (list_of made.now place.entry place.column ≡ None) }
+{
+    made.list(place.entry, place.column).is_some()
+}
+
+// Adds the list of a column in a set, if it isn't there yet.
+fn add_list(
+    keys: &KeyLists,
+    subset: EntrySet,
+    place: Place,
+    made: &mut EntryLists,
+) -> Result<(), NoMemory>
+    requires own { IsSome (list_of keys.now.own place.entry place.column) }
+    requires entry { place.entry < keys.now.count }
+    requires carried { All (CarriesTo place) keys.now.carried }
+    requires part { IsPartOf (known_by_keys keys.now subset) keys.now.count made.old }
+    ensures part { OnOk result (IsPartOf (known_by_keys keys.now subset) keys.now.count made.new) }
+    ensures there { OnOk result (IsSome (list_of made.new place.entry place.column)) }
+    ensures kept { OnOk result ((entry column : ℕ) → IsSome (list_of made.old entry column) → IsSome (list_of made.new entry column)) }
+{
+    if is_there(made, place) {
+        return Ok(());
+    }
+    add_new(keys, subset, place, made)
+}
+
+// What is known of the entries in a set: each row bound, and the list of each column that one of the equalities names.
+fn lists_in(
+    alloc: Global,
+    keys: &KeyLists,
+    equalities: &[Edge],
+    subset: EntrySet,
+) -> Result<EntryLists, NoMemory>
+    requires lists { All (HaveLists keys.now.own) equalities.now }
+    requires entries { EachNamedColumn (λ entry column. entry < keys.now.count) equalities.now }
+    requires carried { All (CarriesLists equalities.now) keys.now.carried }
+    ensures part { IfOk result (IsPartOf (known_by_keys keys.now subset) keys.now.count) }
+    ensures lists { IfOk result (λ made. All (HaveLists made) equalities.now) }
+{
+    let mut made = with_rows(alloc, keys, subset)?;
+    'equalities: for number in 0..equalities.len() {
+        let edge = equalities[number];
+        add_list(keys, subset, edge.left, &mut made)?;
+        add_list(keys, subset, edge.right, &mut made)?;
+    }
+    Ok(made)
+}
+
+impl KnownInSets for KeyLists {
+    ghost known = { known_by_keys };
+
+    ghost is_listed = { AreKeyed };
+
+    fn folded(
+        &self,
+        alloc: Global,
+        parts: &Parts,
+        subset: EntrySet,
+        forest: bool,
+    ) -> Result<u128, NoMemory> {
+        let lists = lists_in(alloc, self, parts.equalities.as_slice(), subset)?;
+        folded_bound(alloc, parts, &lists, subset, forest)
+    }
+}

@@ -1,0 +1,83 @@
+//! What is known of a query's entries by statistics of its tables and by carried conjuncts.
+ghost use Rattle.std.specs.Prelude.{◌<◌, ◌≤◌, ◌≡◌, ℕ, IfOk, length};
+ghost use Rattle.limits.specs.Profile.{most_accuracy, most_entries, most_rows};
+ghost use Rattle.schema_types.specs.declared.types.Schema.{Schema as SchemaText};
+ghost use Rattle.join_graph.specs.Conjuncts.{equalities_of};
+ghost use Rattle.tree_bounds.specs.Columns.{EachNamedColumn};
+ghost use Rattle.sql_meaning.specs.Databases.{IsDatabaseOf};
+ghost use Rattle.sql_meaning.specs.Tables.{Tables, row_counts, tables_of};
+ghost use Rattle.planning.specs.Bounds.{scan_bounds_of};
+ghost use Rattle.planning.specs.Gives.{Gives};
+ghost use Rattle.key_bounds.specs.Bounds.{set_bounds_by_keys};
+ghost use Rattle.key_bounds.specs.Told.{AreTold, TellByKeys};
+
+use crate::carrying::carried_along;
+use crate::key_lists::KeyLists;
+use base_io::{NoMemory, Seq};
+use csv_tables::Database;
+use gathered_stats::gather_query;
+use join_graph::{Parts, split};
+use key_carriers::carriers;
+use key_stats::Carried;
+use planning::{Known, bounds_from};
+use predicate_bounds::QueryStats;
+use query_bounds::{entry_lists, scans_of};
+use query_types::Query;
+use schema_types::Schema;
+use std::alloc::Global;
+
+/// From statistics of its entries, and what is carried along the references of a schema. A scan's bound is the row bound of its entry by
+/// itself. The parts are those of `split`.
+pub fn from_carried(
+    alloc: Global,
+    query: &Query,
+    parts: &Parts,
+    stats: &QueryStats,
+    carried: Seq<Carried>,
+) -> Result<Known, NoMemory>
+    requires few { length query.now.from ≤ most_entries }
+    requires equalities { parts.now.equalities ≡ equalities_of query.now }
+    requires named { EachNamedColumn (λ entry column. entry < length query.now.from) (equalities_of query.now) }
+    requires told { AreTold query.now stats.now carried }
+    ensures { IfOk result (λ known. (schema : SchemaText) (tables : Tables) (accuracy : ℕ)
+        → TellByKeys schema query.now tables accuracy stats.now carried
+        → Gives (set_bounds_by_keys schema query.now tables accuracy) (scan_bounds_of query.now tables accuracy) known) }
+{
+    let own = entry_lists(alloc, query, parts, stats)?;
+    let count = query.from.len() as u8;
+    let scans = scans_of(alloc, &own, count)?;
+    let keys = KeyLists {
+        count,
+        own,
+        carried,
+    };
+    let known = bounds_from(alloc, parts, &keys, scans)?;
+    Ok(known)
+}
+
+/// From statistics of the query's tables, which are gathered once, and the own conjuncts that are carried along the references to keys that
+/// the schema declares (SafeBound, SIGMOD 2023). A scan's bound is that of its rows.
+///
+/// A row of the entry that is referred to is found once for each row of the other one, and no row is copied: time and memory are linear
+/// in the rows times the references and the columns that are joined, but for the sorting of columns and the bounds of all sets.
+///
+/// The accuracy of compressed lists is from 1 to 64.
+pub fn from_keys(
+    alloc: Global,
+    schema: &Schema,
+    query: &Query,
+    db: &Database,
+    accuracy: u8,
+) -> Result<Known, NoMemory>
+    requires database { IsDatabaseOf query.now db.now }
+    requires few_rows { (entry : ℕ) → entry < length query.now.from → row_counts (tables_of db.now) entry ≤ most_rows }
+    requires accuracy { (0 < accuracy) × (accuracy ≤ most_accuracy) }
+    ensures { IfOk result (Gives (set_bounds_by_keys schema.now query.now (tables_of db.now) accuracy)
+        (scan_bounds_of query.now (tables_of db.now) accuracy)) }
+{
+    let parts = split(alloc, query)?;
+    let stats = gather_query(alloc, query, &parts, db, accuracy)?;
+    let edges = carriers(alloc, schema, query, &parts)?;
+    let carried = carried_along(alloc, query, &parts, db, edges.as_slice(), accuracy)?;
+    from_carried(alloc, query, &parts, &stats, carried)
+}

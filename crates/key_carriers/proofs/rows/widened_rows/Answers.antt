@@ -1,0 +1,83 @@
+use Rattle.std.proofs.Common.{◌≡◌, ◌≤◌, ℕ, List, length, map, get_or, ap, ◌∙◌, subst, arith}
+use Rattle.query_types.specs.declared.types.ColumnRef.{ColumnRef}
+use Rattle.sql_meaning.specs.Tables.{row_counts, tables_of}
+use Rattle.link_index.specs.Places.{IsPlaceOf}
+use Rattle.join_steps.specs.Columns.{column_cells}
+use Rattle.key_carriers.specs.Cells.{column_of, widened_to}
+use Rattle.key_carriers.specs.Widened.{partner}
+use Rattle.key_carriers.proofs.Finding.{first_is, left_count, other_added, right_count, row_added}
+use Rattle.key_carriers.proofs.rows.widened_rows.Goals as goal
+
+pub chained-requires : goal.chained-requires
+chained-requires c =
+    let is : c.cells_of_column-right.result.now ≡ column_cells c.args.db.now (column_of c.args.edge.right) =
+    c.cells_of_column-right.ensures.cells ∙ ap (column_cells c.args.db.now) c.column_of-2.ensures in
+    record {
+      few = omega (
+        arith,
+        ap (λ (s : List ℕ). length s) is,
+        right_count c.args.db.now c.args.edge c.requires.tables c.texts_are_different.ensures.different c.texts_are_different.ensures.utf8 c.requires.kinds,
+        c.requires.few,
+      );
+    }
+
+pub overflow_cast-row : goal.overflow_cast-row
+overflow_cast-row c =
+    let is : c.cells_of_column-left.result.now ≡ column_cells c.args.db.now (column_of c.args.edge.left) =
+    c.cells_of_column-left.ensures.cells ∙ ap (column_cells c.args.db.now) c.column_of.ensures in
+    omega (
+      arith,
+      ap (λ (s : List ℕ). length s) is,
+      left_count c.args.db.now c.args.edge c.requires.tables c.texts_are_different.ensures.different c.texts_are_different.ensures.utf8 c.requires.kinds,
+      c.requires.rows,
+      c.rows-test.true,
+    )
+
+pub rows-preserved : goal.rows-preserved
+rows-preserved c =
+    let left : c.cells_of_column-left.result.now ≡ column_cells c.args.db.now (column_of c.args.edge.left) =
+    c.cells_of_column-left.ensures.cells ∙ ap (column_cells c.args.db.now) c.column_of.ensures in
+    let right : c.in_ok-chains.chains.keys ≡ column_cells c.args.db.now (column_of c.args.edge.right) =
+    c.in_ok-chains.ensures ∙ c.cells_of_column-right.ensures.cells ∙ ap (column_cells c.args.db.now) c.column_of-2.ensures in
+    let cell : ℕ = get_or (column_cells c.args.db.now (column_of c.args.edge.left)) c.rows.row 0 in
+    let is : c.first-other.result ≡ partner (tables_of c.args.db.now) c.args.edge c.rows.row =
+    first_is c.args.db.now c.args.edge c.requires.tables c.texts_are_different.ensures.different c.texts_are_different.ensures.utf8 c.requires.kinds c.rows.row
+    (omega (
+      arith,
+      ap (λ (s : List ℕ). length s) left,
+      left_count c.args.db.now c.args.edge c.requires.tables c.texts_are_different.ensures.different c.texts_are_different.ensures.utf8 c.requires.kinds,
+      c.rows-test.true,
+    )) c.first-other.result
+    (subst (λ (s : List ℕ). IsPlaceOf s cell 0 c.first-other.result) right
+    (subst (λ (s : List ℕ). IsPlaceOf c.in_ok-chains.chains.keys (get_or s c.rows.row 0) 0 c.first-other.result) left c.first-other.ensures)) in (
+      row_added c.args.db.now c.args.edge c.rows.row c.first-other.result is c.rows.made.rows.items c.add.new.self.rows.items c.rows.invariant.0 c.in_ok-add.ensures.rows,
+      other_added c.args.db.now c.args.edge c.rows.row c.first-other.result is c.rows.made.others.items c.add.new.self.others.items c.rows.invariant.1 c.in_ok-add.ensures.others,
+    )
+
+pub returns-clause-rows : goal.returns-clause-rows
+returns-clause-rows c =
+    let left : c.cells_of_column-left.result.now ≡ column_cells c.args.db.now (column_of c.args.edge.left) =
+    c.cells_of_column-left.ensures.cells ∙ ap (column_cells c.args.db.now) c.column_of.ensures in
+    let all : c.rows.row ≡ row_counts (tables_of c.args.db.now) c.args.edge.left.entry =
+    omega (
+      arith,
+      ap (λ (s : List ℕ). length s) left,
+      left_count c.args.db.now c.args.edge c.requires.tables c.texts_are_different.ensures.different c.texts_are_different.ensures.utf8 c.requires.kinds,
+      c.rows-test.false,
+      c.rows.auto.row-end,
+    ) in
+    c.rows.invariant.0 ∙ ap (λ (n : ℕ). map (λ (pair : ℕ × ℕ). pair.0) (widened_to (tables_of c.args.db.now) c.args.edge n)) all
+
+pub returns-clause-others : goal.returns-clause-others
+returns-clause-others c =
+    let left : c.cells_of_column-left.result.now ≡ column_cells c.args.db.now (column_of c.args.edge.left) =
+    c.cells_of_column-left.ensures.cells ∙ ap (column_cells c.args.db.now) c.column_of.ensures in
+    let all : c.rows.row ≡ row_counts (tables_of c.args.db.now) c.args.edge.left.entry =
+    omega (
+      arith,
+      ap (λ (s : List ℕ). length s) left,
+      left_count c.args.db.now c.args.edge c.requires.tables c.texts_are_different.ensures.different c.texts_are_different.ensures.utf8 c.requires.kinds,
+      c.rows-test.false,
+      c.rows.auto.row-end,
+    ) in
+    c.rows.invariant.1 ∙ ap (λ (n : ℕ). map (λ (pair : ℕ × ℕ). pair.1) (widened_to (tables_of c.args.db.now) c.args.edge n)) all

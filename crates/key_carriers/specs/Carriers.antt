@@ -1,0 +1,77 @@
+-- Which entries carry their own conjuncts to others, along the references to keys that a schema declares.
+use Rattle.std.specs.Prelude.{ℕ, Bool, false, ◌&&◌, ◌==◌, List, [], ◌∷◌, filter, slice_index_or}
+use Rattle.std.specs.List.{list_any}
+use Rattle.schema_types.specs.declared.types.Reference.{Reference}
+use Rattle.schema_types.specs.declared.types.Schema.{Schema}
+use Rattle.schema_types.specs.declared.types.Table.{Table}
+use Rattle.query_types.specs.declared.types.Query.{Query}
+use Rattle.query_types.specs.declared.types.Source.{Source}
+use Rattle.berge_tree.specs.declared.edges.Edge.{Edge}
+use Rattle.join_graph.specs.Conjuncts.{equalities_of, names_just}
+use Rattle.join_graph.specs.Kept.{equalities_within}
+
+-- ---- what a schema declares
+
+abbrev pub no_table : Table
+no_table = record { name = []; columns = []; keys = []; references = [] }
+
+abbrev pub table_at : Schema → ℕ → Table
+table_at schema table = slice_index_or schema.tables table no_table
+
+-- the list is of this column alone
+abbrev pub is_just : ℕ → List ℕ → Bool
+is_just column [] = false
+is_just column (first ∷ []) = first == column
+is_just column (first ∷ (second ∷ columns)) = false
+
+-- the column alone is a PRIMARY KEY or UNIQUE of the table
+abbrev pub is_key : Schema → ℕ → ℕ → Bool
+is_key schema table column = list_any (is_just column) (table_at schema table).keys
+
+-- a reference from this column alone to this column alone of a table
+abbrev pub leads : ℕ → ℕ → ℕ → Reference → Bool
+leads column table target reference = is_just column reference.columns && (reference.table == table && is_just target reference.targets)
+
+-- the schema declares a reference from the one table's column to the other's
+abbrev pub refers : Schema → ℕ → ℕ → ℕ → ℕ → Bool
+refers schema table column other target = list_any (leads column other target) (table_at schema table).references
+
+-- ---- of a query's entries
+
+abbrev pub no_source : Source
+no_source = record { table = 0; alias = [] }
+
+-- the table of an entry, by its number in the schema
+abbrev pub table_of : Query → ℕ → ℕ
+table_of query entry = (slice_index_or query.from entry no_source).table
+
+-- the left column is declared to refer to the right one, which is a key
+abbrev pub refers_to_key : Schema → Query → Edge → Bool
+refers_to_key schema query e =
+    refers schema (table_of query e.left.entry) e.left.column (table_of query e.right.entry) e.right.column
+    && is_key schema (table_of query e.right.entry) e.right.column
+
+-- some conjunct names this entry and no other one
+abbrev pub has_own : Query → ℕ → Bool
+has_own query entry = list_any (names_just entry) query.conjuncts
+
+-- the right entry, which has conjuncts of its own, carries them to the left one
+abbrev pub carries : Schema → Query → Edge → Bool
+carries schema query e = refers_to_key schema query e && has_own query e.right.entry
+
+-- an equality with its sides exchanged
+abbrev pub turned : Edge → Edge
+turned e = record { left = e.right; right = e.left }
+
+-- each equality, and behind it the same with its sides exchanged
+abbrev pub both_ways : List Edge → List Edge
+both_ways [] = []
+both_ways (e ∷ es) = e ∷ (turned e ∷ both_ways es)
+
+-- the equalities along which conjuncts are carried, each with the entry to which they are carried on its left
+abbrev pub carriers : Schema → Query → List Edge
+carriers schema query = filter (carries schema query) (both_ways (equalities_of query))
+
+-- those that carry to an entry within a set of entries: both entries are in the set
+abbrev pub carriers_to : List Edge → ℕ → ℕ → List Edge
+carriers_to es subset entry = filter (λ e. e.left.entry == entry) (equalities_within subset es)

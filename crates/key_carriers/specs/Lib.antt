@@ -1,0 +1,5 @@
+pub mod Carriers
+pub mod Widened
+pub mod Keys
+pub mod Cells
+pub mod Examples

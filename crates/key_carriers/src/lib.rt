@@ -1,0 +1,16 @@
+//! Which entries of a query carry their own conjuncts to others, along references to keys that the schema declares, and the rows that refer to
+//! a row of such an entry.
+//!
+//! In: a query in parts, its schema and its tables. Out: the equalities along which conjuncts are carried (`carriers`), and for each of them
+//! the widened table as row numbers (`widened`): the rows that refer to a row, each with that row. No row is copied. A row that refers to
+//! nothing is left out, so that nothing rests on references being kept.
+//!
+//! Callers cite `carriers` and `carriers_to` for who carries, `widened`, `referring` and `referred` for the widened table,
+//! `rows_referring` for the rows that refer to a row of the carrier's scan, and `KeysHold` for tables whose keys hold.
+#![tactic(auto)]
+
+mod references;
+mod rows;
+
+pub use references::carriers;
+pub use rows::{Widened, widened_rows};

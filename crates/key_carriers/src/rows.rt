@@ -1,0 +1,81 @@
+//! The widened table as row numbers.
+ghost use Rattle.std.specs.Prelude.{◌≡◌, ◌≤◌, IfOk, OnOk, length};
+ghost use Rattle.limits.specs.Profile.{most_rows};
+ghost use Rattle.sql_meaning.specs.Databases.{AreTables};
+ghost use Rattle.sql_meaning.specs.Tables.{row_counts, tables_of};
+ghost use Rattle.key_carriers.specs.Cells.{AreOfOneKind, column_of, with_found, with_other};
+ghost use Rattle.key_carriers.specs.Widened.{referred, referring};
+
+use base_io::NoMemory;
+use berge_tree::{Edge, Place};
+use csv_tables::Database;
+use join_steps::{cells_of_column, texts_are_different};
+use link_index::Chains;
+use query_types::ColumnRef;
+use std::alloc::Global;
+
+/// The rows of an entry that refer to a row of another one, in file order, and the rows to which they refer, one for each.
+#[derive(Drop)]
+pub struct Widened {
+    pub rows: Vec<u32>,
+    pub others: Vec<u32>,
+}
+
+fn column_of(place: Place) -> ColumnRef
+    ensures { result ≡ column_of place }
+{
+    ColumnRef {
+        from: place.entry,
+        column: place.column,
+    }
+}
+
+// The places of cells, by the cell.
+fn chained(alloc: Global, cells: &[u64]) -> Result<Chains, NoMemory>
+    requires few { length cells.now ≤ most_rows }
+    ensures { IfOk result (λ chains. chains.keys ≡ cells.now) }
+{
+    let rows = cells.len() as u64;
+    let mut chains = Chains::with_room(alloc, rows, rows.max(1))?;
+    chains.load(cells);
+    Ok(chains)
+}
+
+impl Widened {
+    // Adds a row with the row to which it refers, or nothing.
+    fn add(&mut self, row: u32, other: Option<u32>) -> Result<(), NoMemory>
+        ensures rows { OnOk result (self.new.rows.items ≡ with_found self.old.rows.items row other) }
+        ensures others { OnOk result (self.new.others.items ≡ with_other self.old.others.items other) }
+    {
+        if let Some(other) = other {
+            self.rows.push(row)?;
+            self.others.push(other)?;
+        }
+        Ok(())
+    }
+}
+
+/// The rows of the left entry of an equality that refer to a row of its right one, each with that row. A row of the right entry is found by the
+/// key's cell, once for each row of the left one: time and memory are linear in the rows of both.
+pub fn widened_rows(alloc: Global, db: &Database, edge: Edge) -> Result<Widened, NoMemory>
+    requires tables { AreTables db.now }
+    requires kinds { AreOfOneKind db.now edge }
+    requires rows { row_counts (tables_of db.now) edge.left.entry ≤ most_rows }
+    requires few { row_counts (tables_of db.now) edge.right.entry ≤ most_rows }
+    ensures rows { IfOk result (λ made. made.rows.items ≡ referring (tables_of db.now) edge) }
+    ensures others { IfOk result (λ made. made.others.items ≡ referred (tables_of db.now) edge) }
+{
+    texts_are_different(&db.pool);
+    let left = cells_of_column(db, column_of(edge.left));
+    let right = cells_of_column(db, column_of(edge.right));
+    let chains = chained(alloc, right)?;
+    let mut made = Widened {
+        rows: Vec::new(alloc),
+        others: Vec::new(alloc),
+    };
+    'rows: for row in 0..left.len() {
+        let other = chains.first(left[row]);
+        made.add(row as u32, other)?;
+    }
+    Ok(made)
+}

@@ -1,0 +1,2 @@
+pub mod RowsThere
+pub mod CarriedLists

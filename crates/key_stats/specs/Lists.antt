@@ -1,0 +1,26 @@
+-- What a carrier's own conjuncts say of the rows that refer to it: the statistics of the widened table, filtered by them.
+use Rattle.std.specs.Prelude.{ℕ, List}
+use Rattle.berge_tree.specs.declared.edges.Edge.{Edge}
+use Rattle.query_types.specs.declared.types.Query.{Query}
+use Rattle.sql_meaning.specs.Tables.{Tables}
+use Rattle.filtered_lists.specs.Lists.{ColumnLists, RowCounts, filtered_list, row_bound}
+use Rattle.table_stats.specs.Columns.{column_values}
+use Rattle.table_stats.specs.Statistics.{entry_counts, lists_over}
+use Rattle.key_carriers.specs.Widened.{referred, referring, tables_at, values_at}
+
+-- of a joined column of the entry to which is carried, with the filter columns of the carrier, at an accuracy
+abbrev pub carried_lists : Tables → ℕ → Edge → ℕ → ColumnLists
+carried_lists tables accuracy e column =
+    lists_over accuracy (column_values (tables_at tables (referred tables e)) e.right.entry) (values_at tables e.left.entry column (referring tables e))
+
+-- and the numbers of rows
+abbrev pub carried_counts : Tables → Edge → RowCounts
+carried_counts tables e = entry_counts (tables_at tables (referred tables e)) e.right.entry
+
+-- ---- filtered by the carrier's own conjuncts
+
+abbrev pub carried_list : Query → Tables → ℕ → Edge → ℕ → List ℕ
+carried_list query tables accuracy e column = filtered_list (carried_lists tables accuracy e column) e.right.entry query.conjuncts
+
+abbrev pub carried_rows : Query → Tables → Edge → ℕ
+carried_rows query tables e = row_bound (carried_counts tables e) e.right.entry query.conjuncts

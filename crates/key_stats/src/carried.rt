@@ -1,0 +1,11 @@
+//! What is known of an entry by the conjuncts that are carried to it along one equality.
+use berge_tree::Edge;
+use bound_fold::EntryLists;
+
+/// An equality along which the right entry carries its own conjuncts to the left one, and by these a row bound of the left entry, and a list of
+/// each of its joined columns.
+#[derive(Drop)]
+pub struct Carried {
+    pub edge: Edge,
+    pub lists: EntryLists,
+}

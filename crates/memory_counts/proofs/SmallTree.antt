@@ -1,0 +1,35 @@
+-- The tree of two entries is a plan.
+use Rattle.std.proofs.Common.{◌≡◌, ℕ, zero, suc, ◌-◌, ◌*◌, ◌<◌, ◌==◌, List, [], ◌∷◌, length, refl, sym, subst, arith}
+use Rattle.std.specs.List.{count_by}
+use Rattle.limits.specs.Profile.{most_rows}
+use Rattle.tree_plans.specs.declared.bushy.BushyPlan.{BushyPlan}
+use Rattle.tree_plans.specs.declared.bushy.Join.{Join}
+use Rattle.tree_plans.specs.TreePlans.{joined_nodes, IsTreePlan, IsWithin}
+
+abbrev pub join : Join
+join = record { left = 1; right = 0; bound = 12 }
+
+abbrev pub plan_of : List Join → List ℕ → BushyPlan
+plan_of joins scans = record { joins = joins; scans = scans; cost = 12 }
+
+abbrev pub small_plan : BushyPlan
+small_plan = plan_of (join ∷ []) (6 ∷ 5 ∷ [])
+
+each_once : (node : ℕ) → node < 2 * 2 - 2 → count_by (λ other. other == node) (joined_nodes (join ∷ [])) ≡ 1
+each_once zero low = refl
+each_once (suc zero) low = refl
+each_once (suc (suc node)) low = absurd (omega (arith, low))
+
+is_plan : IsTreePlan 2 small_plan
+is_plan = record { few = omega arith; scans = refl; joins = refl; behind = (omega arith, omega arith, tt); once = each_once }
+
+is_small : IsWithin most_rows small_plan
+is_small = record { scans = (omega arith, (omega arith, tt)); joins = (omega arith, tt) }
+
+module _ (joins : List Join) (scans : List ℕ) (joined : joins ≡ join ∷ []) (scanned : scans ≡ 6 ∷ 5 ∷ []) where
+  pub its_plan : IsTreePlan (length scans) (plan_of joins scans)
+  its_plan = subst (λ (js : List Join). IsTreePlan (length scans) (plan_of js scans)) (sym joined)
+      (subst (λ (s : List ℕ). IsTreePlan (length s) (plan_of (join ∷ []) s)) (sym scanned) is_plan)
+
+  pub its_size : IsWithin most_rows (plan_of joins scans)
+  its_size = subst (λ (js : List Join). IsWithin most_rows (plan_of js scans)) (sym joined) (subst (λ (s : List ℕ). IsWithin most_rows (plan_of (join ∷ []) s)) (sym scanned) is_small)

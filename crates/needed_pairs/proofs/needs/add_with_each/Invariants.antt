@@ -1,6 +1,0 @@
-use Rattle.std.proofs.Common.{◌≡◌, ◌++◌, map, take}
-use Rattle.needed_pairs.specs.Pairs.{column_pair}
-use Rattle.needed_pairs.proofs.needs.add_with_each.Given as goal
-
-abbrev pub invariant-loop-column : goal.invariant-loop-column
-invariant-loop-column l = l.pairs ≡ l.initial.pairs ++ map (column_pair l.filter) (take l.column-index l.joined)

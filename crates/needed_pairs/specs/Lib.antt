@@ -1,4 +1,0 @@
-pub mod Pairs
-pub mod Columns
-pub mod Needs
-pub mod Examples

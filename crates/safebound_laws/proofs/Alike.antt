@@ -1,0 +1,209 @@
+-- A plan from the file of a query's tables, and one over these tables.
+use Rattle.std.proofs.Common.{◌≡◌, ℕ, ◌<◌, ◌≤◌, List, Bool, true, false, Option, None, Some, Result, Ok, Err, refl, ap, sym, ◌∙◌, subst}
+use Rattle.std.specs.Prelude.{length, nat_le, if◌then◌else◌}
+use Rattle.limits.specs.Profile.{most_accuracy, most_file}
+use Rattle.base_io.specs.Files.{Files}
+use Rattle.csv_tables.specs.Rows.{Row}
+use Rattle.csv_tables.specs.declared.types.Database.{Database}
+use Rattle.filed_bounds.specs.Filed.{filed_statistics}
+use Rattle.filed_exactness.proofs.Exactness.{bounds_same, none_missing, scans_same}
+use Rattle.filed_bounds.specs.Plans.{filed_plan, planned_by_file, unless_missing, where_told}
+use Rattle.filed_stats.proofs.Rules.{file_keeps}
+use Rattle.filed_stats.specs.Databases.{IsOverSchema}
+use Rattle.filed_stats.specs.Files.{file_of_query}
+use Rattle.gathered_stats.specs.Statistics.{statistics_of}
+use Rattle.join_graph.specs.Conjuncts.{equalities_of}
+use Rattle.order_search.specs.declared.refusal.PlanError.{PlanError}
+use Rattle.outcomes.specs.Errors.{plan_refusal, stats_refusal}
+use Rattle.outcomes.specs.Reads.{◌>>=◌, seen, told}
+use Rattle.outcomes.specs.declared.names.FileId.TheVariants as file
+use Rattle.outcomes.specs.declared.refusal.Refusal.{Refusal}
+use Rattle.outcomes.specs.declared.refusal.Refusal.TheVariants as refusal
+use Rattle.planning.specs.Plans.{planned, planned_from}
+use Rattle.plans.specs.declared.left_deep.Plan.{Plan}
+use Rattle.query_bounds.specs.Bounds.{entry_bounds, scan_bounds}
+use Rattle.query_types.specs.declared.types.Query.{Query}
+use Rattle.reserve_plan.specs.Memory.{plan_bytes}
+use Rattle.safebound_words.specs.Requests.{Plan as PlanWords, PlanStats, Stats}
+use Rattle.schema_types.proofs.Valid.{declares_valid}
+use Rattle.schema_types.specs.Validity.{IsValid}
+use Rattle.schema_types.specs.declared.types.Schema.{Schema}
+use Rattle.set_bounds.specs.AllSets.{in_every_set}
+use Rattle.sql_meaning.specs.Tables.{tables_of}
+use Rattle.stats_answers.proofs.ByteNames.{declared_bytes}
+use Rattle.stats_answers.proofs.StatsAnswers.{written}
+use Rattle.stats_file.specs.FileText.{file_text}
+use Rattle.stats_file.specs.declared.types.StatsFile.{StatsFile}
+use Rattle.stats_reading.specs.Names.{HasByteColumns}
+use Rattle.table_files.specs.EntryTables.{entry_rows, tables_in}
+use Rattle.table_files.proofs.EntryLaws.{two_steps}
+use Rattle.table_files.specs.Stage.{tables_stage}
+use Rattle.table_files.specs.TableFile.{read}
+use Rattle.safebound_top.specs.Asks.{FileOf, OverQuery, PlanFrom, PlanOf, WorkAsk, ask_for, asks}
+use Rattle.safebound_top.specs.Filed.{filed_plan_stage, filed_refusal, filed_within, stats_of_text, stats_stage, tables_filed}
+use Rattle.safebound_top.specs.Limits.{within_limit}
+use Rattle.safebound_top.specs.Outcome.{Outcome, Planned, PlannedByFile}
+use Rattle.safebound_top.specs.OutcomeTexts.{out_text}
+use Rattle.safebound_top.specs.Shapes.{planned_by, shape_bytes}
+use Rattle.safebound_top.specs.Sources.{known_by, scans_by}
+use Rattle.safebound_top.specs.Verdict.{aim_run, ask_run, plan_asked, plan_stage, query_stage, run_asked, schema_stage, work_run}
+use Rattle.safebound_top.specs.declared.shapes.Shaped.TheVariants as shaped
+use Rattle.safebound_top.specs.declared.task.ListSource.TheVariants as sources
+use Rattle.safebound_top.specs.declared.task.OutText.TheVariants as out
+use Rattle.safebound_top.specs.declared.task.PlanTask.{PlanTask}
+use Rattle.safebound_top.specs.declared.task.Shape.TheVariants as shapes
+use Rattle.safebound_top.proofs.Promises.{declares, query_of_schema}
+use Rattle.safebound_laws.specs.Printed.{printed}
+use Rattle.safebound_laws.proofs.Databases.{database_found}
+
+-- what `plan` asks
+abbrev task : ℕ → ℕ → Option ℕ → PlanTask
+task budget accuracy memory = record { budget = budget; accuracy = accuracy; source = sources.Columns; shape = shapes.Order; memory = memory; out = out.Nothing }
+
+-- ---- a limit of memory
+
+test_alike : (test : Bool) (r : Refusal) (x y : Outcome) → printed x ≡ printed y
+    → seen printed (if test then Ok x else Err r) ≡ seen printed (if test then Ok y else Err r)
+test_alike true r x y same = ap (λ (p : Option (List ℕ) × Option (List ℕ)). Ok p) same
+test_alike false r x y same = refl
+
+-- values that print alike, behind the same limit
+limits_alike : (memory : Option ℕ) (bytes : ℕ) (x y : Outcome) → printed x ≡ printed y
+    → seen printed (within_limit memory bytes x) ≡ seen printed (within_limit memory bytes y)
+limits_alike None bytes x y same = ap (λ (p : Option (List ℕ) × Option (List ℕ)). Ok p) same
+limits_alike (Some limit) bytes x y same = test_alike (nat_le bytes limit) (refusal.MemoryLimit bytes) x y same
+
+-- ---- from the query on
+
+module _ (query : Query) (file : StatsFile) (rows : List (List Row)) (budget accuracy : ℕ) (memory : Option ℕ) where
+  -- from a plan that is made by a file, and by tables
+  by_file : Result Plan PlanError → Result Outcome Refusal
+  by_file answer = told filed_refusal (where_told answer) >>= λ plan. filed_within query file plan memory
+
+  by_tables : Result Plan PlanError → Result Outcome Refusal
+  by_tables answer = told plan_refusal (seen (λ plan. shaped.Along plan) answer)
+      >>= λ plan. within_limit memory (shape_bytes plan) (Planned (run_asked (task budget accuracy memory) query rows plan))
+
+  print_alike : (answer : Result Plan PlanError) → seen printed (by_file answer) ≡ seen printed (by_tables answer)
+  unfolding by_file by_tables
+  print_alike (Ok plan) =
+      limits_alike memory (plan_bytes plan.order plan.scans plan.levels)
+      (PlannedByFile (record { query = query; file = file; plan = plan; memory = memory }))
+      (Planned (run_asked (task budget accuracy memory) query rows (shaped.Along plan))) refl
+  print_alike (Err e) = refl
+
+module _ (schema : Schema) (query : Query) (db : Database) (over : IsOverSchema schema query db) (accuracy : ℕ) (least : 0 < accuracy)
+    (most : accuracy ≤ most_accuracy) (budget : ℕ) (memory : Option ℕ) where
+  abbrev file_of : StatsFile
+  file_of = file_of_query schema query (tables_of db) accuracy
+
+  same_plan : planned_by_file query file_of budget ≡ planned query (tables_of db) accuracy budget
+  unfolding planned_by_file planned
+  same_plan =
+      ap (λ bounds. planned_from (in_every_set bounds) (scan_bounds query (filed_statistics query file_of)) (equalities_of query) (length query.from) budget)
+      (bounds_same schema query db over accuracy least most)
+      ∙ ap (λ scans. planned_from (in_every_set (entry_bounds query (statistics_of (tables_of db) accuracy))) scans (equalities_of query) (length query.from) budget)
+      (scans_same schema query db over accuracy least most)
+
+  filed_same : filed_plan query file_of budget ≡ where_told (planned query (tables_of db) accuracy budget)
+  unfolding filed_plan
+  filed_same =
+      ap (λ missing. unless_missing missing (planned_by_file query file_of budget)) (none_missing schema query db over accuracy least most)
+      ∙ ap where_told same_plan
+
+  from_file : filed_plan_stage query file_of budget memory ≡ by_file query file_of (entry_rows db) budget accuracy memory (planned query (tables_of db) accuracy budget)
+  unfolding filed_plan_stage by_file
+  from_file = rw filed_same refl
+
+  asked_same : plan_asked (task budget accuracy memory) schema query (tables_of db) ≡ seen (λ plan. shaped.Along plan) (planned query (tables_of db) accuracy budget)
+  unfolding planned planned_by known_by scans_by
+  asked_same = refl
+
+  from_tables : tables_in (entry_rows db) ≡ tables_of db
+      → plan_stage (task budget accuracy memory) schema query (entry_rows db) ≡ by_tables query file_of (entry_rows db) budget accuracy memory (planned query (tables_of db) accuracy budget)
+  unfolding plan_stage by_tables
+  from_tables tables =
+      ap (λ answer. told plan_refusal answer >>= λ plan. within_limit memory (shape_bytes plan) (Planned (run_asked (task budget accuracy memory) query (entry_rows db) plan)))
+      (ap (plan_asked (task budget accuracy memory) schema query) tables ∙ asked_same)
+
+  read_back : (name : List ℕ) (files : Files) → HasByteColumns schema → read file.Stats most_file name files ≡ Ok (file_text schema file_of)
+      → stats_stage name schema files ≡ Ok file_of
+  unfolding stats_stage
+  read_back name files columns there =
+      ap (λ text. text >>= stats_of_text schema) there
+      ∙ ap (told stats_refusal) (written schema file_of over.of.schema_is columns (file_keeps schema query db over accuracy least most))
+
+  pub works_alike : (name : List ℕ) (files : Files) → HasByteColumns schema → tables_in (entry_rows db) ≡ tables_of db
+      → tables_stage schema query.from files ≡ Ok (entry_rows db) → read file.Stats most_file name files ≡ Ok (file_text schema file_of)
+      → seen printed (work_run (PlanFrom name budget memory) schema query files) ≡ seen printed (work_run (PlanOf (task budget accuracy memory)) schema query files)
+  works_alike name files columns tables rows there =
+      ap (λ stats. seen printed (stats >>= λ stats. filed_plan_stage query stats budget memory)) (read_back name files columns there)
+      ∙ ap (seen printed) from_file
+      ∙ print_alike query file_of (entry_rows db) budget accuracy memory (planned query (tables_of db) accuracy budget)
+      ∙ sym (ap (seen printed) (from_tables tables))
+      ∙ sym (ap (λ rows. seen printed (rows >>= plan_stage (task budget accuracy memory) schema query)) rows)
+
+-- ---- from the words' request on
+
+module _ (schema_file query_file : List ℕ) (files : Files) (schema : Schema) (query : Query) (schema_is : schema_stage schema_file files ≡ Ok schema)
+    (query_is : query_stage query_file schema files ≡ Ok query) where
+  asked_work : (work : WorkAsk) → ask_run (ask_for schema_file query_file work) files ≡ work_run work schema query files
+  unfolding ask_run
+  asked_work work =
+      ap (λ (s : Result Schema Refusal). s >>= λ s. aim_run (OverQuery query_file work) s files) schema_is
+      ∙ ap (λ (q : Result Query Refusal). q >>= λ q. work_run work schema q files) query_is
+
+-- ---- what `stats` writes
+
+-- the schema, the query and the rows that a file of statistics is made of
+record FileMade (schema_file query_file : List ℕ) (accuracy : ℕ) (files : Files) (written : Outcome) : Type 0 where
+  schema : Schema
+  schema_is : schema_stage schema_file files ≡ Ok schema
+  query : Query
+  query_is : query_stage query_file schema files ≡ Ok query
+  rows : List (List Row)
+  rows_are : tables_stage schema query.from files ≡ Ok rows
+  is : tables_filed schema query rows accuracy ≡ written
+
+file_made : (schema_file query_file : List ℕ) (accuracy : ℕ) (files : Files) (written : Outcome) → ask_run (ask_for schema_file query_file (FileOf accuracy)) files ≡ Ok written
+    → FileMade schema_file query_file accuracy files written
+unfolding ask_run
+file_made schema_file query_file accuracy files written ran =
+    let read = two_steps (schema_stage schema_file files) (λ s. aim_run (OverQuery query_file (FileOf accuracy)) s files) written ran in
+    let asked = two_steps (query_stage query_file read.0 files) (λ q. work_run (FileOf accuracy) read.0 q files) written read.2 in
+    let filed = two_steps (tables_stage read.0 asked.0.from files) (λ rows. Ok (tables_filed read.0 asked.0 rows accuracy)) written asked.2 in
+    record {
+      schema = read.0;
+      schema_is = read.1;
+      query = asked.0;
+      query_is = asked.1;
+      rows = filed.0;
+      rows_are = filed.1;
+      is = cc (filed.2);
+    }
+
+-- ---- both commands
+
+pub files_alike : (schema_file query_file stats_file : List ℕ) (accuracy budget : ℕ) (memory : Option ℕ) (files : Files) (written : Outcome) (text : List ℕ)
+    → 0 < accuracy → accuracy ≤ most_accuracy
+    → ask_run (asks (Stats schema_file query_file accuracy)) files ≡ Ok written → out_text written ≡ Some text
+    → read file.Stats most_file stats_file files ≡ Ok text
+    → seen printed (ask_run (asks (PlanStats schema_file query_file stats_file budget memory)) files)
+    ≡ seen printed (ask_run (asks (PlanWords schema_file query_file budget accuracy false false false memory)) files)
+files_alike schema_file query_file stats_file accuracy budget memory files outcome text least most ran wrote there =
+    let made = file_made schema_file query_file accuracy files outcome ran in
+    let schema = made.schema in
+    let query = made.query in
+    let declared = declares schema_file files schema made.schema_is in
+    let good : IsValid schema = declares_valid declared.text schema declared.declares.is in
+    let columns : HasByteColumns schema = declared_bytes declared.text schema declared.declares.is in
+    let found = database_found schema query files made.rows good (query_of_schema query_file files schema query made.query_is) made.rows_are in
+    let tables : tables_in made.rows ≡ tables_of found.database = ap tables_in found.rows_are ∙ found.tables_are in
+    let told_text : Some (file_text schema (file_of_query schema query (tables_in made.rows) accuracy)) ≡ Some text = ap out_text made.is ∙ wrote in
+    let those : file_text schema (file_of_query schema query (tables_in made.rows) accuracy) ≡ text = cc in
+    let is : text ≡ file_text schema (file_of_query schema query (tables_of found.database) accuracy)
+    = sym those ∙ ap (λ tables. file_text schema (file_of_query schema query tables accuracy)) tables in
+    ap (seen printed) (asked_work schema_file query_file files schema query made.schema_is made.query_is (PlanFrom stats_file budget memory))
+    ∙ works_alike schema query found.database found.over accuracy least most budget memory stats_file files columns found.tables_are
+    (made.rows_are ∙ ap (λ rows. Ok rows) found.rows_are) (there ∙ ap (λ text. Ok text) is)
+    ∙ sym (ap (seen printed) (asked_work schema_file query_file files schema query made.schema_is made.query_is (PlanOf (task budget accuracy memory))))

@@ -1,0 +1,90 @@
+-- The verdict of an append, stage by stage.
+use Rattle.std.proofs.Common.{◌≡◌, ℕ, ◌+◌, List, length, Some, Result, Ok, Err, inl, inr, refl, ap, sym, ◌∙◌, subst}
+use Rattle.std.specs.Prelude.{IfOk, nat_le}
+use Rattle.std.proofs.lemmas.Bool.{cases_Bool}
+use Rattle.appended_stats.specs.Appended.{file_after}
+use Rattle.appended_stats.proofs.StillStands.{file_still}
+use Rattle.base_io.specs.Files.{Files}
+use Rattle.csv_tables.specs.Rows.{Row}
+use Rattle.limits.specs.Profile.{most_rows}
+use Rattle.outcomes.specs.Reads.{◌>>=◌}
+use Rattle.outcomes.specs.declared.refusal.Refusal.{Refusal}
+use Rattle.outcomes.specs.declared.refusal.Refusal.TheVariants as refusal
+use Rattle.safebound_words.specs.Answer.{command_of}
+use Rattle.safebound_words.specs.Requests.{Append}
+use Rattle.schema_types.specs.Validity.{IsValid}
+use Rattle.schema_types.specs.declared.types.Schema.{Schema}
+use Rattle.sql_meaning.specs.Tables.{Tables}
+use Rattle.stats_file.specs.Rules.{KeepsRules}
+use Rattle.stats_file.specs.declared.types.StatsFile.{StatsFile}
+use Rattle.table_files.specs.Stage.{table_at}
+use Rattle.table_files.specs.TableFile.{rows_in}
+use Rattle.table_files.proofs.EntryLaws.{two_steps}
+use Rattle.safebound_top.specs.Appending.{append_run, grown_stage, rows_run, section_stage, stats_run}
+use Rattle.safebound_top.specs.Asks.{AppendAsk, AppendTo, Ask, append_for, command_stage, request_stage}
+use Rattle.safebound_top.specs.Filed.{stats_stage}
+use Rattle.safebound_top.specs.Outcome.{Appended, AppendedRows, FiledPlan, HoldsWhereItStands, NoBoundIsTooLow, Outcome, PlannedByFile}
+use Rattle.safebound_top.specs.Verdict.{aim_run, ask_run, schema_stage, verdict}
+use Rattle.safebound_top.proofs.FiledRuns.{stats_keep}
+use Rattle.safebound_top.proofs.Runs.{bounds_hold, schema_ok}
+use Rattle.safebound_laws.specs.Appends.{Grows, PlansAfter, StandsAfter}
+
+holds_of : {A : Type 0} (P : A → Type 0) (r : Result A Refusal) (x : A) → r ≡ Ok x → IfOk r P → P x
+holds_of P r x is holds = subst (λ (s : Result _ Refusal). IfOk s P) is holds
+
+module _ (schema : Schema) (stats : StatsFile) (table before : ℕ) (rows : List Row) where
+  abbrev made : Outcome
+  made = Appended (record { schema = schema; table = table; rows = rows; file = file_after stats table rows })
+
+  -- where the rows are few enough, this is what comes of them
+  grown_so : (outcome : Outcome) → grown_stage schema stats table before rows ≡ Ok outcome → outcome ≡ made
+  unfolding grown_stage
+  grown_so outcome is = elim (cases_Bool (nat_le (before + length rows) most_rows)) [
+    | inl few ↦ (let so : ◌≡◌ {A = Result Outcome Refusal} (Ok made) (Ok outcome) = rw few at is in cc)
+    | inr many ↦ absurd (let no = rw many at is in cc)
+  ]
+
+module _ (files : Files) (schema_file : List ℕ) (append : AppendAsk) (outcome : Outcome) where
+  grows_so : ask_run (append_for schema_file append) files ≡ Ok outcome → Grows files schema_file append.stats_file append.table append.rows_file outcome
+  unfolding ask_run append_run stats_run rows_run
+  grows_so is =
+      let first = two_steps (schema_stage schema_file files) (λ schema. aim_run (AppendTo append) schema files) outcome is in
+      let second = two_steps (stats_stage append.stats_file first.0 files) (λ stats. stats_run append first.0 stats files) outcome first.2 in
+      let third = two_steps (section_stage append.table first.0 second.0) (λ section. rows_run append.rows_file first.0 second.0 section.table section.rows files) outcome second.2 in
+      let last = two_steps (rows_in third.0.table (table_at first.0 third.0.table) append.rows_file files) (grown_stage first.0 second.0 third.0.table third.0.rows) outcome third.2 in
+      record {
+        schema = first.0;
+        schema_is = first.1;
+        before = second.0;
+        before_is = second.1;
+        section = third.0;
+        section_is = third.1;
+        rows = last.0;
+        rows_are = last.1;
+        after = file_after second.0 third.0.table last.0;
+        after_is = refl;
+        written = grown_so first.0 second.0 third.0.table third.0.rows last.0 outcome last.2;
+      }
+
+pub append_grows : (words : List (List ℕ)) (files : Files) (schema stats name rows : List ℕ) (outcome : Outcome) → command_of words ≡ Some (Append schema stats name rows)
+    → verdict words files ≡ Ok outcome → Grows files schema stats name rows outcome
+unfolding verdict
+append_grows words files schema stats name rows outcome command is =
+    let append : AppendAsk = record { stats_file = stats; table = name; rows_file = rows } in
+    let asked : command_stage words ≡ Ok (append_for schema append) = ap request_stage command in
+    grows_so files schema append outcome (sym (ap (λ (r : Result Ask Refusal). r >>= (λ ask. ask_run ask files)) asked) ∙ is)
+
+module _ (files : Files) (schema stats name rows : List ℕ) (outcome : Outcome) (grows : Grows files schema stats name rows outcome) where
+  keeps : KeepsRules grows.schema grows.before
+  keeps =
+      let valid : IsValid grows.schema = holds_of IsValid (schema_stage schema files) grows.schema grows.schema_is (schema_ok schema files) in
+      holds_of (KeepsRules grows.schema) (stats_stage stats grows.schema files) grows.before grows.before_is (stats_keep stats grows.schema files valid)
+
+  pub append_stands : StandsAfter grows.before grows.section.table grows.rows grows.after
+  append_stands query tables grown stood has =
+      rw grows.after_is (file_still grows.before grows.section.table grows.rows grows.schema query tables grown keeps stood has)
+
+  pub append_plans : PlansAfter grows.before grows.section.table grows.rows grows.after
+  append_plans words later plan tables grown is from' stood has =
+      let holds : HoldsWhereItStands plan = holds_of NoBoundIsTooLow (verdict words later) (PlannedByFile plan) is (bounds_hold words later) in
+      holds grown (rw from' (append_stands plan.query tables grown stood has))

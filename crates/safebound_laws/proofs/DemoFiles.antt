@@ -1,0 +1,148 @@
+-- No file of `demo` is absent, and no read of its store fails: it never ends with a read fault.
+use Rattle.std.proofs.Common.{◌≡◌, inl, inr, ℕ, List, [], Option, None, Some, Result, Ok, Err, ap, sym, ◌∙◌, subst, arith}
+use Rattle.std.specs.Prelude.{codes, false}
+use Rattle.base_io.specs.Causes.{Rose}
+use Rattle.base_io.specs.Devices.{Reading}
+use Rattle.base_io.specs.Files.{Files}
+use Rattle.demo_files.specs.Files.{demo_files}
+use Rattle.demo_files.specs.Texts.{query_text, schema_text}
+use Rattle.schema_types.specs.declared.errors.SchemaError.{SchemaError}
+use Rattle.schema_types.specs.declared.errors.SchemaError.TheVariants as schema_error
+use Rattle.schema_types.specs.declared.types.Schema.{Schema}
+use Rattle.csv_tables.specs.Rows.{Row}
+use Rattle.query_names.specs.declared.errors.QueryError.{QueryError}
+use Rattle.query_names.specs.declared.errors.QueryError.TheVariants as query_error
+use Rattle.query_types.specs.Validity.{IsOf}
+use Rattle.query_types.specs.declared.types.Query.{Query}
+use Rattle.order_search.specs.declared.refusal.PlanError.{PlanError}
+use Rattle.order_search.specs.declared.refusal.PlanError.TheVariants as plan_error
+use Rattle.text_answers.specs.QueryTexts.{query_answer}
+use Rattle.text_answers.specs.SchemaTexts.{schema_answer}
+use Rattle.outcomes.specs.Errors.{plan_refusal, query_refusal, schema_refusal}
+use Rattle.outcomes.specs.Reads.{◌>>=◌, MissesNothing, told}
+use Rattle.outcomes.specs.declared.names.FileId.{FileId}
+use Rattle.outcomes.specs.declared.refusal.Refusal.{Refusal}
+use Rattle.outcomes.specs.declared.refusal.Refusal.TheVariants as refusal
+use Rattle.outcomes.specs.declared.status.Status.TheVariants as status
+use Rattle.table_files.specs.EntryTables.{tables_in}
+use Rattle.table_files.specs.Stage.{tables_stage}
+use Rattle.demo_tables.proofs.Absences.{query_there, schema_there, tables_miss, then_misses}
+use Rattle.safebound_words.specs.Answer.{command_of}
+use Rattle.safebound_words.specs.Requests.{Request, Run, Plan, Audit, Stats, PlanStats, Append, Demo}
+use Rattle.safebound_top.specs.Asks.{Ask, PlanOf, ask_for, command_stage, plan_for, request_stage}
+use Rattle.safebound_top.specs.Call.{Call}
+use Rattle.safebound_top.specs.Headline.{Headline}
+use Rattle.safebound_top.specs.Limits.{within_limit}
+use Rattle.safebound_top.specs.Outcome.{Planned}
+use Rattle.safebound_top.specs.Shapes.{shape_bytes}
+use Rattle.safebound_top.specs.Shops.{request_shop, shop_of, shop_store}
+use Rattle.safebound_top.specs.Verdict.{aim_run, ask_run, plan_asked, plan_stage, query_of_text, query_stage, run_asked, schema_of_text, schema_stage, verdict, work_run}
+use Rattle.safebound_top.specs.declared.task.OutText.TheVariants as out_text
+use Rattle.safebound_top.specs.declared.task.PlanTask.{PlanTask}
+use Rattle.safebound_top.proofs.LimitFacts.{within_misses}
+use Rattle.table_files.proofs.StagedFiles.{told_ok}
+use Rattle.safebound_top.proofs.Promises.{query_of_schema}
+
+-- ---- no reader tells of an absent file
+
+schemas_miss : {A : Type 0} (r : Result A SchemaError) → MissesNothing (told schema_refusal r)
+schemas_miss (Ok schema) id e = cc
+schemas_miss (Err (schema_error.Syntax at)) id e = cc
+schemas_miss (Err (schema_error.Name at)) id e = cc
+schemas_miss (Err (schema_error.Nullable at)) id e = cc
+schemas_miss (Err (schema_error.Limit which found)) id e = cc
+schemas_miss (Err schema_error.NoMemory) id e = cc
+
+queries_miss : {A : Type 0} (r : Result A QueryError) → MissesNothing (told query_refusal r)
+queries_miss (Ok query) id e = cc
+queries_miss (Err (query_error.Syntax at)) id e = cc
+queries_miss (Err (query_error.Name at)) id e = cc
+queries_miss (Err (query_error.Kind at)) id e = cc
+queries_miss (Err (query_error.Limit which found)) id e = cc
+queries_miss (Err query_error.NoMemory) id e = cc
+
+plans_miss : {A : Type 0} (r : Result A PlanError) → MissesNothing (told plan_refusal r)
+plans_miss (Ok plan) id e = cc
+plans_miss (Err (plan_error.Budget least)) id e = cc
+plans_miss (Err plan_error.PastBits) id e = cc
+plans_miss (Err plan_error.NoMemory) id e = cc
+
+-- ---- the stages over the shop's files
+
+module _ (number : ℕ) where
+  abbrev files : Files
+  files = demo_files number
+
+  schema_is : schema_stage (codes "schema.sql") (demo_files number) ≡ schema_of_text schema_text
+  unfolding schema_stage
+  schema_is = ap (λ (r : Result (List ℕ) Refusal). r >>= schema_of_text) (schema_there number)
+
+  query_is : (schema : Schema) → query_stage (codes "query.sql") schema (demo_files number) ≡ query_of_text schema query_text
+  unfolding query_stage
+  query_is schema = ap (λ (r : Result (List ℕ) Refusal). r >>= query_of_text schema) (query_there number)
+
+  module _ (task : PlanTask) where
+    abbrev ask : Ask
+    ask = ask_for (codes "schema.sql") (codes "query.sql") (PlanOf task)
+
+    plan_misses : (schema : Schema) (query : Query) (rows : List (List Row)) → MissesNothing (plan_stage task schema query rows)
+    unfolding plan_stage
+    plan_misses schema query rows =
+        then_misses (told plan_refusal (plan_asked task schema query (tables_in rows))) (λ plan. within_limit task.memory (shape_bytes plan) (Planned (run_asked task query rows plan)))
+        (plans_miss (plan_asked task schema query (tables_in rows)))
+        (λ plan _. within_misses task.memory (shape_bytes plan) (Planned (run_asked task query rows plan)))
+
+    query_misses : (schema : Schema) (query : Query) → schema_answer schema_text ≡ Ok schema → IsOf schema query
+        → MissesNothing (work_run (PlanOf task) schema query (demo_files number))
+    query_misses schema query read_as of =
+        then_misses (tables_stage schema query.from files) (plan_stage task schema query) (tables_miss number schema query read_as of)
+        (λ rows _. plan_misses schema query rows)
+
+    schema_misses : (schema : Schema) → schema_answer schema_text ≡ Ok schema → MissesNothing (aim_run ask.aim schema (demo_files number))
+    schema_misses schema read_as =
+        then_misses (query_stage (codes "query.sql") schema files) (λ query. work_run (PlanOf task) schema query files)
+        (subst MissesNothing (sym (query_is schema)) (queries_miss (query_answer schema query_text)))
+        (λ query there. query_misses schema query read_as (query_of_schema (codes "query.sql") files schema query there))
+
+    ask_misses : MissesNothing (ask_run (ask_for (codes "schema.sql") (codes "query.sql") (PlanOf task)) (demo_files number))
+    unfolding ask_run
+    ask_misses =
+        then_misses (schema_stage (codes "schema.sql") files) (λ schema. aim_run ask.aim schema files)
+        (subst MissesNothing (sym schema_is) (schemas_miss (schema_answer schema_text)))
+        (λ schema there. schema_misses schema (told_ok schema_refusal (schema_answer schema_text) schema (sym schema_is ∙ there)))
+
+-- ---- the words
+
+demo_asked : (number : ℕ) (request : Option Request) → request_shop request ≡ Some number → request ≡ Some (Demo number)
+demo_asked number None e = cc
+demo_asked number (Some (Run schema query budget accuracy reduce bushy keys memory)) e = cc
+demo_asked number (Some (Plan schema query budget accuracy reduce bushy keys memory)) e = cc
+demo_asked number (Some (Audit schema query budget accuracy reduce bushy keys memory)) e = cc
+demo_asked number (Some (Stats schema query accuracy)) e = cc
+demo_asked number (Some (PlanStats schema query file budget memory)) e = cc
+demo_asked number (Some (Append schema file table rows)) e = cc
+demo_asked number (Some (Demo other)) e = (let same : other ≡ number = cc in ap (λ (n : ℕ). Some (Demo n)) same)
+
+pub demo_misses : (number : ℕ) (words : List (List ℕ)) → shop_of words ≡ Some number → MissesNothing (verdict words (demo_files number))
+unfolding verdict
+demo_misses number words is =
+    let asked : command_stage words ≡ Ok (ask_for (codes "schema.sql") (codes "query.sql") (plan_for out_text.Audit 1000000 1 false false false None)) =
+    ap request_stage (demo_asked number (command_of words) is) in
+    subst (λ (r : Result Ask Refusal). MissesNothing (r >>= (λ ask. ask_run ask (demo_files number)))) (sym asked) (ask_misses number _)
+
+-- ---- a call over the shop's store
+
+no_rise : Rose 0 0 → ⊥
+no_rise (inl less) = omega (arith, less)
+no_rise (inr full) = omega (arith, full)
+
+pub no_read_fault : (call : Call) (number : ℕ) → Headline call → shop_of call.words ≡ Some number → call.store ≡ shop_store number
+    → (file : FileId) → call.status ≡ status.ReadFault file → ⊥
+no_read_fault call number h is store file fault =
+    no_rise (subst (λ (s : Reading). Rose s.faults_before s.faults_after) store (h.read_faults_have_their_cause.told file fault).0)
+
+pub no_absent_file : (call : Call) (number : ℕ) → Headline call → shop_of call.words ≡ Some number → call.store ≡ shop_store number
+    → (file : FileId) → call.status ≡ status.Refused (refusal.Missing file) → ⊥
+no_absent_file call number h is store file absent =
+    let told = (h.refusals_are_the_verdict.told (refusal.Missing file) absent).1 (demo_files number) (ap (λ (s : Reading). s.files) store) in
+    demo_misses number call.words is file told.0

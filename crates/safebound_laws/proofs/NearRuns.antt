@@ -1,0 +1,114 @@
+-- What a run over whole columns prints is near the bounds without compression.
+use Rattle.std.proofs.Common.{◌≡◌, ℕ, List, Result, Ok, Err, ap, sym, ◌∙◌, subst, arith}
+use Rattle.base_io.specs.Files.{Files}
+use Rattle.order_search.specs.declared.refusal.PlanError.{PlanError}
+use Rattle.plans.specs.declared.left_deep.Plan.{Plan}
+use Rattle.plan_answers.specs.PlanAnswer.{plan_answer}
+use Rattle.plan_nearness.specs.Nearness.{FiltersNoEntry, LevelsAreNear, NodesAreNear}
+use Rattle.plan_nearness.proofs.LevelsNear.{levels_near}
+use Rattle.plan_nearness.proofs.NodesNear.{nodes_near}
+use Rattle.planning.specs.Bounds.{scan_bounds_of, set_bounds_of}
+use Rattle.planning.specs.Plans.{planned}
+use Rattle.tree_answers.specs.TreeAnswer.{tree_answer}
+use Rattle.tree_plans.specs.declared.bushy.BushyPlan.{BushyPlan}
+use Rattle.schema_types.specs.declared.types.Schema.{Schema}
+use Rattle.query_types.specs.Validity.{IsOf}
+use Rattle.query_types.specs.declared.types.Query.{Query}
+use Rattle.sql_meaning.specs.Tables.{Tables}
+use Rattle.outcomes.specs.Reads.{◌>>=◌, seen}
+use Rattle.outcomes.specs.declared.refusal.Refusal.{Refusal}
+use Rattle.table_files.specs.EntryTables.{tables_in}
+use Rattle.safebound_top.specs.Accepted.{Accepted, tables}
+use Rattle.safebound_top.specs.Asks.{Ask, PlanOf, ask_for, command_stage}
+use Rattle.safebound_top.specs.Outcome.{Planned}
+use Rattle.safebound_top.specs.Shapes.{answer_of, planned_by}
+use Rattle.safebound_top.specs.Sources.{known_by, scans_by, sourced}
+use Rattle.safebound_top.specs.Verdict.{ask_run, run_asked, verdict}
+use Rattle.safebound_top.specs.declared.shapes.Shaped.{Shaped}
+use Rattle.safebound_top.specs.declared.shapes.Shaped.TheVariants as shaped
+use Rattle.safebound_top.specs.declared.task.ListSource.{ListSource}
+use Rattle.safebound_top.specs.declared.task.ListSource.TheVariants as sources
+use Rattle.safebound_top.specs.declared.task.PlanTask.{PlanTask}
+use Rattle.safebound_top.specs.declared.task.Shape.{Shape}
+use Rattle.safebound_top.specs.declared.task.Shape.TheVariants as shapes
+use Rattle.safebound_top.proofs.Promises.{Stages, query_of_schema, stages}
+
+-- an order is the answer where an order is asked for, and a tree where a tree is
+seen_along : (r : Result Plan PlanError) (plan : Plan) → seen (λ p. shaped.Along p) r ≡ Ok (shaped.Along plan) → r ≡ Ok plan
+seen_along (Ok p) plan e = (let same : p ≡ plan = cc in ap Ok same)
+seen_along (Err s) plan e = cc
+
+seen_over : (r : Result BushyPlan PlanError) (plan : BushyPlan) → seen (λ p. shaped.Over p) r ≡ Ok (shaped.Over plan) → r ≡ Ok plan
+seen_over (Ok p) plan e = (let same : p ≡ plan = cc in ap Ok same)
+seen_over (Err s) plan e = cc
+
+no_order : (r : Result BushyPlan PlanError) (plan : Plan) → seen (λ p. shaped.Over p) r ≡ Ok (shaped.Along plan) → ⊥
+no_order (Ok p) plan e = cc
+no_order (Err s) plan e = cc
+
+no_tree : (r : Result Plan PlanError) (plan : BushyPlan) → seen (λ p. shaped.Along p) r ≡ Ok (shaped.Over plan) → ⊥
+no_tree (Ok p) plan e = cc
+no_tree (Err s) plan e = cc
+
+order_answer : (shape : Shape) (sets scans : List ℕ) (budget : ℕ) (plan : Plan) → answer_of shape sets scans budget ≡ Ok (shaped.Along plan)
+    → plan_answer sets scans budget ≡ Ok plan
+order_answer shapes.Order sets scans budget plan e = seen_along (plan_answer sets scans budget) plan e
+order_answer shapes.Tree sets scans budget plan e = absurd (no_order (tree_answer sets scans budget) plan e)
+
+tree_is_answer : (shape : Shape) (sets scans : List ℕ) (budget : ℕ) (plan : BushyPlan) → answer_of shape sets scans budget ≡ Ok (shaped.Over plan)
+    → tree_answer sets scans budget ≡ Ok plan
+tree_is_answer shapes.Tree sets scans budget plan e = seen_over (tree_answer sets scans budget) plan e
+tree_is_answer shapes.Order sets scans budget plan e = absurd (no_tree (plan_answer sets scans budget) plan e)
+
+-- a plan from whole columns is planning's
+order_planned : (shape : Shape) (schema : Schema) (query : Query) (ts : Tables) (accuracy budget : ℕ) (plan : Plan)
+    → planned_by shape (sourced sources.Columns schema query ts) query accuracy budget ≡ Ok (shaped.Along plan)
+    → planned query ts accuracy budget ≡ Ok plan
+unfolding planned_by known_by scans_by planned
+order_planned shape schema query ts accuracy budget plan e = order_answer shape _ _ budget plan e
+
+tree_planned : (shape : Shape) (schema : Schema) (query : Query) (ts : Tables) (accuracy budget : ℕ) (plan : BushyPlan)
+    → planned_by shape (sourced sources.Columns schema query ts) query accuracy budget ≡ Ok (shaped.Over plan)
+    → tree_answer (set_bounds_of query ts accuracy) (scan_bounds_of query ts accuracy) budget ≡ Ok plan
+unfolding planned_by known_by scans_by
+tree_planned shape schema query ts accuracy budget plan e = tree_is_answer shape _ _ budget plan e
+
+-- ---- of an accepted run
+
+module _ (schema_file query_file : List ℕ) (task : PlanTask) (files : Files) (run : Accepted) (s : Stages schema_file query_file task files (Planned run))
+    (source : run.source ≡ sources.Columns) (none : FiltersNoEntry run.query) where
+  same_run : run_asked task s.query s.rows s.plan ≡ run
+  same_run = cc (s.is_run)
+
+  of : IsOf s.schema s.query
+  of = query_of_schema query_file files s.schema s.query s.query_read
+
+  its_own : FiltersNoEntry s.query
+  its_own = subst (λ (r : Accepted). FiltersNoEntry r.query) (sym same_run) none
+
+  its_source : task.source ≡ sources.Columns
+  its_source = ap (λ (r : Accepted). r.source) same_run ∙ source
+
+  made : (plan : Shaped) → run.plan ≡ plan
+      → planned_by task.shape (sourced sources.Columns s.schema s.query (tables_in s.rows)) s.query task.accuracy task.budget ≡ Ok plan
+  made plan is =
+      ap (λ (from : ListSource). planned_by task.shape (sourced from s.schema s.query (tables_in s.rows)) s.query task.accuracy task.budget) (sym its_source)
+      ∙ s.planned ∙ ap (λ (p : Shaped). Ok p) (ap (λ (r : Accepted). r.plan) same_run ∙ is)
+
+  pub run_levels : (plan : Plan) → run.plan ≡ shaped.Along plan → LevelsAreNear run.query (tables run) task.accuracy plan
+  run_levels plan is =
+      subst (λ (r : Accepted). LevelsAreNear r.query (tables r) task.accuracy plan) same_run
+      (levels_near s.query (tables_in s.rows) task.accuracy task.budget plan its_own of.few
+      (order_planned task.shape s.schema s.query (tables_in s.rows) task.accuracy task.budget plan (made (shaped.Along plan) is)))
+
+  pub run_nodes : (plan : BushyPlan) → run.plan ≡ shaped.Over plan → NodesAreNear run.query (tables run) task.accuracy plan
+  run_nodes plan is =
+      subst (λ (r : Accepted). NodesAreNear r.query (tables r) task.accuracy plan) same_run
+      (nodes_near s.query (tables_in s.rows) task.accuracy task.budget plan its_own (omega (arith, of.some)) of.few
+      (tree_planned task.shape s.schema s.query (tables_in s.rows) task.accuracy task.budget plan (made (shaped.Over plan) is)))
+
+pub stages_of : (words : List (List ℕ)) (files : Files) (schema query : List ℕ) (task : PlanTask) (run : Accepted)
+    → command_stage words ≡ Ok (ask_for schema query (PlanOf task)) → verdict words files ≡ Ok (Planned run) → Stages schema query task files (Planned run)
+unfolding verdict
+stages_of words files schema query task run asked is =
+    stages schema query task files (Planned run) (sym (ap (λ (r : Result Ask Refusal). r >>= (λ a. ask_run a files)) asked) ∙ is)

@@ -1,0 +1,25 @@
+use Rattle.filed_bounds.proofs.Answering.{wants_no_memory}
+use Rattle.stats_answers.proofs.StatsAnswers as stats
+use Rattle.text_answers.proofs.QueryAnswers as queries
+use Rattle.text_answers.proofs.SchemaAnswers as schemas
+use Rattle.safebound_top.proofs.ShapeFacts.{never_wants_memory}
+use Rattle.safebound_laws.proofs.TableErrors as tables
+use Rattle.safebound_laws.proofs.laws.no_reader_wants_memory.Goals as goal
+
+pub returns-clause-schemas : goal.returns-clause-schemas
+returns-clause-schemas c = schemas.never_memory
+
+pub returns-clause-queries : goal.returns-clause-queries
+returns-clause-queries c = queries.never_memory
+
+pub returns-clause-tables : goal.returns-clause-tables
+returns-clause-tables c = tables.never_memory
+
+pub returns-clause-plans : goal.returns-clause-plans
+returns-clause-plans c = never_wants_memory
+
+pub returns-clause-statistics : goal.returns-clause-statistics
+returns-clause-statistics c = stats.never_memory
+
+pub returns-clause-filed_plans : goal.returns-clause-filed_plans
+returns-clause-filed_plans c = wants_no_memory

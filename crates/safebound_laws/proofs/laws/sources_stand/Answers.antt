@@ -1,0 +1,9 @@
+use Rattle.safebound_top.proofs.KeyFacts.{needs_read}
+use Rattle.safebound_top.proofs.SourceFacts.{stand}
+use Rattle.safebound_laws.proofs.laws.sources_stand.Goals as goal
+
+pub returns-clause-stand : goal.returns-clause-stand
+returns-clause-stand c = λ source schema query tables needs. stand query tables schema source needs
+
+pub returns-clause-read : goal.returns-clause-read
+returns-clause-read c = needs_read

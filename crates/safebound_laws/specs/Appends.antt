@@ -1,0 +1,47 @@
+-- What an append comes to, in the verdict's words: what was read, what is written, and what this stands for.
+use Rattle.std.specs.Prelude.{ℕ, ◌≡◌, List, Ok}
+use Rattle.appended_stats.specs.Appended.{file_after}
+use Rattle.appended_stats.specs.Conditions.{HasNewRows}
+use Rattle.base_io.specs.Files.{Files}
+use Rattle.csv_tables.specs.Rows.{Row}
+use Rattle.filed_stats.specs.Standing.{StandsFor}
+use Rattle.join_steps.specs.Lists.{scans_of}
+use Rattle.join_steps.specs.Plans.{IsPlanOf}
+use Rattle.query_types.specs.declared.types.Query.{Query}
+use Rattle.schema_types.specs.declared.types.Schema.{Schema}
+use Rattle.sql_meaning.specs.Tables.{Tables}
+use Rattle.stats_file.specs.declared.types.StatsFile.{StatsFile}
+use Rattle.stats_file.specs.declared.types.TableStats.{TableStats}
+use Rattle.table_files.specs.Stage.{table_at}
+use Rattle.table_files.specs.TableFile.{rows_in}
+use Rattle.safebound_top.specs.Appending.{section_stage}
+use Rattle.safebound_top.specs.Filed.{stats_stage}
+use Rattle.safebound_top.specs.Outcome.{Appended, FiledPlan, Outcome, PlannedByFile}
+use Rattle.safebound_top.specs.Verdict.{schema_stage, verdict}
+
+-- the schema, the statistics file, its section of the table and the new rows are those in the files that the command names, and what is
+-- written is that file after these rows
+pub record Grows (files : Files) (schema_file stats_file name rows_file : List ℕ) (outcome : Outcome) : Type 0 where
+  pub schema : Schema
+  pub schema_is : schema_stage schema_file files ≡ Ok schema
+  pub before : StatsFile
+  pub before_is : stats_stage stats_file schema files ≡ Ok before
+  pub section : TableStats
+  pub section_is : section_stage name schema before ≡ Ok section
+  pub rows : List Row
+  pub rows_are : rows_in section.table (table_at schema section.table) rows_file files ≡ Ok rows
+  pub after : StatsFile
+  pub after_is : after ≡ file_after before section.table rows
+  pub written : outcome ≡ Appended (record { schema = schema; table = section.table; rows = rows; file = after })
+
+-- for whatever tables of a query the one file stood, the other stands for them with the new rows after those of their table
+abbrev pub StandsAfter : StatsFile → ℕ → List Row → StatsFile → Type 0
+StandsAfter before table rows after = (query : Query) (tables grown : Tables) → StandsFor query before tables → HasNewRows query table rows tables grown
+    → StandsFor query after grown
+
+-- and each plan from the other file has no bound that is too low for the grown tables
+abbrev pub PlansAfter : StatsFile → ℕ → List Row → StatsFile → Type 0
+PlansAfter before table rows after = (words : List (List ℕ)) (files : Files) (plan : FiledPlan) (tables grown : Tables)
+    → verdict words files ≡ Ok (PlannedByFile plan) → plan.file ≡ after
+    → StandsFor plan.query before tables → HasNewRows plan.query table rows tables grown
+    → IsPlanOf plan.query grown (scans_of plan.query grown) plan.plan

@@ -1,0 +1,43 @@
+//! What holds of statistics files and of the verdicts over them: no law computes anything, and the contract is the law.
+ghost use Rattle.std.specs.Prelude.{◌≡◌, ◌⊎◌, ◌<◌, ◌≤◌, ℕ, List, Option, Result, Ok, Err, Some, false};
+ghost use Rattle.limits.specs.Profile.{most_accuracy, most_file};
+ghost use Rattle.base_io.specs.Files.{Files};
+ghost use Rattle.outcomes.specs.Reads.{seen};
+ghost use Rattle.outcomes.specs.declared.names.FileId.TheVariants as file;
+ghost use Rattle.safebound_words.specs.Requests.{Plan, PlanStats, Stats};
+ghost use Rattle.schema_types.specs.Texts.{IsSchemaOf};
+ghost use Rattle.schema_types.specs.declared.types.Schema.{Schema};
+ghost use Rattle.stats_answers.specs.StatsTexts.{stats_answer};
+ghost use Rattle.stats_file.specs.Answers.{Answers};
+ghost use Rattle.stats_file.specs.FileText.{file_text};
+ghost use Rattle.stats_file.specs.Rules.{KeepsRules};
+ghost use Rattle.stats_file.specs.declared.types.StatsError.{StatsError};
+ghost use Rattle.stats_file.specs.declared.types.StatsError.TheVariants as error;
+ghost use Rattle.stats_file.specs.declared.types.StatsFile.{StatsFile};
+ghost use Rattle.table_files.specs.TableFile.{read};
+ghost use Rattle.safebound_top.specs.Asks.{asks};
+ghost use Rattle.safebound_top.specs.Outcome.{Outcome};
+ghost use Rattle.safebound_top.specs.OutcomeTexts.{out_text};
+ghost use Rattle.safebound_top.specs.Verdict.{ask_run};
+ghost use Rattle.safebound_laws.specs.Printed.{printed};
+
+/// Over a schema that a text declares, the text of a file that keeps the rules is answered by that file; and reading it answers the file, or
+/// want of memory.
+pub fn files_of_declared_schemas_are_read()
+    ensures answered { (text : List ℕ) (schema : Schema) (file : StatsFile) → IsSchemaOf text (Ok schema) → KeepsRules schema file
+        → stats_answer schema (file_text schema file) ≡ Ok file }
+    ensures read { (text : List ℕ) (schema : Schema) (file : StatsFile) (answer : Result StatsFile StatsError)
+        → IsSchemaOf text (Ok schema) → KeepsRules schema file → Answers schema (file_text schema file) answer
+        → (answer ≡ Ok file) ⊎ (answer ≡ Err error.NoMemory) }
+{}
+
+/// Where `stats` over some files comes to the text of a statistics file, and a file of these bytes is among them, `plan --stats` of that file
+/// prints what `plan` prints at the accuracy of the text, within each budget and each limit of memory, or is refused alike.
+pub fn files_plan_as_their_tables()
+    ensures { (schema_file query_file stats_file : List ℕ) (accuracy budget : ℕ) (memory : Option ℕ) (files : Files) (written : Outcome) (text : List ℕ)
+        → 0 < accuracy → accuracy ≤ most_accuracy
+        → ask_run (asks (Stats schema_file query_file accuracy)) files ≡ Ok written → out_text written ≡ Some text
+        → read file.Stats most_file stats_file files ≡ Ok text
+        → seen printed (ask_run (asks (PlanStats schema_file query_file stats_file budget memory)) files)
+        ≡ seen printed (ask_run (asks (Plan schema_file query_file budget accuracy false false false memory)) files) }
+{}

@@ -1,0 +1,55 @@
+//! Rows of one table, from a file that is named.
+ghost use Rattle.std.specs.Prelude.{◌≡◌, ◌<◌, ◌≤◌, All, IfOk, IsUtf8, length};
+ghost use Rattle.limits.specs.Profile.{most_rows};
+ghost use Rattle.base_io.specs.Devices.{reading};
+ghost use Rattle.csv_tables.specs.Cells.{AreCellsOf};
+ghost use Rattle.csv_tables.specs.Pools.{AreDifferent};
+ghost use Rattle.outcomes.specs.Reads.{AtFile, Reads, seen};
+ghost use Rattle.schema_types.specs.Validity.{IsValid};
+ghost use Rattle.table_files.specs.EntryTables.{rows_of_read};
+ghost use Rattle.table_files.specs.Stage.{table_at};
+ghost use Rattle.table_files.specs.TableFile.{rows_in};
+
+use crate::table::load_rows;
+use base_io::Store;
+use csv_tables::{Cells, Pool};
+use outcomes::{Ending, FileId};
+use schema_types::Schema;
+use std::alloc::Global;
+
+/// Rows of one table, as cells over the texts of a pool.
+#[derive(Drop)]
+pub struct TableRows {
+    pub pool: Pool,
+    pub cells: Cells,
+}
+
+/// Reads rows of the table with this number in the schema from the file of this name, with all refusals of a table's file. Keys are
+/// looked at among these rows alone.
+pub fn read_rows<S: Store>(
+    alloc: Global,
+    store: &mut S,
+    schema: &Schema,
+    number: u32,
+    name: &str,
+) -> Result<TableRows, Ending>
+    requires schema { IsValid schema.now }
+    requires number { number < length schema.now.tables }
+    ensures cells { IfOk result (λ read. AreCellsOf (table_at schema.now number) read.pool read.cells) }
+    ensures few_rows { IfOk result (λ read. read.cells.rows ≤ most_rows) }
+
+    // Its texts are UTF-8, and no two are equal.
+    ensures texts { IfOk result (λ read. All IsUtf8 read.pool) }
+    ensures different { IfOk result (λ read. AreDifferent read.pool) }
+
+    // Its rows are those of the file, or the ending has its cause.
+    ensures reads { Reads (reading S.files S.faults S.misses store.old store.new) (rows_in number (table_at schema.now number) name.now)
+        (AtFile (FileId.Table number)) (seen rows_of_read result) }
+{
+    let mut pool = Pool::new(alloc);
+    let table = schema.tables.get(number as usize);
+    let cells = load_rows(alloc, store, number, table, name, &mut pool)?;
+    // A pool tells of its texts where it is asked for their number.
+    let _texts = pool.len();
+    Ok(TableRows { pool, cells })
+}
