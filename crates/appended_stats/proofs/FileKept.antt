@@ -179,9 +179,14 @@ module _ (schema : Schema) (file : StatsFile) (table : ℕ) (texts : List (List 
   pub file_is : made ≡ file_after file table (rows_of_cells texts cells)
   file_is = rw (sections_same texts may.differ cells may.cells_are.columns file.accuracy table file.tables have_columns) refl
 
-  pub file_made : (sections : List TableStats) → sections ≡ map one file.tables
-      → (let f : StatsFile = record { accuracy = file.accuracy; tables = sections } in f) ≡ file_after file table (rows_of_cells texts cells)
-  file_made sections are = rw are file_is
+  same_sections : (accuracy : ℕ) (sections : List TableStats) → accuracy ≡ file.accuracy → sections ≡ map (one_by_cells texts cells accuracy table) file.tables
+      → sections ≡ map one file.tables
+  same_sections accuracy sections is are = are ∙ ap (λ (a : ℕ). map (one_by_cells texts cells a table) file.tables) is
 
-  pub file_keeps : (sections : List TableStats) → sections ≡ map one file.tables → (let f : StatsFile = record { accuracy = file.accuracy; tables = sections } in KeepsRules schema f)
-  file_keeps sections are = rw are made_keeps
+  pub file_made : (accuracy : ℕ) (sections : List TableStats) → accuracy ≡ file.accuracy → sections ≡ map (one_by_cells texts cells accuracy table) file.tables
+      → (let f : StatsFile = record { accuracy = file.accuracy; tables = sections } in f) ≡ file_after file table (rows_of_cells texts cells)
+  file_made accuracy sections is are = rw (same_sections accuracy sections is are) file_is
+
+  pub file_keeps : (accuracy : ℕ) (sections : List TableStats) → accuracy ≡ file.accuracy → sections ≡ map (one_by_cells texts cells accuracy table) file.tables
+      → (let f : StatsFile = record { accuracy = file.accuracy; tables = sections } in KeepsRules schema f)
+  file_keeps accuracy sections is are = rw (same_sections accuracy sections is are) made_keeps

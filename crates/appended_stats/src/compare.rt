@@ -1,8 +1,5 @@
 //! Values of a file beside the cells of new rows.
 ghost use Rattle.std.specs.Prelude.{◌≡◌, ◌<◌, ◌≤◌, All, length};
-ghost use Rattle.std.specs.Cmp.Lexicographic.{slice_cmp};
-ghost use Rattle.std.specs.Ordering.{nat_cmp};
-ghost use Rattle.std.specs.Str.{chars};
 ghost use Rattle.csv_tables.specs.Cells.{IsCell, value_of_cell};
 ghost use Rattle.csv_tables.specs.Values.{value_cmp};
 ghost use Rattle.cond_stats.specs.Columns.{value_le};
@@ -10,18 +7,11 @@ ghost use Rattle.filed_stats.specs.Data.{value_of};
 ghost use Rattle.filed_stats.specs.Standing.{is_value, leaf_of_value};
 ghost use Rattle.appended_stats.specs.Grown.{is_frequent};
 
-use csv_tables::{Pool, value_of};
+use csv_tables::{Pool, compare_texts, value_of};
 use piece_math::Pieces;
 use schema_types::Kind;
 use stats_file::{Datum, Pair};
 use std::cmp::Ordering;
-
-// The order of two texts, by the code points of their characters.
-fn compare_texts(a: &str, b: &str) -> Ordering
-    ensures { result ≡ slice_cmp nat_cmp (chars a.now) (chars b.now) }
-{
-    a.cmp(b)
-}
 
 // The order of a value and a cell's: numbers by size, texts by code points, a number below each text.
 fn compare(value: &Datum, pool: &Pool, kind: Kind, cell: u64) -> Ordering

@@ -1,5 +1,5 @@
 //! A file after rows were appended to one of its tables.
-ghost use Rattle.std.specs.Prelude.{◌≡◌, ◌+◌, ◌<◌, ◌≤◌, ◌^◌, All, IfOk, length, map};
+ghost use Rattle.std.specs.Prelude.{◌≡◌, ◌+◌, ◌^◌, All, IfOk, length, map};
 ghost use Rattle.csv_tables.specs.Cells.{rows_of_cells};
 ghost use Rattle.sql_meaning.specs.Databases.{AreCells};
 ghost use Rattle.stats_file.specs.Rules.{KeepsRules};
@@ -10,6 +10,7 @@ ghost use Rattle.appended_stats.specs.Conditions.{MayAppend, MayGrow, MayGrowWhe
 use crate::pair::pair_after;
 use base_io::{NoMemory, Seq};
 use csv_tables::{Cells, Pool};
+use limits::Accuracy;
 use piece_math::Pieces;
 use schema_types::Schema;
 use stats_file::{Pair, StatsFile, TableStats};
@@ -35,11 +36,10 @@ fn pairs_after(
     before: u32,
     pool: &Pool,
     cells: &Cells,
-    accuracy: u8,
+    accuracy: Accuracy,
 ) -> Result<Seq<Pair>, NoMemory>
     requires cells { AreCells pool.now cells.now }
     requires pairs { All (MayGrow cells.now before) pairs }
-    requires accuracy { (0 < accuracy) × (accuracy ≤ 64) }
     ensures { IfOk result (λ after. after ≡ map (pair_by_cells pool.now cells.now accuracy before) pairs) }
 {
     let mut after = pairs;
@@ -57,11 +57,10 @@ fn section_after(
     section: TableStats,
     pool: &Pool,
     cells: &Cells,
-    accuracy: u8,
+    accuracy: Accuracy,
 ) -> Result<TableStats, NoMemory>
     requires cells { AreCells pool.now cells.now }
     requires section { SectionMayGrow cells.now section }
-    requires accuracy { (0 < accuracy) × (accuracy ≤ 64) }
     ensures { IfOk result (λ after. after ≡ section_by_cells pool.now cells.now accuracy section) }
 {
     let TableStats { table, rows, pairs } = section;
@@ -80,11 +79,10 @@ fn sections_after(
     table: u32,
     pool: &Pool,
     cells: &Cells,
-    accuracy: u8,
+    accuracy: Accuracy,
 ) -> Result<Seq<TableStats>, NoMemory>
     requires cells { AreCells pool.now cells.now }
     requires sections { All (MayGrowWhere table cells.now) sections }
-    requires accuracy { (0 < accuracy) × (accuracy ≤ 64) }
     ensures { IfOk result (λ after. after ≡ map (one_by_cells pool.now cells.now accuracy table) sections) }
 {
     let mut after = sections;
@@ -120,6 +118,6 @@ pub fn append_rows(
     ensures rules { IfOk result (KeepsRules _schema.now) }
 {
     let StatsFile { accuracy, tables } = file;
-    let tables = sections_after(alloc, tables, table, pool, cells, accuracy)?;
+    let tables = sections_after(alloc, tables, table, pool, cells, Accuracy::of(accuracy))?;
     Ok(StatsFile { accuracy, tables })
 }

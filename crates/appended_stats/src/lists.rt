@@ -1,5 +1,5 @@
 //! The lists of the new rows that have a value, and the frequent values with theirs.
-ghost use Rattle.std.specs.Prelude.{◌≡◌, ◌<◌, ◌≤◌, ◌+◌, ◌^◌, All, IfOk, length, map};
+ghost use Rattle.std.specs.Prelude.{◌≡◌, ◌<◌, ◌+◌, ◌^◌, All, IfOk, length, map};
 ghost use Rattle.std.specs.List.{sum, zip};
 ghost use Rattle.csv_tables.specs.Cells.{IsCell, value_of_cell};
 ghost use Rattle.cond_stats.specs.Rows.{keys_where};
@@ -11,6 +11,7 @@ use crate::compare::is_value;
 use base_io::{NoMemory, Seq};
 use cond_stats::whole_list;
 use csv_tables::Pool;
+use limits::Accuracy;
 use piece_math::Pieces;
 use schema_types::Kind;
 use stats_file::Datum;
@@ -56,12 +57,11 @@ fn list_with(
     cells: &[u64],
     joined: &[u64],
     value: &Datum,
-    accuracy: u8,
+    accuracy: Accuracy,
 ) -> Result<Pieces, NoMemory>
     requires cells { All (IsCell pool.now kind) cells.now }
     requires joined { length joined.now ≡ length cells.now }
     requires rows { length cells.now < 2 ^ 32 }
-    requires accuracy { (0 < accuracy) × (accuracy ≤ 64) }
     ensures list { IfOk result (λ list. list ≡
         list_with (value_of_cell pool.now kind) accuracy (zip cells.now joined.now) value.now) }
     ensures small { IfOk result (λ list. sum list < 2 ^ 32) }
@@ -78,13 +78,12 @@ pub(crate) fn grown_frequent(
     kind: Kind,
     cells: &[u64],
     joined: &[u64],
-    accuracy: u8,
+    accuracy: Accuracy,
 ) -> Result<Seq<(Datum, Pieces)>, NoMemory>
     requires frequent { All (λ found. sum found.1 < 2 ^ 64) frequent }
     requires cells { All (IsCell pool.now kind) cells.now }
     requires joined { length joined.now ≡ length cells.now }
     requires rows { length cells.now < 2 ^ 32 }
-    requires accuracy { (0 < accuracy) × (accuracy ≤ 64) }
     ensures { IfOk result (λ grown. grown ≡
         map (with_new_rows (value_of_cell pool.now kind) accuracy (zip cells.now joined.now)) frequent) }
 {

@@ -13,6 +13,7 @@ use crate::lists::added;
 use base_io::{NoMemory, Seq};
 use cond_stats::whole_list;
 use csv_tables::Pool;
+use limits::Accuracy;
 use piece_math::Pieces;
 use schema_types::Kind;
 use stats_file::Pair;
@@ -66,13 +67,12 @@ fn add_size(
     leaves: &[u8],
     joined: &[u64],
     size: u8,
-    accuracy: u8,
+    accuracy: Accuracy,
     nodes: &mut Seq<Pieces>,
 ) -> Result<(), NoMemory>
     requires joined { length joined.now ≡ length leaves.now }
     requires rows { length leaves.now < 2 ^ 32 }
     requires size { IsNodeSize size }
-    requires accuracy { (0 < accuracy) × (accuracy ≤ 64) }
     ensures { OnOk result (nodes.new ≡ nodes.old ++ lists_of_size (λ leaf. leaf) accuracy (zip leaves.now joined.now) size) }
 {
     for i in 0..32 / size {
@@ -87,11 +87,10 @@ pub(crate) fn lists_of_nodes(
     alloc: Global,
     leaves: &[u8],
     joined: &[u64],
-    accuracy: u8,
+    accuracy: Accuracy,
 ) -> Result<Seq<Pieces>, NoMemory>
     requires joined { length joined.now ≡ length leaves.now }
     requires rows { length leaves.now < 2 ^ 32 }
-    requires accuracy { (0 < accuracy) × (accuracy ≤ 64) }
     ensures { IfOk result (λ nodes. nodes ≡ lists_of_nodes (λ leaf. leaf) accuracy (zip leaves.now joined.now)) }
 {
     let mut nodes = Seq::new(alloc);

@@ -1,5 +1,5 @@
 //! A pair after new rows of its table.
-ghost use Rattle.std.specs.Prelude.{◌≡◌, ◌<◌, ◌≤◌, ◌^◌, IfOk, length};
+ghost use Rattle.std.specs.Prelude.{◌≡◌, ◌^◌, IfOk, length};
 ghost use Rattle.limits.specs.Profile.{most_rows};
 ghost use Rattle.sql_meaning.specs.Databases.{AreCells};
 ghost use Rattle.filed_stats.specs.Pairs.{pair_in_cells};
@@ -13,6 +13,7 @@ use base_io::NoMemory;
 use cond_stats::whole_list;
 use csv_tables::{Cells, Pool};
 use filed_stats::pair_of_columns;
+use limits::Accuracy;
 use stats_file::Pair;
 use std::alloc::Global;
 
@@ -22,11 +23,10 @@ fn grown_pair(
     pair: Pair,
     pool: &Pool,
     cells: &Cells,
-    accuracy: u8,
+    accuracy: Accuracy,
 ) -> Result<Pair, NoMemory>
     requires cells { AreCells pool.now cells.now }
     requires pair { MayGrow cells.now 1 pair }
-    requires accuracy { (0 < accuracy) × (accuracy ≤ 64) }
     ensures { IfOk result (λ grown. grown ≡ grown_by_cells pool.now cells.now accuracy pair) }
 {
     let kind = *cells.kinds.get(pair.filter as usize);
@@ -72,11 +72,10 @@ pub(crate) fn pair_after(
     before: u32,
     pool: &Pool,
     cells: &Cells,
-    accuracy: u8,
+    accuracy: Accuracy,
 ) -> Result<Pair, NoMemory>
     requires cells { AreCells pool.now cells.now }
     requires pair { MayGrow cells.now before pair }
-    requires accuracy { (0 < accuracy) × (accuracy ≤ 64) }
     ensures { IfOk result (λ after. after ≡ pair_by_cells pool.now cells.now accuracy before pair) }
 {
     if before == 0 {

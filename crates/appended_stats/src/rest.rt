@@ -1,5 +1,5 @@
 //! The list of the new rows for any value that isn't frequent.
-ghost use Rattle.std.specs.Prelude.{◌≡◌, ◌++◌, ◌∷◌, [], ◌<◌, ◌≤◌, ◌^◌, All, IfOk, OnOk, not, length, map, nat_eq, slice_index_or, slice_set};
+ghost use Rattle.std.specs.Prelude.{◌≡◌, ◌++◌, ◌∷◌, [], ◌<◌, ◌^◌, All, IfOk, OnOk, not, length, map, nat_eq, slice_index_or, slice_set};
 ghost use Rattle.std.specs.List.{IsDistinct, filter, sum, zip};
 ghost use Rattle.csv_tables.specs.Cells.{IsCell, value_of_cell};
 ghost use Rattle.cond_stats.specs.Lists.{greatest, keys_with, maxima};
@@ -13,6 +13,7 @@ use base_io::{NoMemory, Seq};
 use csv_tables::Pool;
 use degree_lists::falling;
 use indexmap::IndexSet;
+use limits::Accuracy;
 use piece_compress::compress_runs;
 use piece_math::Pieces;
 use schema_types::Kind;
@@ -90,9 +91,12 @@ fn grouped(
 }
 
 // The rank-wise maximum of the degree lists of groups, with no more rows than the largest of them, compressed.
-fn list_of_groups(alloc: Global, groups: &[Seq<u64>], accuracy: u8) -> Result<Pieces, NoMemory>
+fn list_of_groups(
+    alloc: Global,
+    groups: &[Seq<u64>],
+    accuracy: Accuracy,
+) -> Result<Pieces, NoMemory>
     requires groups { All (λ keys. length keys < 2 ^ 32) groups.now }
-    requires accuracy { (0 < accuracy) × (accuracy ≤ 64) }
     ensures { IfOk result (λ list. list ≡
         compressed accuracy (cut_at (maxima (map degree_list groups.now)) (greatest (map (λ keys. length keys) groups.now)))) }
 {
@@ -115,12 +119,11 @@ pub(crate) fn list_of_others(
     cells: &[u64],
     joined: &[u64],
     frequent: &[(Datum, Pieces)],
-    accuracy: u8,
+    accuracy: Accuracy,
 ) -> Result<Pieces, NoMemory>
     requires cells { All (IsCell pool.now kind) cells.now }
     requires joined { length joined.now ≡ length cells.now }
     requires rows { length cells.now < 2 ^ 32 }
-    requires accuracy { (0 < accuracy) × (accuracy ≤ 64) }
     ensures list { IfOk result (λ list. list ≡ list_of_any accuracy (zip cells.now joined.now)
         (other_values (value_of_cell pool.now kind) (zip cells.now joined.now) frequent.now)) }
 {

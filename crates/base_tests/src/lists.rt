@@ -3,6 +3,7 @@ use base_io::{Boxed, Name, NoMemory, Seq};
 use counted_sets::{Use, reduce};
 use degree_lists::falling;
 use entry_sets::EntrySet;
+use limits::Accuracy;
 use piece_compress::{compress, compress_runs, pieces_at_most};
 use piece_math::{Piece, Pieces};
 use row_buf::RowBuf;
@@ -39,7 +40,7 @@ fn degrees(alloc: Global) -> Result<Seq<u64>, NoMemory> {
 
 // Their degree list, with accuracy 1: 5 and 4.
 fn compressed(alloc: Global) -> Result<Pieces, NoMemory> {
-    compress(alloc, &[5, 3, 1], 1)
+    compress(alloc, &[5, 3, 1], Accuracy::of(1))
 }
 
 #[test]
@@ -47,7 +48,7 @@ fn counts_fall(rt: HostRuntime) -> Result<(), Fail> {
     assert_eq!(rt; degrees(rt.alloc())?.as_slice(), [5, 3, 1].as_slice());
     let pieces = compressed(rt.alloc())?;
     assert_eq!(rt; (pieces.total(), pieces.pieces().len()), (9, 2));
-    assert_eq!(rt; pieces_at_most(5, 1), 4);
+    assert_eq!(rt; pieces_at_most(5, Accuracy::of(1)), 4);
     Ok(())
 }
 
@@ -77,7 +78,7 @@ fn many_compressed(alloc: Global) -> Result<Pieces, NoMemory> {
     if list.total() != 10_000_000_000 {
         return Err(NoMemory);
     }
-    compress_runs(alloc, &list, 1)
+    compress_runs(alloc, &list, Accuracy::of(1))
 }
 
 #[test]

@@ -15,6 +15,7 @@ use column_stats::{ColumnStats, gather};
 use columns::{Filter, Pair, pair_of, texts};
 use cond_stats::FilterColumn;
 use csv_tables::{Cells, Pool};
+use limits::Accuracy;
 use pair_tables::{are_cells, table_of_pair};
 use piece_math::Pieces;
 use schema_types::Kind;
@@ -68,8 +69,8 @@ fn on_demand(alloc: Global, pool: &Pool, kind: Kind, pair: &Pair) -> Result<u64,
         return Err(NoMemory);
     }
     let column = sorted(alloc, pool, kind, cells)?;
-    let value = column.list_of_value(joined, cells.get(cells.len() / 2).copied(), 1)?;
-    let range = column.list_of_range(joined, Some(8), Some(15), 1)?;
+    let value = column.list_of_value(joined, cells.get(cells.len() / 2).copied(), Accuracy::of(1))?;
+    let range = column.list_of_range(joined, Some(8), Some(15), Accuracy::of(1))?;
     Ok(runs(&value).wrapping_add(runs(&range)))
 }
 
@@ -110,7 +111,7 @@ fn measure_gather(
     let mut runs = 0;
     for _ in 0..plan.rounds {
         let start = Instant::now(rt)?;
-        let stats = gather(rt.alloc(), cells, pool, 0, 1, 1).map_err(out_of_memory)?;
+        let stats = gather(rt.alloc(), cells, pool, 0, 1, Accuracy::of(1)).map_err(out_of_memory)?;
         least = least.min(start.elapsed(rt)?.as_nanos());
         runs = runs_of(&stats);
     }

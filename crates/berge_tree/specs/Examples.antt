@@ -1,8 +1,6 @@
 -- Equalities and their tree, for worked examples.
-use Rattle.std.specs.Prelude.{ℕ, List, [], ◌∷◌, Some, None}
+use Rattle.std.specs.Prelude.{ℕ, List, [], ◌∷◌}
 use Rattle.berge_tree.specs.declared.edges.Edge.{Edge}
-use Rattle.berge_tree.specs.declared.tree.Node.{Node}
-use Rattle.berge_tree.specs.declared.tree.NodeKind.TheVariants as kind
 use Rattle.berge_tree.specs.Equalities.{place}
 use Rattle.berge_tree.specs.Trees.{no_class, and_class, one_member, and_member, JoinTree}
 
@@ -22,16 +20,6 @@ four_entries_tree =
       below = and_class 0
           (and_member 1 0 (and_class 1 (one_member 3 1 no_class) no_class) (one_member 2 0 no_class)) no_class;
     }
-
-abbrev pub four_entries_nodes : List Node
-four_entries_nodes =
-    record { kind = kind.Entry 0; via = 0; first_child = Some 1; next_sibling = None }
-    ∷ record { kind = kind.Class 0; via = 0; first_child = Some 2; next_sibling = None }
-    ∷ record { kind = kind.Entry 1; via = 0; first_child = Some 3; next_sibling = Some 5 }
-    ∷ record { kind = kind.Class 1; via = 1; first_child = Some 4; next_sibling = None }
-    ∷ record { kind = kind.Entry 3; via = 1; first_child = None; next_sibling = None }
-    ∷ record { kind = kind.Entry 2; via = 0; first_child = None; next_sibling = None }
-    ∷ []
 
 abbrev pub tree_of_one : ℕ → JoinTree
 tree_of_one entry = record { root = entry; below = no_class }

@@ -1,9 +1,7 @@
 pub mod Equalities
 pub mod Trees
+pub mod Boxed
 pub mod Rooted
-pub mod Nodes
-pub mod Valid
-pub mod Standing
 pub mod Walk
 pub mod Examples
 pub mod Testing

@@ -1,13 +1,11 @@
 -- The trees of equalities: which classes stand below an entry, which entries below a class, and in which order.
-use Rattle.std.specs.Prelude.{◌≡◌, ◌≢◌, ℕ, ◌≤◌, ⊤, List, [], ◌∷◌, map, Option, Some, None}
+use Rattle.std.specs.Prelude.{◌≡◌, ◌≢◌, ℕ, ◌≤◌, ⊤, List, [], ◌∷◌, Option, Some, None}
 use Rattle.std.specs.List.{AllByRecursion, AllPairs, Contains}
 use Rattle.std.specs.List.Sorted.{IsStrictlyIncreasing}
 use Rattle.berge_tree.specs.declared.edges.Place.{Place}
 use Rattle.berge_tree.specs.declared.edges.Edge.{Edge}
-use Rattle.berge_tree.specs.declared.tree.Tree.{Tree}
 use Rattle.berge_tree.specs.Equalities.{place, places_of, class_of}
 use Rattle.berge_tree.specs.Trees.{Classes, no_class, and_class, Members, one_member, and_member, JoinTree, entries, entries_of_all}
-use Rattle.berge_tree.specs.Nodes.{nodes_of}
 
 -- the entry's columns in the classes below it
 abbrev pub class_columns : Classes → List ℕ
@@ -64,9 +62,3 @@ pub record AreAllTreesOf (es : List Edge) (set : List ℕ) (ts : List JoinTree) 
   pub once : AllPairs (λ e f. e ≢ f) (entries_of_all ts)
   pub covers : AllByRecursion (Contains (entries_of_all ts)) set
   pub within : AllByRecursion (Contains set) (entries_of_all ts)
-
--- the trees of the set, each as its nodes in the order of the walk
-pub record AreRooted (es : List Edge) (set : List ℕ) (trees : List Tree) : Type 0 where
-  pub join_trees : List JoinTree
-  pub are_all : AreAllTreesOf es set join_trees
-  pub nodes : map (λ (t : Tree). t.nodes) trees ≡ map nodes_of join_trees

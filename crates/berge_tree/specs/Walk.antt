@@ -4,14 +4,10 @@ use Rattle.std.specs.List.{AllByRecursion, Contains}
 use Rattle.berge_tree.specs.declared.edges.Place.{Place}
 use Rattle.berge_tree.specs.declared.edges.Edge.{Edge}
 use Rattle.berge_tree.specs.declared.columns.Column.{Column}
-use Rattle.berge_tree.specs.declared.tree.Node.{Node}
 use Rattle.berge_tree.specs.Equalities.{same_place, places_of, class_of}
 use Rattle.berge_tree.specs.Trees.{Classes, no_class, and_class, Members, one_member, and_member, JoinTree, entries}
-use Rattle.berge_tree.specs.declared.tree.NodeKind.{NodeKind}
-use Rattle.berge_tree.specs.declared.tree.NodeKind.TheVariants as kind
 use Rattle.berge_tree.specs.declared.tree.Tree.{Tree}
-use Rattle.berge_tree.specs.Nodes.{nodes_of, nodes_of_members, nodes_within, classes_within}
-use Rattle.berge_tree.specs.Valid.{entries_in}
+use Rattle.berge_tree.specs.Boxed.{tree_of}
 
 -- ---- the columns that equalities name, in order, each with the name of its class
 
@@ -118,23 +114,6 @@ IsNext test columns from (Some i) =
     × ((d : Column) → filter test (drop from columns) ≡ slice_index_or columns i d ∷ filter test (drop (i + 1) columns))
     × ((d : Column) → test (slice_index_or columns i d) ≡ true)
 
--- the link to a node, where nodes end behind it
-abbrev pub link_where : ℕ → ℕ → Option ℕ
-link_where at end = if nat_lt at end then Some at else None
-
--- nodes and classes of members, where there are any
-abbrev pub nodes_of_some : ℕ → ℕ → Option Members → List Node
-nodes_of_some at number None = []
-nodes_of_some at number (Some members) = nodes_of_members at number members
-
-abbrev pub nodes_in : Option Members → ℕ
-nodes_in None = 0
-nodes_in (Some members) = nodes_within members
-
-abbrev pub classes_in : Option Members → ℕ
-classes_in None = 0
-classes_in (Some members) = classes_within members
-
 -- ---- a tree for each component
 
 abbrev pub tree_at : ℕ → List Column → ℕ → JoinTree
@@ -151,16 +130,11 @@ forest depth columns done (x ∷ xs) =
     if is_among done x then forest depth columns done xs
     else tree_at depth columns x ∷ forest depth columns (entries (tree_at depth columns x) ++ done) xs
 
--- the node is this entry
-abbrev pub is_kind : NodeKind → ℕ → Bool
-is_kind (kind.Entry own) entry = own == entry
-is_kind (kind.Class number) entry = false
-
 -- the entry stands in one of the trees
 abbrev pub stands_in : List Tree → ℕ → Bool
 stands_in [] x = false
-stands_in (t ∷ ts) x = is_among (entries_in t.nodes) x || stands_in ts x
+stands_in (t ∷ ts) x = is_among (entries (tree_of t)) x || stands_in ts x
 
 -- one more tree, for an entry that no tree has
-abbrev pub added : List Column → List Tree → ℕ → List (List Node)
-added columns trees x = if stands_in trees x then [] else nodes_of (tree_at 16 columns x) ∷ []
+abbrev pub added : List Column → List Tree → ℕ → List JoinTree
+added columns trees x = if stands_in trees x then [] else tree_at 16 columns x ∷ []

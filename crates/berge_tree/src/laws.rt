@@ -2,15 +2,11 @@
 ghost use Rattle.std.specs.Prelude.{[], ◌∷◌, ◌≡◌, ◌≢◌, ◌↔◌, ℕ, Bool, true, List};
 ghost use Rattle.std.specs.List.{AllByRecursion, AllPairs, Contains};
 ghost use Rattle.berge_tree.specs.Equalities.{AreApart, AreJoined, AreWithin, ClosesNoCycle, HasNoCycle, class_of, place};
-ghost use Rattle.berge_tree.specs.Examples.{four_entries, four_entries_nodes, four_entries_tree, tree_of_one};
-ghost use Rattle.berge_tree.specs.Nodes.{nodes_of};
+ghost use Rattle.berge_tree.specs.Examples.{four_entries, four_entries_tree, tree_of_one};
 ghost use Rattle.berge_tree.specs.Rooted.{AreAllTreesOf, IsTreeOf};
 ghost use Rattle.entry_sets.specs.Sets.{entries_of_set};
 ghost use Rattle.berge_tree.specs.Testing.{has_entries, joins_parts};
 ghost use Rattle.berge_tree.specs.Trees.{JoinTree, entries};
-ghost use Rattle.berge_tree.specs.Valid.{IsValid, children_of};
-ghost use Rattle.berge_tree.specs.Standing.{StandsIn};
-ghost use Rattle.berge_tree.specs.declared.tree.Node.{Node};
 ghost use Rattle.berge_tree.specs.declared.edges.Edge.{Edge};
 ghost use Rattle.berge_tree.specs.declared.edges.Place.{Place};
 
@@ -54,12 +50,6 @@ pub fn a_tree_is_a_component()
         → AllPairs (λ e f. e ≢ f) (entries t) }
 {}
 
-/// A tree stands in its own nodes, and in all valid nodes some tree stands.
-pub fn trees_stand_in_nodes()
-    ensures own { (t : JoinTree) → StandsIn (nodes_of t) t }
-    ensures valid { (nodes : List Node) → IsValid nodes → (t : JoinTree) × StandsIn nodes t }
-{}
-
 /// What the definitions give for four entries.
 pub fn examples()
     ensures closes { ClosesNoCycle four_entries }
@@ -68,8 +58,5 @@ pub fn examples()
     ensures another_class { class_of four_entries (place 3 1) ≡ place 1 1 }
     ensures tree { AreAllTreesOf four_entries (0 ∷ 1 ∷ 2 ∷ 3 ∷ []) (four_entries_tree ∷ []) }
     ensures order { entries four_entries_tree ≡ 0 ∷ 1 ∷ 3 ∷ 2 ∷ [] }
-    ensures nodes { nodes_of four_entries_tree ≡ four_entries_nodes }
-    ensures children { children_of four_entries_nodes 1 ≡ 2 ∷ 5 ∷ [] }
-    ensures no_children { children_of four_entries_nodes 4 ≡ [] }
     ensures single { AreAllTreesOf [] (0 ∷ 1 ∷ 2 ∷ []) (tree_of_one 0 ∷ tree_of_one 1 ∷ tree_of_one 2 ∷ []) }
 {}

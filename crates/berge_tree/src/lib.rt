@@ -1,11 +1,11 @@
 //! Join trees. From the equalities that a plan keeps to the tree of entries and classes that a bound is folded over.
 //!
 //! In: equalities of columns that close no cycle between entries, and a set of entries, an `EntrySet`. Out: one tree for each component of
-//! the set, as nodes in the order of a walk. A class is a largest set of columns that the equalities connect; below an entry stand the
-//! classes of its other columns, below a class its other entries.
+//! the set, in boxes. A class is a largest set of columns that the equalities connect; below an entry stand the classes of its other
+//! columns, below a class its other entries.
 //!
-//! Callers cite `ClosesNoCycle` and `AreWithin` for what they hand in, `AreRooted` for the trees, `IsValid` for the nodes of any tree, and
-//! `children_of`.
+//! Callers cite `ClosesNoCycle` and `AreWithin` for what they hand in, `tree_of` for the tree that boxes hold, and `AreAllTreesOf` for the
+//! trees of a set.
 #![tactic(auto)]
 
 mod columns;
@@ -18,7 +18,6 @@ pub use edges::{Edge, Place};
 pub use laws::{
     a_tree_is_a_component, bits_tell_what_a_set_has, classes_are_joined_columns, examples,
     joined_parts_close_no_cycle, names_keep_entries_apart, no_cycle_of_classes,
-    trees_stand_in_nodes,
 };
-pub use tree::{Node, NodeKind, Tree};
+pub use tree::{Classes, Members, Tree};
 pub use walk::rooted;

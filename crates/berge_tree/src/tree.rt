@@ -1,27 +1,24 @@
-//! Trees as nodes with links.
+//! Join trees, each part in a box of its own.
 
-use base_io::Seq;
-
-/// An entry, by its FROM position, or a class, by its number in the tree.
-#[derive(Clone, Copy, Debug, PartialEq, Eq)]
-pub enum NodeKind {
-    Entry(u8),
-    Class(u32),
+/// The classes below an entry, each with the entry's column in it, the entries below it and the classes beside it.
+#[cycle(trees)]
+#[derive(Drop)]
+pub enum Classes {
+    End,
+    And(u32, Box<Members>, Box<Classes>),
 }
 
-/// A node. Links are the numbers of later nodes.
-///
-/// `via` of an entry below a class is its column in that class; of a class, the column of the entry above it; of the root, 0.
-#[derive(Clone, Copy, Debug, PartialEq, Eq)]
-pub struct Node {
-    pub kind: NodeKind,
-    pub via: u32,
-    pub first_child: Option<u32>,
-    pub next_sibling: Option<u32>,
+/// The entries below a class, one or more, each with its column in the class, the classes below it and the entries beside it.
+#[cycle(trees)]
+#[derive(Drop)]
+pub enum Members {
+    One(u8, u32, Classes),
+    And(u8, u32, Classes, Box<Members>),
 }
 
-/// A tree, with its root at node 0.
-#[derive(Debug, Drop)]
+/// An entry, by its FROM position, and the classes below it.
+#[derive(Drop)]
 pub struct Tree {
-    pub nodes: Seq<Node>,
+    pub root: u8,
+    pub below: Classes,
 }

@@ -1,4 +1,4 @@
--- The fold, node by node, and what its answer bounds.
+-- What the answer of the fold bounds.
 use Rattle.std.proofs.Common.{◌≡◌, ◌⊎◌, ℕ, ◌-◌, ◌^◌, ◌≤◌, List, [], length, refl, sym, subst}
 use Rattle.std.specs.Prelude.{Option, Some, None, IsSome, unwrap_or}
 use Rattle.std.specs.List.{AllByRecursion}
@@ -12,7 +12,7 @@ use Rattle.tree_bounds.proofs.Injected.{choices_within}
 use Rattle.tree_bounds.proofs.Saturated.{within_saturated}
 use Rattle.bound_fold.specs.declared.lists.EntryLists.{EntryLists}
 use Rattle.bound_fold.specs.Lists.{bounds_of, list_of, IsListed}
-use Rattle.bound_fold.proofs.OneNode.{listed_total}
+use Rattle.bound_fold.proofs.Below.{listed_total}
 
 -- ---- what holds at each column
 

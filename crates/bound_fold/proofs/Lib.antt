@@ -3,10 +3,5 @@ pub mod SetBounds
 pub mod TestedSets
 mod Held
 mod Leaves
-mod Links
-mod Collecting
-mod Multiplying
-mod OneNode
-mod Listing
+mod Below
 mod Folded
-pub mod Determined

@@ -1,20 +1,15 @@
 -- The bound of a set, tree by tree and turn by turn.
-use Rattle.std.proofs.Common.{◌≡◌, ◌⊎◌, ℕ, zero, suc, ◌+◌, ◌-◌, ◌*◌, ◌^◌, ◌<◌, ◌≤◌, min, List, [], ◌∷◌, ◌++◌, get_or, length, take, refl, ap, sym, ◌∙◌, subst, arith, add-one}
-use Rattle.std.specs.Prelude.{All, Result, Ok, Err, IfOk}
+use Rattle.std.proofs.Common.{◌≡◌, ◌⊎◌, ℕ, zero, suc, ◌+◌, ◌-◌, ◌*◌, ◌^◌, ◌<◌, ◌≤◌, min, List, [], ◌∷◌, ◌++◌, get_or, length, map, take, refl, ap, sym, ◌∙◌, subst, arith, add-one}
+use Rattle.std.specs.Prelude.{Result, Ok, Err, IfOk}
 use Rattle.std.specs.List.{AllByRecursion}
 use Rattle.std.proofs.Math.Seq.{take-length}
-use Rattle.std.proofs.lemmas.List.{length-map}
-use Rattle.std.proofs.lemmas.List.Elements.{All-from_recursion}
 use Rattle.degree_sequences.specs.Saturation.{saturated}
 use Rattle.berge_tree.specs.declared.edges.Edge.{Edge}
-use Rattle.berge_tree.specs.declared.tree.Node.{Node}
 use Rattle.berge_tree.specs.declared.tree.Tree.{Tree}
-use Rattle.berge_tree.specs.Nodes.{nodes_of}
-use Rattle.berge_tree.specs.Rooted.{AreAllTreesOf, AreRooted}
+use Rattle.berge_tree.specs.Boxed.{tree_of}
+use Rattle.berge_tree.specs.Rooted.{AreAllTreesOf}
 use Rattle.entry_sets.specs.Sets.{entries_of_set}
-use Rattle.berge_tree.specs.Standing.{StandsIn}
 use Rattle.berge_tree.specs.Trees.{JoinTree}
-use Rattle.berge_tree.proofs.Standing.{nodes_stand}
 use Rattle.join_graph.specs.Kept.{equalities_within, kept_of, turn_count}
 use Rattle.tree_bounds.specs.SetBounds.{bound_of_set, bound_of_turn, least_to}
 use Rattle.tree_bounds.specs.Tables.{KeyedTables, AreDifferent, Satisfies, SetDominates}
@@ -23,71 +18,46 @@ use Rattle.tree_bounds.proofs.Saturated.{saturated-min, saturated-trees_more, wi
 use Rattle.tree_bounds.proofs.Turns.{trees_are, within_set}
 use Rattle.bound_fold.specs.declared.lists.EntryLists.{EntryLists}
 use Rattle.bound_fold.specs.Lists.{bounds_of, IsListed}
-use Rattle.bound_fold.specs.Sets.{AreNodesOf, SetIsListed}
-use Rattle.bound_fold.proofs.Determined.{listed_in_nodes}
+use Rattle.bound_fold.specs.Sets.{SetIsListed}
 use Rattle.bound_fold.proofs.SetTrees.{set_has_lists, turn_listed}
 
 -- ---- the product over trees
 
--- the join tree whose nodes a tree has, behind those before it
-record TreeAt (ts : List JoinTree) (i : ℕ) (nodes : List Node) : Type 0 where
-  tree : JoinTree
-  nodes_are : nodes ≡ nodes_of tree
-  more : take (suc i) ts ≡ take i ts ++ tree ∷ []
+module _ (lists : EntryLists) where
+  -- each tree has its lists
+  pub tree_listed : (trees : List Tree) (i : ℕ) (d : Tree) → AllByRecursion (IsListed lists) (map tree_of trees) → i < length trees → IsListed lists (tree_of (get_or trees i d))
+  tree_listed [] i d h l = absurd (omega arith)
+  tree_listed (tree ∷ trees) zero d h l = h.0
+  tree_listed (tree ∷ trees) (suc i) d h l = tree_listed trees i d h.1 (omega arith)
 
-first_is : {A : Type 0} {x y : A} {xs ys : List A} → x ∷ xs ≡ y ∷ ys → x ≡ y
-first_is e = cc e
-
-rest_is : {A : Type 0} {x y : A} {xs ys : List A} → x ∷ xs ≡ y ∷ ys → xs ≡ ys
-rest_is e = cc e
-
-tree_at : (ts : List JoinTree) (trees : List Tree) (i : ℕ) (d : Tree) → AreNodesOf ts trees → i < length trees → TreeAt ts i (get_or trees i d).nodes
-tree_at ts [] i d e h = absurd (omega arith)
-tree_at [] (tree ∷ trees) i d e h = absurd (cc)
-tree_at (t ∷ ts) (tree ∷ trees) zero d e h = record { tree = t; nodes_are = first_is e; more = refl }
-tree_at (t ∷ ts) (tree ∷ trees) (suc i) d e h =
-    let later : TreeAt ts i (get_or trees i d).nodes = tree_at ts trees i d (rest_is e) (omega arith) in
-    record { tree = later.tree; nodes_are = later.nodes_are; more = ap (λ us. t ∷ us) later.more }
+take_one_more : (trees : List Tree) (i : ℕ) (d : Tree) → i < length trees → map tree_of (take (suc i) trees) ≡ map tree_of (take i trees) ++ tree_of (get_or trees i d) ∷ []
+take_one_more [] i d h = absurd (omega arith)
+take_one_more (tree ∷ trees) zero d h = refl
+take_one_more (tree ∷ trees) (suc i) d h = ap (λ ts. tree_of tree ∷ ts) (take_one_more trees i d (omega arith))
 
 module _ (b : EntryBounds) where
-  pub one_more_tree : (trees : List Tree) (i : ℕ) (tree : Tree) (product n : ℕ) → i < length trees → tree ≡ get_or trees i tree
-      → ((ts : List JoinTree) → AreNodesOf ts trees → product ≡ saturated (bound_of_trees b (take i ts)))
-      → ((t : JoinTree) → StandsIn tree.nodes t → n ≡ saturated (bound_of_tree b t))
-      → (ts : List JoinTree) → AreNodesOf ts trees → min (product * n) (2 ^ 128 - 1) ≡ saturated (bound_of_trees b (take (i + 1) ts))
-  one_more_tree trees i tree product n h is before folded ts e =
-      let at : TreeAt ts i tree.nodes = subst (λ (x : Tree). TreeAt ts i x.nodes) (sym is) (tree_at ts trees i tree e h) in
-      let stands : StandsIn tree.nodes at.tree = subst (λ nodes. StandsIn nodes at.tree) (sym at.nodes_are) (nodes_stand at.tree) in
-      ap saturated (ap (λ m. m * n) (before ts e) ∙ ap (λ m. saturated (bound_of_trees b (take i ts)) * m) (folded at.tree stands))
-      ∙ saturated-trees_more b (take i ts) at.tree
-      ∙ sym (ap (λ us. saturated (bound_of_trees b us)) (ap (λ k. take k ts) (add-one i) ∙ at.more))
+  pub one_more_tree : (trees : List Tree) (i : ℕ) (tree : Tree) (product n : ℕ) → i < length trees → tree ≡ get_or trees i tree → product ≡ saturated (bound_of_trees b (map tree_of (take i trees)))
+      → n ≡ saturated (bound_of_tree b (tree_of tree)) → min (product * n) (2 ^ 128 - 1) ≡ saturated (bound_of_trees b (map tree_of (take (i + 1) trees)))
+  one_more_tree trees i tree product n h is before folded =
+      let ts : List JoinTree = map tree_of (take i trees) in
+      ap saturated (ap (λ m. m * n) before ∙ ap (λ m. saturated (bound_of_trees b ts) * m) folded)
+      ∙ saturated-trees_more b ts (tree_of tree)
+      ∙ sym (ap (λ us. saturated (bound_of_trees b us)) (ap (λ k. map tree_of (take k trees)) (add-one i) ∙ take_one_more trees i tree h ∙ ap (λ (t : Tree). ts ++ tree_of t ∷ []) (sym is)))
 
-  pub all_trees : (trees : List Tree) (n i : ℕ) → i ≡ length trees → ((ts : List JoinTree) → AreNodesOf ts trees → n ≡ saturated (bound_of_trees b (take i ts)))
-      → (ts : List JoinTree) → AreNodesOf ts trees → n ≡ saturated (bound_of_trees b ts)
-  all_trees trees n i is before ts e =
-      let as_long : length trees ≡ length ts = sym (length-map trees (λ (tree : Tree). tree.nodes)) ∙ ap length e ∙ length-map ts nodes_of in
-      before ts e ∙ ap (λ us. saturated (bound_of_trees b us)) (ap (λ k. take k ts) (is ∙ as_long) ∙ take-length ts)
+  pub all_trees : (trees : List Tree) (n i : ℕ) → i ≡ length trees → n ≡ saturated (bound_of_trees b (map tree_of (take i trees))) → n ≡ saturated (bound_of_trees b (map tree_of trees))
+  all_trees trees n i is before = before ∙ ap (λ (us : List Tree). saturated (bound_of_trees b (map tree_of us))) (ap (λ k. take k trees) is ∙ take-length trees)
 
 -- ---- one turn
 
-module _ (es : List Edge) (subset turn : ℕ) (kept : List Edge) (is_kept : kept ≡ kept_of subset turn es) (trees : List Tree) (r : AreRooted kept (entries_of_set subset) trees) where
-  are_all : AreAllTreesOf (kept_of subset turn es) (entries_of_set subset) r.join_trees
-  are_all = subst (λ es. AreAllTreesOf es (entries_of_set subset) r.join_trees) is_kept r.are_all
+module _ (es : List Edge) (subset turn : ℕ) (kept : List Edge) (is_kept : kept ≡ kept_of subset turn es) (ts : List JoinTree) (r : AreAllTreesOf kept (entries_of_set subset) ts) where
+  are_all : AreAllTreesOf (kept_of subset turn es) (entries_of_set subset) ts
+  are_all = subst (λ es. AreAllTreesOf es (entries_of_set subset) ts) is_kept r
 
-  each_listed : (lists : EntryLists) (ts : List JoinTree) (us : List Tree) → AreNodesOf ts us → AllByRecursion (IsListed lists) ts
-      → AllByRecursion (λ (tree : Tree). (t : JoinTree) → StandsIn tree.nodes t → IsListed lists t) us
-  each_listed lists ts [] e h = tt
-  each_listed lists [] (u ∷ us) e h = absurd (cc)
-  each_listed lists (t ∷ ts) (u ∷ us) e h =
-      (λ other stands. listed_in_nodes lists t h.0 other (subst (λ nodes. StandsIn nodes other) (first_is e) stands), each_listed lists ts us (rest_is e) h.1)
+  pub trees_listed : (lists : EntryLists) → SetIsListed lists es subset → AllByRecursion (IsListed lists) ts
+  trees_listed lists h = turn_listed lists es subset turn h ts are_all
 
-  pub trees_listed : (lists : EntryLists) → SetIsListed lists es subset → All (λ (tree : Tree). (t : JoinTree) → StandsIn tree.nodes t → IsListed lists t) trees
-  trees_listed lists h =
-      All-from_recursion (λ (tree : Tree). (t : JoinTree) → StandsIn tree.nodes t → IsListed lists t) trees
-      (each_listed lists r.join_trees trees r.nodes (turn_listed lists es subset turn h r.join_trees are_all))
-
-  pub turn_done : {E : Type 0} (b : EntryBounds) (n : Result ℕ E) → IfOk n (λ n. (ts : List JoinTree) → AreNodesOf ts trees → n ≡ saturated (bound_of_trees b ts))
-      → IfOk n (λ n. n ≡ saturated (bound_of_turn b es subset turn))
-  turn_done b (Ok n) h = h r.join_trees r.nodes ∙ ap (λ ts. saturated (bound_of_trees b ts)) (trees_are es subset turn r.join_trees are_all)
+  pub turn_done : {E : Type 0} (b : EntryBounds) (n : Result ℕ E) → IfOk n (λ n. n ≡ saturated (bound_of_trees b ts)) → IfOk n (λ n. n ≡ saturated (bound_of_turn b es subset turn))
+  turn_done b (Ok n) h = h ∙ ap (λ ts. saturated (bound_of_trees b ts)) (trees_are es subset turn ts are_all)
   turn_done b (Err e) h = tt
 
 -- ---- the least of the turns

@@ -1,4 +1,3 @@
 pub mod Known
 pub mod Lists
-pub mod Folding
 pub mod Sets

@@ -1,11 +1,8 @@
--- What a set of entries needs of an `EntryLists`, and the trees of a set as nodes.
-use Rattle.std.specs.Prelude.{◌≡◌, ℕ, List, map, IsSome}
+-- What a set of entries and an equality need of an `EntryLists`.
+use Rattle.std.specs.Prelude.{ℕ, List, IsSome}
 use Rattle.std.specs.List.{AllByRecursion}
 use Rattle.berge_tree.specs.declared.edges.Edge.{Edge}
-use Rattle.berge_tree.specs.declared.tree.Tree.{Tree}
-use Rattle.berge_tree.specs.Nodes.{nodes_of}
 use Rattle.entry_sets.specs.Sets.{entries_of_set}
-use Rattle.berge_tree.specs.Trees.{JoinTree}
 use Rattle.join_graph.specs.Kept.{equalities_within}
 use Rattle.tree_bounds.specs.Columns.{EachNamedColumn}
 use Rattle.bound_fold.specs.declared.lists.EntryLists.{EntryLists}
@@ -15,10 +12,6 @@ use Rattle.bound_fold.specs.Lists.{rows_of, list_of}
 pub record SetIsListed (lists : EntryLists) (es : List Edge) (subset : ℕ) : Type 0 where
   pub rows : AllByRecursion (λ entry. IsSome (rows_of lists entry)) (entries_of_set subset)
   pub columns : EachNamedColumn (λ entry column. IsSome (list_of lists entry column)) (equalities_within subset es)
-
--- the nodes of each tree are those of the join tree at its place
-abbrev pub AreNodesOf : List JoinTree → List Tree → Type 0
-AreNodesOf ts trees = map (λ (tree : Tree). tree.nodes) trees ≡ map nodes_of ts
 
 -- both columns of an equality have their lists
 abbrev pub HaveLists : EntryLists → Edge → Type 0

@@ -1,20 +1,18 @@
 //! The bound of a set of entries: the least over the turns of the product over the trees.
-ghost use Rattle.std.specs.Prelude.{◌≡◌, ◌⊎◌, ◌-◌, ◌^◌, ◌≤◌, ℕ, All, List, length, IfOk};
+ghost use Rattle.std.specs.Prelude.{◌≡◌, ◌⊎◌, ◌-◌, ◌^◌, ◌≤◌, ℕ, List, length, map, IfOk};
 ghost use Rattle.std.specs.List.{AllByRecursion};
 ghost use Rattle.degree_sequences.specs.Saturation.{saturated};
 ghost use Rattle.entry_sets.specs.Sets.{entries_of_set};
-ghost use Rattle.berge_tree.specs.Standing.{StandsIn};
-ghost use Rattle.berge_tree.specs.Trees.{JoinTree};
-ghost use Rattle.berge_tree.specs.Valid.{IsValid};
+ghost use Rattle.berge_tree.specs.Boxed.{tree_of};
 ghost use Rattle.join_graph.specs.Kept.{equalities_within};
 ghost use Rattle.tree_bounds.specs.SetBounds.{bound_of_set, bound_of_turn};
 ghost use Rattle.tree_bounds.specs.Tables.{KeyedTables, AreDifferent, Satisfies, SetDominates};
 ghost use Rattle.tree_bounds.specs.TreeBounds.{bound_of_trees};
 ghost use Rattle.bound_fold.specs.Lists.{bounds_of, IsListed};
-ghost use Rattle.bound_fold.specs.Sets.{AreNodesOf, SetIsListed};
+ghost use Rattle.bound_fold.specs.Sets.{SetIsListed};
 
 use crate::lists::EntryLists;
-use crate::over_nodes::fold;
+use crate::over_trees::fold;
 use base_io::NoMemory;
 use berge_tree::{Tree, rooted};
 use entry_sets::EntrySet;
@@ -23,9 +21,8 @@ use std::alloc::Global;
 
 // The product of the bounds of trees.
 fn product_of_trees(alloc: Global, trees: &[Tree], lists: &EntryLists) -> Result<u128, NoMemory>
-    requires valid { All (λ tree. IsValid tree.nodes) trees.now }
-    requires listed { All (λ tree. (t : JoinTree) → StandsIn tree.nodes t → IsListed lists.now t) trees.now }
-    ensures { IfOk result (λ n. (ts : List JoinTree) → AreNodesOf ts trees.now → n ≡ saturated (bound_of_trees (bounds_of lists.now) ts)) }
+    requires { AllByRecursion (IsListed lists.now) (map tree_of trees.now) }
+    ensures { IfOk result (λ n. n ≡ saturated (bound_of_trees (bounds_of lists.now) (map tree_of trees.now))) }
 {
     let mut product: u128 = 1;
     for tree in trees {

@@ -1,6 +1,6 @@
 //! The plan of a query over a join tree.
-ghost use Rattle.std.specs.Prelude.{◌≡◌, ◌⊎◌, ◌^◌, ◌<◌, ◌≤◌, Err, length, IfOk};
-ghost use Rattle.limits.specs.Profile.{greatest_budget, most_accuracy, most_entries, most_rows};
+ghost use Rattle.std.specs.Prelude.{◌≡◌, ◌⊎◌, ◌^◌, ◌≤◌, Err, length, IfOk};
+ghost use Rattle.limits.specs.Profile.{greatest_budget, most_entries, most_rows};
 ghost use Rattle.order_search.specs.declared.refusal.PlanError.TheVariants as error;
 ghost use Rattle.sql_meaning.specs.Databases.{IsDatabaseOf};
 ghost use Rattle.sql_meaning.specs.Tables.{tables_of};
@@ -11,6 +11,7 @@ ghost use Rattle.bushy_join.specs.Trees.{IsTreePlanOf};
 
 use bushy_plan::choose_bushy;
 use csv_tables::Database;
+use limits::Accuracy;
 use order_search::PlanError;
 use planning::{Known, from_statistics};
 use query_types::Query;
@@ -33,7 +34,7 @@ pub fn plan_tree_from(alloc: Global, known: &Known, budget: u64) -> Result<Bushy
 
 /// The best join tree of the FROM entries, with the bounds of its scans and nodes, in rows; or why there is none within the budget.
 ///
-/// The accuracy of compressed lists is from 1 to 64 (SafeBound, SIGMOD 2023), the budget at most 4,000,000 rows. Statistics are gathered
+/// The accuracy is that of compressed lists (SafeBound, SIGMOD 2023), the budget at most 4,000,000 rows. Statistics are gathered
 /// once.
 ///
 /// `Budget` and `PastBits` come exactly where `tree_answer` says; `NoMemory` where memory is wanting.
@@ -41,11 +42,10 @@ pub fn plan_bushy(
     alloc: Global,
     query: &Query,
     db: &Database,
-    accuracy: u8,
+    accuracy: Accuracy,
     budget: u64,
 ) -> Result<BushyPlan, PlanError>
     requires database { IsDatabaseOf query.now db.now }
-    requires accuracy { (0 < accuracy) × (accuracy ≤ most_accuracy) }
     requires budget { budget ≤ most_rows }
     ensures plan { (result ≡ Err error.NoMemory) ⊎ (result
         ≡ tree_answer (set_bounds_of query.now (tables_of db.now) accuracy) (scan_bounds_of query.now (tables_of db.now) accuracy) budget) }

@@ -1,5 +1,5 @@
 //! All statistics of a pair of columns, out of one sort.
-ghost use Rattle.std.specs.Prelude.{◌≡◌, ◌^◌, ◌<◌, ◌≤◌, IfOk, length};
+ghost use Rattle.std.specs.Prelude.{◌≡◌, ◌^◌, ◌<◌, IfOk, length};
 ghost use Rattle.std.specs.List.{sum, zip};
 ghost use Rattle.cond_stats.specs.Columns.{cell_le};
 ghost use Rattle.column_stats.specs.Pairs.{HasColumn, kind_of_column, rows_of_pair};
@@ -12,6 +12,7 @@ use crate::stats::ColumnStats;
 use base_io::{NoMemory, Seq};
 use cond_stats::{FilterColumn, whole_list};
 use csv_tables::{Cells, Pool};
+use limits::Accuracy;
 use schema_types::Kind;
 use std::alloc::Global;
 
@@ -23,18 +24,17 @@ fn row_count(cells: &Cells) -> u32
 }
 
 /// The statistics of a sorted filter column for the keys of a joined column, row by row, part by part: for whoever makes those of several
-/// joined columns. The accuracy is that of compression, from 1 to 64.
+/// joined columns. The accuracy is that of compression.
 pub fn gather_sorted(
     alloc: Global,
     column: &FilterColumn<'_>,
     kind: Kind,
     joined: &[u64],
-    accuracy: u8,
+    accuracy: Accuracy,
 ) -> Result<ColumnStats, NoMemory>
     requires kind { kind ≡ column.now.kind }
     requires joined { length joined.now ≡ length column.now.cells }
     requires rows { length joined.now < 2 ^ 32 }
-    requires accuracy { (0 < accuracy) × (accuracy ≤ 64) }
     ensures { IfOk result (λ stats. stats ≡
         stats_of column.now.texts column.now.kind accuracy (zip column.now.cells joined.now)) }
 {
@@ -62,11 +62,10 @@ fn made(
     pool: &Pool,
     filter: u32,
     joined: u32,
-    accuracy: u8,
+    accuracy: Accuracy,
 ) -> Result<ColumnStats, NoMemory>
     requires filter { HasColumn pool.now cells.now filter }
     requires joined { HasColumn pool.now cells.now joined }
-    requires accuracy { (0 < accuracy) × (accuracy ≤ 64) }
     ensures { IfOk result (λ stats. stats ≡
         stats_of pool.now (kind_of_column cells.now filter) accuracy (rows_of_pair cells.now filter joined)) }
 {
@@ -79,18 +78,17 @@ fn made(
 }
 
 /// The statistics of a filter column for a joined column, each by its number in the table (SafeBound, SIGMOD 2023). The accuracy is
-/// that of compression, from 1 to 64. Only memory may be wanting, and then nothing is kept.
+/// that of compression. Only memory may be wanting, and then nothing is kept.
 pub fn gather(
     alloc: Global,
     cells: &Cells,
     pool: &Pool,
     filter: u32,
     joined: u32,
-    accuracy: u8,
+    accuracy: Accuracy,
 ) -> Result<ColumnStats, NoMemory>
     requires filter { HasColumn pool.now cells.now filter }
     requires joined { HasColumn pool.now cells.now joined }
-    requires accuracy { (0 < accuracy) × (accuracy ≤ 64) }
 
     // each part is its definition
     ensures parts { IfOk result (λ stats. stats ≡

@@ -1,5 +1,5 @@
 //! The lists of the frequent values and of the nodes, out of the calls on demand.
-ghost use Rattle.std.specs.Prelude.{◌≡◌, ◌++◌, ◌<◌, ◌≤◌, length, IfOk, OnOk};
+ghost use Rattle.std.specs.Prelude.{◌≡◌, ◌++◌, length, IfOk, OnOk};
 ghost use Rattle.std.specs.List.{zip};
 ghost use Rattle.cond_stats.specs.Columns.{cell_le};
 ghost use Rattle.cond_stats.specs.Leaves.{IsNodeSize};
@@ -9,6 +9,7 @@ ghost use Rattle.column_stats.specs.Stats.{frequent_lists};
 use crate::stats::FrequentList;
 use base_io::{NoMemory, Seq};
 use cond_stats::FilterColumn;
+use limits::Accuracy;
 use piece_math::Pieces;
 use std::alloc::Global;
 
@@ -17,10 +18,9 @@ pub(crate) fn frequent_lists(
     alloc: Global,
     column: &FilterColumn<'_>,
     joined: &[u64],
-    accuracy: u8,
+    accuracy: Accuracy,
 ) -> Result<Seq<FrequentList>, NoMemory>
     requires joined { length joined.now ≡ length column.now.cells }
-    requires accuracy { (0 < accuracy) × (accuracy ≤ 64) }
     ensures { IfOk result (λ lists. lists ≡ frequent_lists accuracy (zip column.now.cells joined.now)) }
 {
     let values = column.frequent()?;
@@ -37,12 +37,11 @@ fn add_nodes(
     column: &FilterColumn<'_>,
     joined: &[u64],
     size: u8,
-    accuracy: u8,
+    accuracy: Accuracy,
     nodes: &mut Seq<Pieces>,
 ) -> Result<(), NoMemory>
     requires joined { length joined.now ≡ length column.now.cells }
     requires size { IsNodeSize size }
-    requires accuracy { (0 < accuracy) × (accuracy ≤ 64) }
     ensures { OnOk result (nodes.new ≡ nodes.old ++
         lists_of_size (cell_le column.now.texts column.now.kind) accuracy (zip column.now.cells joined.now) size) }
 {
@@ -58,10 +57,9 @@ pub(crate) fn node_lists(
     alloc: Global,
     column: &FilterColumn<'_>,
     joined: &[u64],
-    accuracy: u8,
+    accuracy: Accuracy,
 ) -> Result<Seq<Pieces>, NoMemory>
     requires joined { length joined.now ≡ length column.now.cells }
-    requires accuracy { (0 < accuracy) × (accuracy ≤ 64) }
     ensures { IfOk result (λ lists. lists ≡
         node_lists (cell_le column.now.texts column.now.kind) accuracy (zip column.now.cells joined.now)) }
 {

@@ -4,6 +4,7 @@ ghost use Rattle.column_stats.specs.Stats.{IsValid};
 use base_io::NoMemory;
 use column_stats::{ColumnStats, gather};
 use csv_tables::Pool;
+use limits::Accuracy;
 use pair_tables::table_of_pair;
 use piece_math::Pieces;
 use schema_types::Kind;
@@ -16,7 +17,7 @@ fn statistics(alloc: Global, filter: &[u64], joined: &[u64]) -> Result<ColumnSta
 {
     let pool = Pool::new(alloc);
     let cells = table_of_pair(alloc, &pool, Kind::Int, filter, joined)?;
-    gather(alloc, &cells, &pool, 0, 1, 1)
+    gather(alloc, &cells, &pool, 0, 1, Accuracy::of(1))
 }
 
 // The sum of a list, and its runs.
@@ -95,7 +96,7 @@ fn leaves_of_texts(alloc: Global) -> Result<([u8; 3], (u128, usize)), NoMemory> 
     let a = u64::from(pool.intern("a")?);
     let filter = [b, a, b, a];
     let cells = table_of_pair(alloc, &pool, Kind::Text(1), &filter, &[1, 2, 3, 2])?;
-    let stats = gather(alloc, &cells, &pool, 0, 1, 1)?;
+    let stats = gather(alloc, &cells, &pool, 0, 1, Accuracy::of(1))?;
     let low = stats.leaf_text(&pool, "a");
     let list = shape(stats.for_range(None, Some(low)));
     let leaves = [

@@ -1,5 +1,5 @@
 //! A filter column, sorted once, and the lists that it makes on demand.
-ghost use Rattle.std.specs.Prelude.{◌≡◌, ◌/◌, ◌==◌, ◌<◌, ◌≤◌, ◌^◌, true, false, length, All, IfOk, IfSome, MatchOption};
+ghost use Rattle.std.specs.Prelude.{◌≡◌, ◌/◌, ◌==◌, ◌<◌, ◌^◌, true, false, length, All, IfOk, IfSome, MatchOption};
 ghost use Rattle.std.specs.List.{zip};
 ghost use Rattle.csv_tables.specs.Cells.{IsCell};
 ghost use Rattle.csv_tables.specs.Values.{Int, Text};
@@ -15,6 +15,7 @@ use crate::lists::{group_of, list_at, rest_list, stretch, values_of};
 use crate::order::{InOrder, in_order};
 use base_io::{NoMemory, Seq};
 use csv_tables::{Pool, cell_of};
+use limits::Accuracy;
 use piece_math::Pieces;
 use schema_types::Kind;
 use std::alloc::Global;
@@ -73,15 +74,14 @@ impl<'a> FilterColumn<'a> {
     }
 
     /// The list of a value, by its cell: that of its rows where it is frequent, else the rest list. `None` stands for a text that the
-    /// pool doesn't have. The accuracy is from 1 to 64.
+    /// pool doesn't have.
     pub fn list_of_value(
         &self,
         joined: &[u64],
         cell: Option<u64>,
-        accuracy: u8,
+        accuracy: Accuracy,
     ) -> Result<Pieces, NoMemory>
         requires joined { length joined.now ≡ length self.now.cells }
-        requires accuracy { (0 < accuracy) × (accuracy ≤ 64) }
         ensures { IfOk result (λ list. list ≡ list_of_value accuracy (zip self.now.cells joined.now) cell) }
     {
         match cell {
@@ -94,18 +94,17 @@ impl<'a> FilterColumn<'a> {
     }
 
     /// The list of a range, by the leaves of its ends: that of the least node that holds both. `None` is the first leaf as the low end,
-    /// and the last one as the high end. The accuracy is from 1 to 64.
+    /// and the last one as the high end.
     pub fn list_of_range(
         &self,
         joined: &[u64],
         low: Option<u8>,
         high: Option<u8>,
-        accuracy: u8,
+        accuracy: Accuracy,
     ) -> Result<Pieces, NoMemory>
         requires joined { length joined.now ≡ length self.now.cells }
         requires low { IfSome low (λ leaf. leaf < 32) }
         requires high { IfSome high (λ leaf. leaf < 32) }
-        requires accuracy { (0 < accuracy) × (accuracy ≤ 64) }
         ensures { IfOk result
             (λ list. list ≡ list_of_range (cell_le self.now.texts self.now.kind) accuracy (zip self.now.cells joined.now) low high) }
     {
@@ -130,10 +129,9 @@ impl<'a> FilterColumn<'a> {
         leaf_of_text(self.kind, self.pool, self.cuts.as_slice(), text)
     }
 
-    /// The rest list, which every value has that isn't frequent. The accuracy is from 1 to 64.
-    pub fn rest(&self, joined: &[u64], accuracy: u8) -> Result<Pieces, NoMemory>
+    /// The rest list, which every value has that isn't frequent.
+    pub fn rest(&self, joined: &[u64], accuracy: Accuracy) -> Result<Pieces, NoMemory>
         requires joined { length joined.now ≡ length self.now.cells }
-        requires accuracy { (0 < accuracy) × (accuracy ≤ 64) }
         ensures { IfOk result (λ list. list ≡ rest accuracy (zip self.now.cells joined.now)) }
     {
         let frequent = self.groups.len().min(32);
@@ -147,18 +145,17 @@ impl<'a> FilterColumn<'a> {
         )
     }
 
-    /// The list of the node of 1, 2, 4, 8, 16 or 32 leaves that holds a leaf. The accuracy is from 1 to 64.
+    /// The list of the node of 1, 2, 4, 8, 16 or 32 leaves that holds a leaf.
     pub fn list_of_node(
         &self,
         joined: &[u64],
         size: u8,
         leaf: u8,
-        accuracy: u8,
+        accuracy: Accuracy,
     ) -> Result<Pieces, NoMemory>
         requires joined { length joined.now ≡ length self.now.cells }
         requires size { IsNodeSize size }
         requires leaf { leaf < 32 }
-        requires accuracy { (0 < accuracy) × (accuracy ≤ 64) }
         ensures { IfOk result
             (λ list. list ≡ list_of_node (cell_le self.now.texts self.now.kind) accuracy (zip self.now.cells joined.now) size leaf) }
     {
@@ -194,10 +191,9 @@ impl<'a> FilterColumn<'a> {
         &self,
         joined: &[u64],
         cell: u64,
-        accuracy: u8,
+        accuracy: Accuracy,
     ) -> Result<Option<Pieces>, NoMemory>
         requires joined { length joined.now ≡ length self.now.cells }
-        requires accuracy { (0 < accuracy) × (accuracy ≤ 64) }
         ensures { IfOk result (λ found. MatchOption found (is_frequent (zip self.now.cells joined.now) cell ≡ false)
             (λ list. (is_frequent (zip self.now.cells joined.now) cell ≡ true)
             × (list ≡ compressed_degrees accuracy (keys_with cell (zip self.now.cells joined.now))))) }

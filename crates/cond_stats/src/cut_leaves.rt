@@ -1,17 +1,13 @@
 //! The leaf of a value, by the cuts.
 ghost use Rattle.std.specs.Prelude.{◌≡◌, ◌<◌, ◌≤◌, [], ℕ, List, length, slice_index_or, IsTrue};
-ghost use Rattle.std.specs.Cmp.Lexicographic.{slice_cmp};
-ghost use Rattle.std.specs.Ordering.{nat_cmp};
-ghost use Rattle.std.specs.Str.{chars};
 ghost use Rattle.csv_tables.specs.Cells.{value_of_cell};
 ghost use Rattle.csv_tables.specs.Numbers.{number_in};
 ghost use Rattle.csv_tables.specs.Values.{Int, Text};
 ghost use Rattle.cond_stats.specs.Columns.{value_le};
 ghost use Rattle.cond_stats.specs.Leaves.{last_place};
 
-use csv_tables::{Pool, value_of};
+use csv_tables::{Pool, compare_texts, value_of};
 use schema_types::Kind;
-use std::cmp::Ordering;
 
 /// The text of a cell, and the empty text where the pool has none of that number.
 pub(crate) fn text_at(pool: &Pool, cell: u64) -> &str
@@ -22,13 +18,6 @@ pub(crate) fn text_at(pool: &Pool, cell: u64) -> &str
     } else {
         ""
     }
-}
-
-/// The order of texts by their characters.
-pub(crate) fn compare_texts(a: &str, b: &str) -> Ordering
-    ensures { result ≡ slice_cmp nat_cmp (chars a.now) (chars b.now) }
-{
-    a.cmp(&b)
 }
 
 // Whether a cell's value is at most the number of another cell. A text is at most none.

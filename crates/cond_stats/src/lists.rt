@@ -13,6 +13,7 @@ use crate::rest::{cut, raise};
 use crate::whole::whole_list;
 use base_io::{NoMemory, Seq};
 use degree_lists::falling;
+use limits::Accuracy;
 use piece_compress::compress;
 use piece_math::Pieces;
 use std::alloc::Global;
@@ -22,11 +23,10 @@ pub(crate) fn list_at(
     alloc: Global,
     joined: &[u64],
     places: &[u32],
-    accuracy: u8,
+    accuracy: Accuracy,
 ) -> Result<Pieces, NoMemory>
     requires places { All (λ place. place < length joined.now) places.now }
     requires rows { length places.now < 2 ^ 32 }
-    requires accuracy { (0 < accuracy) × (accuracy ≤ 64) }
     ensures { IfOk result (λ list. list ≡ compressed_degrees accuracy (keys_at joined.now places.now)) }
 {
     let keys = keys_at(alloc, joined, places)?;
@@ -76,12 +76,11 @@ pub(crate) fn rest_list(
     joined: &[u64],
     places: &[u32],
     groups: &[Group],
-    accuracy: u8,
+    accuracy: Accuracy,
 ) -> Result<Pieces, NoMemory>
     requires places { All (λ place. place < length joined.now) places.now }
     requires groups { All (LiesWithin (length places.now)) groups.now }
     requires rows { length places.now < 2 ^ 32 }
-    requires accuracy { (0 < accuracy) × (accuracy ≤ 64) }
     ensures { IfOk result (λ list. list ≡ compressed accuracy (cut_at (maxima (map (degrees_of_group joined.now places.now) groups.now))
         (greatest (map (λ group. group.count) groups.now)))) }
 {

@@ -3,9 +3,9 @@ ghost use Rattle.std.specs.Prelude.{◌≡◌, map, All, IfOk};
 ghost use Rattle.degree_sequences.specs.Degrees.{different};
 ghost use Rattle.cond_stats.specs.Texts.{AreByText, IsTextOf, rank_or_zero};
 
-use crate::cut_leaves::{compare_texts, text_at};
+use crate::cut_leaves::text_at;
 use base_io::NoMemory;
-use csv_tables::Pool;
+use csv_tables::{Pool, compare_texts};
 use indexmap::IndexSet;
 use std::alloc::Global;
 

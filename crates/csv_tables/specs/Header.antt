@@ -1,4 +1,4 @@
--- The places of the declared columns in a file's header.
+-- The places of the declared columns in a file's header. Further fields of the header are passed over.
 use Rattle.std.specs.Prelude.{ℕ, ◌+◌, if◌then◌else◌, List, [], ◌∷◌, Option, None, Some, Result, Ok}
 use Rattle.std.specs.Str.{str_eq_ignore_ascii_case}
 use Rattle.schema_types.specs.declared.types.Column.{Column}

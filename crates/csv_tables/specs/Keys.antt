@@ -19,8 +19,8 @@ abbrev pub repeat_or : Option Repeat → Option ℕ → ℕ → Option Repeat
 repeat_or rest None later = rest
 repeat_or rest (Some place) later = Some (record { later = later; earlier = place + 1 })
 
--- the first of the values that stands among those before it, by their numbers from 1, where these values come after
--- the ones that were seen
+-- lists of values, one for each record behind those that were seen, all numbered from 1: the first that is the same as an earlier one, by its
+-- number, and the number of the first that it is the same as
 abbrev pub repeat_after : List (List Value) → List (List Value) → Option Repeat
 repeat_after seen [] = None
 repeat_after seen (values ∷ rest) =

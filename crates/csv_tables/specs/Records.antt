@@ -12,7 +12,10 @@ use Rattle.csv.specs.declared.reader.Trim.TheVariants as trim
 abbrev pub Record : Type 0
 Record = List (List ℕ)
 
--- the records of bytes: fields parted by commas, quoted by double quotes
+-- the records of bytes, as the kit's crate csv has them (`records` of its specs, which no file of this repository repeats). Commas part fields.
+-- CR, LF, or both end a record, and so does the text's end. An empty line is no record. A double quote counts at the front of a field alone: up
+-- to the one that closes, commas and line ends belong to the field, and two quotes stand for one. What stands between a closing quote and the
+-- next comma belongs to the field too. A field whose quote nothing closes goes on to the text's end
 abbrev pub records_of : List ℕ → List Record
 records_of bytes = records default_config bytes
 

@@ -21,8 +21,9 @@ is_same (Text a) (Text b) = bytes_eq a b
 is_same (Int a) (Text b) = false
 is_same (Text a) (Int b) = false
 
--- the order of values: numbers by size, texts by the code points of their characters, without padding.
--- No comparison has a number and a text; a number would stand before a text.
+-- the order of values: numbers by size, texts by the code points of their characters, without padding (SQL-92's NO PAD:
+-- a text and the same with a blank at its end differ). No comparison has a number and a text; a number would stand before
+-- a text.
 abbrev pub value_cmp : Value → Value → Ordering
 value_cmp (Int a) (Int b) = int_cmp a b
 value_cmp (Text a) (Text b) = slice_cmp nat_cmp (chars a) (chars b)

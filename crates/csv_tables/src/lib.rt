@@ -6,7 +6,7 @@
 //!
 //! Callers cite `rows_of_file` (in `specs/Files.antt`), which says which rows a file has or why it is
 //! refused, and `rows_of_cells` and `AreCellsOf` (in `specs/Cells.antt`), which say what cells stand
-//! for. They see a `Pool` as the list of its texts.
+//! for. They see a `Pool` as the list of its texts, and `compare_texts` is the order of texts.
 #![tactic(auto)]
 
 mod cases;
@@ -14,6 +14,7 @@ mod cell;
 mod header;
 mod keys;
 mod number;
+mod order;
 mod pool;
 mod records;
 mod rows;
@@ -22,6 +23,7 @@ mod types;
 
 pub use cases::examples;
 pub use cell::{cell_of, value_of};
+pub use order::compare_texts;
 pub use pool::Pool;
 pub use table::read_table;
 pub use types::{Cells, Database, TableError};

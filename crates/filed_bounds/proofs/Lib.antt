@@ -6,7 +6,6 @@ pub mod Small
 pub mod Sums
 pub mod Telling
 pub mod Under
-pub mod Named
 pub mod EntryFacts
 pub mod Falling
 pub mod FromFiles

@@ -17,8 +17,8 @@ use Rattle.plans.specs.declared.left_deep.Plan.{Plan}
 use Rattle.query_bounds.specs.Bounds.{scan_bounds, set_bounds}
 use Rattle.query_bounds.specs.Examples.{pair}
 use Rattle.query_grammar.specs.declared.tree.Op.TheVariants as op
-use Rattle.sql_meaning.proofs.ConditionFacts.{entries_compare}
 use Rattle.stats_file.specs.declared.types.StatsFile.{StatsFile}
+use Rattle.query_types.proofs.CondFacts.{entries_compare}
 
 abbrev both : StatsFile
 both = of_two (section 0 6 (itself (3 ∷ 3 ∷ []))) (section 1 5 (itself (2 ∷ 2 ∷ 1 ∷ [])))

@@ -1,24 +1,15 @@
 //! Values of a file beside literals of a query.
 ghost use Rattle.std.specs.Prelude.{◌≡◌};
-ghost use Rattle.std.specs.Cmp.Lexicographic.{slice_cmp};
-ghost use Rattle.std.specs.Ordering.{nat_cmp};
-ghost use Rattle.std.specs.Str.{chars};
 ghost use Rattle.csv_tables.specs.Values.{value_cmp};
 ghost use Rattle.predicate_bounds.specs.Steps.{value_of as literal_value};
 ghost use Rattle.filed_stats.specs.Data.{value_of};
 ghost use Rattle.filed_stats.specs.Standing.{is_value};
 ghost use Rattle.filed_bounds.specs.Compared.{is_at_most};
 
+use csv_tables::compare_texts;
 use predicate_bounds::Literal;
 use stats_file::Datum;
 use std::cmp::Ordering;
-
-// The order of two texts, by the code points of their characters.
-fn compare_texts(a: &str, b: &str) -> Ordering
-    ensures { result ≡ slice_cmp nat_cmp (chars a.now) (chars b.now) }
-{
-    a.chars().cmp(b.chars())
-}
 
 // The order of a value and a literal: numbers by size, texts by code points, a number below each text.
 fn compare(value: &Datum, literal: &Literal) -> Ordering

@@ -46,7 +46,7 @@ use Rattle.filed_bounds.specs.Entries.{AsksAmong, IsFile, IsFiled}
 use Rattle.filed_bounds.specs.Filed.{filed_counts, filed_lists, filed_statistics, is_filter, partner, whole_by, whole_list}
 use Rattle.filed_bounds.specs.Found.{first_missing, has_pair, is_missing, pair_for, pair_in, section_for}
 use Rattle.filed_bounds.proofs.EntryFacts.{asks_among}
-use Rattle.filed_bounds.proofs.Named.{names_own}
+use Rattle.join_graph.proofs.FromEntries.{names_its_entries}
 use Rattle.filed_bounds.proofs.Sums.{IsJoined, contained, its, joined_needed, lead_joined, pair_found, partner_found, whole_sum}
 use Rattle.filed_bounds.proofs.Telling.{IsThere, is_there, its_filed, its_pairs, place_low, section_is}
 use Rattle.filed_bounds.proofs.Under.{joined_has, partner_joined}
@@ -221,7 +221,7 @@ module _ (schema : Schema) (query : Query) (db : Database) (over : IsOverSchema 
           → scan_list query (filed_statistics query file) entry column ≡ scan_list query (statistics_of tables accuracy) entry column
       at_place (p, has, is) =
           let parts = and_parts (eqb p.entry entry) (eqb p.column column) is in
-          let low : p.entry < length query.from = place_low query (names_own schema query over.of.query_is) p has in
+          let low : p.entry < length query.from = place_low query (names_its_entries schema query over.of.query_is) p has in
           subst (λ c. scan_list query (filed_statistics query file) entry c ≡ scan_list query (statistics_of tables accuracy) entry c) (eqb-true p.column column parts.1)
           (subst (λ e. scan_list query (filed_statistics query file) e p.column ≡ scan_list query (statistics_of tables accuracy) e p.column) (eqb-true p.entry entry parts.0)
           (list_same p.entry low p.column (joined_has (equalities_of query) p has)))

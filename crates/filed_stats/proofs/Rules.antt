@@ -163,6 +163,6 @@ module _ (schema : Schema) (query : Query) (db : Database) (over : IsOverSchema 
 
   -- ---- as it is made
 
-  pub file_made : (sections : List TableStats) → sections ≡ sections_of_cells query db accuracy (length schema.tables)
-      → (let file : StatsFile = record { accuracy = accuracy; tables = sections } in file) ≡ file_of_query schema query (tables_of db) accuracy
-  file_made sections are = rw are file_is
+  pub file_made : (number : ℕ) (sections : List TableStats) → number ≡ accuracy → sections ≡ sections_of_cells query db accuracy (length schema.tables)
+      → (let file : StatsFile = record { accuracy = number; tables = sections } in file) ≡ file_of_query schema query (tables_of db) accuracy
+  file_made number sections is are = rw (is, are) file_is

@@ -7,12 +7,12 @@ use Rattle.query_types.specs.declared.types.Operand.TheVariants as operand
 use Rattle.query_types.specs.declared.types.Cond.{Compare, out-roll-Cond}
 use Rattle.query_types.specs.declared.types.Cond.TheOpen as layer
 use Rattle.query_types.specs.declared.types.Cond.TheVariants.{rolls-Compare}
+use Rattle.query_types.proofs.CondFacts.{entries_compare}
 use Rattle.filtered_lists.proofs.Parts.{of_compare}
 use Rattle.join_graph.specs.Conjuncts.{column_of, column_operand, compared, equality_in, equality_of}
 use Rattle.join_graph.proofs.Comparing.{equality_two}
 use Rattle.predicate_bounds.specs.Steps.{step_answers}
 use Rattle.query_bounds.specs.Examples.{pair}
-use Rattle.sql_meaning.proofs.ConditionFacts.{entries_compare}
 use Rattle.filed_stats.specs.Examples.{filtered_pair, one_value}
 use Rattle.filed_stats.specs.Needs.{needed, needed_of_table}
 use Rattle.filed_stats.specs.ColumnPairs.{column_pair}

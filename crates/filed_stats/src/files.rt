@@ -1,5 +1,5 @@
 //! The file of a query.
-ghost use Rattle.std.specs.Prelude.{◌≡◌, ◌<◌, ◌≤◌, IfOk, length};
+ghost use Rattle.std.specs.Prelude.{◌≡◌, ◌≤◌, IfOk, length};
 ghost use Rattle.join_graph.specs.Conjuncts.{equalities_of, local_of};
 ghost use Rattle.sql_meaning.specs.Tables.{tables_of};
 ghost use Rattle.stats_file.specs.Rules.{KeepsRules};
@@ -11,6 +11,7 @@ use crate::sections::{section_of, table_of};
 use base_io::{NoMemory, Seq};
 use csv_tables::Database;
 use join_graph::{Parts, split};
+use limits::Accuracy;
 use query_types::Query;
 use schema_types::Schema;
 use stats_file::{StatsFile, TableStats};
@@ -36,12 +37,11 @@ fn sections_of(
     query: &Query,
     parts: &Parts,
     db: &Database,
-    accuracy: u8,
+    accuracy: Accuracy,
 ) -> Result<Seq<TableStats>, NoMemory>
     requires over { IsOverSchema schema.now query.now db.now }
     requires local { parts.now.local ≡ local_of query.now }
     requires equalities { parts.now.equalities ≡ equalities_of query.now }
-    requires accuracy { (0 < accuracy) × (accuracy ≤ 64) }
     ensures { IfOk result (λ sections. sections ≡ sections_of_cells query.now db.now accuracy (length schema.now.tables)) }
 {
     let mut sections = Seq::new(alloc);
@@ -54,7 +54,7 @@ fn sections_of(
     Ok(sections)
 }
 
-/// The statistics that the bounds of a query need, of all its tables, at an accuracy of compression from 1 to 64 (SafeBound, SIGMOD 2023):
+/// The statistics that the bounds of a query need, of all its tables, at an accuracy of compression (SafeBound, SIGMOD 2023):
 /// of each table that the query names, in the schema's order, the number of rows, and of each pair of columns that some entry of it needs
 /// all lists. Where memory is wanting nothing is kept.
 pub fn stats_of(
@@ -62,10 +62,9 @@ pub fn stats_of(
     schema: &Schema,
     query: &Query,
     db: &Database,
-    accuracy: u8,
+    accuracy: Accuracy,
 ) -> Result<StatsFile, NoMemory>
     requires over { IsReadOver schema.now query.now db.now }
-    requires accuracy { (0 < accuracy) × (accuracy ≤ 64) }
     ensures file { IfOk result (λ file. file ≡ file_of_query schema.now query.now (tables_of db.now) accuracy) }
     // it may be written
     ensures rules { IfOk result (KeepsRules schema.now) }
@@ -76,5 +75,8 @@ pub fn stats_of(
     let _ = db.pool.len();
     let parts = split(alloc, query)?;
     let tables = sections_of(alloc, schema, query, &parts, db, accuracy)?;
-    Ok(StatsFile { accuracy, tables })
+    Ok(StatsFile {
+        accuracy: accuracy.value(),
+        tables,
+    })
 }

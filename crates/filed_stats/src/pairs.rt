@@ -1,5 +1,5 @@
 //! The statistics of pairs of columns, and those of one filter column.
-ghost use Rattle.std.specs.Prelude.{◌≡◌, ◌++◌, ◌<◌, ◌≤◌, ◌^◌, All, IfOk, OnOk, length, map};
+ghost use Rattle.std.specs.Prelude.{◌≡◌, ◌++◌, ◌<◌, ◌^◌, All, IfOk, OnOk, length, map};
 ghost use Rattle.std.specs.List.{filter, list_any, range_with_len};
 ghost use Rattle.gathered_stats.specs.Filters.{IsColumnIn};
 ghost use Rattle.filed_stats.specs.ColumnPairs.{is_pair};
@@ -13,6 +13,7 @@ use base_io::{NoMemory, Seq};
 use column_stats::{ColumnStats, gather_sorted};
 use cond_stats::FilterColumn;
 use csv_tables::{Cells, Pool};
+use limits::Accuracy;
 use stats_file::Pair;
 use std::alloc::Global;
 
@@ -31,12 +32,11 @@ fn pair_of(
     sorted: &FilterColumn<'_>,
     filter: u32,
     joined: u32,
-    accuracy: u8,
+    accuracy: Accuracy,
 ) -> Result<Pair, NoMemory>
     requires cells { AreCells pool.now cells.now }
     requires sorted { IsColumnIn pool.now cells.now filter sorted.now }
     requires joined { joined < length cells.now.kinds }
-    requires accuracy { (0 < accuracy) × (accuracy ≤ 64) }
     ensures { IfOk result (λ pair. pair ≡ pair_in_cells pool.now cells.now accuracy filter joined) }
 {
     let _rows = row_count(cells);
@@ -69,12 +69,11 @@ pub fn pair_of_columns(
     cells: &Cells,
     filter: u32,
     joined: u32,
-    accuracy: u8,
+    accuracy: Accuracy,
 ) -> Result<Pair, NoMemory>
     requires cells { AreCells pool.now cells.now }
     requires filter { filter < length cells.now.kinds }
     requires joined { joined < length cells.now.kinds }
-    requires accuracy { (0 < accuracy) × (accuracy ≤ 64) }
     ensures { IfOk result (λ pair. pair ≡ pair_in_cells pool.now cells.now accuracy filter joined) }
 {
     let _rows = row_count(cells);
@@ -116,13 +115,12 @@ fn add_each(
     cells: &Cells,
     filter: u32,
     joined: &[u32],
-    accuracy: u8,
+    accuracy: Accuracy,
     pairs: &mut Seq<Pair>,
 ) -> Result<(), NoMemory>
     requires cells { AreCells pool.now cells.now }
     requires filter { filter < length cells.now.kinds }
     requires joined { All (λ column. column < length cells.now.kinds) joined.now }
-    requires accuracy { (0 < accuracy) × (accuracy ≤ 64) }
     ensures { OnOk result (pairs.new ≡ pairs.old ++ map (pair_in_cells pool.now cells.now accuracy filter) joined.now) }
 {
     let _rows = row_count(cells);
@@ -147,13 +145,12 @@ pub(crate) fn add_pairs(
     cells: &Cells,
     needed: &[ColumnPair],
     filter: u32,
-    accuracy: u8,
+    accuracy: Accuracy,
     pairs: &mut Seq<Pair>,
 ) -> Result<(), NoMemory>
     requires cells { AreCells pool.now cells.now }
     requires filter { filter < length cells.now.kinds }
     requires few { length cells.now.kinds < 2 ^ 32 }
-    requires accuracy { (0 < accuracy) × (accuracy ≤ 64) }
     ensures { OnOk result (pairs.new ≡ pairs.old
         ++ map (pair_in_cells pool.now cells.now accuracy filter) (joined_with needed.now (length cells.now.kinds) filter)) }
 {

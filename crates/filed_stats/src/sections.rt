@@ -14,6 +14,7 @@ use crate::pairs::{add_pairs, row_count};
 use base_io::{NoMemory, Seq};
 use csv_tables::{Cells, Database, Pool};
 use join_graph::Parts;
+use limits::Accuracy;
 use predicate_bounds::read_steps;
 use query_types::Query;
 use stats_file::{Pair, TableStats};
@@ -72,11 +73,10 @@ fn pairs_of(
     pool: &Pool,
     cells: &Cells,
     needed: &[ColumnPair],
-    accuracy: u8,
+    accuracy: Accuracy,
 ) -> Result<Seq<Pair>, NoMemory>
     requires cells { AreCells pool.now cells.now }
     requires few { length cells.now.kinds < 2 ^ 32 }
-    requires accuracy { (0 < accuracy) × (accuracy ≤ 64) }
     ensures { IfOk result (λ pairs. pairs ≡ for_each_pair (pair_in_cells pool.now cells.now accuracy) needed.now (length cells.now.kinds)) }
 {
     let mut pairs = Seq::new(alloc);
@@ -94,14 +94,13 @@ pub(crate) fn section_of(
     db: &Database,
     table: u32,
     entry: u8,
-    accuracy: u8,
+    accuracy: Accuracy,
 ) -> Result<TableStats, NoMemory>
     requires database { IsDatabaseOf query.now db.now }
     requires entry { entry < length query.now.from }
     requires few { length (cells_of db.now entry).kinds < 2 ^ 32 }
     requires local { parts.now.local ≡ local_of query.now }
     requires equalities { parts.now.equalities ≡ equalities_of query.now }
-    requires accuracy { (0 < accuracy) × (accuracy ≤ 64) }
     ensures { IfOk result (λ section. section ≡ section_of_cells query.now db.now accuracy table entry) }
 {
     let needed = needed_of_table(alloc, query, parts, table)?;

@@ -9,7 +9,7 @@ use Rattle.query_types.specs.declared.types.Operand.{Operand}
 use Rattle.query_types.specs.declared.types.Cond.{Cond, And, Or, Not, Compare}
 use Rattle.query_types.specs.declared.types.Cond.TheOpen as layer
 use Rattle.query_types.specs.Named.{entries_of_operand}
-use Rattle.sql_meaning.proofs.ConditionFacts.{entries_and, entries_or, entries_not, entries_compare}
+use Rattle.query_types.proofs.CondFacts.{entries_and, entries_or, entries_not, entries_compare}
 use Rattle.filtered_lists.specs.Examples.{column_x, column_y, list_where, number, range_x, range_y, six_rows, value, x_is, y_is}
 use Rattle.filtered_lists.specs.Lists.{ColumnLists, list_answers}
 use Rattle.filtered_lists.specs.Filters.{Conjunction, and_answer, joined, conjunction_of, conjunction_step}

@@ -20,10 +20,11 @@ use Rattle.query_types.specs.declared.types.Cond.TheOpen.{Cond-F}
 use Rattle.query_types.specs.declared.types.Cond.TheOpen as layer
 use Rattle.query_types.specs.declared.types.Cond.TheVariants.{rolls-And, rolls-Or, rolls-Not, rolls-Compare}
 use Rattle.query_types.specs.Named.{entries_named, entries_of_operand, entries_step}
+use Rattle.query_types.proofs.CondFacts.{every_and, every_compare, every_not, every_or}
+use Rattle.query_types.specs.Typing.{IsTypedLayer, Compares}
 use Rattle.join_graph.specs.Conjuncts.{names_just}
-use Rattle.sql_meaning.specs.Databases.{CanAskLayer, CanCompare, IsAskable, IsColumnOf}
+use Rattle.sql_meaning.specs.Databases.{IsAskable, IsColumnOf, IsColumnOfKind}
 use Rattle.sql_meaning.specs.Tables.{cells_of}
-use Rattle.sql_meaning.proofs.ConditionFacts.{every_and, every_compare, every_not, every_or}
 use Rattle.filtered_lists.specs.Comparisons.{comparison_of, opposite}
 use Rattle.filtered_lists.specs.Filters.{Conjunction, all_of, and_answer, and_more, conjunction_of, conjunction_step, joined, of_answer, of_comparison, of_comparison_or_whole, or_answer, or_more, own_conjuncts}
 use Rattle.filtered_lists.specs.Ranges.{Range, from_value, one_range, range_for_each_column, up_to_value}
@@ -130,7 +131,7 @@ module _ (db : Database) (entry : ℕ) where
   whole_within : IsIn (of_comparison_or_whole step_answers None)
   whole_within = record { ranges = tt; others = ((tt, tt), tt) }
 
-  operands_within : (o : Op) (left right : Operand) → CanCompare db left right → AreOwn (entries_of_operand left ++ entries_of_operand right)
+  operands_within : (o : Op) (left right : Operand) → Compares (IsColumnOfKind db) left right → AreOwn (entries_of_operand left ++ entries_of_operand right)
       → IsIn (of_comparison_or_whole step_answers (comparison_of o left right))
   operands_within o (operand.Column column) (operand.Column other) can own = whole_within
   operands_within o (operand.Column column) (operand.Int number) can own =
@@ -165,22 +166,22 @@ module _ (db : Database) (entry : ℕ) where
       → IsIn (conjunction_step step_answers (map-Cond Cond (Bool → Conjunction (List Step)) (conjunction_of step_answers) (map-Cond ((c : Cond) × IsKnown c) Cond (λ e. e.0) y)) holds)
   layers (layer.And ys) asked own true =
       joined_within (cells_of db entry) (within ys true)
-      (members ys (every_and (CanAskLayer db) (conds_in ys) (subst (every-Cond (CanAskLayer db)) (rolls-And (conds_in ys)) asked)) own true)
+      (members ys (every_and (IsTypedLayer (IsColumnOfKind db)) (conds_in ys) (subst (every-Cond (IsTypedLayer (IsColumnOfKind db))) (rolls-And (conds_in ys)) asked)) own true)
   layers (layer.And ys) asked own false =
       or_within (cells_of db entry) (within ys false)
-      (members ys (every_and (CanAskLayer db) (conds_in ys) (subst (every-Cond (CanAskLayer db)) (rolls-And (conds_in ys)) asked)) own false)
+      (members ys (every_and (IsTypedLayer (IsColumnOfKind db)) (conds_in ys) (subst (every-Cond (IsTypedLayer (IsColumnOfKind db))) (rolls-And (conds_in ys)) asked)) own false)
   layers (layer.Or ys) asked own true =
       or_within (cells_of db entry) (within ys true)
-      (members ys (every_or (CanAskLayer db) (conds_in ys) (subst (every-Cond (CanAskLayer db)) (rolls-Or (conds_in ys)) asked)) own true)
+      (members ys (every_or (IsTypedLayer (IsColumnOfKind db)) (conds_in ys) (subst (every-Cond (IsTypedLayer (IsColumnOfKind db))) (rolls-Or (conds_in ys)) asked)) own true)
   layers (layer.Or ys) asked own false =
       joined_within (cells_of db entry) (within ys false)
-      (members ys (every_or (CanAskLayer db) (conds_in ys) (subst (every-Cond (CanAskLayer db)) (rolls-Or (conds_in ys)) asked)) own false)
-  layers (layer.Not y) asked own true = y.1 (every_not (CanAskLayer db) y.0 (subst (every-Cond (CanAskLayer db)) (rolls-Not y.0) asked)) own false
-  layers (layer.Not y) asked own false = y.1 (every_not (CanAskLayer db) y.0 (subst (every-Cond (CanAskLayer db)) (rolls-Not y.0) asked)) own true
+      (members ys (every_or (IsTypedLayer (IsColumnOfKind db)) (conds_in ys) (subst (every-Cond (IsTypedLayer (IsColumnOfKind db))) (rolls-Or (conds_in ys)) asked)) own false)
+  layers (layer.Not y) asked own true = y.1 (every_not (IsTypedLayer (IsColumnOfKind db)) y.0 (subst (every-Cond (IsTypedLayer (IsColumnOfKind db))) (rolls-Not y.0) asked)) own false
+  layers (layer.Not y) asked own false = y.1 (every_not (IsTypedLayer (IsColumnOfKind db)) y.0 (subst (every-Cond (IsTypedLayer (IsColumnOfKind db))) (rolls-Not y.0) asked)) own true
   layers (layer.Compare o left right) asked own true =
-      operands_within o left right (every_compare (CanAskLayer db) o left right (subst (every-Cond (CanAskLayer db)) (rolls-Compare o left right) asked)) own
+      operands_within o left right (every_compare (IsTypedLayer (IsColumnOfKind db)) o left right (subst (every-Cond (IsTypedLayer (IsColumnOfKind db))) (rolls-Compare o left right) asked)) own
   layers (layer.Compare o left right) asked own false =
-      operands_within (opposite o) left right (every_compare (CanAskLayer db) o left right (subst (every-Cond (CanAskLayer db)) (rolls-Compare o left right) asked)) own
+      operands_within (opposite o) left right (every_compare (IsTypedLayer (IsColumnOfKind db)) o left right (subst (every-Cond (IsTypedLayer (IsColumnOfKind db))) (rolls-Compare o left right) asked)) own
 
   cond_known : (c : Cond) → IsKnown c
   cond_known = ind-Cond IsKnown (λ x y is. subst (λ x. IsKnown (roll-Cond x)) is (λ asked own holds.

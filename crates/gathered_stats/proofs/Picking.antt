@@ -1,9 +1,10 @@
 -- Filter columns at rows, one after another, and sorted.
 use Rattle.std.proofs.Common.{◌≡◌, ℕ, ◌+◌, ◌<◌, ◌≤◌, ◌^◌, true, eqb, List, [], ◌∷◌, ◌++◌, length, map, get_or, take, Option, None, Some, slice_get, refl, ap, sym, ◌∙◌, subst, arith}
-use Rattle.std.specs.Prelude.{IfSome, ◌||◌, Bool}
-use Rattle.std.specs.List.{All, list_any}
-use Rattle.std.proofs.lemmas.List.{get_or-map, length-map, map-append, take_more}
+use Rattle.std.specs.Prelude.{IfOk, IfSome, ◌||◌, Bool, Result, Ok, Err}
+use Rattle.std.specs.List.{All, list_any, range_with_len}
+use Rattle.std.proofs.lemmas.List.{get_or-map, length-map, map-append, map-id, take_more}
 use Rattle.std.proofs.lemmas.List.Elements.{All-push, All-weaker}
+use Rattle.std.proofs.lemmas.List.FromFn.{fill_by_all, map-range_with_len_more}
 use Rattle.std.proofs.lemmas.Option.{get_or_from_slice_get}
 use Rattle.schema_types.specs.declared.types.Kind.{Kind}
 use Rattle.schema_types.specs.declared.types.Kind.TheVariants as kind
@@ -136,6 +137,25 @@ steps_beside texts cells accuracy beside rows steps gathered column items read k
   where
     is : keys ≡ picked rows (cells_in beside gathered.column)
     is = made ∙ ap (picked rows) (same ∙ sym (get_or_from_slice_get beside.columns column items [] there)) ∙ ap (λ (n : ℕ). picked rows (cells_in beside n)) (sym number)
+
+-- one row more, whose number is its place
+pub row_more : (rows : List ℕ) (at : ℕ) → at < length rows → get_or rows at 0 ≡ at → take at rows ≡ range_with_len 0 at → take (at + 1) rows ≡ range_with_len 0 (at + 1)
+row_more rows at low is before =
+    let more : range_with_len 0 (at + 1) ≡ range_with_len 0 at ++ at ∷ [] = simp map-id at (map-range_with_len_more (λ (x : ℕ). x) 0 at at (omega arith)) in
+    take_more rows at 0 low ∙ ap (λ (s : List ℕ). s ++ get_or rows at 0 ∷ []) before ∙ ap (λ (n : ℕ). range_with_len 0 at ++ n ∷ []) is ∙ sym more
+
+-- all rows of a column have its cells
+pub all_picked : (rows read : List ℕ) → rows ≡ range_with_len 0 (length read) → read ≡ picked rows read
+all_picked rows read all =
+    fill_by_all (λ (k : ℕ). get_or read k 0) read (length read) 0 refl (λ k low. refl) ∙ ap (λ (s : List ℕ). picked s read) (sym all)
+
+pub column_beside : {E : Type 0} (r : Result ColumnSteps E) (texts : List (List ℕ)) (cells : Cells) (accuracy : ℕ) (beside : Cells) (rows : List ℕ) (steps : List Step) (column : ℕ)
+    (items read keys : List ℕ) → slice_get beside.columns column ≡ Some items → read ≡ items → keys ≡ picked rows read → IfOk r (λ gathered. gathered.column ≡ column)
+    → IfOk r (λ gathered. (lists : ColumnLists) → HaveLists texts cells accuracy keys lists → gathered.steps ≡ map (listed lists) steps)
+    → IfOk r (AreStepsBeside texts cells accuracy beside rows steps)
+column_beside (Ok gathered) texts cells accuracy beside rows steps column items read keys there same made number each =
+    steps_beside texts cells accuracy beside rows steps gathered column items read keys there same made number each
+column_beside (Err e) texts cells accuracy beside rows steps column items read keys there same made number each = tt
 
 -- ---- all columns beside
 

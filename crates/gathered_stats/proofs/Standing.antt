@@ -29,7 +29,7 @@ module _ {X : Type 0} (p : X → Bool) (d : X) where
     | inr n ↦ (let more : suc k < 1 + position_or_len p xs = rw n at h in passed xs k (omega (arith, more)))
   ]
 
-  pub nowhere : (xs : List X) (k : ℕ) → position p xs ≡ None → k < length xs → p (get_or xs k d) ≡ false
+  nowhere : (xs : List X) (k : ℕ) → position p xs ≡ None → k < length xs → p (get_or xs k d) ≡ false
   nowhere xs k h low = elim (cases_lt (position_or_len p xs) (length xs)) [
     | inl l ↦ (let some : Some (position_or_len p xs) ≡ None = rw (lt-ltb (position_or_len p xs) (length xs) l) at h in absurd (cc))
     | inr far ↦ passed xs k (omega (arith, far, low))

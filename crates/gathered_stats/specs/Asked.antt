@@ -1,5 +1,5 @@
 -- What is asked of an entry's table: columns that are joined, and columns that steps compare with literals.
-use Rattle.std.specs.Prelude.{◌≡◌, ℕ, ◌==◌, ◌<◌, ◌^◌, ◌&&◌, not, if◌then◌else◌}
+use Rattle.std.specs.Prelude.{◌≡◌, ℕ, Bool, true, false, ◌==◌, ◌<◌, ◌^◌, ◌&&◌, not, if◌then◌else◌}
 use Rattle.std.specs.Prelude.{All, List, [], ◌∷◌, ◌++◌, map, length, Option, None, Some, IfSome}
 use Rattle.std.specs.List.{filter, list_any}
 use Rattle.limits.specs.Profile.{most_columns}
@@ -54,6 +54,15 @@ column_asked (step.Within range) = Some range.column
 column_asked step.And = None
 column_asked step.Nothing = None
 column_asked step.Or = None
+
+-- a step that is the list of all rows
+abbrev pub is_whole : Step → Bool
+is_whole step.Whole = true
+is_whole (step.Equal column literal) = false
+is_whole (step.Within range) = false
+is_whole step.And = false
+is_whole step.Nothing = false
+is_whole step.Or = false
 
 -- it is one of the table
 abbrev pub AsksWithin : Cells → Step → Type 0

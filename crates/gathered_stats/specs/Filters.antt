@@ -29,12 +29,11 @@ is_sorted filters column = list_any (λ filter. filter.column == column) filters
 abbrev pub Serve : List Filter → Step → Type 0
 Serve filters step = IfSome (column_asked step) (λ column. is_sorted filters column ≡ true)
 
--- cells in order, filter columns of this table, and an accuracy from 1 to 64
+-- cells in order, and filter columns of this table
 pub record IsReady (table : EntryTable) : Type 0 where
   pub cells : AreCells table.pool.now (seen table)
   pub rows : (seen table).rows < 2 ^ 32
   pub filters : All (IsFilterOf table.pool.now (seen table)) table.filters
-  pub accuracy : (0 < table.accuracy) × (table.accuracy ≤ 64)
 
 -- keys, one for each row of the table, have these lists
 abbrev pub AreListsOf : EntryTable → List ℕ → ColumnLists → Type 0

@@ -1,14 +1,14 @@
 //! The steps of an entry's own conjuncts over rows of its table, for columns of another entry that stand beside these rows.
-ghost use Rattle.std.specs.Prelude.{◌≡◌, ◌==◌, ◌<◌, ◌≤◌, ◌^◌, All, length, map, slice_index, false, IfOk, OnOk};
-ghost use Rattle.std.specs.List.{list_any};
+ghost use Rattle.std.specs.Prelude.{◌≡◌, ◌==◌, ◌<◌, ◌^◌, All, length, map, slice_index, true, false, IfOk, OnOk};
+ghost use Rattle.std.specs.List.{list_any, range_with_len};
 ghost use Rattle.join_graph.specs.Conjuncts.{equalities_of, local_of};
 ghost use Rattle.predicate_bounds.specs.declared.steps.Step.{Step};
 ghost use Rattle.sql_meaning.specs.Databases.{AreCells, IsDatabaseOf};
 ghost use Rattle.sql_meaning.specs.Tables.{cells_of};
 ghost use Rattle.gathered_stats.specs.Asked.{AsksWithin, column_asked};
-ghost use Rattle.gathered_stats.specs.Beside.{ArePicked, AreGatheredBeside, IsGatheredBeside, IsPicked, ServeColumns};
+ghost use Rattle.gathered_stats.specs.Beside.{ArePicked, AreGatheredBeside, AreStepsBeside, IsGatheredBeside, IsPicked, ServeColumns};
 ghost use Rattle.gathered_stats.specs.Filters.{IsFilterOf, IsReady, Serve};
-ghost use Rattle.gathered_stats.specs.Seen.{AreRowsOf, cells_at};
+ghost use Rattle.gathered_stats.specs.Seen.{AreRowsOf, cells_at, seen};
 
 use crate::columns::joined_columns;
 use crate::entry_table::{EntryTable, cells_in_entry};
@@ -18,7 +18,8 @@ use cond_stats::FilterColumn;
 use csv_tables::{Cells, Database, Pool};
 use join_graph::Parts;
 use join_steps::load_cells;
-use predicate_bounds::{EntryStats, Step, read_steps};
+use limits::Accuracy;
+use predicate_bounds::{ColumnSteps, EntryStats, Step, read_steps};
 use query_types::Query;
 use row_buf::RowBuf;
 use schema_types::Kind;
@@ -154,6 +155,48 @@ pub struct Beside<'a> {
     pub other_rows: &'a [u32],
 }
 
+// Whether the rows are all rows of a table with so many, one after another.
+fn is_each_row(rows: &[u32], count: usize) -> bool
+    ensures { result ≡ true → rows.now ≡ range_with_len 0 count }
+{
+    if rows.len() != count {
+        return false;
+    }
+    'rows: for at in 0..rows.len() {
+        if rows[at] as usize != at {
+            return false;
+        }
+    }
+    true
+}
+
+// The steps of a joined column of the other entry. Its cells are copied only where some of its rows are left out.
+fn gather_other(
+    alloc: Global,
+    table: &EntryTable<'_>,
+    steps: &[Step],
+    cells: &Cells,
+    rows: &[u32],
+    column: u32,
+) -> Result<ColumnSteps, NoMemory>
+    requires ready { IsReady table.now }
+    requires served { All (Serve table.now.filters) steps.now }
+    requires rows { AreRowsOf cells.now rows.now }
+    requires beside { length rows.now ≡ length table.now.rows.now }
+    requires at_rows { table.now.whole ≡ false }
+    requires cells { AreCells table.now.pool.now cells.now }
+    requires column { column < length cells.now.kinds }
+    ensures column { IfOk result (λ gathered. gathered.column ≡ column) }
+    ensures steps { IfOk result (AreStepsBeside table.now.pool.now (seen table.now) table.now.accuracy cells.now rows.now steps.now) }
+{
+    let all = cells.columns.get(column as usize).as_slice();
+    if is_each_row(rows, all.len()) {
+        return table.list_steps(alloc, all, column, steps);
+    }
+    let keys = picked(alloc, all, rows)?;
+    table.list_steps(alloc, keys.as_slice(), column, steps)
+}
+
 // The steps of each joined column of the other entry.
 fn gather_others(
     alloc: Global,
@@ -174,8 +217,7 @@ fn gather_others(
 {
     let mut gathered = Seq::new(alloc);
     for column in columns {
-        let keys = picked(alloc, cells.columns.get(*column as usize).as_slice(), rows)?;
-        gathered.push(table.list_steps(alloc, keys.as_slice(), *column, steps)?)?;
+        gathered.push(gather_other(alloc, table, steps, cells, rows, *column)?)?;
     }
     Ok(EntryStats { columns: gathered })
 }
@@ -189,7 +231,7 @@ pub fn gather_beside(
     parts: &Parts,
     db: &Database,
     beside: &Beside<'_>,
-    accuracy: u8,
+    accuracy: Accuracy,
 ) -> Result<EntryStats, NoMemory>
     requires local { parts.now.local ≡ local_of query.now }
     requires equalities { parts.now.equalities ≡ equalities_of query.now }
@@ -200,7 +242,6 @@ pub fn gather_beside(
     requires other_rows { AreRowsOf (cells_of db.now beside.now.other) beside.now.other_rows.now }
     requires as_many { length beside.now.other_rows.now ≡ length beside.now.rows.now }
     requires few { length beside.now.rows.now < 2 ^ 32 }
-    requires accuracy { (0 < accuracy) × (accuracy ≤ 64) }
     ensures { IfOk result (IsGatheredBeside query.now db.now accuracy beside.now.entry beside.now.rows.now beside.now.other beside.now.other_rows.now) }
 {
     let steps = read_steps(alloc, query, parts, beside.entry)?;

@@ -5,6 +5,7 @@ ghost use Rattle.sql_meaning.specs.Tables.{cells_of};
 use crate::filters::Filter;
 use base_io::Seq;
 use csv_tables::{Cells, Database, Pool};
+use limits::Accuracy;
 
 /// The table of a FROM entry, the columns that the entry's own conjuncts compare with literals, and the accuracy of lists. Of the table the
 /// whole is seen, or the rows of these numbers, one after another.
@@ -15,7 +16,7 @@ pub(crate) struct EntryTable<'a> {
     pub whole: bool,
     pub rows: &'a [u32],
     pub filters: Seq<Filter<'a>>,
-    pub accuracy: u8,
+    pub accuracy: Accuracy,
 }
 
 /// How many rows a table has, which is below 2^32.

@@ -1,5 +1,5 @@
 //! The statistics of each column, of each entry, and of a query.
-ghost use Rattle.std.specs.Prelude.{◌≡◌, ◌<◌, ◌≤◌, All, length, map, replicate, true, IfOk};
+ghost use Rattle.std.specs.Prelude.{◌≡◌, ◌<◌, All, length, map, replicate, true, IfOk};
 ghost use Rattle.join_graph.specs.Conjuncts.{equalities_of, local_of};
 ghost use Rattle.level_bounds.specs.Keys.{HaveDifferentCharacters};
 ghost use Rattle.query_bounds.specs.Statistics.{Tells};
@@ -16,6 +16,7 @@ use crate::filters::filters_of;
 use base_io::{NoMemory, Seq};
 use csv_tables::{Cells, Database, Pool};
 use join_graph::Parts;
+use limits::Accuracy;
 use predicate_bounds::{ColumnSteps, EntryStats, QueryStats, Step, read_steps};
 use query_types::Query;
 use std::alloc::Global;
@@ -79,13 +80,12 @@ fn gather_entry(
     parts: &Parts,
     db: &Database,
     entry: u8,
-    accuracy: u8,
+    accuracy: Accuracy,
 ) -> Result<EntryStats, NoMemory>
     requires local { parts.now.local ≡ local_of query.now }
     requires equalities { parts.now.equalities ≡ equalities_of query.now }
     requires database { IsDatabaseOf query.now db.now }
     requires entry { entry < length query.now.from }
-    requires accuracy { (0 < accuracy) × (accuracy ≤ 64) }
     ensures { IfOk result (IsGathered query.now db.now accuracy entry) }
 {
     let steps = read_steps(alloc, query, parts, entry)?;
@@ -112,19 +112,18 @@ pub fn characters_differ(pool: &Pool)
 }
 
 /// The statistics that the bounds of a query ask for (SafeBound, SIGMOD 2023): for each FROM entry and each column that it joins,
-/// the steps of the entry's own conjuncts, each with its list. The parts are those of `split`. The accuracy is that of compression, from 1
-/// to 64: the larger it is, the nearer are the lists and the more runs they have. Where memory is wanting nothing is kept.
+/// the steps of the entry's own conjuncts, each with its list. The parts are those of `split`. The accuracy is that of compression:
+/// the larger it is, the nearer are the lists and the more runs they have. Where memory is wanting nothing is kept.
 pub fn gather_query(
     alloc: Global,
     query: &Query,
     parts: &Parts,
     db: &Database,
-    accuracy: u8,
+    accuracy: Accuracy,
 ) -> Result<QueryStats, NoMemory>
     requires local { parts.now.local ≡ local_of query.now }
     requires equalities { parts.now.equalities ≡ equalities_of query.now }
     requires database { IsDatabaseOf query.now db.now }
-    requires accuracy { (0 < accuracy) × (accuracy ≤ 64) }
     ensures tells { IfOk result (λ stats. Tells query.now stats (statistics_of (tables_of db.now) accuracy)) }
 {
     characters_differ(&db.pool);

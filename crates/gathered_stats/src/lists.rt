@@ -1,10 +1,11 @@
 //! The list of each step, for the keys of one joined column.
 ghost use Rattle.std.specs.Prelude.{◌≡◌, ◌^◌, ◌≤◌, All, length, map, true, IfOk, IsTrue, OnOk, option_map};
-ghost use Rattle.std.specs.List.{sum, zip};
+ghost use Rattle.std.specs.List.{list_any, sum, zip};
 ghost use Rattle.cond_stats.specs.Lists.{compressed_degrees, list_of_value};
 ghost use Rattle.filtered_lists.specs.Lists.{ColumnLists};
 ghost use Rattle.predicate_bounds.specs.ListRuns.{is_small, listed};
 ghost use Rattle.predicate_bounds.specs.Steps.{range_of, value_of};
+ghost use Rattle.gathered_stats.specs.Asked.{is_whole};
 ghost use Rattle.gathered_stats.specs.Filters.{AreListsOf, IsColumnIn, IsReady, Serve, is_sorted};
 ghost use Rattle.gathered_stats.specs.Rests.{IsRestOf, rest_in, with_rest};
 ghost use Rattle.gathered_stats.specs.Seen.{seen};
@@ -18,6 +19,22 @@ use cond_stats::{FilterColumn, whole_list};
 use piece_math::Pieces;
 use predicate_bounds::{ColumnSteps, ListStep, Literal, Range, Step};
 use std::alloc::Global;
+
+// Whether a step is the list of all rows.
+fn is_whole(step: &Step) -> bool
+    ensures { result ≡ is_whole step.now }
+{
+    match step {
+        Step::Whole => true,
+        Step::Equal { .. } | Step::Within(_) | Step::And | Step::Nothing | Step::Or => false,
+    }
+}
+
+fn asks_for_whole(steps: &[Step]) -> bool
+    ensures { result ≡ list_any is_whole steps.now }
+{
+    steps.iter().any(|step| is_whole(step))
+}
 
 impl EntryTable<'_> {
     // The rest list of a filter column: kept from its first need on, and copied from there.
@@ -105,7 +122,20 @@ impl EntryTable<'_> {
         column.list_of_range(keys, low, high, self.accuracy)
     }
 
-    // A step with its list. The list of all rows is `whole`.
+    // The list of all rows where a step asks for it, else an empty one.
+    fn whole_for(&self, alloc: Global, keys: &[u64], steps: &[Step]) -> Result<Pieces, NoMemory>
+        requires ready { IsReady self.now }
+        requires keys { length keys.now ≡ (seen self.now).rows }
+        ensures whole { IfOk result (λ list. list_any is_whole steps.now ≡ true → list ≡ compressed_degrees self.now.accuracy keys.now) }
+        ensures small { IfOk result (λ list. sum list ≤ 2 ^ 32) }
+    {
+        if asks_for_whole(steps) {
+            return whole_list(alloc, keys, self.accuracy);
+        }
+        Ok(Pieces::empty(alloc))
+    }
+
+    // A step with its list. The list of all rows is `whole`, if the step asks for it.
     fn list_step(
         &self,
         keys: &[u64],
@@ -115,7 +145,7 @@ impl EntryTable<'_> {
     ) -> Result<ListStep, NoMemory>
         requires ready { IsReady self.now }
         requires keys { length keys.now ≡ (seen self.now).rows }
-        requires whole { whole.now ≡ compressed_degrees self.now.accuracy keys.now }
+        requires whole { is_whole step.now ≡ true → whole.now ≡ compressed_degrees self.now.accuracy keys.now }
         requires rows { sum whole.now ≤ 2 ^ 32 }
         requires served { Serve self.now.filters step.now }
         requires rests { All (IsRestOf self.now keys.now) rests.old }
@@ -136,7 +166,8 @@ impl EntryTable<'_> {
         }
     }
 
-    /// Steps, each with its list for the keys of a joined column. The rest list of a filter column is made at most once.
+    /// Steps, each with its list for the keys of a joined column. The list of all rows is made at most once, and so is the rest list of a
+    /// filter column.
     pub(crate) fn list_steps(
         &self,
         alloc: Global,
@@ -151,7 +182,7 @@ impl EntryTable<'_> {
         ensures steps { IfOk result (λ gathered. (lists : ColumnLists)
             → AreListsOf self.now keys.now lists → gathered.steps ≡ map (listed lists) steps.now) }
     {
-        let whole = whole_list(alloc, keys, self.accuracy)?;
+        let whole = self.whole_for(alloc, keys, steps)?;
         let mut rests = Seq::new(alloc);
         let mut gathered = ColumnSteps::new(alloc, column);
         for step in steps {

@@ -1,6 +1,7 @@
 //! The bounds of the scans and of all sets.
 use crate::triangle::{database, query};
 use base_io::{NoMemory, Seq};
+use limits::Accuracy;
 use planning::{scan_bounds, subset_bounds};
 use std::alloc::Global;
 use std::test::Fail;
@@ -8,8 +9,8 @@ use std::test::Fail;
 fn found(alloc: Global) -> Result<(Seq<u64>, Seq<u128>), NoMemory> {
     let query = query(alloc)?;
     let db = database(alloc)?;
-    let scans = scan_bounds(alloc, &query, &db, 1)?;
-    let sets = subset_bounds(alloc, &query, &db, 1)?;
+    let scans = scan_bounds(alloc, &query, &db, Accuracy::of(1))?;
+    let sets = subset_bounds(alloc, &query, &db, Accuracy::of(1))?;
     Ok((scans, sets))
 }
 

@@ -11,7 +11,7 @@ use bushy_join::{execute_bushy, reserve_leaves};
 use bushy_planning::plan_bushy;
 use csv_tables::Database;
 use join_steps::scan_all;
-use limits::MOST_ROWS;
+use limits::{Accuracy, MOST_ROWS};
 use order_search::PlanError;
 use query_types::Query;
 use std::alloc::{AllocError, Global};
@@ -50,7 +50,7 @@ fn joined(alloc: Global, query: &Query, db: &Database) -> Result<JoinedTree, Fai
     requires database { IsDatabaseOf query.now db.now }
     ensures { IfOk result (λ joined. HasNodes (length query.now.from) joined.done.nodes) }
 {
-    let plan = plan_bushy(alloc, query, db, 1, MOST_ROWS as u64)?;
+    let plan = plan_bushy(alloc, query, db, Accuracy::of(1), MOST_ROWS as u64)?;
     let mut lists = reserve_leaves(alloc, &plan, query, db)?;
     let reserved = reserve_bushy(alloc, &plan)?;
     scan_all(query, db, lists.as_mut_slice());

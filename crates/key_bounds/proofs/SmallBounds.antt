@@ -14,12 +14,12 @@ use Rattle.query_grammar.specs.declared.tree.Op.TheVariants as op
 use Rattle.query_types.specs.declared.types.Cond.{Cond}
 use Rattle.query_types.specs.declared.types.Operand.TheVariants as operand
 use Rattle.query_types.specs.declared.types.Query.{Query}
+use Rattle.query_types.proofs.CondFacts.{entries_compare}
 use Rattle.join_graph.specs.Conjuncts.{column_operand, equalities_of}
 use Rattle.join_graph.proofs.Comparing.{equality_literal, equality_two}
 use Rattle.tree_bounds.specs.TreeBounds.{EntryBounds}
 use Rattle.set_bounds.specs.AllSets.{bounds_in_sets}
 use Rattle.sql_meaning.specs.Tables.{Tables}
-use Rattle.sql_meaning.proofs.ConditionFacts.{entries_compare}
 use Rattle.filtered_lists.specs.Filters.{Answers, Conjunction, and_answer, conjunction_of, filtered, joined, own_conjuncts}
 use Rattle.filtered_lists.specs.Lists.{ColumnLists, RowCounts, count_answers, filtered_list, list_answers, row_bound}
 use Rattle.filtered_lists.proofs.Parts.{of_compare}

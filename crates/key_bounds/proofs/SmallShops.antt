@@ -4,9 +4,9 @@ use Rattle.std.specs.Prelude.{pos}
 use Rattle.berge_tree.specs.Testing.{edge_of}
 use Rattle.query_grammar.specs.declared.tree.Op.TheVariants as op
 use Rattle.query_types.specs.declared.types.Operand.TheVariants as operand
+use Rattle.query_types.proofs.CondFacts.{entries_compare}
 use Rattle.join_graph.specs.Conjuncts.{column_operand}
 use Rattle.join_graph.proofs.Comparing.{equality_literal, equality_two}
-use Rattle.sql_meaning.proofs.ConditionFacts.{entries_compare}
 use Rattle.planning.specs.ReducedExamples.{by_region}
 use Rattle.key_carriers.specs.Carriers.{carriers}
 use Rattle.key_carriers.specs.Examples.{keyless_schema, shop_schema, undeclared_schema}

@@ -1,11 +1,10 @@
 //! What is carried along the references of a schema, from a query's tables.
-ghost use Rattle.std.specs.Prelude.{◌≡◌, ◌<◌, ◌≤◌, ℕ, All, IfOk, Some, length};
-ghost use Rattle.limits.specs.Profile.{most_accuracy, most_rows};
+ghost use Rattle.std.specs.Prelude.{◌≡◌, All, IfOk, Some};
 ghost use Rattle.bound_fold.specs.Lists.{list_of, rows_of};
 ghost use Rattle.join_graph.specs.Conjuncts.{equalities_of, local_of};
 ghost use Rattle.predicate_bounds.specs.Told.{columns_of, list_told, rows_told};
 ghost use Rattle.sql_meaning.specs.Databases.{IsDatabaseOf};
-ghost use Rattle.sql_meaning.specs.Tables.{row_counts, tables_of};
+ghost use Rattle.sql_meaning.specs.Tables.{tables_of};
 ghost use Rattle.key_stats.specs.Carrying.{TellAlong, TellsCarried};
 ghost use Rattle.key_bounds.specs.Carrying.{AddUp, IsJoined};
 
@@ -17,6 +16,7 @@ use gathered_stats::{Beside, characters_differ, gather_beside};
 use join_graph::Parts;
 use key_carriers::widened_rows;
 use key_stats::Carried;
+use limits::Accuracy;
 use predicate_bounds::QueryStats;
 use query_types::Query;
 use std::alloc::Global;
@@ -45,14 +45,12 @@ fn carried_over(
     parts: &Parts,
     db: &Database,
     edge: Edge,
-    accuracy: u8,
+    accuracy: Accuracy,
 ) -> Result<Carried, NoMemory>
     requires local { parts.now.local ≡ local_of query.now }
     requires equalities { parts.now.equalities ≡ equalities_of query.now }
     requires database { IsDatabaseOf query.now db.now }
-    requires few_rows { (entry : ℕ) → entry < length query.now.from → row_counts (tables_of db.now) entry ≤ most_rows }
     requires joined { IsJoined query.now edge }
-    requires accuracy { (0 < accuracy) × (accuracy ≤ most_accuracy) }
     ensures edge { IfOk result (λ made. made.edge ≡ edge) }
     ensures tells { IfOk result (TellsCarried query.now (tables_of db.now) accuracy) }
 {
@@ -80,14 +78,12 @@ pub(crate) fn carried_along(
     parts: &Parts,
     db: &Database,
     edges: &[Edge],
-    accuracy: u8,
+    accuracy: Accuracy,
 ) -> Result<Seq<Carried>, NoMemory>
     requires local { parts.now.local ≡ local_of query.now }
     requires equalities { parts.now.equalities ≡ equalities_of query.now }
     requires database { IsDatabaseOf query.now db.now }
-    requires few_rows { (entry : ℕ) → entry < length query.now.from → row_counts (tables_of db.now) entry ≤ most_rows }
     requires joined { All (IsJoined query.now) edges.now }
-    requires accuracy { (0 < accuracy) × (accuracy ≤ most_accuracy) }
     ensures { IfOk result (TellAlong query.now (tables_of db.now) accuracy edges.now) }
 {
     let mut carried = Seq::new(alloc);

@@ -1,11 +1,11 @@
 //! What is known of a query's entries by statistics of its tables and by carried conjuncts.
 ghost use Rattle.std.specs.Prelude.{◌<◌, ◌≤◌, ◌≡◌, ℕ, IfOk, length};
-ghost use Rattle.limits.specs.Profile.{most_accuracy, most_entries, most_rows};
+ghost use Rattle.limits.specs.Profile.{most_entries};
 ghost use Rattle.schema_types.specs.declared.types.Schema.{Schema as SchemaText};
 ghost use Rattle.join_graph.specs.Conjuncts.{equalities_of};
 ghost use Rattle.tree_bounds.specs.Columns.{EachNamedColumn};
 ghost use Rattle.sql_meaning.specs.Databases.{IsDatabaseOf};
-ghost use Rattle.sql_meaning.specs.Tables.{Tables, row_counts, tables_of};
+ghost use Rattle.sql_meaning.specs.Tables.{Tables, tables_of};
 ghost use Rattle.planning.specs.Bounds.{scan_bounds_of};
 ghost use Rattle.planning.specs.Gives.{Gives};
 ghost use Rattle.key_bounds.specs.Bounds.{set_bounds_by_keys};
@@ -19,6 +19,7 @@ use gathered_stats::gather_query;
 use join_graph::{Parts, split};
 use key_carriers::carriers;
 use key_stats::Carried;
+use limits::Accuracy;
 use planning::{Known, bounds_from};
 use predicate_bounds::QueryStats;
 use query_bounds::{entry_lists, scans_of};
@@ -61,17 +62,15 @@ pub fn from_carried(
 /// A row of the entry that is referred to is found once for each row of the other one, and no row is copied: time and memory are linear
 /// in the rows times the references and the columns that are joined, but for the sorting of columns and the bounds of all sets.
 ///
-/// The accuracy of compressed lists is from 1 to 64.
+/// The accuracy is that of compressed lists.
 pub fn from_keys(
     alloc: Global,
     schema: &Schema,
     query: &Query,
     db: &Database,
-    accuracy: u8,
+    accuracy: Accuracy,
 ) -> Result<Known, NoMemory>
     requires database { IsDatabaseOf query.now db.now }
-    requires few_rows { (entry : ℕ) → entry < length query.now.from → row_counts (tables_of db.now) entry ≤ most_rows }
-    requires accuracy { (0 < accuracy) × (accuracy ≤ most_accuracy) }
     ensures { IfOk result (Gives (set_bounds_by_keys schema.now query.now (tables_of db.now) accuracy)
         (scan_bounds_of query.now (tables_of db.now) accuracy)) }
 {

@@ -4,9 +4,9 @@ use Rattle.std.specs.Prelude.{All, IsUtf8}
 use Rattle.std.specs.List.{cons_option, filter_map, position_or_len, range_with_len}
 use Rattle.std.specs.Ordering.{is_eq}
 use Rattle.std.proofs.lemmas.Bool.{cases_Bool, eq-eqb, eqb-true, le-ltb, lt-ltb, ne_eqb}
-use Rattle.std.proofs.lemmas.List.{append-nil, map-append, map-id}
+use Rattle.std.proofs.lemmas.List.{append-nil, map-append}
 use Rattle.std.proofs.lemmas.List.Elements.{filter_map-append}
-use Rattle.std.proofs.lemmas.List.FromFn.{get_or-range_with_len, length-range_with_len, map-range_with_len_more}
+use Rattle.std.proofs.lemmas.List.FromFn.{get_or-range_with_len, length-range_with_len}
 use Rattle.std.proofs.lemmas.List.Sums.{position_or_len_is}
 use Rattle.berge_tree.specs.declared.edges.Edge.{Edge}
 use Rattle.schema_types.specs.declared.types.Kind.{Kind}
@@ -24,6 +24,7 @@ use Rattle.join_steps.specs.Columns.{column_cells}
 use Rattle.join_steps.proofs.Cells.{cell_count, cell_of_row, kind_at, same_cells, value_by_cell}
 use Rattle.key_carriers.specs.Cells.{AreOfOneKind, column_of, widened_to, with_found, with_other}
 use Rattle.key_carriers.specs.Widened.{partner, widened_row, with_row}
+use Rattle.key_carriers.proofs.Ascending.{range_more}
 
 module _ (db : Database) (e : Edge) (tables : AreTables db) (different : AreDifferent db.pool) (utf8 : All IsUtf8 db.pool) (one : AreOfOneKind db e) where
   abbrev left_cells : List ℕ
@@ -49,7 +50,7 @@ module _ (db : Database) (e : Edge) (tables : AreTables db) (different : AreDiff
     cell = get_or left_cells row 0
 
     -- values are equal where their cells are
-    pub cells_tell : (other : ℕ) → other < row_counts (tables_of db) e.right.entry → are_equal_at (tables_of db) e row other ≡ eqb cell (get_or right_cells other 0)
+    cells_tell : (other : ℕ) → other < row_counts (tables_of db) e.right.entry → are_equal_at (tables_of db) e row other ≡ eqb cell (get_or right_cells other 0)
     cells_tell other high =
         let below : row < (cells_of db e.left.entry).rows = omega (arith, low, rows_are db e.left.entry) in
         let beside : other < (cells_of db e.right.entry).rows = omega (arith, high, rows_are db e.right.entry) in
@@ -89,13 +90,10 @@ module _ (db : Database) (e : Edge) (tables : AreTables db) (different : AreDiff
 
 -- ---- one row after another
 
-range_more : (n : ℕ) → range_with_len 0 (n + 1) ≡ range_with_len 0 n ++ n ∷ []
-range_more n = simp map-id at (map-range_with_len_more (λ (x : ℕ). x) 0 n n (omega arith))
-
 module _ (db : Database) (e : Edge) where
   to_more : (row : ℕ) → widened_to (tables_of db) e (row + 1) ≡ widened_to (tables_of db) e row ++ cons_option (widened_row (tables_of db) e row) []
   to_more row =
-      ap (filter_map (widened_row (tables_of db) e)) (range_more row) ∙ filter_map-append (widened_row (tables_of db) e) (range_with_len 0 row) (row ∷ [])
+      ap (filter_map (widened_row (tables_of db) e)) (range_more 0 row row (omega arith)) ∙ filter_map-append (widened_row (tables_of db) e) (range_with_len 0 row) (row ∷ [])
 
   module _ (row : ℕ) (other : Option ℕ) (is : other ≡ partner (tables_of db) e row) (old new : List ℕ) where
     pub row_added : old ≡ map (λ pair. pair.0) (widened_to (tables_of db) e row) → new ≡ with_found old row other → new ≡ map (λ pair. pair.0) (widened_to (tables_of db) e (row + 1))

@@ -1,3 +1,4 @@
+pub mod Ascending
 pub mod Carrying
 pub mod Finding
 pub mod Referring

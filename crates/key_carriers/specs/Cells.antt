@@ -7,6 +7,8 @@ use Rattle.csv_tables.specs.declared.types.Database.{Database}
 use Rattle.query_types.specs.declared.types.ColumnRef.{ColumnRef}
 use Rattle.sql_meaning.specs.Databases.{IsColumnOfKind}
 use Rattle.sql_meaning.specs.Tables.{Tables}
+use Rattle.key_carriers.specs.declared.key_rows.KeyRows.{KeyRows}
+use Rattle.key_carriers.specs.declared.key_rows.KeyRows.TheVariants as key
 use Rattle.key_carriers.specs.Widened.{widened_row}
 
 -- a column of an equality, as queries name it
@@ -18,6 +20,11 @@ pub record AreOfOneKind (db : Database) (e : Edge) : Type 0 where
   pub text : Bool
   pub left : IsColumnOfKind db (column_of e.left) text
   pub right : IsColumnOfKind db (column_of e.right) text
+
+-- the cells of a column in which rows are found by them
+abbrev pub cells_found : KeyRows → List ℕ
+cells_found (key.Ascending first rows) = range_with_len first rows
+cells_found (key.Chained chains) = chains.keys
 
 -- a row at the end of a list, if something was found for it
 abbrev pub with_found : List ℕ → ℕ → Option ℕ → List ℕ

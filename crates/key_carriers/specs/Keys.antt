@@ -1,8 +1,7 @@
 -- Tables whose declared keys hold, as those of files that were read do.
-use Rattle.std.specs.Prelude.{◌≡◌, ℕ, ◌<◌, true, length, Ok}
+use Rattle.std.specs.Prelude.{◌≡◌, ℕ, ◌<◌, true}
 use Rattle.std.specs.List.{AllByRecursion}
 use Rattle.std.specs.Ordering.{is_eq}
-use Rattle.csv_tables.specs.Keys.{rows_with_keys}
 use Rattle.csv_tables.specs.Values.{value_cmp}
 use Rattle.schema_types.specs.declared.types.Schema.{Schema}
 use Rattle.query_types.specs.declared.types.Query.{Query}
@@ -11,7 +10,7 @@ use Rattle.join_graph.specs.Conjuncts.{equalities_of}
 use Rattle.tree_bounds.specs.Columns.{EachNamedColumn}
 use Rattle.sql_meaning.specs.Tables.{Tables, row_counts}
 use Rattle.level_bounds.specs.Keys.{value_at}
-use Rattle.key_carriers.specs.Carriers.{is_key, table_at, table_of}
+use Rattle.key_carriers.specs.Carriers.{is_key, table_of}
 
 -- no two rows of an entry's table have one value in a column
 abbrev pub AreApart : Tables → ℕ → ℕ → Type 0
@@ -22,8 +21,3 @@ AreApart tables entry column = (row other : ℕ) → row < row_counts tables ent
 abbrev pub KeysHold : Schema → Query → Tables → Type 0
 KeysHold schema query tables =
     EachNamedColumn (λ entry column. is_key schema (table_of query entry) column ≡ true → AreApart tables entry column) (equalities_of query)
-
--- the rows of each FROM entry repeat no values of a key that the schema declares for its table, as those of a file that isn't refused
-abbrev pub RepeatNoKeys : Schema → Query → Tables → Type 0
-RepeatNoKeys schema query tables = (entry : ℕ) → entry < length query.from
-    → rows_with_keys (table_at schema (table_of query entry)).keys (tables entry) ≡ Ok (tables entry)

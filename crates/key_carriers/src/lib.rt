@@ -9,6 +9,7 @@
 //! `rows_referring` for the rows that refer to a row of the carrier's scan, and `KeysHold` for tables whose keys hold.
 #![tactic(auto)]
 
+mod key_rows;
 mod references;
 mod rows;
 

@@ -1,16 +1,16 @@
 //! The widened table as row numbers.
-ghost use Rattle.std.specs.Prelude.{◌≡◌, ◌≤◌, IfOk, OnOk, length};
+ghost use Rattle.std.specs.Prelude.{◌≡◌, ◌≤◌, IfOk, OnOk};
 ghost use Rattle.limits.specs.Profile.{most_rows};
 ghost use Rattle.sql_meaning.specs.Databases.{AreTables};
 ghost use Rattle.sql_meaning.specs.Tables.{row_counts, tables_of};
 ghost use Rattle.key_carriers.specs.Cells.{AreOfOneKind, column_of, with_found, with_other};
 ghost use Rattle.key_carriers.specs.Widened.{referred, referring};
 
+use crate::key_rows::KeyRows;
 use base_io::NoMemory;
 use berge_tree::{Edge, Place};
 use csv_tables::Database;
 use join_steps::{cells_of_column, texts_are_different};
-use link_index::Chains;
 use query_types::ColumnRef;
 use std::alloc::Global;
 
@@ -28,17 +28,6 @@ fn column_of(place: Place) -> ColumnRef
         from: place.entry,
         column: place.column,
     }
-}
-
-// The places of cells, by the cell.
-fn chained(alloc: Global, cells: &[u64]) -> Result<Chains, NoMemory>
-    requires few { length cells.now ≤ most_rows }
-    ensures { IfOk result (λ chains. chains.keys ≡ cells.now) }
-{
-    let rows = cells.len() as u64;
-    let mut chains = Chains::with_room(alloc, rows, rows.max(1))?;
-    chains.load(cells);
-    Ok(chains)
 }
 
 impl Widened {
@@ -68,13 +57,13 @@ pub fn widened_rows(alloc: Global, db: &Database, edge: Edge) -> Result<Widened,
     texts_are_different(&db.pool);
     let left = cells_of_column(db, column_of(edge.left));
     let right = cells_of_column(db, column_of(edge.right));
-    let chains = chained(alloc, right)?;
+    let key = KeyRows::new(alloc, right)?;
     let mut made = Widened {
-        rows: Vec::new(alloc),
-        others: Vec::new(alloc),
+        rows: Vec::with_capacity(alloc, left.len())?,
+        others: Vec::with_capacity(alloc, left.len())?,
     };
     'rows: for row in 0..left.len() {
-        let other = chains.first(left[row]);
+        let other = key.row_of(left[row]);
         made.add(row as u32, other)?;
     }
     Ok(made)

@@ -6,6 +6,7 @@ use Rattle.entry_sets.specs.Sets.{entries_of_set}
 use Rattle.query_grammar.specs.declared.tree.Op.TheVariants as op
 use Rattle.query_types.specs.declared.types.Cond.{Compare}
 use Rattle.query_types.specs.Named.{entries_named}
+use Rattle.query_types.proofs.CondFacts.{entries_compare}
 use Rattle.join_graph.specs.Conjuncts.{equalities_of}
 use Rattle.join_graph.specs.Examples.{triangle as sides}
 use Rattle.join_graph.specs.Kept.{equalities_within}
@@ -19,7 +20,7 @@ use Rattle.sql_meaning.specs.Conditions.{comparison_says, cond_holds}
 use Rattle.sql_meaning.specs.Examples.{column_at, triangle, triangle_tables}
 use Rattle.sql_meaning.specs.Levels.{all_hold, row_in}
 use Rattle.sql_meaning.specs.Tables.{row_counts}
-use Rattle.sql_meaning.proofs.ConditionFacts.{entries_compare, holds_compare}
+use Rattle.sql_meaning.proofs.ConditionFacts.{holds_compare}
 use Rattle.level_bounds.specs.Examples.{three_tables, triangle_level, triangle_scan}
 use Rattle.level_bounds.specs.Keys.{cell_at}
 use Rattle.level_bounds.specs.Orders.{IsOrderOfSet}

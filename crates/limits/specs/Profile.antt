@@ -43,7 +43,8 @@ most_outputs = 1024
 
 -- ---- what is planned
 
--- rows that the bound of each level of a plan may say, and how many where none is named
+-- the budget, which is the most rows that the bound of a level or node of a plan may say: the least, the greatest, and the one where none is
+-- named
 abbrev pub least_budget : ℕ
 least_budget = 1
 
@@ -71,6 +72,6 @@ most_accuracy = 64
 abbrev pub usual_accuracy : ℕ
 usual_accuracy = 1
 
--- the bound that stands for all from there on
+-- the bound that stands for this or more
 abbrev pub top_bound : ℕ
 top_bound = 2 ^ 128 - 1

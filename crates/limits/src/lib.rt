@@ -1,10 +1,15 @@
 //! The limits within which texts are read and queries are planned, each named once: here for the code, and in specs/Profile for contracts.
+//! An accuracy within its limits is a type.
 //!
 //! Callers cite the names of specs/Profile.
 #![tactic(auto)]
 
 ghost use Rattle.std.specs.Prelude.{◌≡◌};
 ghost use Rattle.limits.specs.Profile as profile;
+
+mod accuracy;
+
+pub use accuracy::Accuracy;
 
 /// How many bytes a schema text has at most, and a query text.
 pub const MOST_TEXT: u32 = 1_048_576;

@@ -1,7 +1,7 @@
 -- What the readers refuse, as refusals and as endings.
 --
 -- A reader's error may be want of memory, which is no refusal. No text, no table's bytes and no plan answer it, as functions (the law
--- `no_reader_wants_memory` of the top call), so the refusal in its place stands for nothing.
+-- `no_reader_wants_memory` of safebound_laws), so the refusal in its place stands for nothing.
 use Rattle.std.specs.Prelude.{ℕ}
 use Rattle.schema_types.specs.declared.errors.LimitKind.TheVariants as limit
 use Rattle.schema_types.specs.declared.errors.SchemaError.{SchemaError}

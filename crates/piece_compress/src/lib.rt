@@ -6,7 +6,7 @@
 //! dominates keys is meant as in SafeBound (SIGMOD 2023).
 //!
 //! Callers cite `compressed` of crate `degree_sequences` and `most_pieces`:
-//! `let list = compress(alloc, counts.as_slice(), 1)?;` gives `list ≡ compressed 1 counts`, and so does `compress_runs(alloc, &runs, 1)?`
+//! `let list = compress(alloc, counts.as_slice(), Accuracy::of(1))?;` gives `list ≡ compressed 1 counts`, and so does `compress_runs`
 //! where the counts are kept as runs.
 #![tactic(auto)]
 
@@ -21,14 +21,15 @@ ghost use Rattle.degree_sequences.specs.Runs.{runs};
 ghost use Rattle.piece_compress.specs.BinaryDigits.{most_pieces};
 
 use base_io::NoMemory;
+use limits::Accuracy;
 use piece_math::Pieces;
 use std::alloc::Global;
 
 /// The most pieces that a compressed list can have whose first degree is `first`.
-pub fn pieces_at_most(first: u64, accuracy: u8) -> u32
+pub fn pieces_at_most(first: u64, accuracy: Accuracy) -> u32
     ensures { result ≡ most_pieces first accuracy }
 {
-    u32::from(accuracy) * (u64::BITS - first.leading_zeros()) + 1
+    u32::from(accuracy.value()) * (u64::BITS - first.leading_zeros()) + 1
 }
 
 // Equal elements at the end of the answer, not yet among its pieces.
@@ -38,12 +39,11 @@ struct Run {
     count: u64,
 }
 
-/// A degree list compressed with an accuracy from 1 to 64.
-pub fn compress(alloc: Global, falling: &[u64], accuracy: u8) -> Result<Pieces, NoMemory>
+/// A degree list compressed with an accuracy.
+pub fn compress(alloc: Global, falling: &[u64], accuracy: Accuracy) -> Result<Pieces, NoMemory>
     requires falls { IsFalling falling.now }
     requires positive { All (λ degree. 0 < degree) falling.now }
     requires small { sum falling.now ≤ greatest_rows }
-    requires accuracy { (0 < accuracy) × (accuracy ≤ 64) }
     ensures compressed { IfOk result (λ list. list ≡ compressed accuracy falling.now) }
     ensures dominates { IfOk result (λ list. (keys : List ℕ) → degree_list keys ≡ falling.now → DominatesKeys list keys) }
     ensures sum { IfOk result (λ list. sum list ≡ sum falling.now) }
@@ -54,17 +54,20 @@ pub fn compress(alloc: Global, falling: &[u64], accuracy: u8) -> Result<Pieces, 
     compress_runs(alloc, &falling, accuracy)
 }
 
-/// A degree list that is kept as runs, compressed with an accuracy from 1 to 64. The cost is in the number of runs, however many keys
-/// they have.
-pub fn compress_runs(alloc: Global, falling: &Pieces, accuracy: u8) -> Result<Pieces, NoMemory>
+/// A degree list that is kept as runs, compressed with an accuracy. The cost is in the number of runs, however many keys they have.
+pub fn compress_runs(
+    alloc: Global,
+    falling: &Pieces,
+    accuracy: Accuracy,
+) -> Result<Pieces, NoMemory>
     requires small { sum falling.now ≤ greatest_rows }
-    requires accuracy { (0 < accuracy) × (accuracy ≤ 64) }
     ensures compressed { IfOk result (λ list. list ≡ compressed accuracy falling.now) }
     ensures dominates { IfOk result (λ list. (keys : List ℕ) → degree_list keys ≡ falling.now → DominatesKeys list keys) }
     ensures sum { IfOk result (λ list. sum list ≡ sum falling.now) }
     ensures near { IfOk result (λ list. (r : ℕ) → accuracy * slice_index list r ≤ (accuracy + 1) * slice_index falling.now r) }
     ensures few_pieces { IfOk result (λ list. runs list ≤ most_pieces (slice_index falling.now 0) accuracy) }
 {
+    let _ = accuracy.value();
     let runs = falling.pieces();
     let mut pieces = Pieces::empty(alloc);
     let mut head = first_degree(falling);
@@ -103,13 +106,12 @@ fn first_degree(falling: &Pieces) -> u64
 }
 
 // A degree that lies far enough below the head is the next head.
-fn head_after(head: u64, degree: u64, accuracy: u8) -> u64
+fn head_after(head: u64, degree: u64, accuracy: Accuracy) -> u64
     requires head { head ≤ greatest_rows }
     requires degree { degree ≤ head }
-    requires accuracy { accuracy ≤ 64 }
     ensures { result ≡ next_head accuracy head degree }
 {
-    let accuracy = u64::from(accuracy);
+    let accuracy = u64::from(accuracy.value());
     if (accuracy + 1) * degree < accuracy * head {
         degree
     } else {

@@ -12,6 +12,7 @@ use Rattle.query_grammar.specs.declared.tree.Op.TheVariants as op
 use Rattle.query_types.specs.declared.types.Operand.{Operand}
 use Rattle.query_types.specs.declared.types.Operand.TheVariants as operand
 use Rattle.query_types.specs.declared.types.Query.{Query}
+use Rattle.query_types.proofs.CondFacts.{entries_compare}
 use Rattle.join_graph.specs.Conjuncts.{column_operand}
 use Rattle.join_graph.specs.Examples.{triangle as sides}
 use Rattle.join_graph.proofs.Comparing.{equality_two}
@@ -20,7 +21,7 @@ use Rattle.sql_meaning.specs.Choices.{choices_of}
 use Rattle.sql_meaning.specs.Conditions.{comparison_says}
 use Rattle.sql_meaning.specs.Examples.{triangle}
 use Rattle.sql_meaning.specs.Tables.{Tables, row_counts}
-use Rattle.sql_meaning.proofs.ConditionFacts.{entries_compare, holds_compare}
+use Rattle.sql_meaning.proofs.ConditionFacts.{holds_compare}
 use Rattle.level_bounds.specs.Keys.{are_equal_at}
 use Rattle.level_bounds.proofs.SmallTriangle.{triangle_joined}
 use Rattle.query_bounds.specs.Examples.{pair}

@@ -8,11 +8,11 @@ use Rattle.plan_answers.specs.PlanAnswer.{plan_answer}
 use Rattle.query_grammar.specs.declared.tree.Op.TheVariants as op
 use Rattle.join_graph.specs.Conjuncts.{column_operand}
 use Rattle.join_graph.proofs.Comparing.{equality_two}
-use Rattle.sql_meaning.proofs.ConditionFacts.{entries_compare}
 use Rattle.query_bounds.specs.Examples.{pair}
 use Rattle.planning.specs.Bounds.{scan_bounds_of, set_bounds_of}
 use Rattle.planning.specs.Examples.{small_tables}
 use Rattle.planning.specs.Plans.{planned}
+use Rattle.query_types.proofs.CondFacts.{entries_compare}
 
 pub small_scans : scan_bounds_of pair small_tables 1 ≡ 6 ∷ 5 ∷ []
 small_scans = rw (entries_compare op.Eq (column_operand 0 0) (column_operand 1 0)) refl

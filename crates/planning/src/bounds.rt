@@ -13,22 +13,22 @@ use base_io::{NoMemory, Seq};
 use csv_tables::Database;
 use gathered_stats::{characters_differ, gather_query};
 use join_graph::split;
+use limits::Accuracy;
 use query_bounds::{entry_lists, scans_of};
 use query_types::Query;
 use std::alloc::Global;
 
 /// The bound of the scan of each entry, in FROM order, in rows. No scan has more.
 ///
-/// The accuracy of compressed lists is from 1 to 64 (SafeBound, SIGMOD 2023).
+/// The accuracy is that of compressed lists (SafeBound, SIGMOD 2023).
 #[tactic(auto, using(crate::proofs::Giving::is_told))]
 pub fn scan_bounds(
     alloc: Global,
     query: &Query,
     db: &Database,
-    accuracy: u8,
+    accuracy: Accuracy,
 ) -> Result<Seq<u64>, NoMemory>
     requires database { IsDatabaseOf query.now db.now }
-    requires accuracy { (0 < accuracy) × (accuracy ≤ 64) }
     ensures exact { IfOk result (λ scans. scans ≡ scan_bounds_of query.now (tables_of db.now) accuracy) }
     ensures never_under { IfOk result (λ scans. (entry : ℕ) → entry < length query.now.from
         → length (query_scan query.now (tables_of db.now) entry) ≤ slice_index scans entry) }
@@ -44,15 +44,14 @@ pub fn scan_bounds(
 /// The bound of each set of entries, at the number whose bits are the set, in rows; `u128::MAX` where it is larger, and 1 for the empty
 /// set. No level over just these entries has more rows, in whatever order they stand.
 ///
-/// The accuracy of compressed lists is from 1 to 64 (SafeBound, SIGMOD 2023).
+/// The accuracy is that of compressed lists (SafeBound, SIGMOD 2023).
 pub fn subset_bounds(
     alloc: Global,
     query: &Query,
     db: &Database,
-    accuracy: u8,
+    accuracy: Accuracy,
 ) -> Result<Seq<u128>, NoMemory>
     requires database { IsDatabaseOf query.now db.now }
-    requires accuracy { (0 < accuracy) × (accuracy ≤ 64) }
     ensures exact { IfOk result (λ bounds. bounds ≡ set_bounds_of query.now (tables_of db.now) accuracy) }
     ensures count { IfOk result (λ bounds. length bounds ≡ 2 ^ length query.now.from) }
     ensures of_nothing { IfOk result (λ bounds. slice_index bounds 0 ≡ 1) }

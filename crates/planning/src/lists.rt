@@ -1,7 +1,7 @@
 //! The degree sequences of joined columns over the rows of their entries.
 ghost use Rattle.std.specs.Prelude.{◌≡◌, ◌<◌, ◌≤◌, ℕ, All, IfOk, IsSome, MatchBool, None, OnOk, length, map};
 ghost use Rattle.std.specs.List.{sum};
-ghost use Rattle.limits.specs.Profile.{most_accuracy, most_rows};
+ghost use Rattle.limits.specs.Profile.{most_rows};
 ghost use Rattle.cond_stats.specs.Lists.{compressed_degrees};
 ghost use Rattle.bound_fold.specs.Lists.{list_of as list_known};
 ghost use Rattle.bound_fold.specs.Sets.{HaveLists};
@@ -21,6 +21,7 @@ use csv_tables::Database;
 use degree_lists::falling;
 use gathered_stats::characters_differ;
 use join_steps::{cells_of_column, load_cells};
+use limits::Accuracy;
 use piece_compress::compress;
 use piece_math::Pieces;
 use query_types::ColumnRef;
@@ -33,13 +34,12 @@ fn column_list(
     db: &Database,
     place: Place,
     rows: &[u32],
-    accuracy: u8,
+    accuracy: Accuracy,
 ) -> Result<Pieces, NoMemory>
     requires tables { AreTables db.now }
     requires column { IsColumnOf db.now (column_of place) }
     requires rows { All (λ row. row < (cells_of db.now place.entry).rows) rows.now }
     requires few { length rows.now ≤ most_rows }
-    requires accuracy { (0 < accuracy) × (accuracy ≤ most_accuracy) }
     ensures exact { IfOk result (λ list. list
         ≡ compressed_degrees accuracy (numbered (map (value_in_row (tables_of db.now) place.entry place.column) rows.now))) }
     ensures sum { IfOk result (λ list. sum list ≡ length rows.now) }
@@ -62,12 +62,11 @@ fn add_new(
     db: &Database,
     lists: &[RowBuf<u32>],
     place: Place,
-    accuracy: u8,
+    accuracy: Accuracy,
     known: &mut EntryLists,
 ) -> Result<(), NoMemory>
     requires lists { AreListsOf db.now lists.now }
     requires column { IsColumnOf db.now (column_of place) }
-    requires accuracy { (0 < accuracy) × (accuracy ≤ most_accuracy) }
     requires known { IsKnown db.now (lists_of lists.now) accuracy known.old }
     requires new { list_known known.old place.entry place.column ≡ None }
     ensures known { OnOk result (IsKnown db.now (lists_of lists.now) accuracy known.new) }
@@ -94,12 +93,11 @@ fn add_list(
     db: &Database,
     lists: &[RowBuf<u32>],
     place: Place,
-    accuracy: u8,
+    accuracy: Accuracy,
     known: &mut EntryLists,
 ) -> Result<(), NoMemory>
     requires lists { AreListsOf db.now lists.now }
     requires column { IsColumnOf db.now (column_of place) }
-    requires accuracy { (0 < accuracy) × (accuracy ≤ most_accuracy) }
     requires known { IsKnown db.now (lists_of lists.now) accuracy known.old }
     ensures known { OnOk result (IsKnown db.now (lists_of lists.now) accuracy known.new) }
     ensures there { OnOk result (IsSome (list_known known.new place.entry place.column)) }
@@ -118,11 +116,10 @@ pub(crate) fn lists_over_rows(
     db: &Database,
     lists: &[RowBuf<u32>],
     equalities: &[Edge],
-    accuracy: u8,
+    accuracy: Accuracy,
 ) -> Result<EntryLists, NoMemory>
     requires lists { AreListsOf db.now lists.now }
     requires columns { All (JoinsColumns db.now) equalities.now }
-    requires accuracy { (0 < accuracy) × (accuracy ≤ most_accuracy) }
     ensures known { IfOk result (IsKnown db.now (lists_of lists.now) accuracy) }
     ensures joined { IfOk result (λ known. All (HaveLists known) equalities.now) }
 {

@@ -1,6 +1,5 @@
 //! What is known of a query's entries over their reduced scans.
-ghost use Rattle.std.specs.Prelude.{◌≡◌, ◌<◌, ◌≤◌, IfOk, length, vec_capacity};
-ghost use Rattle.limits.specs.Profile.{most_accuracy};
+ghost use Rattle.std.specs.Prelude.{◌≡◌, IfOk, length, vec_capacity};
 ghost use Rattle.join_graph.specs.Conjuncts.{equalities_of};
 ghost use Rattle.sql_meaning.specs.Databases.{IsDatabaseOf};
 ghost use Rattle.sql_meaning.specs.Tables.{tables_of};
@@ -17,6 +16,7 @@ use base_io::NoMemory;
 use berge_tree::Edge;
 use csv_tables::Database;
 use join_graph::split;
+use limits::Accuracy;
 use query_types::Query;
 use reduced_scans::reduce_scans;
 use row_buf::RowBuf;
@@ -54,15 +54,14 @@ fn reduced_lists(
 /// their equalities, but for the sorting of columns and the bounds of all sets; all memory but the answer's is let go, and its lists
 /// have room for their own rows alone.
 ///
-/// The accuracy of compressed lists is from 1 to 64 (SafeBound, SIGMOD 2023).
+/// The accuracy is that of compressed lists (SafeBound, SIGMOD 2023).
 pub fn from_reduced(
     alloc: Global,
     query: &Query,
     db: &Database,
-    accuracy: u8,
+    accuracy: Accuracy,
 ) -> Result<Reduced, NoMemory>
     requires database { IsDatabaseOf query.now db.now }
-    requires accuracy { (0 < accuracy) × (accuracy ≤ most_accuracy) }
     ensures gives { IfOk result (λ made.
         Gives (set_bounds_over query.now (tables_of db.now) (reduced_of query.now (tables_of db.now)) accuracy)
         (list_sizes query.now (reduced_of query.now (tables_of db.now))) made.known) }

@@ -1,6 +1,6 @@
 //! What is known of a query's entries, from statistics of its tables or from lists of their rows.
-ghost use Rattle.std.specs.Prelude.{◌≡◌, ◌<◌, ◌≤◌, IfOk, length};
-ghost use Rattle.limits.specs.Profile.{most_accuracy, most_entries};
+ghost use Rattle.std.specs.Prelude.{◌≡◌, ◌≤◌, IfOk, length};
+ghost use Rattle.limits.specs.Profile.{most_entries};
 ghost use Rattle.join_graph.specs.Conjuncts.{equalities_of};
 ghost use Rattle.sql_meaning.specs.Databases.{IsDatabaseOf};
 ghost use Rattle.sql_meaning.specs.Tables.{tables_of};
@@ -19,6 +19,7 @@ use base_io::NoMemory;
 use csv_tables::Database;
 use gathered_stats::gather_query;
 use join_graph::{Parts, split};
+use limits::Accuracy;
 use predicate_bounds::QueryStats;
 use query_bounds::{entry_lists, scans_of};
 use query_types::Query;
@@ -49,16 +50,15 @@ pub fn from_told(
 
 /// From statistics of the query's tables, which are gathered once. A scan's bound is that of its rows.
 ///
-/// The accuracy of compressed degree sequences is from 1 to 64 (SafeBound, SIGMOD 2023).
+/// The accuracy is that of compressed degree sequences (SafeBound, SIGMOD 2023).
 #[tactic(auto, using(crate::proofs::Giving::is_told))]
 pub fn from_statistics(
     alloc: Global,
     query: &Query,
     db: &Database,
-    accuracy: u8,
+    accuracy: Accuracy,
 ) -> Result<Known, NoMemory>
     requires database { IsDatabaseOf query.now db.now }
-    requires accuracy { (0 < accuracy) × (accuracy ≤ most_accuracy) }
     ensures { IfOk result (Gives (set_bounds_of query.now (tables_of db.now) accuracy) (scan_bounds_of query.now (tables_of db.now) accuracy)) }
 {
     let parts = split(alloc, query)?;
@@ -69,19 +69,18 @@ pub fn from_statistics(
 /// From lists of rows of the query's tables, one list for each entry. A scan's bound is the number of rows of its list. The equalities are
 /// those of `split`.
 ///
-/// The accuracy of compressed degree sequences is from 1 to 64 (SafeBound, SIGMOD 2023).
+/// The accuracy is that of compressed degree sequences (SafeBound, SIGMOD 2023).
 pub fn from_rows(
     alloc: Global,
     query: &Query,
     parts: &Parts,
     db: &Database,
     rows: &[RowBuf<u32>],
-    accuracy: u8,
+    accuracy: Accuracy,
 ) -> Result<Known, NoMemory>
     requires equalities { parts.now.equalities ≡ equalities_of query.now }
     requires database { IsDatabaseOf query.now db.now }
     requires rows { AreListsOf db.now rows.now }
-    requires accuracy { (0 < accuracy) × (accuracy ≤ most_accuracy) }
     ensures { IfOk result (Gives (set_bounds_over query.now (tables_of db.now) (lists_of rows.now) accuracy)
         (list_sizes query.now (lists_of rows.now))) }
 {

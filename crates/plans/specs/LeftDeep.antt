@@ -9,7 +9,7 @@ pub record IsOrder (n : ℕ) (order : List ℕ) : Type 0 where
   pub once : IsDistinct ◌==◌ order
   pub all : length order ≡ n
 
--- a plan for n entries: an order of them, a bound for the scan of each, and one for each number of first entries
+-- a plan for n entries: an order of them, a bound for the scan of each, and for each k from 1 to n one for the join of the first k entries
 pub record IsPlan (n : ℕ) (plan : Plan) : Type 0 where
   pub order : IsOrder n plan.order
   pub scans : length plan.scans ≡ n

@@ -1,12 +1,10 @@
 //! The steps by which an entry's own conjuncts put answers together, and the literals and ranges that they ask for.
 ghost use Rattle.std.specs.Prelude.{◌≡◌, IfOk};
 ghost use Rattle.csv_tables.specs.Values.{Int, Text, value_cmp};
-ghost use Rattle.std.specs.Cmp.Lexicographic.{slice_cmp};
-ghost use Rattle.std.specs.Ordering.{nat_cmp};
-ghost use Rattle.std.specs.Str.{chars};
 ghost use Rattle.predicate_bounds.specs.Steps.{value_of};
 
 use base_io::{Name, NoMemory};
+use csv_tables::compare_texts;
 use std::alloc::Global;
 use std::cmp::Ordering;
 
@@ -52,13 +50,6 @@ impl Literal {
             Literal::Text(text) => Ok(Literal::Text(Name::from_str(alloc, text.as_str())?)),
         }
     }
-}
-
-// The order of two texts, by the code points of their characters.
-fn compare_texts(a: &str, b: &str) -> Ordering
-    ensures { result ≡ slice_cmp nat_cmp (chars a.now) (chars b.now) }
-{
-    a.chars().cmp(b.chars())
 }
 
 // The order of a number and a literal.

@@ -3,11 +3,11 @@ use Rattle.std.specs.Prelude.{ℕ, ◌+◌, List, [], ◌∷◌, ◌++◌, Optio
 use Rattle.plans.specs.declared.left_deep.Plan.{Plan}
 use Rattle.query_types.specs.declared.types.Source.{Source}
 
--- scan ALIAS BOUND
+-- scan ALIAS BOUND. The alias is the entry's name after folding, without quotes: it may hold blanks, and the bound stands behind the last one
 abbrev pub scan_line : List ℕ → ℕ → List ℕ
 scan_line alias bound = codes "scan " ++ (alias ++ (codes " " ++ (decimal bound ++ codes "\n")))
 
--- level K ALIAS BOUND, and the line of it
+-- level K ALIAS BOUND, and the line of it. The alias is printed as in a scan's line, so here too the bound stands behind the last blank
 abbrev pub level_bound : ℕ → List ℕ → ℕ → List ℕ
 level_bound k alias bound = codes "level " ++ (decimal k ++ (codes " " ++ (alias ++ (codes " " ++ decimal bound))))
 
@@ -35,10 +35,11 @@ level_lines k sources (entry ∷ order) (bound ∷ bounds) =
 abbrev pub plan_lines : List Source → Plan → List ℕ
 plan_lines sources plan = scan_lines sources plan.scans ++ level_lines 1 sources plan.order plan.levels
 
--- level K ALIAS BOUND ROWS: what stands behind the bound, and the line
+-- what an audit's line has behind the bound, in `level K ALIAS BOUND ROWS`
 abbrev pub row_count : ℕ → List ℕ
 row_count rows = codes " " ++ (decimal rows ++ codes "\n")
 
+-- level K ALIAS BOUND ROWS, where the bound stands between the last two blanks
 abbrev pub audit_line : ℕ → List ℕ → ℕ → ℕ → List ℕ
 audit_line k alias bound rows = level_bound k alias bound ++ row_count rows
 

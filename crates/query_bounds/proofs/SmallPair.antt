@@ -4,9 +4,9 @@ use Rattle.entry_sets.specs.Sets.{entries_of_set}
 use Rattle.query_grammar.specs.declared.tree.Op.TheVariants as op
 use Rattle.join_graph.specs.Conjuncts.{column_operand}
 use Rattle.join_graph.proofs.Comparing.{equality_two}
-use Rattle.sql_meaning.proofs.ConditionFacts.{entries_compare}
 use Rattle.query_bounds.specs.Bounds.{scan_bounds, set_bounds}
 use Rattle.query_bounds.specs.Examples.{pair, pair_known}
+use Rattle.query_types.proofs.CondFacts.{entries_compare}
 
 pub pair_scans : scan_bounds pair pair_known ≡ 6 ∷ 5 ∷ []
 pair_scans = rw (entries_compare op.Eq (column_operand 0 0) (column_operand 1 0)) refl

@@ -114,8 +114,7 @@ module _ (schema : Schema) (text : List ℕ) (from : List Source) where
 
 -- ---- lists of IN
 
--- at most 1,000 values in each list of IN
--- the number of values of a list of IN that is too long
+-- the length of a test's list of IN, where that is more than 1,000; of any other test nothing
 abbrev pub too_long : TestText → List ℕ
 too_long (test.Compare left op right) = []
 too_long (test.Between left negated low high) = []

@@ -1,5 +1,5 @@
 -- What holds of every query that was read over a schema.
-use Rattle.std.specs.Prelude.{◌≡◌, ◌<◌, ◌≤◌, Bool, true, false, List, length, All, Some, slice_get, ⊤}
+use Rattle.std.specs.Prelude.{◌≡◌, ◌<◌, ◌≤◌, Bool, true, false, List, length, All, Some, slice_get}
 use Rattle.limits.specs.Profile.{most_conjuncts}
 use Rattle.schema_types.specs.declared.types.Kind.{Kind}
 use Rattle.schema_types.specs.declared.types.Kind.TheVariants as kind
@@ -7,13 +7,11 @@ use Rattle.schema_types.specs.declared.types.Column.{Column}
 use Rattle.schema_types.specs.declared.types.Table.{Table}
 use Rattle.schema_types.specs.declared.types.Schema.{Schema}
 use Rattle.query_types.specs.declared.types.ColumnRef.{ColumnRef}
-use Rattle.query_types.specs.declared.types.Operand.{Operand}
-use Rattle.query_types.specs.declared.types.Operand.TheVariants as operand
-use Rattle.query_types.specs.declared.types.Cond.{Cond, every-Cond}
-use Rattle.query_types.specs.declared.types.Cond.TheOpen.{Cond-F}
+use Rattle.query_types.specs.declared.types.Cond.{Cond}
 use Rattle.query_types.specs.declared.types.Source.{Source}
 use Rattle.query_types.specs.declared.types.Out.{Out}
 use Rattle.query_types.specs.declared.types.Query.{Query}
+use Rattle.query_types.specs.Typing.{IsTyped}
 
 -- numbers are one kind, texts of any length the other
 abbrev pub is_text : Kind → Bool
@@ -34,27 +32,9 @@ pub record IsColumnOf (schema : Schema) (from : List Source) (ref : ColumnRef) (
   pub finds : Finds schema from ref column
   pub kind : is_text column.kind ≡ text
 
--- an operand is of this kind, and where it is a column that exists
-abbrev pub IsOfKind : Schema → List Source → Operand → Bool → Type 0
-IsOfKind schema from (operand.Column ref) text = IsColumnOf schema from ref text
-IsOfKind schema from (operand.Int value) text = text ≡ false
-IsOfKind schema from (operand.Text value) text = text ≡ true
-
--- both operands of a comparison are of one kind
-pub record Compares (schema : Schema) (from : List Source) (left right : Operand) : Type 0 where
-  pub text : Bool
-  pub left_kind : IsOfKind schema from left text
-  pub right_kind : IsOfKind schema from right text
-
-abbrev pub IsLayerOf : Schema → List Source → Cond-F Cond → Type 0
-IsLayerOf schema from (Cond-F.And parts) = ⊤
-IsLayerOf schema from (Cond-F.Or parts) = ⊤
-IsLayerOf schema from (Cond-F.Not part) = ⊤
-IsLayerOf schema from (Cond-F.Compare op left right) = Compares schema from left right
-
 -- every comparison in a condition is over columns that exist, and of one kind
 abbrev pub IsCondOf : Schema → List Source → Cond → Type 0
-IsCondOf schema from cond = every-Cond (IsLayerOf schema from) cond
+IsCondOf schema from cond = IsTyped (IsColumnOf schema from) cond
 
 -- an entry's table exists
 abbrev pub IsSourceOf : Schema → Source → Type 0

@@ -17,10 +17,11 @@ use Rattle.query_types.specs.declared.types.Operand.TheVariants as operand
 use Rattle.query_types.specs.declared.types.Cond.{Cond, every_here-Cond}
 use Rattle.query_types.specs.declared.types.Cond.TheViews.{out-Cond}
 use Rattle.query_types.specs.declared.types.Query.{Query}
+use Rattle.query_types.specs.Typing.{IsTypedLayer, Compares}
 use Rattle.row_buf.specs.Rows.{Rows}
 use Rattle.join_graph.specs.Conjuncts.{equalities_of, equality_of}
 use Rattle.sql_meaning.specs.Answers.{conjuncts_of}
-use Rattle.sql_meaning.specs.Databases.{AreTables, CanAskLayer, CanCompare, IsAskable, IsColumnOfKind, IsDatabaseOf}
+use Rattle.sql_meaning.specs.Databases.{AreTables, IsAskable, IsColumnOfKind, IsDatabaseOf}
 use Rattle.sql_meaning.specs.Levels.{names_just}
 use Rattle.sql_meaning.specs.Tables.{cells_of, row_counts, tables_of}
 use Rattle.sql_meaning.proofs.LoopFacts.{rows_are}
@@ -119,7 +120,7 @@ joins_kinds query db e of there =
     let found : (cond : Cond) × Contains query.conjuncts cond × (equality_of cond ≡ Some e) = from_filter_map equality_of query.conjuncts e there in
     let j : IsJoin (out-Cond found.0) e = is_join found.0 e found.2 in
     let asked : IsAskable db found.0 = All-contains (IsAskable db) query.conjuncts found.0 of.conjuncts found.1 in
-    let can : CanCompare db (operand.Column j.left) (operand.Column j.right) = subst (CanAskLayer db) j.compares (every_here-Cond (CanAskLayer db) found.0 asked) in
+    let can : Compares (IsColumnOfKind db) (operand.Column j.left) (operand.Column j.right) = subst (IsTypedLayer (IsColumnOfKind db)) j.compares (every_here-Cond (IsTypedLayer (IsColumnOfKind db)) found.0 asked) in
     subst (JoinsKinds db) (sym j.joins) (record { text = can.text; left = can.left_kind; right = can.right_kind })
 
 pub joins_columns : (query : Query) (db : Database) → IsDatabaseOf query db → All (JoinsColumns db) (equalities_of query)

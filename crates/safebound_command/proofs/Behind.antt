@@ -7,9 +7,9 @@ use Rattle.outcomes.specs.declared.status.Status.{Status}
 use Rattle.safebound_top.specs.Call.{Call, CutThenTold, GrewOrWasCut}
 use Rattle.safebound_top.specs.Faults.{fault_text}
 use Rattle.safebound_top.specs.Headline.{DidNotGrow, DoneIsExact, GrewByLine, GrewWhole, Headline, ReadFaultsHaveTheirCause, RefusalsAreTheVerdict, WantOfMemoryLeavesItsLine, WasCut, WasCutAndTold, WriteFaultsHaveTheirCause, grown}
-use Rattle.safebound_top.specs.Outcome.{Outcome}
+use Rattle.prepared_runs.specs.Outcome.{Outcome}
 use Rattle.safebound_top.specs.OutcomeTexts.{notes_text, out_text}
-use Rattle.safebound_top.specs.Verdict.{verdict}
+use Rattle.prepared_runs.specs.Verdict.{verdict}
 
 -- what stands behind the name
 abbrev pub behind : Option (List ℕ) → Option (List ℕ)

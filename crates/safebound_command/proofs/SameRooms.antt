@@ -10,10 +10,10 @@ use Rattle.outcomes.specs.declared.status.Status.TheVariants as status
 use Rattle.safebound_top.specs.Call.{Call, CutThenTold, GrewOrWasCut}
 use Rattle.safebound_top.specs.Faults.{fault_text}
 use Rattle.safebound_top.specs.Headline.{DidNotGrow, GrewWhole, Headline, WasCut, WasCutAndTold, grown}
-use Rattle.safebound_top.specs.Outcome.{Outcome}
+use Rattle.prepared_runs.specs.Outcome.{Outcome}
 use Rattle.safebound_top.specs.OutcomeTexts.{notes_text as notes_of, out_text as out_of}
-use Rattle.safebound_top.specs.Shops.{store_read}
-use Rattle.safebound_top.specs.Verdict.{verdict}
+use Rattle.prepared_runs.specs.Shops.{store_read}
+use Rattle.prepared_runs.specs.Verdict.{verdict}
 use Rattle.demo_files.specs.Files.{demo_files}
 use Rattle.safebound_command.proofs.Behind.{LeftByCutNotes, LeftByCutOut, LeftByDone, headline_behind, named_call, with_name, without_name}
 

@@ -7,7 +7,7 @@ use Rattle.base_io.specs.Files.{Files}
 use Rattle.outcomes.specs.Statuses.{code_of}
 use Rattle.outcomes.specs.declared.status.Status.{Status}
 use Rattle.safebound_top.specs.Headline.{Headline}
-use Rattle.safebound_top.specs.Shops.{shop_of, store_read}
+use Rattle.prepared_runs.specs.Shops.{shop_of, store_read}
 
 -- a store that tells its files, and of which no read fails
 abbrev pub read_from : Files → Files → ℕ → ℕ → Reading

@@ -1,7 +1,7 @@
 //! The top call over lent memory.
 ghost use Rattle.std.specs.Prelude.{◌≡◌, map, take};
 ghost use Rattle.safebound_top.specs.Headline.{Headline};
-ghost use Rattle.safebound_top.specs.Shops.{shop_of, store_read};
+ghost use Rattle.prepared_runs.specs.Shops.{shop_of, store_read};
 ghost use Rattle.slice_devices.specs.Slices.{files_of};
 ghost use Rattle.safebound_command.specs.Command.{read_from, stream};
 

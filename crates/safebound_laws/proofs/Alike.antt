@@ -24,7 +24,6 @@ use Rattle.plans.specs.declared.left_deep.Plan.{Plan}
 use Rattle.query_bounds.specs.Bounds.{entry_bounds, scan_bounds}
 use Rattle.query_types.specs.declared.types.Query.{Query}
 use Rattle.reserve_plan.specs.Memory.{plan_bytes}
-use Rattle.safebound_words.specs.Requests.{Plan as PlanWords, PlanStats, Stats}
 use Rattle.schema_types.proofs.Valid.{declares_valid}
 use Rattle.schema_types.specs.Validity.{IsValid}
 use Rattle.schema_types.specs.declared.types.Schema.{Schema}
@@ -39,25 +38,28 @@ use Rattle.table_files.specs.EntryTables.{entry_rows, tables_in}
 use Rattle.table_files.proofs.EntryLaws.{two_steps}
 use Rattle.table_files.specs.Stage.{tables_stage}
 use Rattle.table_files.specs.TableFile.{read}
-use Rattle.safebound_top.specs.Asks.{FileOf, OverQuery, PlanFrom, PlanOf, WorkAsk, ask_for, asks}
-use Rattle.safebound_top.specs.Filed.{filed_plan_stage, filed_refusal, filed_within, stats_of_text, stats_stage, tables_filed}
-use Rattle.safebound_top.specs.Limits.{within_limit}
-use Rattle.safebound_top.specs.Outcome.{Outcome, Planned, PlannedByFile}
+use Rattle.safebound_words.specs.Commands.{over_query, plan_by}
+use Rattle.safebound_words.specs.declared.command.Work.{Work}
+use Rattle.safebound_words.specs.declared.command.Aim.TheVariants as aims
+use Rattle.safebound_words.specs.declared.command.Work.TheVariants as works
+use Rattle.prepared_runs.specs.Filed.{filed_plan_stage, filed_refusal, filed_within, stats_of_text, stats_stage, tables_filed}
+use Rattle.prepared_runs.specs.Limits.{within_limit}
+use Rattle.prepared_runs.specs.Outcome.{Outcome, Planned, PlannedByFile}
 use Rattle.safebound_top.specs.OutcomeTexts.{out_text}
-use Rattle.safebound_top.specs.Shapes.{planned_by, shape_bytes}
-use Rattle.safebound_top.specs.Sources.{known_by, scans_by}
-use Rattle.safebound_top.specs.Verdict.{aim_run, ask_run, plan_asked, plan_stage, query_stage, run_asked, schema_stage, work_run}
-use Rattle.safebound_top.specs.declared.shapes.Shaped.TheVariants as shaped
-use Rattle.safebound_top.specs.declared.task.ListSource.TheVariants as sources
-use Rattle.safebound_top.specs.declared.task.OutText.TheVariants as out
-use Rattle.safebound_top.specs.declared.task.PlanTask.{PlanTask}
-use Rattle.safebound_top.specs.declared.task.Shape.TheVariants as shapes
+use Rattle.prepared_runs.specs.Shapes.{planned_by, shape_bytes}
+use Rattle.prepared_runs.specs.Sources.{known_by, scans_by}
+use Rattle.prepared_runs.specs.Verdict.{aim_run, command_run, plan_asked, plan_stage, query_stage, run_asked, schema_stage, work_run}
+use Rattle.prepared_runs.specs.declared.shapes.Shaped.TheVariants as shaped
+use Rattle.safebound_words.specs.declared.command.ListSource.TheVariants as sources
+use Rattle.safebound_words.specs.declared.command.OutText.TheVariants as out
+use Rattle.safebound_words.specs.declared.command.PlanWork.{PlanWork}
+use Rattle.safebound_words.specs.declared.command.Shape.TheVariants as shapes
 use Rattle.safebound_top.proofs.Promises.{declares, query_of_schema}
 use Rattle.safebound_laws.specs.Printed.{printed}
 use Rattle.safebound_laws.proofs.Databases.{database_found}
 
 -- what `plan` asks
-abbrev task : ℕ → ℕ → Option ℕ → PlanTask
+abbrev task : ℕ → ℕ → Option ℕ → PlanWork
 task budget accuracy memory = record { budget = budget; accuracy = accuracy; source = sources.Columns; shape = shapes.Order; memory = memory; out = out.Nothing }
 
 -- ---- a limit of memory
@@ -135,7 +137,7 @@ module _ (schema : Schema) (query : Query) (db : Database) (over : IsOverSchema 
 
   pub works_alike : (name : List ℕ) (files : Files) → HasByteColumns schema → tables_in (entry_rows db) ≡ tables_of db
       → tables_stage schema query.from files ≡ Ok (entry_rows db) → read file.Stats most_file name files ≡ Ok (file_text schema file_of)
-      → seen printed (work_run (PlanFrom name budget memory) schema query files) ≡ seen printed (work_run (PlanOf (task budget accuracy memory)) schema query files)
+      → seen printed (work_run (works.PlanFrom name budget memory) schema query files) ≡ seen printed (work_run (works.Plan (task budget accuracy memory)) schema query files)
   works_alike name files columns tables rows there =
       ap (λ stats. seen printed (stats >>= λ stats. filed_plan_stage query stats budget memory)) (read_back name files columns there)
       ∙ ap (seen printed) from_file
@@ -147,10 +149,10 @@ module _ (schema : Schema) (query : Query) (db : Database) (over : IsOverSchema 
 
 module _ (schema_file query_file : List ℕ) (files : Files) (schema : Schema) (query : Query) (schema_is : schema_stage schema_file files ≡ Ok schema)
     (query_is : query_stage query_file schema files ≡ Ok query) where
-  asked_work : (work : WorkAsk) → ask_run (ask_for schema_file query_file work) files ≡ work_run work schema query files
-  unfolding ask_run
+  asked_work : (work : Work) → command_run (over_query None schema_file query_file work) files ≡ work_run work schema query files
+  unfolding command_run
   asked_work work =
-      ap (λ (s : Result Schema Refusal). s >>= λ s. aim_run (OverQuery query_file work) s files) schema_is
+      ap (λ (s : Result Schema Refusal). s >>= λ s. aim_run (aims.Query query_file work) s files) schema_is
       ∙ ap (λ (q : Result Query Refusal). q >>= λ q. work_run work schema q files) query_is
 
 -- ---- what `stats` writes
@@ -165,12 +167,12 @@ record FileMade (schema_file query_file : List ℕ) (accuracy : ℕ) (files : Fi
   rows_are : tables_stage schema query.from files ≡ Ok rows
   is : tables_filed schema query rows accuracy ≡ written
 
-file_made : (schema_file query_file : List ℕ) (accuracy : ℕ) (files : Files) (written : Outcome) → ask_run (ask_for schema_file query_file (FileOf accuracy)) files ≡ Ok written
+file_made : (schema_file query_file : List ℕ) (accuracy : ℕ) (files : Files) (written : Outcome) → command_run (over_query None schema_file query_file (works.File accuracy)) files ≡ Ok written
     → FileMade schema_file query_file accuracy files written
-unfolding ask_run
+unfolding command_run
 file_made schema_file query_file accuracy files written ran =
-    let read = two_steps (schema_stage schema_file files) (λ s. aim_run (OverQuery query_file (FileOf accuracy)) s files) written ran in
-    let asked = two_steps (query_stage query_file read.0 files) (λ q. work_run (FileOf accuracy) read.0 q files) written read.2 in
+    let read = two_steps (schema_stage schema_file files) (λ s. aim_run (aims.Query query_file (works.File accuracy)) s files) written ran in
+    let asked = two_steps (query_stage query_file read.0 files) (λ q. work_run (works.File accuracy) read.0 q files) written read.2 in
     let filed = two_steps (tables_stage read.0 asked.0.from files) (λ rows. Ok (tables_filed read.0 asked.0 rows accuracy)) written asked.2 in
     record {
       schema = read.0;
@@ -186,10 +188,10 @@ file_made schema_file query_file accuracy files written ran =
 
 pub files_alike : (schema_file query_file stats_file : List ℕ) (accuracy budget : ℕ) (memory : Option ℕ) (files : Files) (written : Outcome) (text : List ℕ)
     → 0 < accuracy → accuracy ≤ most_accuracy
-    → ask_run (asks (Stats schema_file query_file accuracy)) files ≡ Ok written → out_text written ≡ Some text
+    → command_run (over_query None schema_file query_file (works.File accuracy)) files ≡ Ok written → out_text written ≡ Some text
     → read file.Stats most_file stats_file files ≡ Ok text
-    → seen printed (ask_run (asks (PlanStats schema_file query_file stats_file budget memory)) files)
-    ≡ seen printed (ask_run (asks (PlanWords schema_file query_file budget accuracy false false false memory)) files)
+    → seen printed (command_run (over_query None schema_file query_file (works.PlanFrom stats_file budget memory)) files)
+    ≡ seen printed (command_run (over_query None schema_file query_file (plan_by out.Nothing budget accuracy false false false memory)) files)
 files_alike schema_file query_file stats_file accuracy budget memory files outcome text least most ran wrote there =
     let made = file_made schema_file query_file accuracy files outcome ran in
     let schema = made.schema in
@@ -203,7 +205,7 @@ files_alike schema_file query_file stats_file accuracy budget memory files outco
     let those : file_text schema (file_of_query schema query (tables_in made.rows) accuracy) ≡ text = cc in
     let is : text ≡ file_text schema (file_of_query schema query (tables_of found.database) accuracy)
     = sym those ∙ ap (λ tables. file_text schema (file_of_query schema query tables accuracy)) tables in
-    ap (seen printed) (asked_work schema_file query_file files schema query made.schema_is made.query_is (PlanFrom stats_file budget memory))
+    ap (seen printed) (asked_work schema_file query_file files schema query made.schema_is made.query_is (works.PlanFrom stats_file budget memory))
     ∙ works_alike schema query found.database found.over accuracy least most budget memory stats_file files columns found.tables_are
     (made.rows_are ∙ ap (λ rows. Ok rows) found.rows_are) (there ∙ ap (λ text. Ok text) is)
-    ∙ sym (ap (seen printed) (asked_work schema_file query_file files schema query made.schema_is made.query_is (PlanOf (task budget accuracy memory))))
+    ∙ sym (ap (seen printed) (asked_work schema_file query_file files schema query made.schema_is made.query_is (works.Plan (task budget accuracy memory))))

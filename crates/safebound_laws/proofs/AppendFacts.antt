@@ -11,7 +11,6 @@ use Rattle.outcomes.specs.Reads.{◌>>=◌}
 use Rattle.outcomes.specs.declared.refusal.Refusal.{Refusal}
 use Rattle.outcomes.specs.declared.refusal.Refusal.TheVariants as refusal
 use Rattle.safebound_words.specs.Answer.{command_of}
-use Rattle.safebound_words.specs.Requests.{Append}
 use Rattle.schema_types.specs.Validity.{IsValid}
 use Rattle.schema_types.specs.declared.types.Schema.{Schema}
 use Rattle.sql_meaning.specs.Tables.{Tables}
@@ -20,13 +19,16 @@ use Rattle.stats_file.specs.declared.types.StatsFile.{StatsFile}
 use Rattle.table_files.specs.Stage.{table_at}
 use Rattle.table_files.specs.TableFile.{rows_in}
 use Rattle.table_files.proofs.EntryLaws.{two_steps}
-use Rattle.safebound_top.specs.Appending.{append_run, grown_stage, rows_run, section_stage, stats_run}
-use Rattle.safebound_top.specs.Asks.{AppendAsk, AppendTo, Ask, append_for, command_stage, request_stage}
-use Rattle.safebound_top.specs.Filed.{stats_stage}
-use Rattle.safebound_top.specs.Outcome.{Appended, AppendedRows, FiledPlan, HoldsWhereItStands, NoBoundIsTooLow, Outcome, PlannedByFile}
-use Rattle.safebound_top.specs.Verdict.{aim_run, ask_run, schema_stage, verdict}
-use Rattle.safebound_top.proofs.FiledRuns.{stats_keep}
-use Rattle.safebound_top.proofs.Runs.{bounds_hold, schema_ok}
+use Rattle.prepared_runs.specs.Appending.{append_run, grown_stage, rows_run, section_stage, stats_run}
+use Rattle.safebound_words.specs.Commands.{with_rows}
+use Rattle.safebound_words.specs.declared.command.Command.{Command}
+use Rattle.safebound_words.specs.declared.command.NewRows.{NewRows}
+use Rattle.safebound_words.specs.declared.command.Aim.TheVariants as aims
+use Rattle.prepared_runs.specs.Filed.{stats_stage}
+use Rattle.prepared_runs.specs.Outcome.{Appended, AppendedRows, FiledPlan, HoldsWhereItStands, NoBoundIsTooLow, Outcome, PlannedByFile}
+use Rattle.prepared_runs.specs.Verdict.{aim_run, command_run, command_stage, or_usage, schema_stage, verdict}
+use Rattle.prepared_runs.proofs.FiledRuns.{stats_keep}
+use Rattle.prepared_runs.proofs.Runs.{bounds_hold, schema_ok}
 use Rattle.safebound_laws.specs.Appends.{Grows, PlansAfter, StandsAfter}
 
 holds_of : {A : Type 0} (P : A → Type 0) (r : Result A Refusal) (x : A) → r ≡ Ok x → IfOk r P → P x
@@ -44,11 +46,11 @@ module _ (schema : Schema) (stats : StatsFile) (table before : ℕ) (rows : List
     | inr many ↦ absurd (let no = rw many at is in cc)
   ]
 
-module _ (files : Files) (schema_file : List ℕ) (append : AppendAsk) (outcome : Outcome) where
-  grows_so : ask_run (append_for schema_file append) files ≡ Ok outcome → Grows files schema_file append.stats_file append.table append.rows_file outcome
-  unfolding ask_run append_run stats_run rows_run
+module _ (files : Files) (schema_file : List ℕ) (append : NewRows) (outcome : Outcome) where
+  grows_so : command_run (with_rows schema_file append) files ≡ Ok outcome → Grows files schema_file append.stats_file append.table append.rows_file outcome
+  unfolding command_run append_run stats_run rows_run
   grows_so is =
-      let first = two_steps (schema_stage schema_file files) (λ schema. aim_run (AppendTo append) schema files) outcome is in
+      let first = two_steps (schema_stage schema_file files) (λ schema. aim_run (aims.Append append) schema files) outcome is in
       let second = two_steps (stats_stage append.stats_file first.0 files) (λ stats. stats_run append first.0 stats files) outcome first.2 in
       let third = two_steps (section_stage append.table first.0 second.0) (λ section. rows_run append.rows_file first.0 second.0 section.table section.rows files) outcome second.2 in
       let last = two_steps (rows_in third.0.table (table_at first.0 third.0.table) append.rows_file files) (grown_stage first.0 second.0 third.0.table third.0.rows) outcome third.2 in
@@ -66,13 +68,13 @@ module _ (files : Files) (schema_file : List ℕ) (append : AppendAsk) (outcome 
         written = grown_so first.0 second.0 third.0.table third.0.rows last.0 outcome last.2;
       }
 
-pub append_grows : (words : List (List ℕ)) (files : Files) (schema stats name rows : List ℕ) (outcome : Outcome) → command_of words ≡ Some (Append schema stats name rows)
+pub append_grows : (words : List (List ℕ)) (files : Files) (schema stats name rows : List ℕ) (outcome : Outcome) → command_of words ≡ Some (with_rows schema (record { stats_file = stats; table = name; rows_file = rows }))
     → verdict words files ≡ Ok outcome → Grows files schema stats name rows outcome
 unfolding verdict
 append_grows words files schema stats name rows outcome command is =
-    let append : AppendAsk = record { stats_file = stats; table = name; rows_file = rows } in
-    let asked : command_stage words ≡ Ok (append_for schema append) = ap request_stage command in
-    grows_so files schema append outcome (sym (ap (λ (r : Result Ask Refusal). r >>= (λ ask. ask_run ask files)) asked) ∙ is)
+    let append : NewRows = record { stats_file = stats; table = name; rows_file = rows } in
+    let asked : command_stage words ≡ Ok (with_rows schema append) = ap or_usage command in
+    grows_so files schema append outcome (sym (ap (λ (r : Result Command Refusal). r >>= (λ ask. command_run ask files)) asked) ∙ is)
 
 module _ (files : Files) (schema stats name rows : List ℕ) (outcome : Outcome) (grows : Grows files schema stats name rows outcome) where
   keeps : KeepsRules grows.schema grows.before

@@ -1,6 +1,6 @@
 -- No file of `demo` is absent, and no read of its store fails: it never ends with a read fault.
-use Rattle.std.proofs.Common.{◌≡◌, inl, inr, ℕ, List, [], Option, None, Some, Result, Ok, Err, ap, sym, ◌∙◌, subst, arith}
-use Rattle.std.specs.Prelude.{codes, false}
+use Rattle.std.proofs.Common.{◌≡◌, inl, inr, ℕ, List, [], Option, None, Some, Result, Ok, Err, refl, ap, sym, ◌∙◌, subst, arith}
+use Rattle.std.specs.Prelude.{codes}
 use Rattle.base_io.specs.Causes.{Rose}
 use Rattle.base_io.specs.Devices.{Reading}
 use Rattle.base_io.specs.Files.{Files}
@@ -28,18 +28,19 @@ use Rattle.table_files.specs.EntryTables.{tables_in}
 use Rattle.table_files.specs.Stage.{tables_stage}
 use Rattle.demo_tables.proofs.Absences.{query_there, schema_there, tables_miss, then_misses}
 use Rattle.safebound_words.specs.Answer.{command_of}
-use Rattle.safebound_words.specs.Requests.{Request, Run, Plan, Audit, Stats, PlanStats, Append, Demo}
-use Rattle.safebound_top.specs.Asks.{Ask, PlanOf, ask_for, command_stage, plan_for, request_stage}
+use Rattle.safebound_words.specs.Commands.{demo_of, over_query}
+use Rattle.safebound_words.proofs.Ranges.{of_shop}
+use Rattle.safebound_words.specs.declared.command.Command.{Command}
+use Rattle.safebound_words.specs.declared.command.Work.TheVariants as works
 use Rattle.safebound_top.specs.Call.{Call}
 use Rattle.safebound_top.specs.Headline.{Headline}
-use Rattle.safebound_top.specs.Limits.{within_limit}
-use Rattle.safebound_top.specs.Outcome.{Planned}
-use Rattle.safebound_top.specs.Shapes.{shape_bytes}
-use Rattle.safebound_top.specs.Shops.{request_shop, shop_of, shop_store}
-use Rattle.safebound_top.specs.Verdict.{aim_run, ask_run, plan_asked, plan_stage, query_of_text, query_stage, run_asked, schema_of_text, schema_stage, verdict, work_run}
-use Rattle.safebound_top.specs.declared.task.OutText.TheVariants as out_text
-use Rattle.safebound_top.specs.declared.task.PlanTask.{PlanTask}
-use Rattle.safebound_top.proofs.LimitFacts.{within_misses}
+use Rattle.prepared_runs.specs.Limits.{within_limit}
+use Rattle.prepared_runs.specs.Outcome.{Planned}
+use Rattle.prepared_runs.specs.Shapes.{shape_bytes}
+use Rattle.prepared_runs.specs.Shops.{shop_asked, shop_of, shop_store}
+use Rattle.prepared_runs.specs.Verdict.{aim_run, command_run, command_stage, plan_asked, plan_stage, query_of_text, query_stage, or_usage, run_asked, schema_of_text, schema_stage, verdict, work_run}
+use Rattle.safebound_words.specs.declared.command.PlanWork.{PlanWork}
+use Rattle.prepared_runs.proofs.LimitFacts.{within_misses}
 use Rattle.table_files.proofs.StagedFiles.{told_ok}
 use Rattle.safebound_top.proofs.Promises.{query_of_schema}
 
@@ -81,9 +82,9 @@ module _ (number : ℕ) where
   unfolding query_stage
   query_is schema = ap (λ (r : Result (List ℕ) Refusal). r >>= query_of_text schema) (query_there number)
 
-  module _ (task : PlanTask) where
-    abbrev ask : Ask
-    ask = ask_for (codes "schema.sql") (codes "query.sql") (PlanOf task)
+  module _ (task : PlanWork) where
+    abbrev ask : Command
+    ask = over_query (Some number) (codes "schema.sql") (codes "query.sql") (works.Plan task)
 
     plan_misses : (schema : Schema) (query : Query) (rows : List (List Row)) → MissesNothing (plan_stage task schema query rows)
     unfolding plan_stage
@@ -93,19 +94,19 @@ module _ (number : ℕ) where
         (λ plan _. within_misses task.memory (shape_bytes plan) (Planned (run_asked task query rows plan)))
 
     query_misses : (schema : Schema) (query : Query) → schema_answer schema_text ≡ Ok schema → IsOf schema query
-        → MissesNothing (work_run (PlanOf task) schema query (demo_files number))
+        → MissesNothing (work_run (works.Plan task) schema query (demo_files number))
     query_misses schema query read_as of =
         then_misses (tables_stage schema query.from files) (plan_stage task schema query) (tables_miss number schema query read_as of)
         (λ rows _. plan_misses schema query rows)
 
     schema_misses : (schema : Schema) → schema_answer schema_text ≡ Ok schema → MissesNothing (aim_run ask.aim schema (demo_files number))
     schema_misses schema read_as =
-        then_misses (query_stage (codes "query.sql") schema files) (λ query. work_run (PlanOf task) schema query files)
+        then_misses (query_stage (codes "query.sql") schema files) (λ query. work_run (works.Plan task) schema query files)
         (subst MissesNothing (sym (query_is schema)) (queries_miss (query_answer schema query_text)))
         (λ query there. query_misses schema query read_as (query_of_schema (codes "query.sql") files schema query there))
 
-    ask_misses : MissesNothing (ask_run (ask_for (codes "schema.sql") (codes "query.sql") (PlanOf task)) (demo_files number))
-    unfolding ask_run
+    ask_misses : MissesNothing (command_run (over_query (Some number) (codes "schema.sql") (codes "query.sql") (works.Plan task)) (demo_files number))
+    unfolding command_run
     ask_misses =
         then_misses (schema_stage (codes "schema.sql") files) (λ schema. aim_run ask.aim schema files)
         (subst MissesNothing (sym schema_is) (schemas_miss (schema_answer schema_text)))
@@ -113,22 +114,16 @@ module _ (number : ℕ) where
 
 -- ---- the words
 
-demo_asked : (number : ℕ) (request : Option Request) → request_shop request ≡ Some number → request ≡ Some (Demo number)
-demo_asked number None e = cc
-demo_asked number (Some (Run schema query budget accuracy reduce bushy keys memory)) e = cc
-demo_asked number (Some (Plan schema query budget accuracy reduce bushy keys memory)) e = cc
-demo_asked number (Some (Audit schema query budget accuracy reduce bushy keys memory)) e = cc
-demo_asked number (Some (Stats schema query accuracy)) e = cc
-demo_asked number (Some (PlanStats schema query file budget memory)) e = cc
-demo_asked number (Some (Append schema file table rows)) e = cc
-demo_asked number (Some (Demo other)) e = (let same : other ≡ number = cc in ap (λ (n : ℕ). Some (Demo n)) same)
+demo_asked : (words : List (List ℕ)) (number : ℕ) (asked : Option Command) → command_of words ≡ asked → shop_asked asked ≡ Some number
+    → asked ≡ Some (demo_of number)
+demo_asked words number None is e = cc
+demo_asked words number (Some command) is e = ap (λ (c : Command). Some c) (of_shop words command is number e)
 
 pub demo_misses : (number : ℕ) (words : List (List ℕ)) → shop_of words ≡ Some number → MissesNothing (verdict words (demo_files number))
 unfolding verdict
 demo_misses number words is =
-    let asked : command_stage words ≡ Ok (ask_for (codes "schema.sql") (codes "query.sql") (plan_for out_text.Audit 1000000 1 false false false None)) =
-    ap request_stage (demo_asked number (command_of words) is) in
-    subst (λ (r : Result Ask Refusal). MissesNothing (r >>= (λ ask. ask_run ask (demo_files number)))) (sym asked) (ask_misses number _)
+    let asked : command_stage words ≡ Ok (demo_of number) = ap or_usage (demo_asked words number (command_of words) refl is) in
+    subst (λ (r : Result Command Refusal). MissesNothing (r >>= (λ command. command_run command (demo_files number)))) (sym asked) (ask_misses number _)
 
 -- ---- a call over the shop's store
 

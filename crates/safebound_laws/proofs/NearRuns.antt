@@ -1,5 +1,5 @@
 -- What a run over whole columns prints is near the bounds without compression.
-use Rattle.std.proofs.Common.{◌≡◌, ℕ, List, Result, Ok, Err, ap, sym, ◌∙◌, subst, arith}
+use Rattle.std.proofs.Common.{◌≡◌, ℕ, List, Option, Result, Ok, Err, ap, sym, ◌∙◌, subst, arith}
 use Rattle.base_io.specs.Files.{Files}
 use Rattle.order_search.specs.declared.refusal.PlanError.{PlanError}
 use Rattle.plans.specs.declared.left_deep.Plan.{Plan}
@@ -18,19 +18,21 @@ use Rattle.sql_meaning.specs.Tables.{Tables}
 use Rattle.outcomes.specs.Reads.{◌>>=◌, seen}
 use Rattle.outcomes.specs.declared.refusal.Refusal.{Refusal}
 use Rattle.table_files.specs.EntryTables.{tables_in}
-use Rattle.safebound_top.specs.Accepted.{Accepted, tables}
-use Rattle.safebound_top.specs.Asks.{Ask, PlanOf, ask_for, command_stage}
-use Rattle.safebound_top.specs.Outcome.{Planned}
-use Rattle.safebound_top.specs.Shapes.{answer_of, planned_by}
-use Rattle.safebound_top.specs.Sources.{known_by, scans_by, sourced}
-use Rattle.safebound_top.specs.Verdict.{ask_run, run_asked, verdict}
-use Rattle.safebound_top.specs.declared.shapes.Shaped.{Shaped}
-use Rattle.safebound_top.specs.declared.shapes.Shaped.TheVariants as shaped
-use Rattle.safebound_top.specs.declared.task.ListSource.{ListSource}
-use Rattle.safebound_top.specs.declared.task.ListSource.TheVariants as sources
-use Rattle.safebound_top.specs.declared.task.PlanTask.{PlanTask}
-use Rattle.safebound_top.specs.declared.task.Shape.{Shape}
-use Rattle.safebound_top.specs.declared.task.Shape.TheVariants as shapes
+use Rattle.prepared_runs.specs.Accepted.{Accepted, tables}
+use Rattle.safebound_words.specs.Commands.{over_query}
+use Rattle.safebound_words.specs.declared.command.Command.{Command}
+use Rattle.safebound_words.specs.declared.command.Work.TheVariants as works
+use Rattle.prepared_runs.specs.Outcome.{Planned}
+use Rattle.prepared_runs.specs.Shapes.{answer_of, planned_by}
+use Rattle.prepared_runs.specs.Sources.{known_by, scans_by, sourced}
+use Rattle.prepared_runs.specs.Verdict.{command_run, command_stage, run_asked, verdict}
+use Rattle.prepared_runs.specs.declared.shapes.Shaped.{Shaped}
+use Rattle.prepared_runs.specs.declared.shapes.Shaped.TheVariants as shaped
+use Rattle.safebound_words.specs.declared.command.ListSource.{ListSource}
+use Rattle.safebound_words.specs.declared.command.ListSource.TheVariants as sources
+use Rattle.safebound_words.specs.declared.command.PlanWork.{PlanWork}
+use Rattle.safebound_words.specs.declared.command.Shape.{Shape}
+use Rattle.safebound_words.specs.declared.command.Shape.TheVariants as shapes
 use Rattle.safebound_top.proofs.Promises.{Stages, query_of_schema, stages}
 
 -- an order is the answer where an order is asked for, and a tree where a tree is
@@ -75,7 +77,7 @@ tree_planned shape schema query ts accuracy budget plan e = tree_is_answer shape
 
 -- ---- of an accepted run
 
-module _ (schema_file query_file : List ℕ) (task : PlanTask) (files : Files) (run : Accepted) (s : Stages schema_file query_file task files (Planned run))
+module _ (schema_file query_file : List ℕ) (task : PlanWork) (files : Files) (run : Accepted) (s : Stages schema_file query_file task files (Planned run))
     (source : run.source ≡ sources.Columns) (none : FiltersNoEntry run.query) where
   same_run : run_asked task s.query s.rows s.plan ≡ run
   same_run = cc (s.is_run)
@@ -107,8 +109,8 @@ module _ (schema_file query_file : List ℕ) (task : PlanTask) (files : Files) (
       (nodes_near s.query (tables_in s.rows) task.accuracy task.budget plan its_own (omega (arith, of.some)) of.few
       (tree_planned task.shape s.schema s.query (tables_in s.rows) task.accuracy task.budget plan (made (shaped.Over plan) is)))
 
-pub stages_of : (words : List (List ℕ)) (files : Files) (schema query : List ℕ) (task : PlanTask) (run : Accepted)
-    → command_stage words ≡ Ok (ask_for schema query (PlanOf task)) → verdict words files ≡ Ok (Planned run) → Stages schema query task files (Planned run)
+pub stages_of : (words : List (List ℕ)) (files : Files) (shop : Option ℕ) (schema query : List ℕ) (task : PlanWork) (run : Accepted)
+    → command_stage words ≡ Ok (over_query shop schema query (works.Plan task)) → verdict words files ≡ Ok (Planned run) → Stages schema query task files (Planned run)
 unfolding verdict
-stages_of words files schema query task run asked is =
-    stages schema query task files (Planned run) (sym (ap (λ (r : Result Ask Refusal). r >>= (λ a. ask_run a files)) asked) ∙ is)
+stages_of words files shop schema query task run asked is =
+    stages shop schema query task files (Planned run) (sym (ap (λ (r : Result Command Refusal). r >>= (λ a. command_run a files)) asked) ∙ is)

@@ -14,10 +14,10 @@ use Rattle.stats_file.specs.declared.types.StatsFile.{StatsFile}
 use Rattle.stats_file.specs.declared.types.TableStats.{TableStats}
 use Rattle.table_files.specs.Stage.{table_at}
 use Rattle.table_files.specs.TableFile.{rows_in}
-use Rattle.safebound_top.specs.Appending.{section_stage}
-use Rattle.safebound_top.specs.Filed.{stats_stage}
-use Rattle.safebound_top.specs.Outcome.{Appended, FiledPlan, Outcome, PlannedByFile}
-use Rattle.safebound_top.specs.Verdict.{schema_stage, verdict}
+use Rattle.prepared_runs.specs.Appending.{section_stage}
+use Rattle.prepared_runs.specs.Filed.{stats_stage}
+use Rattle.prepared_runs.specs.Outcome.{Appended, FiledPlan, Outcome, PlannedByFile}
+use Rattle.prepared_runs.specs.Verdict.{schema_stage, verdict}
 
 -- the schema, the statistics file, its section of the table and the new rows are those in the files that the command names, and what is
 -- written is that file after these rows

@@ -1,6 +1,6 @@
 -- What is printed of what a run comes to.
 use Rattle.std.specs.Prelude.{ℕ, List, Option}
-use Rattle.safebound_top.specs.Outcome.{Outcome}
+use Rattle.prepared_runs.specs.Outcome.{Outcome}
 use Rattle.safebound_top.specs.OutcomeTexts.{notes_text, out_text}
 
 -- the text for notes and the text for out, where there are such

@@ -2,16 +2,16 @@
 ghost use Rattle.std.specs.Prelude.{◌≡◌, ℕ, List, Ok, Some};
 ghost use Rattle.base_io.specs.Files.{Files};
 ghost use Rattle.safebound_words.specs.Answer.{command_of};
-ghost use Rattle.safebound_words.specs.Requests.{Append};
-ghost use Rattle.safebound_top.specs.Outcome.{Outcome};
-ghost use Rattle.safebound_top.specs.Verdict.{verdict};
+ghost use Rattle.safebound_words.specs.Commands.{with_rows};
+ghost use Rattle.prepared_runs.specs.Outcome.{Outcome};
+ghost use Rattle.prepared_runs.specs.Verdict.{verdict};
 ghost use Rattle.safebound_laws.specs.Appends.{Grows, PlansAfter, StandsAfter};
 
 /// Where `append` writes a file, the schema, the statistics file and the new rows are those in the files that it names, and the file that it
 /// writes is that statistics file after these rows.
 pub fn appended_files_are_read()
     ensures { (words : List (List ℕ)) (files : Files) (schema stats name rows : List ℕ) (outcome : Outcome)
-        → command_of words ≡ Some (Append schema stats name rows) → verdict words files ≡ Ok outcome
+        → command_of words ≡ Some (with_rows schema (record { stats_file = stats; table = name; rows_file = rows })) → verdict words files ≡ Ok outcome
         → Grows files schema stats name rows outcome }
 {}
 

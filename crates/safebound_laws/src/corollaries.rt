@@ -1,5 +1,5 @@
 //! What follows from the headline and the verdict. Each call does nothing.
-ghost use Rattle.std.specs.Prelude.{◌≡◌, ◌≢◌, ℕ, List, Ok, Some};
+ghost use Rattle.std.specs.Prelude.{◌≡◌, ◌≢◌, ℕ, List, Option, Ok, Some};
 ghost use Rattle.base_io.specs.Files.{Files};
 ghost use Rattle.outcomes.specs.declared.names.FileId.{FileId};
 ghost use Rattle.outcomes.specs.declared.refusal.Refusal.TheVariants as refusal;
@@ -7,17 +7,18 @@ ghost use Rattle.outcomes.specs.declared.status.Status.TheVariants as status;
 ghost use Rattle.plans.specs.declared.left_deep.Plan.{Plan};
 ghost use Rattle.tree_plans.specs.declared.bushy.BushyPlan.{BushyPlan};
 ghost use Rattle.plan_nearness.specs.Nearness.{FiltersNoEntry, LevelsAreNear, NodesAreNear};
-ghost use Rattle.safebound_top.specs.Accepted.{Accepted, tables};
-ghost use Rattle.safebound_top.specs.Asks.{PlanOf, ask_for, command_stage};
+ghost use Rattle.prepared_runs.specs.Accepted.{Accepted, tables};
+ghost use Rattle.safebound_words.specs.Commands.{over_query};
+ghost use Rattle.safebound_words.specs.declared.command.Work.TheVariants as works;
 ghost use Rattle.safebound_top.specs.Call.{Call};
 ghost use Rattle.safebound_top.specs.Headline.{Headline};
-ghost use Rattle.safebound_top.specs.Outcome.{Planned};
+ghost use Rattle.prepared_runs.specs.Outcome.{Planned};
 ghost use Rattle.safebound_top.specs.Promise.{Promise};
-ghost use Rattle.safebound_top.specs.Shops.{shop_of, shop_store};
-ghost use Rattle.safebound_top.specs.Verdict.{verdict};
-ghost use Rattle.safebound_top.specs.declared.shapes.Shaped.TheVariants as shaped;
-ghost use Rattle.safebound_top.specs.declared.task.ListSource.TheVariants as sources;
-ghost use Rattle.safebound_top.specs.declared.task.PlanTask.{PlanTask};
+ghost use Rattle.prepared_runs.specs.Shops.{shop_of, shop_store};
+ghost use Rattle.prepared_runs.specs.Verdict.{command_stage, verdict};
+ghost use Rattle.prepared_runs.specs.declared.shapes.Shaped.TheVariants as shaped;
+ghost use Rattle.safebound_words.specs.declared.command.ListSource.TheVariants as sources;
+ghost use Rattle.safebound_words.specs.declared.command.PlanWork.{PlanWork};
 
 /// A call that has the headline keeps the promise of `run`, which names no stage of the program.
 pub fn the_headline_keeps_the_promise()
@@ -35,12 +36,12 @@ pub fn demo_meets_no_read_fault()
 /// Near, where no conjunct names one entry alone, and without `--reduce` and `--keys`: at accuracy K, K^n times the printed bound of each level or
 /// inner node of n entries is at most (K + 1)^n times the uncompressed one.
 pub fn printed_bounds_are_near()
-    ensures levels { (words : List (List ℕ)) (files : Files) (schema query : List ℕ) (task : PlanTask) (run : Accepted) (plan : Plan)
-        → command_stage words ≡ Ok (ask_for schema query (PlanOf task)) → verdict words files ≡ Ok (Planned run)
+    ensures levels { (words : List (List ℕ)) (files : Files) (shop : Option ℕ) (schema query : List ℕ) (task : PlanWork) (run : Accepted) (plan : Plan)
+        → command_stage words ≡ Ok (over_query shop schema query (works.Plan task)) → verdict words files ≡ Ok (Planned run)
         → run.source ≡ sources.Columns → FiltersNoEntry run.query
         → run.plan ≡ shaped.Along plan → LevelsAreNear run.query (tables run) task.accuracy plan }
-    ensures nodes { (words : List (List ℕ)) (files : Files) (schema query : List ℕ) (task : PlanTask) (run : Accepted) (plan : BushyPlan)
-        → command_stage words ≡ Ok (ask_for schema query (PlanOf task)) → verdict words files ≡ Ok (Planned run)
+    ensures nodes { (words : List (List ℕ)) (files : Files) (shop : Option ℕ) (schema query : List ℕ) (task : PlanWork) (run : Accepted) (plan : BushyPlan)
+        → command_stage words ≡ Ok (over_query shop schema query (works.Plan task)) → verdict words files ≡ Ok (Planned run)
         → run.source ≡ sources.Columns → FiltersNoEntry run.query
         → run.plan ≡ shaped.Over plan → NodesAreNear run.query (tables run) task.accuracy plan }
 {}

@@ -1,10 +1,12 @@
 //! What holds of statistics files and of the verdicts over them: no law computes anything, and the contract is the law.
-ghost use Rattle.std.specs.Prelude.{◌≡◌, ◌⊎◌, ◌<◌, ◌≤◌, ℕ, List, Option, Result, Ok, Err, Some, false};
+ghost use Rattle.std.specs.Prelude.{◌≡◌, ◌⊎◌, ◌<◌, ◌≤◌, ℕ, List, Option, Result, Ok, Err, None, Some, false};
 ghost use Rattle.limits.specs.Profile.{most_accuracy, most_file};
 ghost use Rattle.base_io.specs.Files.{Files};
 ghost use Rattle.outcomes.specs.Reads.{seen};
 ghost use Rattle.outcomes.specs.declared.names.FileId.TheVariants as file;
-ghost use Rattle.safebound_words.specs.Requests.{Plan, PlanStats, Stats};
+ghost use Rattle.safebound_words.specs.Commands.{over_query, plan_by};
+ghost use Rattle.safebound_words.specs.declared.command.OutText.TheVariants as out_text;
+ghost use Rattle.safebound_words.specs.declared.command.Work.TheVariants as works;
 ghost use Rattle.schema_types.specs.Texts.{IsSchemaOf};
 ghost use Rattle.schema_types.specs.declared.types.Schema.{Schema};
 ghost use Rattle.stats_answers.specs.StatsTexts.{stats_answer};
@@ -15,10 +17,9 @@ ghost use Rattle.stats_file.specs.declared.types.StatsError.{StatsError};
 ghost use Rattle.stats_file.specs.declared.types.StatsError.TheVariants as error;
 ghost use Rattle.stats_file.specs.declared.types.StatsFile.{StatsFile};
 ghost use Rattle.table_files.specs.TableFile.{read};
-ghost use Rattle.safebound_top.specs.Asks.{asks};
-ghost use Rattle.safebound_top.specs.Outcome.{Outcome};
+ghost use Rattle.prepared_runs.specs.Outcome.{Outcome};
 ghost use Rattle.safebound_top.specs.OutcomeTexts.{out_text};
-ghost use Rattle.safebound_top.specs.Verdict.{ask_run};
+ghost use Rattle.prepared_runs.specs.Verdict.{command_run};
 ghost use Rattle.safebound_laws.specs.Printed.{printed};
 
 /// Over a schema that a text declares, the text of a file that keeps the rules is answered by that file; and reading it answers the file, or
@@ -36,8 +37,8 @@ pub fn files_of_declared_schemas_are_read()
 pub fn files_plan_as_their_tables()
     ensures { (schema_file query_file stats_file : List ℕ) (accuracy budget : ℕ) (memory : Option ℕ) (files : Files) (written : Outcome) (text : List ℕ)
         → 0 < accuracy → accuracy ≤ most_accuracy
-        → ask_run (asks (Stats schema_file query_file accuracy)) files ≡ Ok written → out_text written ≡ Some text
+        → command_run (over_query None schema_file query_file (works.File accuracy)) files ≡ Ok written → out_text written ≡ Some text
         → read file.Stats most_file stats_file files ≡ Ok text
-        → seen printed (ask_run (asks (PlanStats schema_file query_file stats_file budget memory)) files)
-        ≡ seen printed (ask_run (asks (Plan schema_file query_file budget accuracy false false false memory)) files) }
+        → seen printed (command_run (over_query None schema_file query_file (works.PlanFrom stats_file budget memory)) files)
+        ≡ seen printed (command_run (over_query None schema_file query_file (plan_by out_text.Nothing budget accuracy false false false memory)) files) }
 {}

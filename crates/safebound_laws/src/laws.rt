@@ -22,14 +22,14 @@ ghost use Rattle.stats_file.specs.declared.types.StatsFile.{StatsFile};
 ghost use Rattle.text_answers.specs.QueryTexts.{query_answer};
 ghost use Rattle.text_answers.specs.SchemaTexts.{schema_answer};
 ghost use Rattle.safebound_words.specs.Answer.{command_of};
-ghost use Rattle.safebound_words.specs.Requests.{Demo};
-ghost use Rattle.safebound_top.specs.Outcome.{KeepsItsLimit, NoBoundIsTooLow, PrintsTheAnswer};
-ghost use Rattle.safebound_top.specs.Shapes.{planned_by};
-ghost use Rattle.safebound_top.specs.Sources.{Needs, Sourced, sourced};
-ghost use Rattle.safebound_top.specs.Standing.{IsSource};
-ghost use Rattle.safebound_top.specs.Verdict.{verdict};
-ghost use Rattle.safebound_top.specs.declared.task.ListSource.{ListSource};
-ghost use Rattle.safebound_top.specs.declared.task.Shape.{Shape};
+ghost use Rattle.safebound_words.specs.Commands.{demo_of};
+ghost use Rattle.prepared_runs.specs.Outcome.{KeepsItsLimit, NoBoundIsTooLow, PrintsTheAnswer};
+ghost use Rattle.prepared_runs.specs.Shapes.{planned_by};
+ghost use Rattle.prepared_runs.specs.Sources.{Needs, Sourced, sourced};
+ghost use Rattle.prepared_runs.specs.Standing.{IsSource};
+ghost use Rattle.prepared_runs.specs.Verdict.{verdict};
+ghost use Rattle.safebound_words.specs.declared.command.ListSource.{ListSource};
+ghost use Rattle.safebound_words.specs.declared.command.Shape.{Shape};
 
 /// What the words and the files come to has no bound that is too low, and its printed rows, if any, are the answer of the
 /// query. Of a plan from a statistics file this holds over all tables for which the file stands; a statistics file that is
@@ -42,7 +42,7 @@ pub fn run_law()
 
 /// What `demo NUMBER` answers over any files is what `audit schema.sql query.sql` answers over them. It does nothing.
 pub fn demo_is_an_audit()
-    ensures { (number : ℕ) (words : List (List ℕ)) (files : Files) → command_of words ≡ Some (Demo number)
+    ensures { (number : ℕ) (words : List (List ℕ)) (files : Files) → command_of words ≡ Some (demo_of number)
         → verdict words files ≡ verdict (codes "audit" ∷ codes "schema.sql" ∷ codes "query.sql" ∷ []) files }
 {}
 

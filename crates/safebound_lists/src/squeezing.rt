@@ -8,7 +8,7 @@ ghost use Rattle.safebound_lists.specs.Written.{IsWritten};
 use crate::refusal::Refusal;
 use crate::runs::{Run, first_wrong_run, pieces_of};
 use crate::written::write_runs;
-use limits::MOST_ACCURACY;
+use limits::{Accuracy, MOST_ACCURACY};
 use piece_compress::compress_runs;
 use std::alloc::Global;
 
@@ -33,6 +33,6 @@ pub fn compress(
         });
     }
     let list = pieces_of(alloc, runs)?;
-    let few = compress_runs(alloc, &list, accuracy as u8)?;
+    let few = compress_runs(alloc, &list, Accuracy::of(accuracy as u8))?;
     write_runs(&few, into)
 }

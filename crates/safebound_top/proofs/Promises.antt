@@ -1,5 +1,5 @@
 -- The headline keeps the promise of `run`.
-use Rattle.std.proofs.Common.{◌≡◌, ◌⊎◌, inl, inr, ℕ, ◌+◌, ◌<◌, ◌≤◌, Bool, true, false, List, [], map, length, get_or, Option, None, Some, Result, Ok, Err, refl, ap, sym, ◌∙◌, subst, arith}
+use Rattle.std.proofs.Common.{◌≡◌, ◌⊎◌, inl, inr, ℕ, ◌+◌, ◌<◌, ◌≤◌, false, List, [], map, length, get_or, Option, None, Some, Result, Ok, Err, refl, ap, sym, ◌∙◌, subst, arith}
 use Rattle.std.specs.Prelude.{if◌then◌else◌, nat_lt, slice_get, IsOkAnd, IfOk}
 use Rattle.std.proofs.lemmas.Bool.Decides.{nat_tests}
 use Rattle.std.proofs.lemmas.List.{get_or-append-add, get_or-map, length-map}
@@ -44,27 +44,32 @@ use Rattle.tree_rows.specs.Rooms.{bound_at}
 use Rattle.tree_rows.specs.Trees.{entries_at}
 use Rattle.bushy_join.specs.Trees.{is_joined_leaf}
 use Rattle.safebound_words.specs.Answer.{command_of}
-use Rattle.safebound_words.specs.Requests.{Run}
 use Rattle.safebound_words.proofs.Readings.{asked_computed}
-use Rattle.safebound_top.specs.Accepted.{BoundsHold, printed}
-use Rattle.safebound_top.specs.Asks.{Ask, OverQuery, PlanOf, ask_for, command_stage, plan_for, request_stage, shape_asked, source_asked}
-use Rattle.safebound_top.specs.Call.{Call}
+use Rattle.prepared_runs.specs.Accepted.{BoundsHold, printed}
+use Rattle.safebound_words.specs.Commands.{over_query}
+use Rattle.safebound_words.specs.declared.command.Command.{Command}
+use Rattle.safebound_words.specs.declared.command.Aim.TheVariants as aims
+use Rattle.safebound_words.specs.declared.command.Work.TheVariants as works
+use Rattle.safebound_top.specs.Call.{Call, Grew}
 use Rattle.safebound_top.specs.Headline.{GrewWhole, Headline}
-use Rattle.safebound_top.specs.Limits.{AreWithin, within_limit}
+use Rattle.prepared_runs.specs.Limits.{AreWithin, within_limit}
 use Rattle.safebound_top.specs.Promise.{AreInFile, AreScans, AsksQuery, DeclaresSchema, HoldsAlong, HoldsOver, IsTheOne, PrintsOrder, PrintsPlan, PrintsTree, Promise, RanWhole, choices_over}
-use Rattle.safebound_top.specs.Shapes.{part_rows, planned_by, shape_bytes}
-use Rattle.safebound_top.specs.Sources.{lists_by, sourced}
-use Rattle.safebound_top.specs.Outcome.{NoBoundIsTooLow, Outcome, Planned, PrintsTheAnswer}
+use Rattle.prepared_runs.specs.Shapes.{part_rows, planned_by, shape_bytes}
+use Rattle.prepared_runs.specs.Sources.{lists_by, sourced}
+use Rattle.prepared_runs.specs.Outcome.{NoBoundIsTooLow, Outcome, Planned, PrintsTheAnswer}
 use Rattle.safebound_top.specs.OutcomeTexts.{notes_text, out_text}
-use Rattle.safebound_top.specs.Texts.{plan_text, rows_text}
-use Rattle.safebound_top.specs.Verdict.{aim_run, ask_run, plan_asked, plan_stage, query_of_text, query_stage, run_asked, schema_of_text, schema_stage, verdict, work_run}
-use Rattle.safebound_top.specs.declared.shapes.Shaped.{Shaped}
-use Rattle.safebound_top.specs.declared.shapes.Shaped.TheVariants as shaped
-use Rattle.safebound_top.specs.declared.task.ListSource.{ListSource}
-use Rattle.safebound_top.specs.declared.task.OutText.TheVariants as out_texts
-use Rattle.safebound_top.specs.declared.task.PlanTask.{PlanTask}
-use Rattle.safebound_top.specs.declared.task.Shape.{Shape}
-use Rattle.safebound_top.proofs.LimitFacts.{within_ok}
+use Rattle.safebound_top.specs.Texts.{plan_text, rows_text, text_for}
+use Rattle.prepared_runs.specs.Verdict.{aim_run, command_run, command_stage, plan_asked, plan_stage, query_of_text, query_stage, or_usage, run_asked, schema_of_text, schema_stage, verdict, work_run}
+use Rattle.prepared_runs.specs.declared.shapes.Shaped.{Shaped}
+use Rattle.prepared_runs.specs.declared.shapes.Shaped.TheVariants as shaped
+use Rattle.safebound_words.specs.declared.command.ListSource.{ListSource}
+use Rattle.safebound_words.specs.declared.command.ListSource.TheVariants as sources
+use Rattle.safebound_words.specs.declared.command.OutText.{OutText}
+use Rattle.safebound_words.specs.declared.command.OutText.TheVariants as out_texts
+use Rattle.safebound_words.specs.declared.command.PlanWork.{PlanWork}
+use Rattle.safebound_words.specs.declared.command.Shape.{Shape}
+use Rattle.safebound_words.specs.declared.command.Shape.TheVariants as shapes
+use Rattle.prepared_runs.proofs.LimitFacts.{within_ok}
 
 -- ---- the texts
 
@@ -138,15 +143,15 @@ module _ (schema : Schema) (query : Query) (files : Files) (rows : List (List Ro
 
 -- ---- the plan
 
-module _ (task : PlanTask) (query : Query) (rows : List (List Row)) where
+module _ (task : PlanWork) (query : Query) (rows : List (List Row)) where
   abbrev lists_over : ListSource → List (List ℕ)
   lists_over source = lists_by source query (tables_in rows)
 
-  scans_are : (reduce keys : Bool) → AreScans reduce query (tables_in rows) (lists_by (source_asked reduce keys) query (tables_in rows))
+  scans_are : (source : ListSource) → AreScans source query (tables_in rows) (lists_by source query (tables_in rows))
   unfolding lists_by
-  scans_are false false = refl
-  scans_are false true = refl
-  scans_are true keys = reduced_scans_by_rounds query (tables_in rows)
+  scans_are sources.Columns = refl
+  scans_are sources.Keyed = refl
+  scans_are sources.Reduced = reduced_scans_by_rounds query (tables_in rows)
 
   along : (plan : Plan) → BoundsHold (run_asked task query rows (shaped.Along plan))
       → HoldsAlong query (tables_in rows) (lists_by task.source query (tables_in rows)) plan
@@ -191,16 +196,15 @@ seen_ok view (Ok x) y e = (x, cc)
 seen_ok view (Err s) y e = cc
 
 -- the text of a plan of the shape that was asked for
-prints : (bushy : Bool) (task : PlanTask) (schema : Schema) (query : Query) (rows : List (List Row)) (plan : Shaped) → task.shape ≡ shape_asked bushy
+prints : (task : PlanWork) (schema : Schema) (query : Query) (rows : List (List Row)) (plan : Shaped)
     → plan_asked task schema query (tables_in rows) ≡ Ok plan → BoundsHold (run_asked task query rows plan) → AreWithin task.memory (shape_bytes plan)
-    → PrintsPlan bushy task.memory query (tables_in rows) (lists_by task.source query (tables_in rows)) (plan_text (run_asked task query rows plan))
+    → PrintsPlan task.shape task.memory query (tables_in rows) (lists_by task.source query (tables_in rows)) (plan_text (run_asked task query rows plan))
 unfolding planned_by
-prints bushy task schema query rows plan shape made h within =
-    by bushy (subst (λ (s : Shape). planned_by s (sourced task.source schema query (tables_in rows)) query task.accuracy task.budget ≡ Ok plan) shape made)
+prints task schema query rows plan made h within = by task.shape made
   where
-    by : (bushy : Bool) → planned_by (shape_asked bushy) (sourced task.source schema query (tables_in rows)) query task.accuracy task.budget ≡ Ok plan
-        → PrintsPlan bushy task.memory query (tables_in rows) (lists_by task.source query (tables_in rows)) (plan_text (run_asked task query rows plan))
-    by false e =
+    by : (shape : Shape) → planned_by shape (sourced task.source schema query (tables_in rows)) query task.accuracy task.budget ≡ Ok plan
+        → PrintsPlan shape task.memory query (tables_in rows) (lists_by task.source query (tables_in rows)) (plan_text (run_asked task query rows plan))
+    by shapes.Order e =
         let found = seen_ok (λ p. shaped.Along p) _ plan e in
         subst (λ (p : Shaped). PrintsOrder task.memory query (tables_in rows) (lists_by task.source query (tables_in rows)) (plan_text (run_asked task query rows p))) found.1
         (record {
@@ -209,7 +213,7 @@ prints bushy task schema query rows plan shape made h within =
           within = subst (λ (p : Shaped). AreWithin task.memory (shape_bytes p)) (sym found.1) within;
           prints = refl;
         })
-    by true e =
+    by shapes.Tree e =
         let found = seen_ok (λ p. shaped.Over p) _ plan e in
         subst (λ (p : Shaped). PrintsTree task.memory query (tables_in rows) (lists_by task.source query (tables_in rows)) (plan_text (run_asked task query rows p))) found.1
         (record {
@@ -221,7 +225,7 @@ prints bushy task schema query rows plan shape made h within =
 
 -- ---- the stages of a run
 
-pub record Stages (schema_file query_file : List ℕ) (task : PlanTask) (files : Files) (outcome : Outcome) : Type 0 where
+pub record Stages (schema_file query_file : List ℕ) (task : PlanWork) (files : Files) (outcome : Outcome) : Type 0 where
   pub schema : Schema
   pub schema_read : schema_stage schema_file files ≡ Ok schema
   pub query : Query
@@ -233,12 +237,12 @@ pub record Stages (schema_file query_file : List ℕ) (task : PlanTask) (files :
   pub within : AreWithin task.memory (shape_bytes plan)
   pub is_run : Planned (run_asked task query rows plan) ≡ outcome
 
-pub stages : (schema_file query_file : List ℕ) (task : PlanTask) (files : Files) (outcome : Outcome)
-    → ask_run (ask_for schema_file query_file (PlanOf task)) files ≡ Ok outcome → Stages schema_file query_file task files outcome
-unfolding ask_run plan_stage
-stages schema_file query_file task files outcome e =
-    let first = two_steps (schema_stage schema_file files) (λ schema. aim_run (OverQuery query_file (PlanOf task)) schema files) outcome e in
-    let second = two_steps (query_stage query_file first.0 files) (λ query. work_run (PlanOf task) first.0 query files) outcome first.2 in
+pub stages : (shop : Option ℕ) (schema_file query_file : List ℕ) (task : PlanWork) (files : Files) (outcome : Outcome)
+    → command_run (over_query shop schema_file query_file (works.Plan task)) files ≡ Ok outcome → Stages schema_file query_file task files outcome
+unfolding command_run plan_stage
+stages shop schema_file query_file task files outcome e =
+    let first = two_steps (schema_stage schema_file files) (λ schema. aim_run (aims.Query query_file (works.Plan task)) schema files) outcome e in
+    let second = two_steps (query_stage query_file first.0 files) (λ query. work_run (works.Plan task) first.0 query files) outcome first.2 in
     let third = two_steps (tables_stage first.0 second.0.from files) (plan_stage task first.0 second.0) outcome second.2 in
     let last = two_steps (told plan_refusal (plan_asked task first.0 second.0 (tables_in third.0))) (λ plan. within_limit task.memory (shape_bytes plan) (Planned (run_asked task second.0 third.0 plan))) outcome third.2 in
     let kept = within_ok task.memory (shape_bytes last.0) (Planned (run_asked task second.0 third.0 last.0)) outcome last.2 in
@@ -264,15 +268,17 @@ ok_and P (Err e) h = absurd h
 if_ok : {A E : Type 0} (P : A → Type 0) (r : Result A E) (x : A) → r ≡ Ok x → IfOk r P → P x
 if_ok P r x e h = subst (λ s. IfOk s P) e h
 
-module _ (schema_file query_file : List ℕ) (budget accuracy : ℕ) (reduce bushy keys : Bool) (memory : Option ℕ) (files : Files) (notes out : Growth) where
-  abbrev task : PlanTask
-  task = record { budget = budget; accuracy = accuracy; source = source_asked reduce keys; shape = shape_asked bushy; memory = memory; out = out_texts.Rows }
+-- the rows text goes out where it is asked for
+rows_written : (task : PlanWork) (query : Query) (rows : List (List Row)) (plan : Shaped) (out : Growth) → task.out ≡ out_texts.Rows
+    → GrewWhole out (out_text (Planned (run_asked task query rows plan))) → Grew out (rows_text (run_asked task query rows plan))
+rows_written task query rows plan out is written = subst (λ (t : OutText). GrewWhole out (text_for t (run_asked task query rows plan))) is written
 
-  ran_whole : (outcome : Outcome) → ask_run (ask_for schema_file query_file (PlanOf task)) files ≡ Ok outcome
+module _ (schema_file query_file : List ℕ) (task : PlanWork) (is_run : task.out ≡ out_texts.Rows) (files : Files) (notes out : Growth) where
+  ran_whole : (outcome : Outcome) → command_run (over_query None schema_file query_file (works.Plan task)) files ≡ Ok outcome
       → GrewWhole notes (notes_text outcome) → GrewWhole out (out_text outcome) → NoBoundIsTooLow outcome → PrintsTheAnswer outcome
-      → RanWhole files schema_file query_file reduce bushy memory notes out
+      → RanWhole files schema_file query_file task notes out
   ran_whole outcome e noted written bounds answered =
-      let s : Stages schema_file query_file task files outcome = stages schema_file query_file task files outcome e in
+      let s : Stages schema_file query_file task files outcome = stages None schema_file query_file task files outcome e in
       let back : outcome ≡ Planned (run_asked task s.query s.rows s.plan) = sym s.is_run in
       record {
         schema = s.schema;
@@ -281,10 +287,10 @@ module _ (schema_file query_file : List ℕ) (budget accuracy : ℕ) (reduce bus
         asks = asks query_file files s.schema s.query s.query_read;
         tables = tables_in s.rows;
         rows = rows_in_files s.schema s.query files s.rows (query_of_schema query_file files s.schema s.query s.query_read) s.rows_read;
-        scans = lists_by (source_asked reduce keys) s.query (tables_in s.rows);
-        are_scans = scans_are task s.query s.rows reduce keys;
+        scans = lists_by task.source s.query (tables_in s.rows);
+        are_scans = scans_are task s.query s.rows task.source;
         plan_text = plan_text (run_asked task s.query s.rows s.plan);
-        plan = prints bushy task s.schema s.query s.rows s.plan refl s.planned (subst NoBoundIsTooLow back bounds) s.within;
+        plan = prints task s.schema s.query s.rows s.plan s.planned (subst NoBoundIsTooLow back bounds) s.within;
         plan_written = subst (λ (o : Outcome). GrewWhole notes (notes_text o)) back noted;
         rows_text = rows_text (run_asked task s.query s.rows s.plan);
         answer = record {
@@ -292,18 +298,18 @@ module _ (schema_file query_file : List ℕ) (budget accuracy : ℕ) (reduce bus
           is_answer = subst PrintsTheAnswer back answered;
           prints = refl;
         };
-        answer_written = subst (λ (o : Outcome). GrewWhole out (out_text o)) back written;
+        answer_written = rows_written task s.query s.rows s.plan out is_run (subst (λ (o : Outcome). GrewWhole out (out_text o)) back written);
       }
 
 pub keeps_promise : (call : Call) → Headline call → Promise call
 unfolding verdict
-keeps_promise call h schema_file query_file budget accuracy reduce bushy keys memory files words done told =
-    let command : command_of call.words ≡ Some (Run schema_file query_file budget accuracy reduce bushy keys memory) =
-    asked_computed call.words (Run schema_file query_file budget accuracy reduce bushy keys memory) words in
-    let asked : command_stage call.words ≡ Ok (ask_for schema_file query_file (plan_for out_texts.Rows budget accuracy reduce bushy keys memory)) = ap request_stage command in
+keeps_promise call h schema_file query_file task files words is_run done told =
+    let command : command_of call.words ≡ Some (over_query None schema_file query_file (works.Plan task)) =
+    asked_computed call.words (over_query None schema_file query_file (works.Plan task)) words in
+    let asked : command_stage call.words ≡ Ok (over_query None schema_file query_file (works.Plan task)) = ap or_usage command in
     let ended = ok_and (λ outcome. GrewWhole call.notes (notes_text outcome) × GrewWhole call.out (out_text outcome)) (verdict call.words files) (h.done_is_exact done files told) in
-    let from_ask : ask_run (ask_for schema_file query_file (plan_for out_texts.Rows budget accuracy reduce bushy keys memory)) files ≡ Ok ended.0 =
-    sym (ap (λ (r : Result Ask Refusal). r >>= (λ ask. ask_run ask files)) asked) ∙ ended.1 in
-    ran_whole schema_file query_file budget accuracy reduce bushy keys memory files call.notes call.out ended.0 from_ask ended.2.0 ended.2.1
+    let from_ask : command_run (over_query None schema_file query_file (works.Plan task)) files ≡ Ok ended.0 =
+    sym (ap (λ (r : Result Command Refusal). r >>= (λ ask. command_run ask files)) asked) ∙ ended.1 in
+    ran_whole schema_file query_file task is_run files call.notes call.out ended.0 from_ask ended.2.0 ended.2.1
     (if_ok NoBoundIsTooLow (verdict call.words files) ended.0 ended.1 (h.every_bound_holds files told))
     (if_ok PrintsTheAnswer (verdict call.words files) ended.0 ended.1 (h.the_rows_are_the_answer files told))

@@ -16,26 +16,28 @@ use Rattle.outcomes.specs.declared.status.Status.{Status}
 use Rattle.outcomes.specs.declared.status.Status.TheVariants as status
 use Rattle.outcomes.proofs.ReadFacts.{Meets, joined, reads_as, then_reads, then_stops}
 use Rattle.printed_texts.specs.Faults.{error_line, fault_line}
-use Rattle.safebound_top.specs.Outcome.{Outcome}
+use Rattle.prepared_runs.specs.Outcome.{Outcome}
 use Rattle.safebound_top.specs.Call.{Call}
 use Rattle.safebound_top.specs.Course.{Asked, Course, Ran, Stopped, Told, Unasked, Went}
 use Rattle.safebound_top.specs.Faults.{fault_text, names_by, status_line, where_ok}
 use Rattle.safebound_top.specs.Headline.{DidNotGrow}
-use Rattle.safebound_top.specs.Asks.{AimAsk, AppendTo, Ask, OverQuery, command_stage}
-use Rattle.safebound_top.specs.Verdict.{IsAimFile, IsReached, aim_run, ask_run, schema_read, schema_stage, verdict}
+use Rattle.safebound_words.specs.declared.command.Aim.{Aim}
+use Rattle.safebound_words.specs.declared.command.Command.{Command}
+use Rattle.safebound_words.specs.declared.command.Aim.TheVariants as aims
+use Rattle.prepared_runs.specs.Verdict.{IsAimFile, IsReached, aim_run, command_run, command_stage, schema_read, schema_stage, verdict}
 
 -- the line of want of memory names nothing
-memory_line : (ask : Option Ask) (schema : Option Schema) → status_line status.NoMemory ask schema ≡ codes "error memory\n"
+memory_line : (ask : Option Command) (schema : Option Schema) → status_line status.NoMemory ask schema ≡ codes "error memory\n"
 unfolding error_line
 memory_line None schema = refl
 memory_line (Some ask) schema = refl
 
 -- the line of the schema's file names no table
-schema_line : (name : List ℕ) (aim : AimAsk) (schema : Option Schema) → fault_line (status.ReadFault file.Schema) (names_by name aim None) ≡ fault_line (status.ReadFault file.Schema) (names_by name aim schema)
-schema_line name (OverQuery query work) schema = refl
-schema_line name (AppendTo append) schema = refl
+schema_line : (name : List ℕ) (aim : Aim) (schema : Option Schema) → fault_line (status.ReadFault file.Schema) (names_by name aim None) ≡ fault_line (status.ReadFault file.Schema) (names_by name aim schema)
+schema_line name (aims.Query query work) schema = refl
+schema_line name (aims.Append append) schema = refl
 
-pub memory_told : (s : Status) (ask : Option Ask) (schema : Option Schema) → s ≡ status.NoMemory → status_line s ask schema ≡ codes "error memory\n"
+pub memory_told : (s : Status) (ask : Option Command) (schema : Option Schema) → s ≡ status.NoMemory → status_line s ask schema ≡ codes "error memory\n"
 memory_told s ask schema is = ap (λ (x : Status). status_line x ask schema) is ∙ memory_line ask schema
 
 -- words that are no command
@@ -48,15 +50,15 @@ course_unasked call is words misses out told = record {
   how = Unasked (record { status = is; words = words; misses = misses; out = out; told = told });
 }
   where
-    by : (ask : Option Ask) (schema : Option Schema) → status_line (status.Refused refusal.Usage) None None ≡ status_line (status.Refused refusal.Usage) ask schema
+    by : (ask : Option Command) (schema : Option Schema) → status_line (status.Refused refusal.Usage) None None ≡ status_line (status.Refused refusal.Usage) ask schema
     by None schema = refl
     by (Some ask) schema = refl
 
     same : (files : Files) → status_line (status.Refused refusal.Usage) None None ≡ fault_text (status.Refused refusal.Usage) call.words files
     same files = by (where_ok (command_stage call.words)) (where_ok (schema_read call.words files))
 
-module _ (ask : Ask) (words : List (List ℕ)) (command : command_stage words ≡ Ok ask) where
-  verdict_of : (files : Files) → verdict words files ≡ ask_run ask files
+module _ (ask : Command) (words : List (List ℕ)) (command : command_stage words ≡ Ok ask) where
+  verdict_of : (files : Files) → verdict words files ≡ command_run ask files
   unfolding verdict
   verdict_of files = rw command refl
 
@@ -65,7 +67,7 @@ module _ (ask : Ask) (words : List (List ℕ)) (command : command_stage words �
   schema_of files = rw command refl
 
   pub no_usage : command_stage words ≡ Err refusal.Usage → ⊥
-  no_usage is = let no : ◌≡◌ {A = Result Ask Refusal} (Ok ask) (Err refusal.Usage) = sym command ∙ is in cc
+  no_usage is = let no : ◌≡◌ {A = Result Command Refusal} (Ok ask) (Err refusal.Usage) = sym command ∙ is in cc
 
   -- ---- the verdict comes to these files
 
@@ -80,7 +82,7 @@ module _ (ask : Ask) (words : List (List ℕ)) (command : command_stage words �
   line_of : (s : Status) (files : Files) (r : Result Schema Refusal) → schema_stage ask.schema_file files ≡ r → status_line s (Some ask) (where_ok r) ≡ fault_text s words files
   line_of s files r is =
       ap (λ (v : Result Schema Refusal). status_line s (Some ask) (where_ok v)) (sym (schema_of files ∙ is))
-      ∙ ap (λ (v : Result Ask Refusal). status_line s (where_ok v) (where_ok (schema_read words files))) (sym command)
+      ∙ ap (λ (v : Result Command Refusal). status_line s (where_ok v) (where_ok (schema_read words files))) (sym command)
 
   -- ---- the schema's reading ended
 
@@ -104,9 +106,9 @@ module _ (ask : Ask) (words : List (List ℕ)) (command : command_stage words �
         by ending.NoMemory same = any status.NoMemory (is ∙ ap ended same) (λ r. refl)
 
     stopped_reads : Reads store (verdict words) (IsReached words) (Err e)
-    unfolding ask_run
+    unfolding command_run
     stopped_reads =
-        reads_as store (ask_run ask) (verdict words) (IsReached words) (IsReached words) (Err e) verdict_of (λ files id at'. at')
+        reads_as store (command_run ask) (verdict words) (IsReached words) (IsReached words) (Err e) verdict_of (λ files id at'. at')
         (then_stops (schema_stage ask.schema_file) (aim_run ask.aim) store (AtFile file.Schema) (IsReached words) e reached_schema reads)
 
     pub course_stopped : DidNotGrow out → Told notes (status_line s (Some ask) None) → Course (record { words = words; status = s; store = store; out = out; notes = notes })
@@ -122,9 +124,9 @@ module _ (ask : Ask) (words : List (List ℕ)) (command : command_stage words �
   module _ (s : Status) (first second : Reading) (out notes : Growth) (schema : Schema) (meets : Meets first second)
       (reads : Reads first (schema_stage ask.schema_file) (AtFile file.Schema) (Ok schema)) where
     ran_reads : (answer : Result Outcome Ending) → Reads second (aim_run ask.aim schema) (IsAimFile ask.aim schema) answer → Reads (joined first second) (verdict words) (IsReached words) answer
-    unfolding ask_run
+    unfolding command_run
     ran_reads answer h =
-        reads_as (joined first second) (ask_run ask) (verdict words) (IsReached words) (IsReached words) answer verdict_of (λ files id at'. at')
+        reads_as (joined first second) (command_run ask) (verdict words) (IsReached words) (IsReached words) answer verdict_of (λ files id at'. at')
         (then_reads (schema_stage ask.schema_file) (aim_run ask.aim) first second (AtFile file.Schema) (IsAimFile ask.aim schema) (IsReached words) schema answer meets
         (reached_later schema) reads h)
 

@@ -11,14 +11,14 @@ use Rattle.outcomes.specs.declared.names.FileId.{FileId}
 use Rattle.outcomes.specs.declared.refusal.Refusal.{Refusal}
 use Rattle.outcomes.specs.declared.status.Status.{Status}
 use Rattle.outcomes.specs.declared.status.Status.TheVariants as status
-use Rattle.safebound_top.specs.Outcome.{Outcome}
-use Rattle.safebound_top.specs.Asks.{Ask, command_stage}
+use Rattle.prepared_runs.specs.Outcome.{Outcome}
+use Rattle.safebound_words.specs.declared.command.Command.{Command}
 use Rattle.safebound_top.specs.Call.{Call}
 use Rattle.safebound_top.specs.Course.{Asked, Course, How, Ran, Stopped, Told, Unasked, Went}
 use Rattle.safebound_top.specs.Faults.{status_line, where_ok}
 use Rattle.safebound_top.specs.Headline.{DidNotGrow}
-use Rattle.safebound_top.specs.Shops.{shop_of, shop_store, store_read}
-use Rattle.safebound_top.specs.Verdict.{IsReached, schema_read, verdict}
+use Rattle.prepared_runs.specs.Shops.{shop_of, shop_store, store_read}
+use Rattle.prepared_runs.specs.Verdict.{IsReached, command_stage, schema_read, verdict}
 use Rattle.safebound_top.proofs.RunCourses.{memory_told, no_usage}
 
 -- ---- a store that tells the shop's files and counts no fault
@@ -69,7 +69,7 @@ module _ (number : ℕ) (store : Reading) (is : store.files ≡ Some (demo_files
 
 -- ---- no memory for the files
 
-pub course_unmade : (ask : Ask) (words : List (List ℕ)) → command_stage words ≡ Ok ask → (number : ℕ) (s : Status) (out notes : Growth)
+pub course_unmade : (ask : Command) (words : List (List ℕ)) → command_stage words ≡ Ok ask → (number : ℕ) (s : Status) (out notes : Growth)
     → s ≡ status.NoMemory → DidNotGrow out → Told notes (status_line s (Some ask) None)
     → Course (record { words = words; status = s; store = shop_store number; out = out; notes = notes })
 course_unmade ask words command number s out notes is still told = record {

@@ -11,10 +11,10 @@ use Rattle.outcomes.specs.declared.names.SinkId.{SinkId}
 use Rattle.outcomes.specs.declared.names.SinkId.TheVariants as sink
 use Rattle.outcomes.specs.declared.status.Status.{Status}
 use Rattle.outcomes.specs.declared.status.Status.TheVariants as status
-use Rattle.safebound_top.specs.Accepted.{Accepted}
+use Rattle.prepared_runs.specs.Accepted.{Accepted}
 use Rattle.safebound_top.specs.Course.{CutInNotes, CutInOut, Ended, Told, Written, WroteIfAny}
 use Rattle.safebound_top.specs.Headline.{DidNotGrow, GrewWhole, WasCut, WasCutAndTold, grown}
-use Rattle.safebound_top.specs.Outcome.{FiledPlan, Outcome, Planned, PlannedByFile}
+use Rattle.prepared_runs.specs.Outcome.{FiledPlan, Outcome, Planned, PlannedByFile}
 use Rattle.safebound_top.specs.OutcomeTexts.{filed_plan_text, notes_text, out_text}
 use Rattle.safebound_top.specs.Texts.{out_text_of, plan_text}
 

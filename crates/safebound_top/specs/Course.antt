@@ -14,13 +14,12 @@ use Rattle.outcomes.specs.declared.refusal.Refusal.{Refusal}
 use Rattle.outcomes.specs.declared.refusal.Refusal.TheVariants as refusal
 use Rattle.outcomes.specs.declared.status.Status.{Status}
 use Rattle.outcomes.specs.declared.status.Status.TheVariants as status
-use Rattle.safebound_top.specs.Asks.{command_stage}
 use Rattle.safebound_top.specs.Call.{Call, GrewOrWasCut}
 use Rattle.safebound_top.specs.Faults.{fault_text}
 use Rattle.safebound_top.specs.Headline.{DidNotGrow, FaultsRose, GrewByLine, GrewWhole, WasCut, WasCutAndTold, grown}
-use Rattle.safebound_top.specs.Outcome.{Outcome}
+use Rattle.prepared_runs.specs.Outcome.{Outcome}
 use Rattle.safebound_top.specs.OutcomeTexts.{notes_text, out_text}
-use Rattle.safebound_top.specs.Verdict.{IsReached, verdict}
+use Rattle.prepared_runs.specs.Verdict.{IsReached, command_stage, verdict}
 
 -- a status was told in the notes
 pub record Told (notes : Growth) (line : List ℕ) : Type 0 where

@@ -4,34 +4,38 @@ use Rattle.base_io.specs.Files.{Files}
 use Rattle.schema_types.specs.declared.types.Schema.{Schema}
 use Rattle.outcomes.specs.declared.status.Status.{Status}
 use Rattle.printed_texts.specs.Faults.{Names, fault_line}
-use Rattle.safebound_top.specs.Asks.{AimAsk, AppendTo, Ask, FileOf, OverQuery, PlanFrom, PlanOf, WorkAsk, command_stage}
-use Rattle.safebound_top.specs.Verdict.{schema_read}
+use Rattle.safebound_words.specs.declared.command.Aim.{Aim}
+use Rattle.safebound_words.specs.declared.command.Command.{Command}
+use Rattle.safebound_words.specs.declared.command.Work.{Work}
+use Rattle.safebound_words.specs.declared.command.Aim.TheVariants as aims
+use Rattle.safebound_words.specs.declared.command.Work.TheVariants as works
+use Rattle.prepared_runs.specs.Verdict.{command_stage, schema_read}
 
 -- the name of the statistics file that is read, where one is
-abbrev pub stats_file_of : WorkAsk → List ℕ
-stats_file_of (PlanOf task) = []
-stats_file_of (FileOf accuracy) = []
-stats_file_of (PlanFrom file budget memory) = file
+abbrev pub stats_file_of : Work → List ℕ
+stats_file_of (works.Plan task) = []
+stats_file_of (works.File accuracy) = []
+stats_file_of (works.PlanFrom file budget memory) = file
 
 -- what a line names, where there is a command and a schema: the files of the command, and the schema's tables. Where rows are appended the
 -- command names the file of a table's rows
-abbrev pub names_by : List ℕ → AimAsk → Option Schema → Names
-names_by name (OverQuery query work) schema =
+abbrev pub names_by : List ℕ → Aim → Option Schema → Names
+names_by name (aims.Query query work) schema =
     record { schema_file = name; query_file = query; stats_file = stats_file_of work; rows_file = None; schema = schema }
-names_by name (AppendTo append) schema =
+names_by name (aims.Append append) schema =
     record { schema_file = name; query_file = []; stats_file = append.stats_file; rows_file = Some append.rows_file; schema = schema }
 
-abbrev pub names_of : Option Ask → Option Schema → Names
+abbrev pub names_of : Option Command → Option Schema → Names
 names_of None schema = record { schema_file = []; query_file = []; stats_file = []; rows_file = None; schema = schema }
-names_of (Some ask) schema = names_by ask.schema_file ask.aim schema
+names_of (Some command) schema = names_by command.schema_file command.aim schema
 
 abbrev pub where_ok : {A E : Type 0} → Result A E → Option A
 where_ok (Ok x) = Some x
 where_ok (Err e) = None
 
 -- the line of a status with this command and this schema
-abbrev pub status_line : Status → Option Ask → Option Schema → List ℕ
-status_line s ask schema = fault_line s (names_of ask schema)
+abbrev pub status_line : Status → Option Command → Option Schema → List ℕ
+status_line s command schema = fault_line s (names_of command schema)
 
 -- with the command of these words, and the schema that the verdict reads
 abbrev pub fault_text : Status → List (List ℕ) → Files → List ℕ

@@ -15,12 +15,11 @@ use Rattle.outcomes.specs.declared.refusal.Refusal.{Refusal}
 use Rattle.outcomes.specs.declared.refusal.Refusal.TheVariants as refusal
 use Rattle.outcomes.specs.declared.status.Status.{Status}
 use Rattle.outcomes.specs.declared.status.Status.TheVariants as status
-use Rattle.safebound_top.specs.Asks.{command_stage}
 use Rattle.safebound_top.specs.Call.{Call, CutThenTold, Grew, GrewOrWasCut}
 use Rattle.safebound_top.specs.Faults.{fault_text}
-use Rattle.safebound_top.specs.Outcome.{KeepsItsLimit, NoBoundIsTooLow, Outcome, PrintsTheAnswer}
+use Rattle.prepared_runs.specs.Outcome.{KeepsItsLimit, NoBoundIsTooLow, Outcome, PrintsTheAnswer}
 use Rattle.safebound_top.specs.OutcomeTexts.{notes_text, out_text}
-use Rattle.safebound_top.specs.Verdict.{IsReached, verdict}
+use Rattle.prepared_runs.specs.Verdict.{IsReached, command_stage, verdict}
 
 -- for the files that the store tells, and the verdict of the words over them
 abbrev pub OverFiles : Call → (Files → Result Outcome Refusal → Type 0) → Type 0

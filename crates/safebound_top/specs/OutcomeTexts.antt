@@ -4,7 +4,7 @@ use Rattle.printed_texts.specs.Memory.{memory_text}
 use Rattle.printed_texts.specs.Plans.{plan_lines}
 use Rattle.reserve_plan.specs.Memory.{plan_bytes}
 use Rattle.stats_file.specs.FileText.{file_text}
-use Rattle.safebound_top.specs.Outcome.{Appended, Filed, FiledPlan, Outcome, Planned, PlannedByFile}
+use Rattle.prepared_runs.specs.Outcome.{Appended, Filed, FiledPlan, Outcome, Planned, PlannedByFile}
 use Rattle.safebound_top.specs.Texts.{out_text_of, plan_text}
 
 -- the plan text of a plan from a file, and behind it the line of its bytes, where there is a limit of memory

@@ -1,20 +1,29 @@
--- What `run` promises, stated from its words, its files and SQL alone.
+-- What `run` promises, stated from its words, its files and SQL alone. Only the line that `--memory` adds speaks of the program: its number
+-- is counted from the plan's bounds by the sizes of the program's own buffers and of their items.
 --
 -- Suppose that a call of `run` ends with Done, over files that the store tells. Then the schema's file declares one schema, the query's file
 -- asks one query of it, and each FROM entry has the rows in its table's file. A plan was printed of which no bound is too low. And rows were
 -- printed that are those of the answer, in any order, each as often as in the answer.
 --
--- - Bounds count rows that are kept, and not those that are tried. A choice of rows counts in a level, or in a node, where every conjunct
---   holds that names no entry but its own. One that names no entry is asked in each: under `WHERE 1 = 2` every level and node is empty.
+-- - Bounds count rows that are kept, and not those that are tried. A choice has one scanned row of each entry of a level or node. It counts
+--   where every conjunct holds that names no other entry. A conjunct that names no entry is asked there too, and of no scan: under
+--   `WHERE 1 = 2` every level and node is empty, and the scans are what they are without it.
 -- - With `--reduce` the text looks as it does without. Its scan lines then speak of the reduced scans, and levels and nodes are over these.
 -- - With `--bushy` there is a line for each inner node. A tree of one FROM entry has none: then the scan's line is the bound of the answer.
+-- - With `--keys` nothing else is promised: scans, levels and choices are those of the query's own conjuncts.
 -- - Nothing is said of how high a bound may be. Budget and accuracy decide which plan is printed, and whether one is; the headline says how.
+-- - The answer is SQL-92's as the profile has it. From the standard or from usual engines it differs above all in what these definitions say:
+--   some reserved words are plain names (`reserved_words` of sql_tokens), texts are compared without padding (`value_cmp` of csv_tables), all
+--   number types are one kind of 64 bits (`kind_of` of schema_types), and no row is tested against a reference (`reference_of` there).
 -- - Of a store that doesn't tell its files nothing is promised. Of a sink that doesn't tell its bytes nothing is said of what it took: then
 --   `Grew` says just that it tells none afterwards. That a read gives the bytes of a told file is the contract of stores (`read_at` of
 --   base_io, by `ReadsAt`). The program's own folder and streams tell nothing; docs/PROVED.md says what is trusted of them.
--- - Only Done is promised something here, and only of `run`. When a call ends otherwise, and what the other commands print, is in the
+-- - Plan and rows are promised side by side. That the rows were found along the printed plan isn't said here, but by the clause `buffers`
+--   (`KeepsItsBuffers`, in Kept.antt).
+-- - Only Done is promised something here, and only of words that ask for `run`. Words with a flag or an option twice, with `--keys` beside
+--   another flag, or with a number out of its range ask for nothing. When a call ends otherwise, and what the other commands print, is in the
 --   headline. That each call keeps the promise is a clause of the top call (`promise` of `safebound`, in src/top_call.rt).
-use Rattle.std.specs.Prelude.{ℕ, ◌≡◌, ◌+◌, ◌<◌, ◌≤◌, ◌++◌, Bool, true, false, List, length, slice_get, slice_index, take, Option, Some, Ok, IsPermutation}
+use Rattle.std.specs.Prelude.{ℕ, ◌≡◌, ◌+◌, ◌<◌, ◌≤◌, ◌++◌, List, length, slice_get, slice_index, take, Option, None, Some, Ok, IsPermutation}
 use Rattle.base_io.specs.Devices.{Growth}
 use Rattle.base_io.specs.Files.{Files, file_of}
 use Rattle.schema_types.specs.Texts.{IsSchemaOf}
@@ -44,10 +53,17 @@ use Rattle.printed_texts.specs.Plans.{plan_lines}
 use Rattle.printed_texts.specs.Texts.{rows_lines}
 use Rattle.printed_texts.specs.TreePlans.{tree_lines}
 use Rattle.safebound_words.specs.CommandLines.{AskFor}
-use Rattle.safebound_words.specs.Requests.{Run}
+use Rattle.safebound_words.specs.Commands.{over_query}
+use Rattle.safebound_words.specs.declared.command.ListSource.{ListSource}
+use Rattle.safebound_words.specs.declared.command.ListSource.TheVariants as sources
+use Rattle.safebound_words.specs.declared.command.OutText.TheVariants as out_text
+use Rattle.safebound_words.specs.declared.command.PlanWork.{PlanWork}
+use Rattle.safebound_words.specs.declared.command.Shape.{Shape}
+use Rattle.safebound_words.specs.declared.command.Shape.TheVariants as shapes
+use Rattle.safebound_words.specs.declared.command.Work.TheVariants as works
 use Rattle.outcomes.specs.declared.status.Status.TheVariants as status
 use Rattle.safebound_top.specs.Call.{Call, Grew}
-use Rattle.safebound_top.specs.Limits.{AreWithin}
+use Rattle.prepared_runs.specs.Limits.{AreWithin}
 
 -- ---- what the files say
 
@@ -81,10 +97,12 @@ pub record AreInFile (files : Files) (schema : Schema) (query : Query) (entry : 
 -- ---- what the plan text says
 
 -- the rows that are joined: for each FROM entry those for which every conjunct holds that names just this entry. With `--reduce` they are the
--- greatest lists of such rows in which each row has, for every equality of its entry with another, a row of equal value in the other's list
-abbrev pub AreScans : Bool → Query → Tables → List (List ℕ) → Type 0
-AreScans false query tables scans = scans ≡ scans_of query tables
-AreScans true query tables scans = AreReducedScans query tables scans
+-- greatest lists of such rows in which each row has, for every conjunct that says that a column of its entry equals one of another entry, a
+-- row of equal value in the other's list
+abbrev pub AreScans : ListSource → Query → Tables → List (List ℕ) → Type 0
+AreScans sources.Columns query tables scans = scans ≡ scans_of query tables
+AreScans sources.Keyed query tables scans = scans ≡ scans_of query tables
+AreScans sources.Reduced query tables scans = AreReducedScans query tables scans
 
 -- each way to take one row of its scan for each of these entries, such that every conjunct holds that names no other entry
 abbrev pub choices_over : Query → Tables → List (List ℕ) → List ℕ → List (List ℕ)
@@ -94,8 +112,8 @@ choices_over query tables scans entries = level_over (conjuncts_of query tables)
 abbrev pub ScansFit : Query → List (List ℕ) → List ℕ → Type 0
 ScansFit query scans bounds = (entry : ℕ) → entry < length query.from → length (list_at scans entry) ≤ slice_index bounds entry
 
--- an order of all entries. No scan has more rows than its bound; and for each k the first k + 1 entries have at most as many choices as the
--- bound of level k says
+-- an order of all entries. No scan has more rows than its bound; and for each k from 0 on the first k + 1 entries have at most as many choices
+-- as `levels` says at place k. The text numbers levels from 1, so this is its line `level` k + 1
 pub record HoldsAlong (query : Query) (tables : Tables) (scans : List (List ℕ)) (plan : Plan) : Type 0 where
   pub each_entry : IsPlan (length query.from) plan
   pub scans_fit : ScansFit query scans plan.scans
@@ -110,8 +128,9 @@ pub record HoldsOver (query : Query) (tables : Tables) (scans : List (List ℕ))
   pub nodes_fit : (k : ℕ) (join : Join) → slice_get plan.joins k ≡ Some join
       → length (choices_over query tables scans (entries_at plan (length query.from + k))) ≤ join.bound
 
--- a plan with its text: an order, or with `--bushy` a join tree. With `--memory` the text has a last line of the bytes that its buffers take, and
--- these are within the limit
+-- a plan with its text: an order, or with `--bushy` a join tree. With `--memory` the text has a last line, the number that `plan_bytes` or
+-- `tree_bytes` counts from the plan, and this is within the limit. That the buffers of the joins hold so many bytes isn't said here: the
+-- clause `buffers` says it (`KeepsItsBuffers`, in Kept.antt). What reading and planning take isn't counted
 pub record PrintsOrder (limit : Option ℕ) (query : Query) (tables : Tables) (scans : List (List ℕ)) (text : List ℕ) : Type 0 where
   pub plan : Plan
   pub holds : HoldsAlong query tables scans plan
@@ -124,9 +143,9 @@ pub record PrintsTree (limit : Option ℕ) (query : Query) (tables : Tables) (sc
   pub within : AreWithin limit (tree_bytes plan)
   pub prints : text ≡ tree_lines query.from plan ++ memory_text limit (tree_bytes plan)
 
-abbrev pub PrintsPlan : Bool → Option ℕ → Query → Tables → List (List ℕ) → List ℕ → Type 0
-PrintsPlan false limit query tables scans text = PrintsOrder limit query tables scans text
-PrintsPlan true limit query tables scans text = PrintsTree limit query tables scans text
+abbrev pub PrintsPlan : Shape → Option ℕ → Query → Tables → List (List ℕ) → List ℕ → Type 0
+PrintsPlan shapes.Order limit query tables scans text = PrintsOrder limit query tables scans text
+PrintsPlan shapes.Tree limit query tables scans text = PrintsTree limit query tables scans text
 
 -- ---- what the rows text says
 
@@ -140,7 +159,7 @@ pub record PrintsAnswer (query : Query) (tables : Tables) (text : List ℕ) : Ty
 
 -- a run of the query in `query_file` over the schema in `schema_file` and the tables' files: notes grew by the text of a plan, and out by the
 -- answer
-pub record RanWhole (files : Files) (schema_file query_file : List ℕ) (reduce bushy : Bool) (limit : Option ℕ) (notes out : Growth) : Type 0 where
+pub record RanWhole (files : Files) (schema_file query_file : List ℕ) (work : PlanWork) (notes out : Growth) : Type 0 where
   pub schema : Schema
   pub declares : DeclaresSchema files schema_file schema
   pub query : Query
@@ -148,18 +167,18 @@ pub record RanWhole (files : Files) (schema_file query_file : List ℕ) (reduce 
   pub tables : Tables
   pub rows : (entry : ℕ) → entry < length query.from → AreInFile files schema query entry (tables entry)
   pub scans : List (List ℕ)
-  pub are_scans : AreScans reduce query tables scans
+  pub are_scans : AreScans work.source query tables scans
   pub plan_text : List ℕ
-  pub plan : PrintsPlan bushy limit query tables scans plan_text
+  pub plan : PrintsPlan work.shape work.memory query tables scans plan_text
   pub plan_written : Grew notes plan_text
   pub rows_text : List ℕ
   pub answer : PrintsAnswer query tables rows_text
   pub answer_written : Grew out rows_text
 
 -- each call of `run` that ends with Done over told files ran so, whatever its budget and its accuracy, and whether conditions are carried
--- through keys or not
+-- through keys or not. Words of `run` ask for a plan over the query in a file, with the rows for out
 abbrev pub Promise : Call → Type 0
-Promise call = (schema_file query_file : List ℕ) (budget accuracy : ℕ) (reduce bushy keys : Bool) (limit : Option ℕ) (files : Files)
-    → AskFor call.words (Run schema_file query_file budget accuracy reduce bushy keys limit)
+Promise call = (schema_file query_file : List ℕ) (work : PlanWork) (files : Files)
+    → AskFor call.words (over_query None schema_file query_file (works.Plan work)) → work.out ≡ out_text.Rows
     → call.status ≡ status.Done → call.store.files ≡ Some files
-    → RanWhole files schema_file query_file reduce bushy limit call.notes call.out
+    → RanWhole files schema_file query_file work call.notes call.out

@@ -2,10 +2,10 @@
 use Rattle.std.specs.Prelude.{ℕ, List, ◌++◌, Option, None, Some}
 use Rattle.printed_texts.specs.Memory.{memory_text}
 use Rattle.printed_texts.specs.Texts.{rows_lines}
-use Rattle.safebound_top.specs.Accepted.{Accepted, part_counts, printed}
-use Rattle.safebound_top.specs.Shapes.{shape_audits, shape_bytes, shape_lines}
-use Rattle.safebound_top.specs.declared.task.OutText.{OutText}
-use Rattle.safebound_top.specs.declared.task.OutText.TheVariants as out_text
+use Rattle.prepared_runs.specs.Accepted.{Accepted, part_counts, printed}
+use Rattle.prepared_runs.specs.Shapes.{shape_audits, shape_bytes, shape_lines}
+use Rattle.safebound_words.specs.declared.command.OutText.{OutText}
+use Rattle.safebound_words.specs.declared.command.OutText.TheVariants as out_text
 
 -- for notes: a line for each scan, and then one for each level of the plan's order, or inner node of its tree, with their bounds; behind them
 -- the line of the plan's bytes, where there is a limit of memory

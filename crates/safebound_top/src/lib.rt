@@ -1,37 +1,28 @@
 //! The top call: from the words of a command line to the bytes of two streams.
 //!
-//! It only calls the stages in order. `read_task` finds what is asked for; `load_schema` and `prepare` read every file, plan, take all
+//! It only calls the stages in order. `read_words` finds what is asked for; `load_schema` and `prepare_run` read every file, plan, take all
 //! memory of the run and write nothing; `write_outcome` writes the plan text and then the rows text or the audit text, or the text of a
 //! statistics file, and takes no memory. `safebound_keeping` hands out the buffers of the joins, too.
 //! On every status but `Done`, `write_fault` tells the status in one line.
 //!
 //! `safebound` has three clauses. `promise` says what a `run` that is done has printed, from its words, its files and SQL alone
 //! (`Promise` in `specs/Promise.antt`). `headline` says what comes out of any call, and why (`Headline` in `specs/Headline.antt`), and
-//! `untouched` that `demo` leaves the store that was handed in as it was. The headline stands on `verdict` (in
-//! `specs/Verdict.antt`): what the words and the files determine. A step that reads has the clause `Reads` over its
+//! `untouched` that `demo` leaves the store that was handed in as it was. The headline stands on `verdict` (of
+//! prepared_runs): what the words and the files determine. A step that reads has the clause `Reads` over its
 //! stage of the verdict, and `Ran` and `Course` (in `specs/Course.antt`) compose them.
 #![tactic(auto)]
 
-mod append;
-mod filed;
-mod files;
-mod joined;
-mod limit;
-mod prepare;
 mod report;
-mod scans;
-mod shapes;
-mod shop;
-mod task;
 mod texts;
 mod top_call;
 
-pub use joined::Joined;
 pub use outcomes::{
     FileId, NO_MEMORY, NO_WORDS, QueryCause, Refusal, SchemaCause, SinkId, StatsCause, Status,
     TableCause,
 };
+pub use prepared_runs::Joined;
 pub use report::write_fault;
-pub use safebound_words::{Command, WordsError, read_words};
-pub use task::{Aim, AppendTask, ListSource, OutText, PlanTask, Shape, Task, Work, read_task};
+pub use safebound_words::{
+    Aim, Command, ListSource, NewRows, OutText, PlanWork, Shape, Word, WordsError, Work, read_words,
+};
 pub use top_call::{safebound, safebound_keeping};

@@ -2,55 +2,54 @@
 ghost use Rattle.std.specs.Prelude.{◌≡◌, ◌≢◌, option_copied};
 ghost use Rattle.base_io.specs.Devices.{growth};
 ghost use Rattle.base_io.specs.Writes.{Wrote};
-ghost use Rattle.safebound_top.specs.Asks.{aim_asked, ask_of, work_asked};
 ghost use Rattle.safebound_top.specs.Course.{Told};
 ghost use Rattle.printed_texts.specs.Words.{named};
 ghost use Rattle.safebound_top.specs.Faults.{names_by as names_in, names_of as names_told, stats_file_of as stats_file_told, status_line};
 
-use crate::task::{Aim, Task, Work};
 use base_io::{Failed, Sink};
 use outcomes::Status;
 use printed_texts::{Named, write_line};
+use safebound_words::{Aim, Command, Work};
 use schema_types::Schema;
 
 // The statistics file that is read, as a command names it, where one is.
-fn stats_file_of<'a>(work: Work<'a>) -> &'a str
-    ensures { result.now ≡ stats_file_told (work_asked work.entry) }
+fn stats_file_of<'a>(work: &'a Work<'a>) -> &'a str
+    ensures { result.now ≡ stats_file_told work.now }
 {
     match work {
-        Work::PlanFrom { file, .. } => file,
+        Work::PlanFrom { file, .. } => file.get(),
         Work::Plan(_) | Work::File { .. } => "",
     }
 }
 
 // The files that a command names beside its schema.
-fn names_by<'a>(schema_file: &'a str, aim: Aim<'a>, schema: Option<&'a Schema>) -> Named<'a>
-    ensures { named result ≡ names_in schema_file.now (aim_asked aim.entry) (option_copied schema.entry) }
+fn names_by<'a>(schema_file: &'a str, aim: &'a Aim<'a>, schema: Option<&'a Schema>) -> Named<'a>
+    ensures { named result ≡ names_in schema_file.now aim.now (option_copied schema.entry) }
 {
     match aim {
         Aim::Query { file, work } => Named {
             schema_file,
-            query_file: file,
+            query_file: file.get(),
             stats_file: stats_file_of(work),
             rows_file: None,
             schema,
         },
-        Aim::Append(append) => Named {
+        Aim::Append(rows) => Named {
             schema_file,
             query_file: "",
-            stats_file: append.stats_file,
-            rows_file: Some(append.rows_file),
+            stats_file: rows.stats_file.get(),
+            rows_file: Some(rows.rows_file.get()),
             schema,
         },
     }
 }
 
 // The files that a command names.
-fn names_of<'a>(task: Option<&'a Task<'a>>, schema: Option<&'a Schema>) -> Named<'a>
-    ensures { named result ≡ names_told (ask_of task.entry) (option_copied schema.entry) }
+fn names_of<'a>(command: Option<&'a Command<'a>>, schema: Option<&'a Schema>) -> Named<'a>
+    ensures { named result ≡ names_told (option_copied command.entry) (option_copied schema.entry) }
 {
-    match task {
-        Some(task) => names_by(task.schema_file, task.aim, schema),
+    match command {
+        Some(command) => names_by(command.schema_file.get(), &command.aim, schema),
         None => Named {
             schema_file: "",
             query_file: "",
@@ -65,23 +64,28 @@ fn names_of<'a>(task: Option<&'a Task<'a>>, schema: Option<&'a Schema>) -> Named
 /// file and a column by its name, as the schema has them.
 pub fn write_fault<N: Sink>(
     status: Status,
-    task: Option<&Task>,
+    command: Option<&Command>,
     schema: Option<&Schema>,
     sink: &mut N,
 ) -> Result<(), Failed>
     requires { status ≢ Status.Done }
     ensures { Wrote (growth N.taken N.faults sink.old sink.new)
-        (status_line status (ask_of task.entry) (option_copied schema.entry)) result }
+        (status_line status (option_copied command.entry) (option_copied schema.entry)) result }
 {
-    write_line(status, names_of(task, schema), sink)
+    write_line(status, names_of(command, schema), sink)
 }
 
 /// Tells a status as the last act of a call. A failure of this write changes nothing else.
-pub fn report<N: Sink>(status: Status, task: Option<&Task>, schema: Option<&Schema>, notes: &mut N)
+pub fn report<N: Sink>(
+    status: Status,
+    command: Option<&Command>,
+    schema: Option<&Schema>,
+    notes: &mut N,
+)
     requires { status ≢ Status.Done }
-    ensures { Told (growth N.taken N.faults notes.old notes.new) (status_line status (ask_of task.entry) (option_copied schema.entry)) }
+    ensures { Told (growth N.taken N.faults notes.old notes.new) (status_line status (option_copied command.entry) (option_copied schema.entry)) }
 {
-    match write_fault(status, task, schema, notes) {
+    match write_fault(status, command, schema, notes) {
         Ok(()) => {}
         Err(Failed) => {}
     }

@@ -4,43 +4,45 @@ ghost use Rattle.base_io.specs.Devices.{growth, reading};
 ghost use Rattle.outcomes.specs.Statuses.{ended};
 ghost use Rattle.schema_types.specs.Validity.{IsValid};
 ghost use Rattle.stats_reading.specs.Names.{HasByteColumns};
-ghost use Rattle.safebound_top.specs.Asks.{HasRanges, ask_of, asked, command_stage};
+ghost use Rattle.safebound_words.specs.InRange.{HasRanges};
 ghost use Rattle.safebound_top.specs.Course.{Course, Ended, Ran, Told};
 ghost use Rattle.safebound_top.specs.Faults.{status_line};
 ghost use Rattle.safebound_top.specs.Headline.{Headline};
-ghost use Rattle.safebound_top.specs.Kept.{IsKept, KeepsItsBuffers};
+ghost use Rattle.prepared_runs.specs.Kept.{IsKept, KeepsItsBuffers};
 ghost use Rattle.safebound_top.specs.Promise.{Promise};
-ghost use Rattle.safebound_top.specs.Ready.{CanBeWritten, outcome_of};
-ghost use Rattle.safebound_top.specs.Shops.{shop_of, shop_store, store_read};
-ghost use Rattle.safebound_top.specs.Verdict.{IsAimFile, aim_run, ask_run, verdict};
+ghost use Rattle.prepared_runs.specs.Ready.{CanBeWritten, outcome_of};
+ghost use Rattle.prepared_runs.specs.Shops.{shop_of, shop_store, store_read};
+ghost use Rattle.prepared_runs.specs.Verdict.{IsAimFile, aim_run, command_run, command_stage, verdict};
 
-use crate::files::load_schema;
-use crate::joined::Joined;
-use crate::prepare::{Ready, prepare};
 use crate::report::report;
-use crate::shop::open_shop;
-use crate::task::{Task, read_task};
 use crate::texts::write_outcome;
 use base_io::{NoMemory, Sink, Store};
 use outcomes::{Ending, Refusal, Status};
+use prepared_runs::{Joined, Ready, load_schema, open_shop, prepare_run};
+use safebound_words::{Command, read_words};
 use schema_types::Schema;
 use std::alloc::Global;
 
 // Tells how a reading ended.
-fn stopped<N: Sink>(ending: Ending, task: &Task, schema: Option<&Schema>, notes: &mut N) -> Status
+fn stopped<N: Sink>(
+    ending: Ending,
+    command: &Command,
+    schema: Option<&Schema>,
+    notes: &mut N,
+) -> Status
     ensures status { result ≡ ended ending }
     ensures told { Told (growth N.taken N.faults notes.old notes.new)
-        (status_line result (Some (asked task.now)) (option_copied schema.entry)) }
+        (status_line result (Some command.now) (option_copied schema.entry)) }
 {
     let status = Status::from(ending);
-    report(status, Some(task), schema, notes);
+    report(status, Some(command), schema, notes);
     status
 }
 
 // Writes the texts of what the run comes to, and hands out the buffers of its joins; or tells the stream that couldn't be written.
 fn written<O: Sink, N: Sink>(
     ready: Ready,
-    task: &Task,
+    command: &Command,
     schema: &Schema,
     out: &mut O,
     notes: &mut N,
@@ -49,23 +51,23 @@ fn written<O: Sink, N: Sink>(
     requires ready { CanBeWritten schema.now ready }
     requires none { kept.old ≡ None }
     ensures ended { Ended result (growth O.taken O.faults out.old out.new) (growth N.taken N.faults notes.old notes.new) (outcome_of schema.now ready)
-        (status_line result (Some (asked task.now)) (Some schema.now)) }
+        (status_line result (Some command.now) (Some schema.now)) }
     ensures kept { result ≡ Status.Done → IsKept (outcome_of schema.now ready) kept.new }
 {
     match write_outcome(ready, schema, out, notes, kept) {
         Ok(()) => Status::Done,
         Err(sink) => {
             let status = Status::from(sink);
-            report(status, Some(task), Some(schema), notes);
+            report(status, Some(command), Some(schema), notes);
             status
         }
     }
 }
 
-// Runs a task over its schema.
+// Runs a command over its schema.
 fn run_over<S: Store, O: Sink, N: Sink>(
     alloc: Global,
-    task: &Task,
+    command: &Command,
     schema: &Schema,
     store: &mut S,
     out: &mut O,
@@ -74,33 +76,33 @@ fn run_over<S: Store, O: Sink, N: Sink>(
 ) -> Status
     requires schema { IsValid schema.now }
     requires bytes { HasByteColumns schema.now }
-    requires ranges { HasRanges (asked task.now).aim }
+    requires ranges { HasRanges command.now.aim }
     requires none { kept.old ≡ None }
     ensures ran { Ran result (reading S.files S.faults S.misses store.old store.new) (growth O.taken O.faults out.old out.new)
-        (growth N.taken N.faults notes.old notes.new) (aim_run (asked task.now).aim schema.now)
-        (IsAimFile (asked task.now).aim schema.now)
-        (status_line result (Some (asked task.now)) (Some schema.now)) }
+        (growth N.taken N.faults notes.old notes.new) (aim_run command.now.aim schema.now)
+        (IsAimFile command.now.aim schema.now)
+        (status_line result (Some command.now) (Some schema.now)) }
     ensures kept { result ≡ Status.Done
-        → KeepsItsBuffers (reading S.files S.faults S.misses store.old store.new) (aim_run (asked task.now).aim schema.now) kept.new }
+        → KeepsItsBuffers (reading S.files S.faults S.misses store.old store.new) (aim_run command.now.aim schema.now) kept.new }
 {
-    match prepare(alloc, store, &task.aim, schema) {
-        Ok(ready) => written(ready, task, schema, out, notes, kept),
-        Err(ending) => stopped(ending, task, Some(schema), notes),
+    match prepare_run(alloc, store, &command.aim, schema) {
+        Ok(ready) => written(ready, command, schema, out, notes, kept),
+        Err(ending) => stopped(ending, command, Some(schema), notes),
     }
 }
 
-// Runs a task over the files of this store.
+// Runs a command over the files of this store.
 fn run<S: Store, O: Sink, N: Sink>(
     alloc: Global,
-    task: &Task,
+    command: &Command,
     store: &mut S,
     out: &mut O,
     notes: &mut N,
     kept: &mut Option<Joined>,
 ) -> Status
-    requires ranges { HasRanges (asked task.now).aim }
+    requires ranges { HasRanges command.now.aim }
     requires none { kept.old ≡ None }
-    ensures course { (words : List (List ℕ)) → command_stage words ≡ Ok (asked task.now) → Course (record {
+    ensures course { (words : List (List ℕ)) → command_stage words ≡ Ok command.now → Course (record {
       words = words;
       status = result;
       store = reading S.files S.faults S.misses store.old store.new;
@@ -108,65 +110,65 @@ fn run<S: Store, O: Sink, N: Sink>(
       notes = growth N.taken N.faults notes.old notes.new;
     }) }
     ensures kept { result ≡ Status.Done
-        → KeepsItsBuffers (reading S.files S.faults S.misses store.old store.new) (ask_run (asked task.now)) kept.new }
+        → KeepsItsBuffers (reading S.files S.faults S.misses store.old store.new) (command_run command.now) kept.new }
 {
-    match load_schema(alloc, store, task.schema_file) {
-        Ok(schema) => run_over(alloc, task, &schema, store, out, notes, kept),
-        Err(ending) => stopped(ending, task, None, notes),
+    match load_schema(alloc, store, &command.schema_file) {
+        Ok(schema) => run_over(alloc, command, &schema, store, out, notes, kept),
+        Err(ending) => stopped(ending, command, None, notes),
     }
 }
 
-// Runs a task over the files of a shop.
+// Runs a command over the files of a shop.
 fn run_shop<O: Sink, N: Sink>(
     alloc: Global,
     number: u32,
-    task: &Task,
+    command: &Command,
     out: &mut O,
     notes: &mut N,
     kept: &mut Option<Joined>,
 ) -> Status
-    requires ranges { HasRanges (asked task.now).aim }
+    requires ranges { HasRanges command.now.aim }
     requires none { kept.old ≡ None }
-    ensures course { (words : List (List ℕ)) → command_stage words ≡ Ok (asked task.now) → Course (record {
+    ensures course { (words : List (List ℕ)) → command_stage words ≡ Ok command.now → Course (record {
       words = words;
       status = result;
       store = shop_store number;
       out = growth O.taken O.faults out.old out.new;
       notes = growth N.taken N.faults notes.old notes.new;
     }) }
-    ensures kept { result ≡ Status.Done → KeepsItsBuffers (shop_store number) (ask_run (asked task.now)) kept.new }
+    ensures kept { result ≡ Status.Done → KeepsItsBuffers (shop_store number) (command_run command.now) kept.new }
 {
     match open_shop(alloc, number) {
-        Ok(mut shop) => run(alloc, task, &mut shop, out, notes, kept),
-        Err(NoMemory) => stopped(Ending::NoMemory, task, None, notes),
+        Ok(mut shop) => run(alloc, command, &mut shop, out, notes, kept),
+        Err(NoMemory) => stopped(Ending::NoMemory, command, None, notes),
     }
 }
 
-// Runs a task over the files that it asks for.
-fn run_task<S: Store, O: Sink, N: Sink>(
+// Runs a command over the files that it asks for.
+fn run_command<S: Store, O: Sink, N: Sink>(
     alloc: Global,
-    task: &Task,
+    command: &Command,
     store: &mut S,
     out: &mut O,
     notes: &mut N,
     kept: &mut Option<Joined>,
 ) -> Status
-    requires ranges { HasRanges (asked task.now).aim }
+    requires ranges { HasRanges command.now.aim }
     requires none { kept.old ≡ None }
-    ensures course { (words : List (List ℕ)) → command_stage words ≡ Ok (asked task.now) → Course (record {
+    ensures course { (words : List (List ℕ)) → command_stage words ≡ Ok command.now → Course (record {
       words = words;
       status = result;
-      store = store_read task.now.shop (reading S.files S.faults S.misses store.old store.new);
+      store = store_read command.now.shop (reading S.files S.faults S.misses store.old store.new);
       out = growth O.taken O.faults out.old out.new;
       notes = growth N.taken N.faults notes.old notes.new;
     }) }
-    ensures untouched { IfSome task.now.shop (λ number. store.new ≡ store.old) }
+    ensures untouched { IfSome command.now.shop (λ number. store.new ≡ store.old) }
     ensures kept { result ≡ Status.Done
-        → KeepsItsBuffers (store_read task.now.shop (reading S.files S.faults S.misses store.old store.new)) (ask_run (asked task.now)) kept.new }
+        → KeepsItsBuffers (store_read command.now.shop (reading S.files S.faults S.misses store.old store.new)) (command_run command.now) kept.new }
 {
-    match task.shop {
-        Some(number) => run_shop(alloc, number, task, out, notes, kept),
-        None => run(alloc, task, store, out, notes, kept),
+    match command.shop {
+        Some(number) => run_shop(alloc, number, command, out, notes, kept),
+        None => run(alloc, command, store, out, notes, kept),
     }
 }
 
@@ -196,9 +198,9 @@ pub fn safebound_keeping<S: Store, O: Sink, N: Sink>(
         (store_read (shop_of (map (λ w. w.now) words.now)) (reading S.files S.faults S.misses store.old store.new))
         (verdict (map (λ w. w.now) words.now)) kept.new }
 {
-    match read_task(words) {
-        Some(task) => run_task(alloc, &task, store, out, notes, kept),
-        None => {
+    match read_words(words) {
+        Ok(command) => run_command(alloc, &command, store, out, notes, kept),
+        Err(_) => {
             let status = Status::Refused(Refusal::Usage);
             report(status, None, None, notes);
             status

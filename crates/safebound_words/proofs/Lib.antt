@@ -1,5 +1,6 @@
 mod NumberFacts
 mod PartFacts
+pub mod Ranges
 pub mod Readings
 mod Steps
 mod WholeLines

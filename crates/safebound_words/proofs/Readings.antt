@@ -4,7 +4,7 @@ use Rattle.std.specs.Bool.{IsTrue}
 use Rattle.std.specs.List.{AllByRecursion, flat_map}
 use Rattle.safebound_words.specs.Answer.{Kind, Ends, IsPlace, Sets, Wants, Gives, Unknown, Parts, command_named, command_of, in_front, kind_of, parts_from, read_by, reading_of}
 use Rattle.safebound_words.specs.CommandLines.{Alone, AskFor, Beside, IsEnd, IsItemOf, Item, Joined, Place, Reading, Reads, has_option, requested, spelling}
-use Rattle.safebound_words.specs.Requests.{Request}
+use Rattle.safebound_words.specs.declared.command.Command.{Command}
 use Rattle.safebound_words.specs.Table.{command_row, option_row, ◌>>=◌}
 use Rattle.safebound_words.specs.Words.{Word}
 use Rattle.safebound_words.specs.declared.table.CommandName.{CommandName}
@@ -149,11 +149,11 @@ one_reading words one other is same =
     let first = reads_computed words one is in
     let second = reads_computed words other same in cc
 
-pub asked_computed : (words : List Word) (request : Request) → AskFor words request → command_of words ≡ Some request
+pub asked_computed : (words : List Word) (request : Command) → AskFor words request → command_of words ≡ Some request
 unfolding command_of
 asked_computed words request (reading, is, asks) = rw (reads_computed words reading is) asks
 
-pub computed_asked : (words : List Word) (request : Request) → command_of words ≡ Some request → AskFor words request
+pub computed_asked : (words : List Word) (request : Command) → command_of words ≡ Some request → AskFor words request
 unfolding command_of
 computed_asked words request e =
     let read = bind_so (reading_of words) requested request e in

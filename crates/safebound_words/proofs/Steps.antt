@@ -1,5 +1,5 @@
 -- One word more: what is asked for by what was collected and what is left stays the same, or nothing can be.
-use Rattle.std.proofs.Common.{◌≡◌, ℕ, ◌+◌, ◌<◌, ◌≤◌, ◌==◌, ◌&&◌, Bool, true, false, if◌then◌else◌, option_map, List, [], ◌∷◌, ◌++◌, length, map, drop, Option, Some, None, Result, Ok, Err, Bor, sym, refl, ap, ◌∙◌, append_assoc, append-nil, length-append, suc, zero, arith}
+use Rattle.std.proofs.Common.{◌≡◌, ℕ, ◌+◌, ◌<◌, ◌≤◌, ◌==◌, ◌&&◌, ◌||◌, nat_le, Bool, true, false, if◌then◌else◌, option_map, List, [], ◌∷◌, ◌++◌, length, map, drop, Option, Some, None, Result, Ok, Err, Bor, sym, refl, ap, ◌∙◌, append_assoc, append-nil, length-append, suc, zero, arith}
 use Rattle.std.proofs.Math.Path.{fun_ext}
 use Rattle.std.proofs.lemmas.Bool.{false≢true, ne_eqb}
 use Rattle.std.proofs.lemmas.List.{drop_all}
@@ -11,9 +11,13 @@ use Rattle.std.specs.Result.{OnErr}
 use Rattle.safebound_words.specs.Answer.{Kind, Ends, IsPlace, Sets, Wants, Gives, Unknown, Parts, in_front, kind_of, parts_from, read_by}
 use Rattle.safebound_words.specs.Collected.{asked_by, asked_from, asked_with, collected, given_of, given_to, given_with, times_of, words_of}
 use Rattle.safebound_words.specs.CommandLines.{Alone, Beside, Item, Joined, Place, given_by, given_in, has_flag, has_option, place_words, same_flag, same_option, set_by}
-use Rattle.safebound_words.specs.Requests.{Request, Audit, Plan, PlanStats, Run, Stats}
-use Rattle.safebound_words.specs.Table.{Given, command_row, file_of, flag_word, from_file, is_set, keys_alone, limit_of, most_budget_of, of_append, of_number, of_stats, option_row, over_files, over_two, planned_from, stands_alone, value_of, with_limit, within, ◌>>=◌}
+use Rattle.safebound_words.specs.Commands.{most_budget_of, over_query, plan_by, shape_by}
+use Rattle.safebound_words.specs.Table.{Given, command_row, file_of, flag_word, from_file, is_set, limit_of, of_append, of_number, of_stats, option_row, over_files, over_two, planned_from, stands_alone, value_of, with_limit, ◌>>=◌}
 use Rattle.safebound_words.specs.Words.{Word}
+use Rattle.safebound_words.specs.declared.command.Command.{Command}
+use Rattle.safebound_words.specs.declared.command.OutText.{OutText}
+use Rattle.safebound_words.specs.declared.command.OutText.TheVariants as out_text
+use Rattle.safebound_words.specs.declared.command.Work.TheVariants as works
 use Rattle.safebound_words.specs.declared.table.CommandName.{CommandName}
 use Rattle.safebound_words.specs.declared.table.CommandName.TheVariants as command
 use Rattle.safebound_words.specs.declared.table.FlagName.{FlagName}
@@ -122,37 +126,30 @@ none_behind (Some a) rest all = all a
 
 -- Where too much is collected, nothing is asked for.
 
-two_at_most : (request : Word → Word → ℕ → ℕ → Bool → Bool → Bool → Request) (places : List Word) (given : Given) → 4 < length places → over_two request places given ≡ None
-two_at_most request [] given many = absurd (omega arith)
-two_at_most request (a ∷ []) given many = absurd (omega arith)
-two_at_most request (a ∷ b ∷ []) given many = absurd (omega arith)
-two_at_most request (a ∷ b ∷ d ∷ rest) given many = refl
+two_at_most : (out : OutText) (limit : Option ℕ) (places : List Word) (given : Given) → 4 < length places → over_two out limit places given ≡ None
+two_at_most out limit [] given many = absurd (omega arith)
+two_at_most out limit (a ∷ []) given many = absurd (omega arith)
+two_at_most out limit (a ∷ b ∷ []) given many = absurd (omega arith)
+two_at_most out limit (a ∷ b ∷ d ∷ rest) given many = refl
 
 -- what is refused with each limit of memory is refused
-whatever_limit : (asks : Option ℕ → List Word → Given → Option Request) (places : List Word) (given : Given) → ((limit : Option ℕ) → asks limit places given ≡ None) → with_limit asks places given ≡ None
+whatever_limit : (asks : Option ℕ → List Word → Given → Option Command) (places : List Word) (given : Given) → ((limit : Option ℕ) → asks limit places given ≡ None) → with_limit asks places given ≡ None
 whatever_limit asks places given each =
     none_behind (value_of option.Memory (given.values option.Memory)) (λ bytes. asks (limit_of bytes) places given) (λ bytes. each (limit_of bytes))
 
 -- and so is what has two limits
-two_limits : (asks : Option ℕ → List Word → Given → Option Request) (places : List Word) (given : Given) → value_of option.Memory (given.values option.Memory) ≡ None → with_limit asks places given ≡ None
+two_limits : (asks : Option ℕ → List Word → Given → Option Command) (places : List Word) (given : Given) → value_of option.Memory (given.values option.Memory) ≡ None → with_limit asks places given ≡ None
 two_limits asks places given none = none_first (value_of option.Memory (given.values option.Memory)) (λ bytes. asks (limit_of bytes) places given) none
 
--- a request, and its limit
-abbrev With : Type 0
-With = Word → Word → ℕ → ℕ → Bool → Bool → Bool → Option ℕ → Request
-
-abbrev limited : With → Option ℕ → Word → Word → ℕ → ℕ → Bool → Bool → Bool → Request
-limited request limit schema query budget accuracy reduce bushy keys = request schema query budget accuracy reduce bushy keys limit
-
-files_of_two : (request : With) (places : List Word) (given : Given) → 4 < length places → over_files request places given ≡ None
+files_of_two : (out : OutText) (places : List Word) (given : Given) → 4 < length places → over_files out places given ≡ None
 unfolding over_files
-files_of_two request places given many =
-    whatever_limit (λ limit. over_two (limited request limit)) places given (λ limit. two_at_most (limited request limit) places given many)
+files_of_two out places given many =
+    whatever_limit (over_two out) places given (λ limit. two_at_most out limit places given many)
 
-one_at_most : (request : ℕ → Request) (places : List Word) (given : Given) → 4 < length places → of_number request places given ≡ None
-one_at_most request [] given many = absurd (omega arith)
-one_at_most request (a ∷ []) given many = absurd (omega arith)
-one_at_most request (a ∷ b ∷ rest) given many = refl
+one_at_most : (places : List Word) (given : Given) → 4 < length places → of_number places given ≡ None
+one_at_most [] given many = absurd (omega arith)
+one_at_most (a ∷ []) given many = absurd (omega arith)
+one_at_most (a ∷ b ∷ rest) given many = refl
 
 file_of_two : (file : Word) (limit : Option ℕ) (places : List Word) (given : Given) → 4 < length places → from_file file limit places given ≡ None
 file_of_two file limit [] given many = absurd (omega arith)
@@ -161,7 +158,7 @@ file_of_two file limit (a ∷ b ∷ []) given many = absurd (omega arith)
 file_of_two file limit (a ∷ b ∷ d ∷ rest) given many = refl
 
 plan_of_two : (file : Option Word) (places : List Word) (given : Given) → 4 < length places → planned_from file places given ≡ None
-plan_of_two None places given many = files_of_two Plan places given many
+plan_of_two None places given many = files_of_two out_text.Nothing places given many
 plan_of_two (Some file) places given many = whatever_limit (from_file file) places given (λ limit. file_of_two file limit places given many)
 
 stats_of_two : (places : List Word) (given : Given) → 4 < length places → of_stats places given ≡ None
@@ -179,12 +176,12 @@ append_of_four (a ∷ b ∷ d ∷ e ∷ []) given many = absurd (omega arith)
 append_of_four (a ∷ b ∷ d ∷ e ∷ f ∷ rest) given many = refl
 
 too_many : (name : CommandName) (places : List Word) (given : Given) → 4 < length places → (command_row name).asks places given ≡ None
-too_many command.Run = files_of_two Run
+too_many command.Run = files_of_two out_text.Rows
 too_many command.Plan = λ places given many. none_behind (file_of (given.values option.Stats)) (λ file. planned_from file places given) (λ file. plan_of_two file places given many)
-too_many command.Audit = files_of_two Audit
+too_many command.Audit = files_of_two out_text.Audit
 too_many command.Stats = stats_of_two
 too_many command.Append = append_of_four
-too_many command.Demo = one_at_most _
+too_many command.Demo = one_at_most
 
 -- an option to which two words are given has no value
 too_often : (o : OptionName) (words : List Word) → 1 < length words → value_of o words ≡ None
@@ -199,27 +196,27 @@ HasNumbers option.Accuracy = Unit {0}
 HasNumbers option.Memory = ⊥
 HasNumbers option.Stats = ⊥
 
-no_value : (request : Word → Word → ℕ → ℕ → Bool → Bool → Bool → Request) (places : List Word) (given : Given) (o : OptionName) → HasNumbers o
-    → 1 < length (given.values o) → over_two request places given ≡ None
-no_value request [] given o has many = refl
-no_value request (a ∷ []) given o has many = refl
-no_value request (a ∷ b ∷ []) given option.Budget has many = none_first _ _ (too_often option.Budget _ many)
-no_value request (a ∷ b ∷ []) given option.Accuracy has many = none_behind _ _ (λ budget. none_first _ _ (too_often option.Accuracy _ many))
-no_value request (a ∷ b ∷ []) given option.Memory has many = absurd has
-no_value request (a ∷ b ∷ []) given option.Stats has many = absurd has
-no_value request (a ∷ b ∷ d ∷ rest) given o has many = refl
+no_value : (out : OutText) (limit : Option ℕ) (places : List Word) (given : Given) (o : OptionName) → HasNumbers o
+    → 1 < length (given.values o) → over_two out limit places given ≡ None
+no_value out limit [] given o has many = refl
+no_value out limit (a ∷ []) given o has many = refl
+no_value out limit (a ∷ b ∷ []) given option.Budget has many = none_first _ _ (too_often option.Budget _ many)
+no_value out limit (a ∷ b ∷ []) given option.Accuracy has many = none_behind _ _ (λ budget. none_first _ _ (too_often option.Accuracy _ many))
+no_value out limit (a ∷ b ∷ []) given option.Memory has many = absurd has
+no_value out limit (a ∷ b ∷ []) given option.Stats has many = absurd has
+no_value out limit (a ∷ b ∷ d ∷ rest) given o has many = refl
 
-no_file_value : (request : With) (places : List Word) (given : Given) (o : OptionName) → HasNumbers o → 1 < length (given.values o) → over_files request places given ≡ None
+no_file_value : (out : OutText) (places : List Word) (given : Given) (o : OptionName) → HasNumbers o → 1 < length (given.values o) → over_files out places given ≡ None
 unfolding over_files
-no_file_value request places given o has many =
-    whatever_limit (λ limit. over_two (limited request limit)) places given (λ limit. no_value (limited request limit) places given o has many)
+no_file_value out places given o has many =
+    whatever_limit (over_two out) places given (λ limit. no_value out limit places given o has many)
 
-no_limit : (asks : Option ℕ → List Word → Given → Option Request) (places : List Word) (given : Given) → 1 < length (given.values option.Memory) → with_limit asks places given ≡ None
+no_limit : (asks : Option ℕ → List Word → Given → Option Command) (places : List Word) (given : Given) → 1 < length (given.values option.Memory) → with_limit asks places given ≡ None
 no_limit asks places given many = two_limits asks places given (too_often option.Memory (given.values option.Memory) many)
 
-no_file_limit : (request : With) (places : List Word) (given : Given) → 1 < length (given.values option.Memory) → over_files request places given ≡ None
+no_file_limit : (out : OutText) (places : List Word) (given : Given) → 1 < length (given.values option.Memory) → over_files out places given ≡ None
 unfolding over_files
-no_file_limit request places given many = no_limit (λ limit. over_two (limited request limit)) places given many
+no_file_limit out places given many = no_limit (over_two out) places given many
 
 -- nothing comes of a flag that stands twice
 set_once : (n : ℕ) → 1 < n → is_set n ≡ None
@@ -228,20 +225,21 @@ set_once (suc zero) many = absurd (omega arith)
 set_once (suc (suc more)) many = refl
 
 -- the stages behind the budget
-module _ (request : Word → Word → ℕ → ℕ → Bool → Bool → Bool → Request) (a b : Word) (given : Given) where
-  abbrev by_keys : ℕ → ℕ → Bool → Bool → Bool → Option Request
-  by_keys budget accuracy reduce bushy keys = keys_alone reduce bushy keys (within (most_budget_of bushy) budget (request a b budget accuracy reduce bushy keys))
+module _ (out : OutText) (limit : Option ℕ) (a b : Word) (given : Given) where
+  abbrev by_keys : ℕ → ℕ → Bool → Bool → Bool → Option Command
+  by_keys budget accuracy reduce bushy keys = if keys && (reduce || bushy) then None
+      else if nat_le budget (most_budget_of (shape_by bushy)) then Some (over_query None a b (plan_by out budget accuracy reduce bushy keys limit)) else None
 
-  abbrev by_bushy : ℕ → ℕ → Bool → Bool → Option Request
+  abbrev by_bushy : ℕ → ℕ → Bool → Bool → Option Command
   by_bushy budget accuracy reduce bushy = is_set (given.times flag.Keys) >>= λ keys. by_keys budget accuracy reduce bushy keys
 
-  abbrev by_reduce : ℕ → ℕ → Bool → Option Request
+  abbrev by_reduce : ℕ → ℕ → Bool → Option Command
   by_reduce budget accuracy reduce = is_set (given.times flag.Bushy) >>= λ bushy. by_bushy budget accuracy reduce bushy
 
-  abbrev by_accuracy : ℕ → ℕ → Option Request
+  abbrev by_accuracy : ℕ → ℕ → Option Command
   by_accuracy budget accuracy = is_set (given.times flag.Reduce) >>= λ reduce. by_reduce budget accuracy reduce
 
-  abbrev by_budget : ℕ → Option Request
+  abbrev by_budget : ℕ → Option Command
   by_budget budget = value_of option.Accuracy (given.values option.Accuracy) >>= λ accuracy. by_accuracy budget accuracy
 
   many_keys : (budget accuracy : ℕ) (reduce bushy : Bool) → 1 < given.times flag.Keys → by_bushy budget accuracy reduce bushy ≡ None
@@ -256,22 +254,22 @@ module _ (request : Word → Word → ℕ → ℕ → Bool → Bool → Bool →
       none_behind (is_set (given.times flag.Reduce)) (λ reduce. by_reduce budget accuracy reduce)
       (λ reduce. none_behind (is_set (given.times flag.Bushy)) (λ bushy. by_bushy budget accuracy reduce bushy) (λ bushy. many_keys budget accuracy reduce bushy many))
 
-  no_flag_of_two : (f : FlagName) → 1 < given.times f → over_two request (a ∷ b ∷ []) given ≡ None
+  no_flag_of_two : (f : FlagName) → 1 < given.times f → over_two out limit (a ∷ b ∷ []) given ≡ None
   no_flag_of_two f many =
       none_behind (value_of option.Budget (given.values option.Budget)) (λ budget. by_budget budget)
       (λ budget. none_behind (value_of option.Accuracy (given.values option.Accuracy)) (λ accuracy. by_accuracy budget accuracy) (λ accuracy. many_flags budget accuracy f many))
 
-no_flag : (request : Word → Word → ℕ → ℕ → Bool → Bool → Bool → Request) (places : List Word) (given : Given) (f : FlagName)
-    → 1 < given.times f → over_two request places given ≡ None
-no_flag request [] given f many = refl
-no_flag request (a ∷ []) given f many = refl
-no_flag request (a ∷ b ∷ []) given f many = no_flag_of_two request a b given f many
-no_flag request (a ∷ b ∷ d ∷ rest) given f many = refl
+no_flag : (out : OutText) (limit : Option ℕ) (places : List Word) (given : Given) (f : FlagName)
+    → 1 < given.times f → over_two out limit places given ≡ None
+no_flag out limit [] given f many = refl
+no_flag out limit (a ∷ []) given f many = refl
+no_flag out limit (a ∷ b ∷ []) given f many = no_flag_of_two out limit a b given f many
+no_flag out limit (a ∷ b ∷ d ∷ rest) given f many = refl
 
-no_file_flag : (request : With) (places : List Word) (given : Given) (f : FlagName) → 1 < given.times f → over_files request places given ≡ None
+no_file_flag : (out : OutText) (places : List Word) (given : Given) (f : FlagName) → 1 < given.times f → over_files out places given ≡ None
 unfolding over_files
-no_file_flag request places given f many =
-    whatever_limit (λ limit. over_two (limited request limit)) places given (λ limit. no_flag (limited request limit) places given f many)
+no_file_flag out places given f many =
+    whatever_limit (over_two out) places given (λ limit. no_flag out limit places given f many)
 
 -- the same of a plan, which may be from a statistics file
 
@@ -299,7 +297,7 @@ words_twice words b many = let some : (length words == 0) ≡ false = ne_eqb (le
 not_alone : (file : Word) (limit : Option ℕ) (schema query : Word) (given : Given) → stands_alone given ≡ false → from_file file limit (schema ∷ query ∷ []) given ≡ None
 not_alone file limit schema query given beside =
     none_behind (value_of option.Budget (given.values option.Budget))
-    (λ budget. if stands_alone given then Some (PlanStats schema query file budget limit) else None) (λ budget. rw beside refl)
+    (λ budget. if stands_alone given then Some (over_query None schema query (works.PlanFrom file budget limit)) else None) (λ budget. rw beside refl)
 
 file_without_flag : (file : Word) (limit : Option ℕ) (places : List Word) (given : Given) (f : FlagName) → 1 < given.times f → from_file file limit places given ≡ None
 file_without_flag file limit [] given f many = refl
@@ -308,19 +306,19 @@ file_without_flag file limit (a ∷ b ∷ []) given f many = not_alone file limi
 file_without_flag file limit (a ∷ b ∷ d ∷ rest) given f many = refl
 
 plan_without_flag : (file : Option Word) (places : List Word) (given : Given) (f : FlagName) → 1 < given.times f → planned_from file places given ≡ None
-plan_without_flag None places given f many = no_file_flag Plan places given f many
+plan_without_flag None places given f many = no_file_flag out_text.Nothing places given f many
 plan_without_flag (Some file) places given f many = whatever_limit (from_file file) places given (λ limit. file_without_flag file limit places given f many)
 
 file_without_budget : (file : Word) (limit : Option ℕ) (places : List Word) (given : Given) → 1 < length (given.values option.Budget) → from_file file limit places given ≡ None
 file_without_budget file limit [] given many = refl
 file_without_budget file limit (a ∷ []) given many = refl
 file_without_budget file limit (a ∷ b ∷ []) given many =
-    none_first (value_of option.Budget (given.values option.Budget)) (λ budget. if stands_alone given then Some (PlanStats a b file budget limit) else None)
+    none_first (value_of option.Budget (given.values option.Budget)) (λ budget. if stands_alone given then Some (over_query None a b (works.PlanFrom file budget limit)) else None)
     (too_often option.Budget (given.values option.Budget) many)
 file_without_budget file limit (a ∷ b ∷ d ∷ rest) given many = refl
 
 plan_without_budget : (file : Option Word) (places : List Word) (given : Given) → 1 < length (given.values option.Budget) → planned_from file places given ≡ None
-plan_without_budget None places given many = no_file_value Plan places given option.Budget tt many
+plan_without_budget None places given many = no_file_value out_text.Nothing places given option.Budget tt many
 plan_without_budget (Some file) places given many = whatever_limit (from_file file) places given (λ limit. file_without_budget file limit places given many)
 
 file_without_accuracy : (file : Word) (limit : Option ℕ) (places : List Word) (given : Given) → 1 < length (given.values option.Accuracy) → from_file file limit places given ≡ None
@@ -331,11 +329,11 @@ file_without_accuracy file limit (a ∷ b ∷ []) given many =
 file_without_accuracy file limit (a ∷ b ∷ d ∷ rest) given many = refl
 
 plan_without_accuracy : (file : Option Word) (places : List Word) (given : Given) → 1 < length (given.values option.Accuracy) → planned_from file places given ≡ None
-plan_without_accuracy None places given many = no_file_value Plan places given option.Accuracy tt many
+plan_without_accuracy None places given many = no_file_value out_text.Nothing places given option.Accuracy tt many
 plan_without_accuracy (Some file) places given many = whatever_limit (from_file file) places given (λ limit. file_without_accuracy file limit places given many)
 
 plan_without_limit : (file : Option Word) (places : List Word) (given : Given) → 1 < length (given.values option.Memory) → planned_from file places given ≡ None
-plan_without_limit None places given many = no_file_limit Plan places given many
+plan_without_limit None places given many = no_file_limit out_text.Nothing places given many
 plan_without_limit (Some file) places given many = no_limit (from_file file) places given many
 
 no_file : (words : List Word) → 1 < length words → file_of words ≡ None
@@ -346,24 +344,24 @@ no_file (a ∷ b ∷ rest) many = refl
 no_accuracy : (places : List Word) (given : Given) → 1 < length (given.values option.Accuracy) → of_stats places given ≡ None
 no_accuracy [] given many = refl
 no_accuracy (a ∷ []) given many = refl
-no_accuracy (a ∷ b ∷ []) given many = ap (option_map (Stats a b)) (too_often option.Accuracy (given.values option.Accuracy) many)
+no_accuracy (a ∷ b ∷ []) given many = ap (option_map (λ accuracy. over_query None a b (works.File accuracy))) (too_often option.Accuracy (given.values option.Accuracy) many)
 no_accuracy (a ∷ b ∷ d ∷ rest) given many = refl
 
 flag_refused : (name : CommandName) (f : FlagName) (places : List Word) (given : Given) → IsTrue (has_flag name f) → 1 < given.times f
     → (command_row name).asks places given ≡ None
-flag_refused command.Run f places given has many = no_file_flag Run places given f many
+flag_refused command.Run f places given has many = no_file_flag out_text.Rows places given f many
 flag_refused command.Plan f places given has many =
     none_behind (file_of (given.values option.Stats)) (λ file. planned_from file places given) (λ file. plan_without_flag file places given f many)
-flag_refused command.Audit f places given has many = no_file_flag Audit places given f many
+flag_refused command.Audit f places given has many = no_file_flag out_text.Audit places given f many
 flag_refused command.Stats f places given has many = absurd (false≢true has)
 flag_refused command.Append f places given has many = absurd (false≢true has)
 flag_refused command.Demo f places given has many = absurd (false≢true has)
 
 refused : (name : CommandName) (o : OptionName) (places : List Word) (given : Given) → IsTrue (has_option name o) → 1 < length (given.values o)
     → (command_row name).asks places given ≡ None
-refused command.Run option.Budget places given has many = no_file_value Run places given option.Budget tt many
-refused command.Run option.Accuracy places given has many = no_file_value Run places given option.Accuracy tt many
-refused command.Run option.Memory places given has many = no_file_limit Run places given many
+refused command.Run option.Budget places given has many = no_file_value out_text.Rows places given option.Budget tt many
+refused command.Run option.Accuracy places given has many = no_file_value out_text.Rows places given option.Accuracy tt many
+refused command.Run option.Memory places given has many = no_file_limit out_text.Rows places given many
 refused command.Run option.Stats places given has many = absurd (false≢true has)
 refused command.Plan option.Budget places given has many =
     none_behind (file_of (given.values option.Stats)) (λ file. planned_from file places given) (λ file. plan_without_budget file places given many)
@@ -372,9 +370,9 @@ refused command.Plan option.Accuracy places given has many =
 refused command.Plan option.Memory places given has many =
     none_behind (file_of (given.values option.Stats)) (λ file. planned_from file places given) (λ file. plan_without_limit file places given many)
 refused command.Plan option.Stats places given has many = none_first (file_of (given.values option.Stats)) (λ file. planned_from file places given) (no_file (given.values option.Stats) many)
-refused command.Audit option.Budget places given has many = no_file_value Audit places given option.Budget tt many
-refused command.Audit option.Accuracy places given has many = no_file_value Audit places given option.Accuracy tt many
-refused command.Audit option.Memory places given has many = no_file_limit Audit places given many
+refused command.Audit option.Budget places given has many = no_file_value out_text.Audit places given option.Budget tt many
+refused command.Audit option.Accuracy places given has many = no_file_value out_text.Audit places given option.Accuracy tt many
+refused command.Audit option.Memory places given has many = no_file_limit out_text.Audit places given many
 refused command.Audit option.Stats places given has many = absurd (false≢true has)
 refused command.Stats option.Budget places given has many = absurd (false≢true has)
 refused command.Stats option.Accuracy places given has many = no_accuracy places given many
@@ -556,7 +554,7 @@ pub start_asked : (name : CommandName) (line : Line) (words : List Word) → wor
     → ((f : FlagName) → times_of line f ≡ 0) → asked_from name line next.Item words ≡ asked_by name words
 unfolding asked_from asked_by asked_with
 start_asked name line words places given times =
-    ap (λ (f : Parts → Option Request). parts_from name None words >>= f) (fun_ext (λ (parts : Parts).
+    ap (λ (f : Parts → Option Command). parts_from name None words >>= f) (fun_ext (λ (parts : Parts).
     same_asks name
     (words_of line.places ++ (flat_map place_words parts.0 ++ parts.1))
     (flat_map place_words parts.0 ++ parts.1)
@@ -588,17 +586,17 @@ nothing_more name line =
     same_asks name (words_of line.places) (words_of line.places ++ []) (given_of line) (given_with line [])
     (sym (append-nil (words_of line.places))) (λ o. sym (append-nil (given_to line o))) (λ f. omega arith)
 
-pub line_ended : (name : CommandName) (line : Line) (words : List (Bor (List ℕ))) (i : ℕ) (all : Option Request) → length words ≤ i
+pub line_ended : (name : CommandName) (line : Line) (words : List (Bor (List ℕ))) (i : ℕ) (all : Option Command) → length words ≤ i
     → asked_from name line next.Item (map (λ w. w.now) (drop i words)) ≡ all → collected name line ≡ all
 unfolding asked_from parts_from
 line_ended name line words i all past is = let none = none_left words i past in nothing_more name line ∙ rw none at is
 
-pub behind_ended : (name : CommandName) (line : Line) (words : List (Bor (List ℕ))) (i : ℕ) (all : Option Request) → length words ≤ i
+pub behind_ended : (name : CommandName) (line : Line) (words : List (Bor (List ℕ))) (i : ℕ) (all : Option Command) → length words ≤ i
     → asked_from name line next.Place (map (λ w. w.now) (drop i words)) ≡ all → collected name line ≡ all
 unfolding asked_from parts_from
 behind_ended name line words i all past is = let none = none_left words i past in nothing_more name line ∙ rw none at is
 
-pub value_missing : (name : CommandName) (line : Line) (o : OptionName) (words : List (Bor (List ℕ))) (i : ℕ) (all : Option Request) → length words ≤ i
+pub value_missing : (name : CommandName) (line : Line) (o : OptionName) (words : List (Bor (List ℕ))) (i : ℕ) (all : Option Command) → length words ≤ i
     → asked_from name line (next.Value o) (map (λ w. w.now) (drop i words)) ≡ all → all ≡ None
 unfolding asked_from parts_from
 value_missing name line o words i all past is = let none = none_left words i past in sym (rw none at is)

@@ -3,7 +3,7 @@ use Rattle.std.proofs.Common.{◌≡◌, ℕ, List, [], ◌∷◌, Bor, Option, 
 use Rattle.safebound_words.specs.Answer.{Parts, command_named, command_of, parts_from, reading_of}
 use Rattle.safebound_words.specs.Collected.{asked_by}
 use Rattle.safebound_words.specs.CommandLines.{AskFor, requested}
-use Rattle.safebound_words.specs.Requests.{Request}
+use Rattle.safebound_words.specs.declared.command.Command.{Command}
 use Rattle.safebound_words.specs.Table.{◌>>=◌}
 use Rattle.safebound_words.specs.Words.{Word}
 use Rattle.safebound_words.specs.declared.table.CommandName.{CommandName}
@@ -30,10 +30,10 @@ unfolding command_of reading_of
 no_line = refl
 
 -- what is computed is asked for, and where nothing is, nothing is
-pub asks : (words : List Word) (request : Request) → Some request ≡ command_of words → AskFor words request
+pub asks : (words : List Word) (request : Command) → Some request ≡ command_of words → AskFor words request
 asks words request is = computed_asked words request (sym is)
 
-pub asks_nothing : (words : List Word) → None ≡ command_of words → (request : Request) → AskFor words request → ⊥
+pub asks_nothing : (words : List Word) → None ≡ command_of words → (request : Command) → AskFor words request → ⊥
 asks_nothing words is request asked = let some = asked_computed words request asked in cc
 
 -- in the words of a slice

@@ -1,9 +1,9 @@
--- The one request that words ask for, computed from the first word to the last.
+-- The one command that words ask for, computed from the first word to the last.
 use Rattle.std.specs.Prelude.{◌==◌, if◌then◌else◌, find, List, [], ◌∷◌, Option, Some, None, codes}
 use Rattle.std.specs.Option.{option_map}
 use Rattle.std.specs.Str.{bytes_eq}
 use Rattle.safebound_words.specs.CommandLines.{Alone, Beside, Item, Joined, Place, Reading, requested}
-use Rattle.safebound_words.specs.Requests.{Request}
+use Rattle.safebound_words.specs.declared.command.Command.{Command}
 use Rattle.safebound_words.specs.Table.{command_row, flag_word, option_row, ◌>>=◌}
 use Rattle.safebound_words.specs.Words.{Word, is_dashed}
 use Rattle.safebound_words.specs.declared.table.CommandName.{CommandName}
@@ -81,5 +81,5 @@ reading_of (first ∷ words) = do
   parts ← parts_from name None words
   Some (record { command = name; items = parts.0; behind = parts.1 })
 
-unfoldable pub command_of : List Word → Option Request
+unfoldable pub command_of : List Word → Option Command
 command_of words = reading_of words >>= requested

@@ -6,7 +6,7 @@ use Rattle.std.specs.List.{flat_map, sum_by}
 use Rattle.std.specs.Option.{option_map, option_to_list}
 use Rattle.safebound_words.specs.Answer.{Parts, parts_from}
 use Rattle.safebound_words.specs.CommandLines.{Item, given_by, has_option, place_words, requested, set_by}
-use Rattle.safebound_words.specs.Requests.{Request}
+use Rattle.safebound_words.specs.declared.command.Command.{Command}
 use Rattle.safebound_words.specs.Table.{Given, command_row, ◌>>=◌}
 use Rattle.safebound_words.specs.Words.{Word}
 use Rattle.safebound_words.specs.declared.table.CommandName.{CommandName}
@@ -60,21 +60,21 @@ parts_next name (next.Value option) words = parts_from name (Some option) words
 parts_next name next.Place words = Some ([], words)
 
 -- what is asked for by a line alone
-abbrev pub collected : CommandName → Line → Option Request
+abbrev pub collected : CommandName → Line → Option Command
 collected name line = (command_row name).asks (words_of line.places) (given_of line)
 
 -- what is asked for by a line and further parts
-unfoldable pub asked_with : CommandName → Line → Parts → Option Request
+unfoldable pub asked_with : CommandName → Line → Parts → Option Command
 asked_with name line parts = (command_row name).asks
     (words_of line.places ++ (flat_map place_words parts.0 ++ parts.1))
     (given_with line parts.0)
 
 -- what is asked for by a line and the words that are left
-unfoldable pub asked_from : CommandName → Line → Next → List Word → Option Request
+unfoldable pub asked_from : CommandName → Line → Next → List Word → Option Command
 asked_from name line next words = parts_next name next words >>= asked_with name line
 
 -- what is asked for by a command's word and all words behind it
-unfoldable pub asked_by : CommandName → List Word → Option Request
+unfoldable pub asked_by : CommandName → List Word → Option Command
 asked_by name words = parts_from name None words >>= λ parts. requested (record { command = name; items = parts.0; behind = parts.1 })
 
 -- an option that wants its value is one of the command

@@ -3,7 +3,7 @@ use Rattle.std.specs.Prelude.{ℕ, ◌≡◌, ◌⊎◌, Bool, false, if◌then�
 use Rattle.std.specs.List.{AllByRecursion, flat_map, list_any, sum_by}
 use Rattle.std.specs.Str.{bytes_eq}
 use Rattle.std.specs.Bool.{IsTrue}
-use Rattle.safebound_words.specs.Requests.{Request}
+use Rattle.safebound_words.specs.declared.command.Command.{Command}
 use Rattle.safebound_words.specs.Table.{Given, command_row, flag_word, option_row}
 use Rattle.safebound_words.specs.Words.{Word, is_dashed}
 use Rattle.safebound_words.specs.declared.table.CommandName.{CommandName}
@@ -91,9 +91,9 @@ given_in items = record {
 }
 
 -- what a reading asks for, if anything
-abbrev pub requested : Reading → Option Request
+abbrev pub requested : Reading → Option Command
 requested reading = (command_row reading.command).asks (flat_map place_words reading.items ++ reading.behind) (given_in reading.items)
 
--- The words ask for this: they are read in a way that does.
-abbrev pub AskFor : List Word → Request → Type 0
-AskFor words request = (reading : Reading) × Reads words reading × (requested reading ≡ Some request)
+-- the words ask for this: it is requested by some reading of them
+abbrev pub AskFor : List Word → Command → Type 0
+AskFor words command = (reading : Reading) × Reads words reading × (requested reading ≡ Some command)

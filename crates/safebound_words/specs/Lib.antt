@@ -1,8 +1,9 @@
 pub mod Answer
 pub mod Collected
 pub mod CommandLines
+pub mod Commands
+pub mod InRange
 pub mod Kinds
 pub mod Numbers
-pub mod Requests
 pub mod Table
 pub mod Words

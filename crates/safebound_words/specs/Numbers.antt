@@ -1,4 +1,4 @@
--- Numbers of the command line: one or more ASCII digits, and the number counts.
+-- Numbers of the command line: one or more ASCII digits; zeros at the front change nothing.
 use Rattle.std.specs.Prelude.{ℕ, ◌+◌, ◌-◌, ◌*◌, ◌^◌, ◌&&◌, Bool, nat_lt, nat_le, if◌then◌else◌, List, [], ◌∷◌, length, Option, Some, None}
 use Rattle.std.specs.Char.{is_ascii_digit}
 use Rattle.std.specs.List.{list_all}

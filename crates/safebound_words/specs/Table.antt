@@ -1,10 +1,14 @@
 -- The table of commands, options and flags: a new one is one line here.
 use Rattle.std.specs.Prelude.{ℕ, ◌^◌, ◌-◌, ◌==◌, ◌&&◌, ◌||◌, not, nat_le, if◌then◌else◌, suc, zero, Bool, true, false, List, [], ◌∷◌, length, Option, Some, None, codes}
 use Rattle.std.specs.Option.{option_map}
-use Rattle.limits.specs.Profile.{least_accuracy, least_budget, most_accuracy, most_budget, most_rows, usual_accuracy, usual_budget}
+use Rattle.limits.specs.Profile.{least_accuracy, least_budget, most_accuracy, most_budget, usual_accuracy, usual_budget}
+use Rattle.safebound_words.specs.Commands.{demo_of, most_budget_of, over_query, plan_by, shape_by, with_rows}
 use Rattle.safebound_words.specs.Numbers.{number_within}
-use Rattle.safebound_words.specs.Requests.{Request, Run, Plan, Audit, Stats, PlanStats, Append, Demo}
 use Rattle.safebound_words.specs.Words.{Word}
+use Rattle.safebound_words.specs.declared.command.Command.{Command}
+use Rattle.safebound_words.specs.declared.command.OutText.{OutText}
+use Rattle.safebound_words.specs.declared.command.OutText.TheVariants as out_text
+use Rattle.safebound_words.specs.declared.command.Work.TheVariants as works
 use Rattle.safebound_words.specs.declared.table.CommandName.{CommandName}
 use Rattle.safebound_words.specs.declared.table.CommandName.TheVariants as command
 use Rattle.safebound_words.specs.declared.table.FlagName.{FlagName}
@@ -51,7 +55,7 @@ pub record Given : Type 0 where
   pub values : OptionName → List Word
   pub times : FlagName → ℕ
 
--- an option has one value at most: the number of its word, which is in its range, or its number where it doesn't stand
+-- an option has one value at most: the number of its word, which is in its range, or its default where it isn't given
 abbrev pub value_of : OptionName → List Word → Option ℕ
 value_of option [] = Some (option_row option).otherwise
 value_of option (word ∷ []) = number_within (option_row option).least (option_row option).most word
@@ -83,9 +87,9 @@ pub record CommandRow : Type 0 where
   pub word : Word
   pub options : List OptionName
   pub flags : List FlagName
-  pub asks : List Word → Given → Option Request
+  pub asks : List Word → Given → Option Command
 
-abbrev pub named : Word → List OptionName → List FlagName → (List Word → Given → Option Request) → CommandRow
+abbrev pub named : Word → List OptionName → List FlagName → (List Word → Given → Option Command) → CommandRow
 named word options flags asks = record { word = word; options = options; flags = flags; asks = asks }
 
 -- what is there goes on to the rest
@@ -94,36 +98,25 @@ abbrev pub ◌>>=◌ : {A B : Type 0} → Option A → (A → Option B) → Opti
 None >>= rest = None
 (Some value) >>= rest = rest value
 
--- the greatest budget: of a join tree of any shape no node may have more rows than a table
-abbrev pub most_budget_of : Bool → ℕ
-most_budget_of bushy = if bushy then most_rows else most_budget
-
--- what is asked for, where a number is at most so much
-abbrev pub within : ℕ → ℕ → Request → Option Request
-within most number request = if nat_le number most then Some request else None
-
--- what is asked for, unless `--keys` stands beside another flag
-abbrev pub keys_alone : Bool → Bool → Bool → Option Request → Option Request
-keys_alone reduce bushy keys asked = if keys && (reduce || bushy) then None else asked
-
--- exactly two place words, SCHEMA and QUERY
-abbrev pub over_two : (Word → Word → ℕ → ℕ → Bool → Bool → Bool → Request) → List Word → Given → Option Request
-over_two request (schema ∷ query ∷ []) given = do
+-- exactly two place words, SCHEMA and QUERY; `--keys` beside no other flag, and a budget that is at most that of the shape
+abbrev pub over_two : OutText → Option ℕ → List Word → Given → Option Command
+over_two out limit (schema ∷ query ∷ []) given = do
   budget ← value_of option.Budget (given.values option.Budget)
   accuracy ← value_of option.Accuracy (given.values option.Accuracy)
   reduce ← is_set (given.times flag.Reduce)
   bushy ← is_set (given.times flag.Bushy)
   keys ← is_set (given.times flag.Keys)
-  keys_alone reduce bushy keys (within (most_budget_of bushy) budget (request schema query budget accuracy reduce bushy keys))
-over_two request places given = None
+  if keys && (reduce || bushy) then None
+      else if nat_le budget (most_budget_of (shape_by bushy)) then Some (over_query None schema query (plan_by out budget accuracy reduce bushy keys limit))
+      else None
+over_two out limit places given = None
 
--- the same with a limit of memory, where one stands
-abbrev pub with_limit : (Option ℕ → List Word → Given → Option Request) → List Word → Given → Option Request
+-- what is asked for with a limit of memory, where one stands
+abbrev pub with_limit : (Option ℕ → List Word → Given → Option Command) → List Word → Given → Option Command
 with_limit asks places given = value_of option.Memory (given.values option.Memory) >>= λ bytes. asks (limit_of bytes) places given
 
-unfoldable pub over_files : (Word → Word → ℕ → ℕ → Bool → Bool → Bool → Option ℕ → Request) → List Word → Given → Option Request
-over_files request places given =
-    with_limit (λ limit. over_two (λ schema query budget accuracy reduce bushy keys. request schema query budget accuracy reduce bushy keys limit)) places given
+unfoldable pub over_files : OutText → List Word → Given → Option Command
+over_files out places given = with_limit (over_two out) places given
 
 -- beside a statistics file stands no accuracy, which is the file's, and no flag; the budget and a limit of memory may
 abbrev pub stands_alone : Given → Bool
@@ -131,40 +124,40 @@ stands_alone given =
     length (given.values option.Accuracy) == 0 && (given.times flag.Reduce == 0 && (given.times flag.Bushy == 0 && given.times flag.Keys == 0))
 
 -- a plan from a statistics file: SCHEMA and QUERY, and the budget
-abbrev pub from_file : Word → Option ℕ → List Word → Given → Option Request
+abbrev pub from_file : Word → Option ℕ → List Word → Given → Option Command
 from_file file limit (schema ∷ query ∷ []) given = do
   budget ← value_of option.Budget (given.values option.Budget)
-  if stands_alone given then Some (PlanStats schema query file budget limit) else None
+  if stands_alone given then Some (over_query None schema query (works.PlanFrom file budget limit)) else None
 from_file file limit places given = None
 
 -- a plan from a statistics file, where there is one, or from the tables
-abbrev pub planned_from : Option Word → List Word → Given → Option Request
-planned_from None places given = over_files Plan places given
+abbrev pub planned_from : Option Word → List Word → Given → Option Command
+planned_from None places given = over_files out_text.Nothing places given
 planned_from (Some file) places given = with_limit (from_file file) places given
 
-abbrev pub of_plan : List Word → Given → Option Request
+abbrev pub of_plan : List Word → Given → Option Command
 of_plan places given = file_of (given.values option.Stats) >>= λ file. planned_from file places given
 
 -- exactly two place words, SCHEMA and QUERY, and the accuracy
-abbrev pub of_stats : List Word → Given → Option Request
-of_stats (schema ∷ query ∷ []) given = option_map (Stats schema query) (value_of option.Accuracy (given.values option.Accuracy))
+abbrev pub of_stats : List Word → Given → Option Command
+of_stats (schema ∷ query ∷ []) given = option_map (λ accuracy. over_query None schema query (works.File accuracy)) (value_of option.Accuracy (given.values option.Accuracy))
 of_stats places given = None
 
 -- exactly four place words: SCHEMA, STATS, TABLE and ROWS
-abbrev pub of_append : List Word → Given → Option Request
-of_append (schema ∷ file ∷ table ∷ rows ∷ []) given = Some (Append schema file table rows)
+abbrev pub of_append : List Word → Given → Option Command
+of_append (schema ∷ file ∷ table ∷ rows ∷ []) given = Some (with_rows schema (record { stats_file = file; table = table; rows_file = rows }))
 of_append places given = None
 
 -- exactly one place word, NUMBER
-abbrev pub of_number : (ℕ → Request) → List Word → Given → Option Request
-of_number request (number ∷ []) given = option_map request (number_within 0 (2 ^ 32 - 1) number)
-of_number request places given = None
+abbrev pub of_number : List Word → Given → Option Command
+of_number (number ∷ []) given = option_map demo_of (number_within 0 (2 ^ 32 - 1) number)
+of_number places given = None
 
 -- one line for each command
 abbrev pub command_row : CommandName → CommandRow
-command_row command.Run = named (codes "run") (option.Budget ∷ option.Accuracy ∷ option.Memory ∷ []) (flag.Reduce ∷ flag.Bushy ∷ flag.Keys ∷ []) (over_files Run)
+command_row command.Run = named (codes "run") (option.Budget ∷ option.Accuracy ∷ option.Memory ∷ []) (flag.Reduce ∷ flag.Bushy ∷ flag.Keys ∷ []) (over_files out_text.Rows)
 command_row command.Plan = named (codes "plan") (option.Budget ∷ option.Accuracy ∷ option.Memory ∷ option.Stats ∷ []) (flag.Reduce ∷ flag.Bushy ∷ flag.Keys ∷ []) of_plan
-command_row command.Audit = named (codes "audit") (option.Budget ∷ option.Accuracy ∷ option.Memory ∷ []) (flag.Reduce ∷ flag.Bushy ∷ flag.Keys ∷ []) (over_files Audit)
+command_row command.Audit = named (codes "audit") (option.Budget ∷ option.Accuracy ∷ option.Memory ∷ []) (flag.Reduce ∷ flag.Bushy ∷ flag.Keys ∷ []) (over_files out_text.Audit)
 command_row command.Stats = named (codes "stats") (option.Accuracy ∷ []) [] of_stats
 command_row command.Append = named (codes "append") [] [] of_append
-command_row command.Demo = named (codes "demo") [] [] (of_number Demo)
+command_row command.Demo = named (codes "demo") [] [] of_number

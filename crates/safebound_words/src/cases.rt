@@ -1,35 +1,37 @@
 //! What small command lines ask for.
 ghost use Rattle.std.specs.Prelude.{◌≡◌, Some, None, [], ◌∷◌, codes, false, true};
 ghost use Rattle.safebound_words.specs.Answer.{command_of};
-ghost use Rattle.safebound_words.specs.Requests.{Run, Plan, Audit, Stats, PlanStats, Append, Demo};
+ghost use Rattle.safebound_words.specs.Commands.{demo_of, over_query, plan_by, with_rows};
+ghost use Rattle.safebound_words.specs.declared.command.OutText.TheVariants as out_text;
+ghost use Rattle.safebound_words.specs.declared.command.Work.TheVariants as works;
 
 /// Commands and their place words. It does nothing.
 pub fn small_commands()
-    ensures run { command_of (codes "run" ∷ codes "s" ∷ codes "q" ∷ []) ≡ Some (Run (codes "s") (codes "q") 1000000 1 false false false None) }
-    ensures audit { command_of (codes "audit" ∷ codes "s" ∷ codes "q" ∷ []) ≡ Some (Audit (codes "s") (codes "q") 1000000 1 false false false None) }
-    ensures dash { command_of (codes "plan" ∷ codes "-" ∷ codes "q" ∷ []) ≡ Some (Plan (codes "-") (codes "q") 1000000 1 false false false None) }
-    ensures empty { command_of (codes "plan" ∷ [] ∷ codes "q" ∷ []) ≡ Some (Plan [] (codes "q") 1000000 1 false false false None) }
-    ensures number { command_of (codes "demo" ∷ codes "7" ∷ []) ≡ Some (Demo 7) }
-    ensures zeros { command_of (codes "demo" ∷ codes "007" ∷ []) ≡ Some (Demo 7) }
-    ensures last_number { command_of (codes "demo" ∷ codes "4294967295" ∷ []) ≡ Some (Demo 4294967295) }
+    ensures run { command_of (codes "run" ∷ codes "s" ∷ codes "q" ∷ []) ≡ Some (over_query None (codes "s") (codes "q") (plan_by out_text.Rows 1000000 1 false false false None)) }
+    ensures audit { command_of (codes "audit" ∷ codes "s" ∷ codes "q" ∷ []) ≡ Some (over_query None (codes "s") (codes "q") (plan_by out_text.Audit 1000000 1 false false false None)) }
+    ensures dash { command_of (codes "plan" ∷ codes "-" ∷ codes "q" ∷ []) ≡ Some (over_query None (codes "-") (codes "q") (plan_by out_text.Nothing 1000000 1 false false false None)) }
+    ensures empty { command_of (codes "plan" ∷ [] ∷ codes "q" ∷ []) ≡ Some (over_query None [] (codes "q") (plan_by out_text.Nothing 1000000 1 false false false None)) }
+    ensures number { command_of (codes "demo" ∷ codes "7" ∷ []) ≡ Some (demo_of 7) }
+    ensures zeros { command_of (codes "demo" ∷ codes "007" ∷ []) ≡ Some (demo_of 7) }
+    ensures last_number { command_of (codes "demo" ∷ codes "4294967295" ∷ []) ≡ Some (demo_of 4294967295) }
 
     // Behind `--` every word is a place word, a second `--` too.
     ensures behind { command_of (codes "run" ∷ codes "--" ∷ codes "--budget" ∷ codes "--" ∷ [])
-        ≡ Some (Run (codes "--budget") (codes "--") 1000000 1 false false false None) }
+        ≡ Some (over_query None (codes "--budget") (codes "--") (plan_by out_text.Rows 1000000 1 false false false None)) }
     ensures value_behind { command_of (codes "run" ∷ codes "--budget" ∷ codes "5" ∷ codes "--" ∷ codes "--budget" ∷ codes "6" ∷ [])
-        ≡ Some (Run (codes "--budget") (codes "6") 5 1 false false false None) }
-    ensures number_behind { command_of (codes "demo" ∷ codes "--" ∷ codes "7" ∷ []) ≡ Some (Demo 7) }
+        ≡ Some (over_query None (codes "--budget") (codes "6") (plan_by out_text.Rows 5 1 false false false None)) }
+    ensures number_behind { command_of (codes "demo" ∷ codes "--" ∷ codes "7" ∷ []) ≡ Some (demo_of 7) }
 {}
 
 /// Options and their values. It does nothing.
 pub fn small_options()
     ensures joined { command_of (codes "run" ∷ codes "--budget=12" ∷ codes "--" ∷ codes "s" ∷ codes "q" ∷ [])
-        ≡ Some (Run (codes "s") (codes "q") 12 1 false false false None) }
+        ≡ Some (over_query None (codes "s") (codes "q") (plan_by out_text.Rows 12 1 false false false None)) }
     ensures beside { command_of (codes "plan" ∷ codes "s" ∷ codes "--accuracy" ∷ codes "64" ∷ codes "q" ∷ codes "--budget" ∷ codes "007"
         ∷ [])
-        ≡ Some (Plan (codes "s") (codes "q") 7 64 false false false None) }
+        ≡ Some (over_query None (codes "s") (codes "q") (plan_by out_text.Nothing 7 64 false false false None)) }
     ensures most { command_of (codes "audit" ∷ codes "s" ∷ codes "q" ∷ codes "--budget" ∷ codes "20000000" ∷ [])
-        ≡ Some (Audit (codes "s") (codes "q") 20000000 1 false false false None) }
+        ≡ Some (over_query None (codes "s") (codes "q") (plan_by out_text.Audit 20000000 1 false false false None)) }
     ensures past_most { command_of (codes "audit" ∷ codes "s" ∷ codes "q" ∷ codes "--budget" ∷ codes "20000001" ∷ []) ≡ None }
     ensures no_rows { command_of (codes "run" ∷ codes "s" ∷ codes "q" ∷ codes "--budget" ∷ codes "0" ∷ []) ≡ None }
     ensures least { command_of (codes "run" ∷ codes "s" ∷ codes "q" ∷ codes "--accuracy=0" ∷ []) ≡ None }
@@ -64,13 +66,13 @@ pub fn small_refusals()
 /// Words with `--reduce`. It does nothing.
 pub fn small_flags()
     ensures behind { command_of (codes "run" ∷ codes "s" ∷ codes "q" ∷ codes "--reduce" ∷ [])
-        ≡ Some (Run (codes "s") (codes "q") 1000000 1 true false false None) }
+        ≡ Some (over_query None (codes "s") (codes "q") (plan_by out_text.Rows 1000000 1 true false false None)) }
     ensures in_front { command_of (codes "plan" ∷ codes "--reduce" ∷ codes "s" ∷ codes "q" ∷ codes "--budget" ∷ codes "5" ∷ [])
-        ≡ Some (Plan (codes "s") (codes "q") 5 1 true false false None) }
+        ≡ Some (over_query None (codes "s") (codes "q") (plan_by out_text.Nothing 5 1 true false false None)) }
     ensures between { command_of (codes "audit" ∷ codes "s" ∷ codes "--accuracy=8" ∷ codes "--reduce" ∷ codes "q" ∷ [])
-        ≡ Some (Audit (codes "s") (codes "q") 1000000 8 true false false None) }
+        ≡ Some (over_query None (codes "s") (codes "q") (plan_by out_text.Audit 1000000 8 true false false None)) }
     ensures a_place_word { command_of (codes "run" ∷ codes "--" ∷ codes "--reduce" ∷ codes "q" ∷ [])
-        ≡ Some (Run (codes "--reduce") (codes "q") 1000000 1 false false false None) }
+        ≡ Some (over_query None (codes "--reduce") (codes "q") (plan_by out_text.Rows 1000000 1 false false false None)) }
     ensures twice { command_of (codes "run" ∷ codes "--reduce" ∷ codes "s" ∷ codes "q" ∷ codes "--reduce" ∷ []) ≡ None }
     ensures value { command_of (codes "run" ∷ codes "s" ∷ codes "q" ∷ codes "--reduce=1" ∷ []) ≡ None }
     ensures value_behind { command_of (codes "run" ∷ codes "s" ∷ codes "q" ∷ codes "--reduce" ∷ codes "1" ∷ []) ≡ None }
@@ -82,14 +84,14 @@ pub fn small_flags()
 /// Words with `--bushy`. It does nothing.
 pub fn small_trees()
     ensures behind { command_of (codes "run" ∷ codes "s" ∷ codes "q" ∷ codes "--bushy" ∷ [])
-        ≡ Some (Run (codes "s") (codes "q") 1000000 1 false true false None) }
+        ≡ Some (over_query None (codes "s") (codes "q") (plan_by out_text.Rows 1000000 1 false true false None)) }
     ensures reduced { command_of (codes "audit" ∷ codes "--bushy" ∷ codes "s" ∷ codes "--reduce" ∷ codes "q" ∷ [])
-        ≡ Some (Audit (codes "s") (codes "q") 1000000 1 true true false None) }
+        ≡ Some (over_query None (codes "s") (codes "q") (plan_by out_text.Audit 1000000 1 true true false None)) }
     ensures most { command_of (codes "plan" ∷ codes "--bushy" ∷ codes "s" ∷ codes "q" ∷ codes "--budget=4000000" ∷ [])
-        ≡ Some (Plan (codes "s") (codes "q") 4000000 1 false true false None) }
+        ≡ Some (over_query None (codes "s") (codes "q") (plan_by out_text.Nothing 4000000 1 false true false None)) }
     ensures past_most { command_of (codes "plan" ∷ codes "--budget=4000001" ∷ codes "s" ∷ codes "q" ∷ codes "--bushy" ∷ []) ≡ None }
     ensures of_orders { command_of (codes "plan" ∷ codes "--budget=4000001" ∷ codes "s" ∷ codes "q" ∷ [])
-        ≡ Some (Plan (codes "s") (codes "q") 4000001 1 false false false None) }
+        ≡ Some (over_query None (codes "s") (codes "q") (plan_by out_text.Nothing 4000001 1 false false false None)) }
     ensures twice { command_of (codes "run" ∷ codes "--bushy" ∷ codes "s" ∷ codes "q" ∷ codes "--bushy" ∷ []) ≡ None }
     ensures value { command_of (codes "run" ∷ codes "s" ∷ codes "q" ∷ codes "--bushy=1" ∷ []) ≡ None }
     ensures of_demo { command_of (codes "demo" ∷ codes "7" ∷ codes "--bushy" ∷ []) ≡ None }
@@ -98,11 +100,11 @@ pub fn small_trees()
 /// Words with `--keys`. It does nothing.
 pub fn small_keys()
     ensures behind { command_of (codes "run" ∷ codes "s" ∷ codes "q" ∷ codes "--keys" ∷ [])
-        ≡ Some (Run (codes "s") (codes "q") 1000000 1 false false true None) }
+        ≡ Some (over_query None (codes "s") (codes "q") (plan_by out_text.Rows 1000000 1 false false true None)) }
     ensures in_front { command_of (codes "plan" ∷ codes "--keys" ∷ codes "s" ∷ codes "q" ∷ codes "--budget=20000000" ∷ [])
-        ≡ Some (Plan (codes "s") (codes "q") 20000000 1 false false true None) }
+        ≡ Some (over_query None (codes "s") (codes "q") (plan_by out_text.Nothing 20000000 1 false false true None)) }
     ensures between { command_of (codes "audit" ∷ codes "s" ∷ codes "--accuracy=8" ∷ codes "--keys" ∷ codes "q" ∷ codes "--memory=9" ∷ [])
-        ≡ Some (Audit (codes "s") (codes "q") 1000000 8 false false true (Some 9)) }
+        ≡ Some (over_query None (codes "s") (codes "q") (plan_by out_text.Audit 1000000 8 false false true (Some 9))) }
     ensures twice { command_of (codes "run" ∷ codes "--keys" ∷ codes "s" ∷ codes "q" ∷ codes "--keys" ∷ []) ≡ None }
     ensures value { command_of (codes "run" ∷ codes "s" ∷ codes "q" ∷ codes "--keys=1" ∷ []) ≡ None }
     ensures of_demo { command_of (codes "demo" ∷ codes "7" ∷ codes "--keys" ∷ []) ≡ None }
@@ -116,12 +118,12 @@ pub fn small_keys()
 
 /// `stats`, and `plan` with `--stats`. It does nothing.
 pub fn small_statistics()
-    ensures stats { command_of (codes "stats" ∷ codes "s" ∷ codes "q" ∷ codes "--accuracy" ∷ codes "8" ∷ []) ≡ Some (Stats (codes "s") (codes "q") 8) }
-    ensures usual { command_of (codes "stats" ∷ codes "s" ∷ codes "q" ∷ []) ≡ Some (Stats (codes "s") (codes "q") 1) }
+    ensures stats { command_of (codes "stats" ∷ codes "s" ∷ codes "q" ∷ codes "--accuracy" ∷ codes "8" ∷ []) ≡ Some (over_query None (codes "s") (codes "q") (works.File 8)) }
+    ensures usual { command_of (codes "stats" ∷ codes "s" ∷ codes "q" ∷ []) ≡ Some (over_query None (codes "s") (codes "q") (works.File 1)) }
     ensures plan { command_of (codes "plan" ∷ codes "s" ∷ codes "q" ∷ codes "--stats" ∷ codes "f" ∷ codes "--budget=5" ∷ [])
-        ≡ Some (PlanStats (codes "s") (codes "q") (codes "f") 5 None) }
+        ≡ Some (over_query None (codes "s") (codes "q") (works.PlanFrom (codes "f") 5 None)) }
     ensures joined { command_of (codes "plan" ∷ codes "--stats=a=b" ∷ codes "s" ∷ codes "q" ∷ [])
-        ≡ Some (PlanStats (codes "s") (codes "q") (codes "a=b") 1000000 None) }
+        ≡ Some (over_query None (codes "s") (codes "q") (works.PlanFrom (codes "a=b") 1000000 None)) }
 
     // The file is named, and its name is no option's word.
     ensures no_name { command_of (codes "plan" ∷ codes "s" ∷ codes "q" ∷ codes "--stats=" ∷ []) ≡ None }
@@ -142,19 +144,19 @@ pub fn small_statistics()
 /// `--memory`. It does nothing.
 pub fn small_limits()
     ensures run { command_of (codes "run" ∷ codes "s" ∷ codes "q" ∷ codes "--memory" ∷ codes "556" ∷ [])
-        ≡ Some (Run (codes "s") (codes "q") 1000000 1 false false false (Some 556)) }
+        ≡ Some (over_query None (codes "s") (codes "q") (plan_by out_text.Rows 1000000 1 false false false (Some 556))) }
     ensures joined { command_of (codes "plan" ∷ codes "--memory=0556" ∷ codes "s" ∷ codes "q" ∷ codes "--bushy" ∷ [])
-        ≡ Some (Plan (codes "s") (codes "q") 1000000 1 false true false (Some 556)) }
+        ≡ Some (over_query None (codes "s") (codes "q") (plan_by out_text.Nothing 1000000 1 false true false (Some 556))) }
     ensures least { command_of (codes "audit" ∷ codes "s" ∷ codes "q" ∷ codes "--memory" ∷ codes "1" ∷ codes "--reduce" ∷ [])
-        ≡ Some (Audit (codes "s") (codes "q") 1000000 1 true false false (Some 1)) }
+        ≡ Some (over_query None (codes "s") (codes "q") (plan_by out_text.Audit 1000000 1 true false false (Some 1))) }
     ensures most { command_of (codes "run" ∷ codes "s" ∷ codes "q" ∷ codes "--memory" ∷ codes "1099511627776" ∷ [])
-        ≡ Some (Run (codes "s") (codes "q") 1000000 1 false false false (Some 1099511627776)) }
+        ≡ Some (over_query None (codes "s") (codes "q") (plan_by out_text.Rows 1000000 1 false false false (Some 1099511627776))) }
     ensures past_most { command_of (codes "run" ∷ codes "s" ∷ codes "q" ∷ codes "--memory" ∷ codes "1099511627777" ∷ []) ≡ None }
     ensures no_byte { command_of (codes "run" ∷ codes "s" ∷ codes "q" ∷ codes "--memory" ∷ codes "0" ∷ []) ≡ None }
     ensures twice { command_of (codes "run" ∷ codes "--memory=5" ∷ codes "s" ∷ codes "q" ∷ codes "--memory=5" ∷ []) ≡ None }
     ensures no_number { command_of (codes "run" ∷ codes "s" ∷ codes "q" ∷ codes "--memory=5k" ∷ []) ≡ None }
     ensures of_a_file { command_of (codes "plan" ∷ codes "s" ∷ codes "q" ∷ codes "--stats=f" ∷ codes "--memory=5" ∷ [])
-        ≡ Some (PlanStats (codes "s") (codes "q") (codes "f") 1000000 (Some 5)) }
+        ≡ Some (over_query None (codes "s") (codes "q") (works.PlanFrom (codes "f") 1000000 (Some 5))) }
     ensures of_stats { command_of (codes "stats" ∷ codes "s" ∷ codes "q" ∷ codes "--memory=5" ∷ []) ≡ None }
     ensures of_demo { command_of (codes "demo" ∷ codes "7" ∷ codes "--memory=5" ∷ []) ≡ None }
 {}
@@ -162,10 +164,10 @@ pub fn small_limits()
 /// `append`. It does nothing.
 pub fn small_appends()
     ensures append { command_of (codes "append" ∷ codes "s" ∷ codes "f" ∷ codes "T" ∷ codes "n" ∷ [])
-        ≡ Some (Append (codes "s") (codes "f") (codes "T") (codes "n")) }
-    ensures empty { command_of (codes "append" ∷ codes "s" ∷ codes "-" ∷ [] ∷ codes "n" ∷ []) ≡ Some (Append (codes "s") (codes "-") [] (codes "n")) }
+        ≡ Some (with_rows (codes "s") (record { stats_file = (codes "f"); table = (codes "T"); rows_file = (codes "n") })) }
+    ensures empty { command_of (codes "append" ∷ codes "s" ∷ codes "-" ∷ [] ∷ codes "n" ∷ []) ≡ Some (with_rows (codes "s") (record { stats_file = (codes "-"); table = []; rows_file = (codes "n") })) }
     ensures behind { command_of (codes "append" ∷ codes "s" ∷ codes "--" ∷ codes "-f" ∷ codes "--" ∷ codes "n" ∷ [])
-        ≡ Some (Append (codes "s") (codes "-f") (codes "--") (codes "n")) }
+        ≡ Some (with_rows (codes "s") (record { stats_file = (codes "-f"); table = (codes "--"); rows_file = (codes "n") })) }
 
     // Four place words, and nothing else.
     ensures of_three { command_of (codes "append" ∷ codes "s" ∷ codes "f" ∷ codes "T" ∷ []) ≡ None }

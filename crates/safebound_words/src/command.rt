@@ -1,66 +1,92 @@
-//! What the words of a command line ask for.
+//! What the words of a command line ask for: which text goes out, over which source and in which shape.
 
-/// A command, with its words as they were given. `memory` is the limit in bytes of what the joins of a plan take, where there is one.
+use crate::word::Word;
+
+/// Which text a run over tables writes to `out`.
 #[derive(Clone, Copy, Debug, PartialEq, Eq)]
-pub enum Command<'a> {
-    /// Lists the rows of a query over a schema.
-    Run {
-        schema: &'a str,
-        query: &'a str,
-        budget: u64,
+pub enum OutText {
+    /// The rows of the query.
+    Rows,
+    /// For each level of the plan's order, or each inner node of its tree, its bound and its number of rows.
+    Audit,
+    /// None: `out` isn't written.
+    Nothing,
+}
+
+/// What the bounds of a plan are made from, and the rows that are joined.
+#[derive(Clone, Copy, Debug)]
+pub enum ListSource {
+    /// Statistics of whole columns, and whole scans.
+    Columns,
+    /// The same statistics, with conditions that are carried through keys, and whole scans.
+    Keyed,
+    /// Reduced scans, for both.
+    Reduced,
+}
+
+/// How a plan joins its entries.
+#[derive(Clone, Copy, Debug)]
+pub enum Shape {
+    /// Along a left-deep order: each level joins one more entry.
+    Order,
+    /// Over a join tree: each inner node joins two nodes.
+    Tree,
+}
+
+/// How a query is planned over its tables: the most rows that a plan may cost, how closely lists of degrees are compressed,
+/// what bounds are made from, the shape of the plan, the most bytes that its buffers may take, where there is such a limit,
+/// and which text goes to `out`.
+#[derive(Clone, Copy, Debug)]
+pub struct PlanWork {
+    pub budget: u64,
+    pub accuracy: u8,
+    pub source: ListSource,
+    pub shape: Shape,
+    pub memory: Option<u64>,
+    pub out: OutText,
+}
+
+/// What is done with a query.
+#[derive(Debug, Drop)]
+pub enum Work<'a> {
+    /// It is planned over its tables, and joined where `out` takes a text.
+    Plan(PlanWork),
+    /// The statistics file of its tables is written, at an accuracy of compression from 1 to 64.
+    File {
         accuracy: u8,
-        reduce: bool,
-        bushy: bool,
-        keys: bool,
+    },
+    /// It is planned from the statistics file of this name. The most rows that a plan may cost are the budget, and the most bytes
+    /// that its buffers may take the limit of memory, where there is one.
+    PlanFrom {
+        file: Word<'a>,
+        budget: u64,
         memory: Option<u64>,
     },
-    /// Prints the plan of a query alone.
-    Plan {
-        schema: &'a str,
-        query: &'a str,
-        budget: u64,
-        accuracy: u8,
-        reduce: bool,
-        bushy: bool,
-        keys: bool,
-        memory: Option<u64>,
-    },
-    /// Lists the rows, and prints beside each level's bound how many it has, in the place of the rows.
-    Audit {
-        schema: &'a str,
-        query: &'a str,
-        budget: u64,
-        accuracy: u8,
-        reduce: bool,
-        bushy: bool,
-        keys: bool,
-        memory: Option<u64>,
-    },
-    /// Writes the statistics of a query's tables.
-    Stats {
-        schema: &'a str,
-        query: &'a str,
-        accuracy: u8,
-    },
-    /// Prints the plan of a query from a file of statistics, and reads no table.
-    PlanStats {
-        schema: &'a str,
-        query: &'a str,
-        stats: &'a str,
-        budget: u64,
-        memory: Option<u64>,
-    },
-    /// Writes a file of statistics as it is after new rows of one of its tables.
-    Append {
-        schema: &'a str,
-        stats: &'a str,
-        table: &'a str,
-        rows: &'a str,
-    },
-    /// Audits the query of a shop that is made from a number.
-    Demo {
-        number: u32,
-    },
+}
+
+/// The name of a statistics file, the name of a table, and the name of a file with new rows of it.
+#[derive(Debug, Drop)]
+pub struct NewRows<'a> {
+    pub stats_file: Word<'a>,
+    pub table: Word<'a>,
+    pub rows_file: Word<'a>,
+}
+
+/// What is done over a schema.
+#[derive(Debug, Drop)]
+pub enum Aim<'a> {
+    /// This work is done with the query in the file of this name.
+    Query { file: Word<'a>, work: Work<'a> },
+    /// The statistics file is written as it is after the new rows.
+    Append(NewRows<'a>),
+}
+
+/// The name of the schema's file, what is done over the schema, and the number of the shop whose files are made and read, if one is.
+#[derive(Debug, Drop)]
+pub struct Command<'a> {
+    pub schema_file: Word<'a>,
+    pub aim: Aim<'a>,
+    pub shop: Option<u32>,
 }
 
 /// Why words are no command.

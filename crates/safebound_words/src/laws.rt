@@ -2,7 +2,7 @@
 ghost use Rattle.std.specs.Prelude.{◌≡◌, ◌↔◌, ℕ, List, Some};
 ghost use Rattle.safebound_words.specs.Answer.{command_of};
 ghost use Rattle.safebound_words.specs.CommandLines.{AskFor, Reading, Reads};
-ghost use Rattle.safebound_words.specs.Requests.{Request};
+ghost use Rattle.safebound_words.specs.declared.command.Command.{Command};
 ghost use Rattle.safebound_words.specs.Words.{Word};
 
 /// Words are read in one way at most.
@@ -12,6 +12,6 @@ pub fn one_reading()
 
 /// Words ask for one thing at most, and `command_of` computes it.
 pub fn one_command()
-    ensures one { (words : List Word) (one other : Request) → AskFor words one → AskFor words other → one ≡ other }
-    ensures computed { (words : List Word) (request : Request) → AskFor words request ↔ (command_of words ≡ Some request) }
+    ensures one { (words : List Word) (one other : Command) → AskFor words one → AskFor words other → one ≡ other }
+    ensures computed { (words : List Word) (command : Command) → AskFor words command ↔ (command_of words ≡ Some command) }
 {}

@@ -1,11 +1,11 @@
 //! The words of a command line: the first stage of a run.
 //!
 //! `read_words` takes the words behind the program's own name and gives a `Command`, or `Usage`. It takes no
-//! memory. Callers cite `AskFor` (in `specs/CommandLines.antt`: what words ask for), `request_of` (what a
-//! command asks for, its words as texts) and, where they need a value, `command_of` (the same as a function of the
-//! words). The commands, options and flags stand in one table, `specs/Table.antt`.
-//!
-//! A program that has built only some of the commands asks `Command::name` and refuses the others.
+//! memory. A command says what is asked of a run: which text goes out, over which source and in which shape. Its words are
+//! seen as bytes (`Word`), so contracts speak of the command itself. Callers cite `AskFor` (in `specs/CommandLines.antt`:
+//! what words ask for) and, where they need a value, `command_of` (the same as a function of the words); and `HasRanges`
+//! (in `specs/InRange.antt`: which values a command may have). The commands, options and flags stand in one table,
+//! `specs/Table.antt`.
 #![tactic(auto)]
 
 mod cases;
@@ -16,13 +16,15 @@ mod line;
 mod number;
 mod request;
 mod table;
+mod word;
 mod words;
 
 pub use cases::{
     small_appends, small_commands, small_flags, small_keys, small_limits, small_options,
     small_refusals, small_statistics, small_trees,
 };
-pub use command::{Command, WordsError};
+pub use command::{Aim, Command, ListSource, NewRows, OutText, PlanWork, Shape, WordsError, Work};
 pub use laws::{one_command, one_reading};
 pub use table::{CommandName, FlagName, OptionName};
+pub use word::Word;
 pub use words::read_words;

@@ -1,30 +1,17 @@
 //! What a whole line asks for.
-ghost use Rattle.std.specs.Prelude.{◌≡◌, ◌≤◌, ℕ, Bool, IfSome, Option, Some};
+ghost use Rattle.std.specs.Prelude.{◌≡◌, ◌≤◌, IfSome, None, Some};
 ghost use Rattle.std.specs.Option.{option_map};
 ghost use Rattle.safebound_words.specs.Collected.{collected, given_of, option_words, words_of};
-ghost use Rattle.safebound_words.specs.Requests.{Audit, Request, Run, request_of};
-ghost use Rattle.safebound_words.specs.Table.{is_file, limit_of, most_budget_of, of_append as asked_of_append, of_number as asked_of_number, of_plan, of_stats, option_row, over_files as asked_over_files, planned_from, value_of as option_value};
-ghost use Rattle.safebound_words.specs.Words.{Word};
+ghost use Rattle.safebound_words.specs.Commands.{demo_of, most_budget_of, over_query, shape_by, source_by};
+ghost use Rattle.safebound_words.specs.Table.{is_file, limit_of, of_append as asked_of_append, of_number as asked_of_number, of_plan, of_stats, option_row, over_files as asked_over_files, planned_from, value_of as option_value};
 ghost use Rattle.safebound_words.specs.declared.table.OptionName.TheVariants as option;
 
-use crate::command::Command;
+use crate::command::{Aim, Command, ListSource, NewRows, OutText, PlanWork, Shape, Work};
 use crate::line::{Line, Places};
 use crate::number::number_within;
 use crate::table::{CommandName, OptionName};
-use limits::{MOST_BUDGET, MOST_ROWS};
-
-// Two files, the values of the options, and which flags stand.
-#[derive(Clone, Copy)]
-struct OverFiles<'a> {
-    schema: &'a str,
-    query: &'a str,
-    budget: u64,
-    accuracy: u8,
-    reduce: bool,
-    bushy: bool,
-    keys: bool,
-    memory: Option<u64>,
-}
+use crate::word::Word;
+use limits::{MOST_BUDGET, MOST_ROWS, USUAL_ACCURACY, USUAL_BUDGET};
 
 // The value of an option that was given this word, or none.
 fn value_of(option: OptionName, given: Option<&str>) -> Option<u64>
@@ -50,19 +37,52 @@ fn limit_in(line: &Line) -> Option<Option<u64>>
     }
 }
 
-// The greatest budget: of a join tree no node may have more rows than a table.
-fn most_budget(bushy: bool) -> u64
-    ensures { result ≡ most_budget_of bushy }
+// The source that the flags ask for.
+fn source_of(reduce: bool, keys: bool) -> ListSource
+    ensures { result ≡ source_by reduce keys }
 {
-    if bushy { MOST_ROWS as u64 } else { MOST_BUDGET }
+    match (reduce, keys) {
+        (true, _) => ListSource::Reduced,
+        (false, true) => ListSource::Keyed,
+        (false, false) => ListSource::Columns,
+    }
 }
 
-// SCHEMA and QUERY, where these are the place words, and where each option has a value.
+// The shape that the flag asks for.
+fn shape_of(bushy: bool) -> Shape
+    ensures { result ≡ shape_by bushy }
+{
+    if bushy { Shape::Tree } else { Shape::Order }
+}
+
+// The greatest budget: of a join tree no node may have more rows than a table.
+fn most_budget(shape: Shape) -> u64
+    ensures { result ≡ most_budget_of shape }
+{
+    match shape {
+        Shape::Order => MOST_BUDGET,
+        Shape::Tree => MOST_ROWS as u64,
+    }
+}
+
+// Work over a schema and a query in files of the store.
+fn over<'a>(schema: &'a str, query: &'a str, work: Work<'a>) -> Command<'a>
+    ensures { result ≡ over_query None schema.now query.now work.entry }
+{
+    Command {
+        schema_file: Word::new(schema),
+        aim: Aim::Query {
+            file: Word::new(query),
+            work,
+        },
+        shop: None,
+    }
+}
+
+// A plan over SCHEMA and QUERY, where these are the place words, and where each option has a value.
 #[tactic(auto, unfolding(crate::specs::Table::over_files))]
-fn over_files<'a>(line: &Line<'a>) -> Option<OverFiles<'a>>
-    ensures { (request : Word → Word → ℕ → ℕ → Bool → Bool → Bool → Option ℕ → Request) →
-        option_map (λ files. request files.schema.now files.query.now files.budget files.accuracy files.reduce files.bushy files.keys files.memory) result
-        ≡ asked_over_files request (words_of line.now.places) (given_of line.now) }
+fn over_files<'a>(out: OutText, line: &Line<'a>) -> Option<Command<'a>>
+    ensures { result ≡ asked_over_files out (words_of line.now.places) (given_of line.now) }
 {
     let memory = limit_in(line)?;
     let Places::Two(schema, query) = line.places else {
@@ -73,19 +93,19 @@ fn over_files<'a>(line: &Line<'a>) -> Option<OverFiles<'a>>
     if line.keys && (line.reduce || line.bushy) {
         return None;
     }
-    if budget > most_budget(line.bushy) {
+    let shape = shape_of(line.bushy);
+    if budget > most_budget(shape) {
         return None;
     }
-    Some(OverFiles {
-        schema,
-        query,
+    let plan = PlanWork {
         budget,
         accuracy: accuracy as u8,
-        reduce: line.reduce,
-        bushy: line.bushy,
-        keys: line.keys,
+        source: source_of(line.reduce, line.keys),
+        shape,
         memory,
-    })
+        out,
+    };
+    Some(over(schema, query, Work::Plan(plan)))
 }
 
 // Whether a word may be a file's name as a value.
@@ -100,7 +120,7 @@ fn is_file(word: &str) -> bool
 
 // A plan from a statistics file: SCHEMA and QUERY, and only the budget and a limit of memory beside the file.
 fn plan_from<'a>(line: &Line<'a>, stats: &'a str) -> Option<Command<'a>>
-    ensures { option_map request_of result ≡ planned_from (Some stats.now) (words_of line.now.places) (given_of line.now) }
+    ensures { result ≡ planned_from (Some stats.now) (words_of line.now.places) (given_of line.now) }
 {
     let memory = limit_in(line)?;
     let Places::Two(schema, query) = line.places else {
@@ -110,31 +130,24 @@ fn plan_from<'a>(line: &Line<'a>, stats: &'a str) -> Option<Command<'a>>
     if line.accuracy.is_some() || line.reduce || line.bushy || line.keys {
         return None;
     }
-    Some(Command::PlanStats {
+    let file = Word::new(stats);
+    Some(over(
         schema,
         query,
-        stats,
-        budget,
-        memory,
-    })
+        Work::PlanFrom {
+            file,
+            budget,
+            memory,
+        },
+    ))
 }
 
 // A plan from a statistics file, or from tables.
 fn plan_of<'a>(line: &Line<'a>) -> Option<Command<'a>>
-    ensures { option_map request_of result ≡ of_plan (words_of line.now.places) (given_of line.now) }
+    ensures { result ≡ of_plan (words_of line.now.places) (given_of line.now) }
 {
     let Some(stats) = line.stats else {
-        let files = over_files(line)?;
-        return Some(Command::Plan {
-            schema: files.schema,
-            query: files.query,
-            budget: files.budget,
-            accuracy: files.accuracy,
-            reduce: files.reduce,
-            bushy: files.bushy,
-            keys: files.keys,
-            memory: files.memory,
-        });
+        return over_files(OutText::Nothing, line);
     };
     if is_file(stats) {
         return plan_from(line, stats);
@@ -144,93 +157,78 @@ fn plan_of<'a>(line: &Line<'a>) -> Option<Command<'a>>
 
 // The statistics of a query: SCHEMA and QUERY, and the accuracy.
 fn stats_of<'a>(line: &Line<'a>) -> Option<Command<'a>>
-    ensures { option_map request_of result ≡ of_stats (words_of line.now.places) (given_of line.now) }
+    ensures { result ≡ of_stats (words_of line.now.places) (given_of line.now) }
 {
     let Places::Two(schema, query) = line.places else {
         return None;
     };
     let accuracy = value_of(OptionName::Accuracy, line.accuracy)?;
-    Some(Command::Stats {
+    Some(over(
         schema,
         query,
-        accuracy: accuracy as u8,
-    })
+        Work::File {
+            accuracy: accuracy as u8,
+        },
+    ))
 }
 
 // New rows of a table: SCHEMA, STATS, TABLE and ROWS.
 fn append_of<'a>(line: &Line<'a>) -> Option<Command<'a>>
-    ensures { option_map request_of result ≡ asked_of_append (words_of line.now.places) (given_of line.now) }
+    ensures { result ≡ asked_of_append (words_of line.now.places) (given_of line.now) }
 {
     let Places::Four(schema, stats, table, rows) = line.places else {
         return None;
     };
-    Some(Command::Append {
-        schema,
-        stats,
-        table,
-        rows,
+    Some(Command {
+        schema_file: Word::new(schema),
+        aim: Aim::Append(NewRows {
+            stats_file: Word::new(stats),
+            table: Word::new(table),
+            rows_file: Word::new(rows),
+        }),
+        shop: None,
     })
 }
 
-// NUMBER, where it is the one place word.
-fn of_number(line: &Line) -> Option<u32>
-    ensures { (request : ℕ → Request) → option_map request result
-        ≡ asked_of_number request (words_of line.now.places) (given_of line.now) }
+// The audit of the query of a shop.
+fn demo<'a>(number: u32) -> Command<'a>
+    ensures { result ≡ demo_of number }
+{
+    let plan = PlanWork {
+        budget: USUAL_BUDGET,
+        accuracy: USUAL_ACCURACY,
+        source: ListSource::Columns,
+        shape: Shape::Order,
+        memory: None,
+        out: OutText::Audit,
+    };
+    Command {
+        shop: Some(number),
+        ..over("schema.sql", "query.sql", Work::Plan(plan))
+    }
+}
+
+// The shop of NUMBER, where that is the one place word.
+fn shop_of<'a>(line: &Line<'a>) -> Option<Command<'a>>
+    ensures { result ≡ asked_of_number (words_of line.now.places) (given_of line.now) }
 {
     let Places::One(word) = line.places else {
         return None;
     };
     let number = number_within(0, u32::MAX as u64, word)?;
-    Some(number as u32)
-}
-
-// A run over files.
-fn run_of<'a>(line: &Line<'a>) -> Option<Command<'a>>
-    ensures { option_map request_of result ≡ asked_over_files Run (words_of line.now.places) (given_of line.now) }
-{
-    let files = over_files(line)?;
-    Some(Command::Run {
-        schema: files.schema,
-        query: files.query,
-        budget: files.budget,
-        accuracy: files.accuracy,
-        reduce: files.reduce,
-        bushy: files.bushy,
-        keys: files.keys,
-        memory: files.memory,
-    })
-}
-
-// An audit over files.
-fn audit_of<'a>(line: &Line<'a>) -> Option<Command<'a>>
-    ensures { option_map request_of result ≡ asked_over_files Audit (words_of line.now.places) (given_of line.now) }
-{
-    let files = over_files(line)?;
-    Some(Command::Audit {
-        schema: files.schema,
-        query: files.query,
-        budget: files.budget,
-        accuracy: files.accuracy,
-        reduce: files.reduce,
-        bushy: files.bushy,
-        keys: files.keys,
-        memory: files.memory,
-    })
+    Some(demo(number as u32))
 }
 
 /// The command of this name over a line, if it is one.
 pub(crate) fn command_of<'a>(name: CommandName, line: &Line<'a>) -> Option<Command<'a>>
-    ensures { option_map request_of result ≡ collected name line.now }
+    ensures { result ≡ collected name line.now }
 {
     match name {
-        CommandName::Run => run_of(line),
+        CommandName::Run => over_files(OutText::Rows, line),
         CommandName::Plan => plan_of(line),
         CommandName::Stats => stats_of(line),
-        CommandName::Audit => audit_of(line),
+        CommandName::Audit => over_files(OutText::Audit, line),
         CommandName::Append => append_of(line),
-        CommandName::Demo => {
-            let number = of_number(line)?;
-            Some(Command::Demo { number })
-        }
+        CommandName::Demo => shop_of(line),
     }
 }

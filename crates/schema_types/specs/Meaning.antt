@@ -60,7 +60,7 @@ led_numbers text written None = []
 led_numbers text written (Some table) =
     unwrap_or (option_map (numbers_in text (column_names text table.elements)) (chosen_columns written table.elements)) []
 
--- the reference from these columns to a target
+-- the reference from these columns to a target. The rows of files aren't tested against it
 unfoldable pub reference_of : List ℕ → List TableText → List ℕ → TargetText → Reference
 reference_of text tables from target = record {
   columns = from;
@@ -90,7 +90,7 @@ element_references text tables declared (element.Rule rule) = table_rule_referen
 
 -- ---- the schema
 
--- number types are one kind; a text has at most so many characters
+-- all number types are one kind, of 64 bits; a text has at most so many characters
 abbrev pub kind_of : List ℕ → TypeText → Kind
 kind_of text type_text.Number = kind.Int
 kind_of text (type_text.Text length) = kind.Text (number_of (slice text length.start length.end))

@@ -22,7 +22,7 @@ is_plain name = list_all (λ c. is_ascii_alphanumeric c || c == 95) name
 abbrev pub AreColumnsOf : Table → List ℕ → Type 0
 AreColumnsOf table columns = All (λ column. column < length table.columns) columns
 
--- a reference leads from columns of its table to columns of a table of the schema
+-- a reference leads from columns of its table to columns of a table of the schema. No row is tested against it
 pub record IsReference (tables : List Table) (table : Table) (reference : Reference) : Type 0 where
   pub columns : AreColumnsOf table reference.columns
   pub target : Table

@@ -1,82 +1,20 @@
 -- Conditions by their parts.
-use Rattle.std.proofs.Common.{◌≡◌, ℕ, zero, suc, ◌+◌, ◌<◌, Bool, true, not, IsTrue, ◌↔◌, refl, inl, inr, List, [], ◌∷◌, ◌++◌, length, map, get_or, ap, sym, ◌∙◌, subst, arith}
+use Rattle.std.proofs.Common.{◌≡◌, ℕ, zero, suc, ◌+◌, ◌<◌, Bool, true, not, IsTrue, ◌↔◌, refl, inl, inr, List, [], ◌∷◌, length, map, get_or, ap, sym, ◌∙◌, subst, arith}
 use Rattle.std.specs.List.{flat_map, All, Any, AllByRecursion}
 use Rattle.std.proofs.lemmas.Bool.{false≢true, false_from_ne_true, or_cases, and_parts, and_from, or_right}
 use Rattle.std.proofs.lemmas.List.{get_or_append_left, get_or-append-add, length-append}
 use Rattle.std.proofs.lemmas.List.Elements.{All-from_recursion, recursion_from_All}
 use Rattle.query_grammar.specs.declared.tree.Op.{Op}
 use Rattle.query_types.specs.declared.types.Operand.{Operand}
-use Rattle.query_types.specs.declared.types.Cond.{Cond, And, Or, Not, Compare, every-Cond, every_held-Cond, every_here-Cond, map-Cond, out-Cond, out-roll-Cond}
+use Rattle.query_types.specs.declared.types.Cond.{Cond, And, Or, Not, Compare, every-Cond}
 use Rattle.query_types.specs.declared.types.Cond.TheFolds.{fold-roll-Cond}
 use Rattle.query_types.specs.declared.types.Cond.TheOpen.{Cond-F}
 use Rattle.query_types.specs.declared.types.Cond.TheOpen as layer
 use Rattle.query_types.specs.declared.types.Cond.TheVariants.{rolls-And, rolls-Or, rolls-Not, rolls-Compare}
 use Rattle.sql_meaning.specs.Conditions.{all_of, any_of, comparison_says, cond_holds, holds_step}
-use Rattle.query_types.specs.Named.{entries_named, entries_of_operand, entries_step}
+use Rattle.query_types.specs.Named.{entries_named}
+use Rattle.query_types.proofs.CondFacts.{entries_and, entries_not, entries_or, every_and, every_not, every_or}
 use Rattle.sql_meaning.specs.Tables.{Tables}
-
--- ---- the entries that are named
-
-pub entries_and : (all : List Cond) → entries_named (And all) ≡ flat_map (λ inner. inner) (map entries_named all)
-entries_and all = ap entries_named (sym (rolls-And all)) ∙ fold-roll-Cond (List ℕ) entries_step (layer.And all)
-
-pub entries_or : (any : List Cond) → entries_named (Or any) ≡ flat_map (λ inner. inner) (map entries_named any)
-entries_or any = ap entries_named (sym (rolls-Or any)) ∙ fold-roll-Cond (List ℕ) entries_step (layer.Or any)
-
-pub entries_not : (inner : Cond) → entries_named (Not inner) ≡ entries_named inner
-entries_not inner = ap entries_named (sym (rolls-Not inner)) ∙ fold-roll-Cond (List ℕ) entries_step (layer.Not inner)
-
--- ---- what holds of every layer
-
-out_and : (all : List Cond) → out-Cond (And all) ≡ layer.And all
-out_and all = ap out-Cond (sym (rolls-And all)) ∙ out-roll-Cond (layer.And all)
-
-module _ (Q : Cond-F Cond → Type 0) where
-  firsts : (ys : List ((x : Cond) × every-Cond Q x)) → AllByRecursion (every-Cond Q) (map (λ e. e.0) ys)
-  firsts [] = tt
-  firsts (y ∷ ys) = (y.1, firsts ys)
-
-  members_and : (x : Cond-F ((x : Cond) × every-Cond Q x)) (all : List Cond) → map-Cond ((x : Cond) × every-Cond Q x) Cond (λ e. e.0) x ≡ layer.And all → AllByRecursion (every-Cond Q) all
-  members_and (layer.And ys) all e = let same : map (λ e. e.0) ys ≡ all = cc in subst (AllByRecursion (every-Cond Q)) same (firsts ys)
-  members_and (layer.Or ys) all e = cc
-  members_and (layer.Not y) all e = cc
-  members_and (layer.Compare op left right) all e = cc
-
-  pub every_and : (all : List Cond) → every-Cond Q (And all) → AllByRecursion (every-Cond Q) all
-  every_and all h = let held = every_held-Cond Q (And all) h in members_and held.0 all (held.1 ∙ out_and all)
-
-  out_or : (any : List Cond) → out-Cond (Or any) ≡ layer.Or any
-  out_or any = ap out-Cond (sym (rolls-Or any)) ∙ out-roll-Cond (layer.Or any)
-
-  out_not : (inner : Cond) → out-Cond (Not inner) ≡ layer.Not inner
-  out_not inner = ap out-Cond (sym (rolls-Not inner)) ∙ out-roll-Cond (layer.Not inner)
-
-  members_or : (x : Cond-F ((x : Cond) × every-Cond Q x)) (any : List Cond) → map-Cond ((x : Cond) × every-Cond Q x) Cond (λ e. e.0) x ≡ layer.Or any → AllByRecursion (every-Cond Q) any
-  members_or (layer.Or ys) any e = let same : map (λ e. e.0) ys ≡ any = cc in subst (AllByRecursion (every-Cond Q)) same (firsts ys)
-  members_or (layer.And ys) any e = cc
-  members_or (layer.Not y) any e = cc
-  members_or (layer.Compare op left right) any e = cc
-
-  pub every_or : (any : List Cond) → every-Cond Q (Or any) → AllByRecursion (every-Cond Q) any
-  every_or any h = let held = every_held-Cond Q (Or any) h in members_or held.0 any (held.1 ∙ out_or any)
-
-  inner_not : (x : Cond-F ((x : Cond) × every-Cond Q x)) (inner : Cond) → map-Cond ((x : Cond) × every-Cond Q x) Cond (λ e. e.0) x ≡ layer.Not inner → every-Cond Q inner
-  inner_not (layer.Not y) inner e = let same : y.0 ≡ inner = cc in subst (every-Cond Q) same y.1
-  inner_not (layer.And ys) inner e = cc
-  inner_not (layer.Or ys) inner e = cc
-  inner_not (layer.Compare op left right) inner e = cc
-
-  pub every_not : (inner : Cond) → every-Cond Q (Not inner) → every-Cond Q inner
-  every_not inner h = let held = every_held-Cond Q (Not inner) h in inner_not held.0 inner (held.1 ∙ out_not inner)
-
--- ---- a comparison of a condition
-
-pub entries_compare : (op : Op) (left right : Operand) → entries_named (Compare op left right) ≡ entries_of_operand left ++ entries_of_operand right
-entries_compare op left right = ap entries_named (sym (rolls-Compare op left right)) ∙ fold-roll-Cond (List ℕ) entries_step (layer.Compare op left right)
-
-pub every_compare : (Q : Cond-F Cond → Type 0) (op : Op) (left right : Operand) → every-Cond Q (Compare op left right) → Q (layer.Compare op left right)
-every_compare Q op left right h =
-    subst Q (ap out-Cond (sym (rolls-Compare op left right)) ∙ out-roll-Cond (layer.Compare op left right)) (every_here-Cond Q (Compare op left right) h)
 
 -- ---- what a condition asks, its members ask
 

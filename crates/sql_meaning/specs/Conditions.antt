@@ -1,4 +1,4 @@
--- When a condition holds where each FROM entry has a row (SQL-92 8.2 and 8.12, without nulls).
+-- When a condition holds where each FROM entry has a row (SQL-92 8.2 and 8.12, without nulls and without padding).
 use Rattle.std.specs.Prelude.{ℕ, Bool, true, false, not, ◌&&◌, ◌||◌, List, [], ◌∷◌, pos, slice_index_or}
 use Rattle.std.specs.Ordering.{is_eq, is_ne, is_lt, is_le, is_gt, is_ge}
 use Rattle.std.specs.declared.cmp.Ordering.{Ordering}
@@ -14,7 +14,7 @@ use Rattle.query_types.specs.declared.types.Cond.TheOpen.{Cond-F}
 use Rattle.query_types.specs.declared.types.Cond.TheOpen as layer
 use Rattle.sql_meaning.specs.Tables.{Tables}
 
--- the value of a column in its entry's row
+-- the value of a column in its entry's row (0 where there is no such row or column, which no query of a schema asks in a choice of its rows)
 abbrev pub column_value : Tables → (ℕ → ℕ) → ColumnRef → Value
 column_value tables row_of column =
     slice_index_or (slice_index_or (tables column.from) (row_of column.from) []) column.column (Int (pos 0))

@@ -1,16 +1,15 @@
 -- When a database is of a query.
-use Rattle.std.specs.Prelude.{◌≡◌, ℕ, ◌<◌, ◌≤◌, Bool, true, false, List, length, map, All, Some, option_map, slice_get, slice_index, ⊤}
+use Rattle.std.specs.Prelude.{◌≡◌, ℕ, ◌<◌, ◌≤◌, Bool, List, length, map, All, Some, option_map, slice_get, slice_index, ⊤}
 use Rattle.limits.specs.Profile.{most_conjuncts, most_rows}
 use Rattle.csv_tables.specs.Cells.{AreColumns}
 use Rattle.csv_tables.specs.declared.types.Cells.{Cells}
 use Rattle.csv_tables.specs.declared.types.Database.{Database}
+use Rattle.query_types.specs.Typing.{IsTyped}
 use Rattle.query_types.specs.Validity.{is_text}
 use Rattle.query_types.specs.declared.types.ColumnRef.{ColumnRef}
 use Rattle.query_types.specs.declared.types.Operand.{Operand}
 use Rattle.query_types.specs.declared.types.Operand.TheVariants as operand
-use Rattle.query_types.specs.declared.types.Cond.{Cond, every-Cond}
-use Rattle.query_types.specs.declared.types.Cond.TheOpen.{Cond-F}
-use Rattle.query_types.specs.declared.types.Cond.TheOpen as layer
+use Rattle.query_types.specs.declared.types.Cond.{Cond}
 use Rattle.query_types.specs.declared.types.Query.{Query}
 use Rattle.sql_meaning.specs.Tables.{cells_of, row_counts, tables_of}
 
@@ -34,27 +33,9 @@ pub record IsColumnOfKind (db : Database) (column : ColumnRef) (text : Bool) : T
   pub exists : IsColumnOf db column
   pub kind : option_map is_text (slice_get (cells_of db column.from).kinds column.column) ≡ Some text
 
--- an operand is of this kind, and where it is a column that exists
-abbrev pub IsOfKind : Database → Operand → Bool → Type 0
-IsOfKind db (operand.Column column) text = IsColumnOfKind db column text
-IsOfKind db (operand.Int number) text = text ≡ false
-IsOfKind db (operand.Text value) text = text ≡ true
-
--- both operands of a comparison are of one kind
-pub record CanCompare (db : Database) (left right : Operand) : Type 0 where
-  pub text : Bool
-  pub left_kind : IsOfKind db left text
-  pub right_kind : IsOfKind db right text
-
-abbrev pub CanAskLayer : Database → Cond-F Cond → Type 0
-CanAskLayer db (layer.And all) = ⊤
-CanAskLayer db (layer.Or any) = ⊤
-CanAskLayer db (layer.Not inner) = ⊤
-CanAskLayer db (layer.Compare op left right) = CanCompare db left right
-
 -- the condition can be asked of the database: every comparison in it is over columns that exist, and of one kind
 abbrev pub IsAskable : Database → Cond → Type 0
-IsAskable db cond = every-Cond (CanAskLayer db) cond
+IsAskable db cond = IsTyped (IsColumnOfKind db) cond
 
 -- cells that are in order, and a table for each entry
 pub record AreTables (db : Database) : Type 0 where

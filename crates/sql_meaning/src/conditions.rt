@@ -2,7 +2,8 @@
 ghost use Rattle.std.specs.Prelude.{◌≡◌, length, slice_index};
 ghost use Rattle.sql_meaning.specs.Conditions.{comparison_says, cond_holds};
 ghost use Rattle.query_types.specs.Named.{entries_named, entries_of_operand};
-ghost use Rattle.sql_meaning.specs.Databases.{AreTables, CanCompare, HaveRows, IsAskable};
+ghost use Rattle.query_types.specs.Typing.{Compares};
+ghost use Rattle.sql_meaning.specs.Databases.{AreTables, HaveRows, IsAskable, IsColumnOfKind};
 ghost use Rattle.sql_meaning.specs.Tables.{tables_of};
 
 use crate::columns::value_of_operand;
@@ -13,7 +14,7 @@ use query_types::{Cond, Op, Operand};
 // Whether a comparison holds.
 fn comparison_holds(op: Op, left: &Operand, right: &Operand, db: &Database, rows: &[u32]) -> bool
     requires tables { AreTables db.now }
-    requires askable { CanCompare db.now left.now right.now }
+    requires askable { Compares (IsColumnOfKind db.now) left.now right.now }
     requires places { length rows.now ≡ length db.now.slots }
     requires left_row { HaveRows db.now rows.now (entries_of_operand left.now) }
     requires right_row { HaveRows db.now rows.now (entries_of_operand right.now) }

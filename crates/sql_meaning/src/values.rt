@@ -1,12 +1,10 @@
 //! Values where they stand, and their order.
 ghost use Rattle.std.specs.Prelude.{◌≡◌};
-ghost use Rattle.std.specs.Cmp.Lexicographic.{slice_cmp};
-ghost use Rattle.std.specs.Ordering.{nat_cmp};
-ghost use Rattle.std.specs.Str.{chars};
 ghost use Rattle.csv_tables.specs.Values.{value_cmp};
 ghost use Rattle.sql_meaning.specs.Conditions.{compares};
 ghost use Rattle.sql_meaning.specs.ValueRefs.{value_of_ref};
 
+use csv_tables::compare_texts;
 use query_types::Op;
 use std::cmp::Ordering;
 
@@ -15,13 +13,6 @@ use std::cmp::Ordering;
 pub enum ValueRef<'a> {
     Int(i64),
     Text(&'a str),
-}
-
-// The order of two texts, by the code points of their characters.
-fn compare_texts(a: &str, b: &str) -> Ordering
-    ensures { result ≡ slice_cmp nat_cmp (chars a.now) (chars b.now) }
-{
-    a.chars().cmp(b.chars())
 }
 
 /// The order of two values.

@@ -27,7 +27,8 @@ use Rattle.query_types.specs.declared.types.Source.{Source}
 use Rattle.query_types.specs.declared.types.Cond.{Cond}
 use Rattle.query_types.specs.declared.types.Operand.{Operand}
 use Rattle.query_types.specs.declared.types.Cond.TheVariants as cond
-use Rattle.query_types.specs.Validity.{is_text, Finds, IsOfKind, IsColumnOf, Compares, IsCondOf}
+use Rattle.query_types.specs.Validity.{is_text, Finds, IsColumnOf, IsCondOf}
+use Rattle.query_types.specs.Typing.{IsOfKind, Compares}
 use Rattle.query_names.specs.Names.{at}
 use Rattle.query_names.specs.Scopes.{resolve, head_of, tests}
 use Rattle.query_names.specs.Offences.{of_literal, first_of, differ, operand_offences, test_offences, is_text_column, is_text_operand, kind_offence, kind_offences}
@@ -116,17 +117,17 @@ module _ (schema : Schema) (words : List ℕ) (from : List Source) (scope : Scop
       let there : Stands schema from found = resolve_stands schema words from scope reference found (sym is) in
       record { column = there.column; finds = found_finds schema from found there; kind = ap is_text there.kind }
 
-  operand_kind : (o : OperandText) → operand_offences schema words from scope o ≡ [] → IsOfKind schema from (value o) (is_text_operand schema words from scope o)
+  operand_kind : (o : OperandText) → operand_offences schema words from scope o ≡ [] → IsOfKind (IsColumnOf schema from) (value o) (is_text_operand schema words from scope o)
   operand_kind (operand.Column reference) none = column_kind reference (resolve schema words from scope reference) refl none
   operand_kind (operand.Literal (literal.Number sign digits)) none = refl
   operand_kind (operand.Literal (literal.Text token)) none = refl
 
   compared : (left other : OperandText) → operand_offences schema words from scope left ≡ [] → operand_offences schema words from scope other ≡ []
-      → kind_offence schema words from scope (is_text_operand schema words from scope left) other ≡ [] → Compares schema from (value left) (value other)
+      → kind_offence schema words from scope (is_text_operand schema words from scope left) other ≡ [] → Compares (IsColumnOf schema from) (value left) (value other)
   compared left other left_named other_named alike = record {
     text = is_text_operand schema words from scope left;
     left_kind = operand_kind left left_named;
-    right_kind = subst (IsOfKind schema from (value other))
+    right_kind = subst (IsOfKind (IsColumnOf schema from) (value other))
         (same_kind (is_text_operand schema words from scope left) (is_text_operand schema words from scope other)
         (not_at (differ (is_text_operand schema words from scope left) (is_text_operand schema words from scope other)) (first_of other) alike))
         (operand_kind other other_named);

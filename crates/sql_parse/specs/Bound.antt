@@ -1,4 +1,4 @@
--- What a syntax tree gives: a query, or the first thing that is wrong with its names, its kinds or its numbers.
+-- What a syntax tree gives: a query, or the first thing that is wrong with its names, its kinds or its limits.
 use Rattle.std.specs.Prelude.{ℕ, ◌-◌, ◌^◌, nat_lt, min, if◌then◌else◌, List, [], ◌∷◌, ◌++◌, length, Result, Ok, Err}
 use Rattle.std.specs.List.{flat_map}
 use Rattle.limits.specs.Profile.{most_conjuncts, most_entries, most_outputs}
@@ -23,7 +23,7 @@ refusal which n = error.Limit which (min n (2 ^ 64 - 1))
 abbrev pub too_long_in : Scoped → List ℕ
 too_long_in c = flat_map too_long (tests c.condition)
 
--- the lists of IN that are too long, in text order
+-- the lengths of the lists of IN that are too long, in text order
 unfoldable pub long_lists : List Source → QueryText → List ℕ
 long_lists from query = flat_map too_long_in (conditions from query)
 

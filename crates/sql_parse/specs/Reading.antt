@@ -35,7 +35,7 @@ unless_number [] answer = answer
 unless_number (place ∷ rest) answer = Err (error.Syntax place)
 
 module _ (schema : Schema) (text : List ℕ) (answer : Result Query QueryError) where
-  -- the text has no tokens
+  -- the text can't be cut into tokens, and goes wrong at this place
   pub record IsUnlexed : Type 0 where
     pub place : ℕ
     pub bad : IsBad text place

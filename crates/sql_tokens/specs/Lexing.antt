@@ -1,4 +1,4 @@
--- The tokens of a text, and the first offence of a text that has none.
+-- The tokens of a text, and the first offence of a text that can't be cut into tokens.
 use Rattle.std.specs.Prelude.{◌≡◌, ℕ, ◌+◌, ◌<◌, ◌≤◌, true, false, ◌&&◌, ◌==◌, if◌then◌else◌, List, [], ◌∷◌, ◌++◌, length, drop, ⊤, ◌⊎◌}
 use Rattle.std.specs.List.{list_all}
 use Rattle.std.specs.Str.{IsUtf8}
@@ -10,7 +10,7 @@ use Rattle.sql_tokens.specs.declared.token.LexError.TheVariants as error
 use Rattle.sql_tokens.specs.Words.{slice}
 use Rattle.sql_tokens.specs.Tokens.{is_plain, is_quote, begins_some, begins_with, are_doubled, IsToken, goes_on, IsSeparator}
 
--- from a place with what stands from there on, over separators and these tokens, to a later place with what stands from there on
+-- at the place `at` the rest of the text is `text`; behind separators and these tokens, at the place `to`, the rest is `last`
 pub data Leads : ℕ → List ℕ → List Token → ℕ → List ℕ → Type 0 where
   stay : (at : ℕ) (text : List ℕ) → Leads at text [] at text
   over_gap : (at : ℕ) (text bytes rest : List ℕ) (tokens : List Token) (to : ℕ) (last : List ℕ)
@@ -53,7 +53,7 @@ pub record IsEmptyName (text : List ℕ) (offset : ℕ) : Type 0 where
   pub ends : begins_with (λ b. b == 34) more ≡ false
   pub here : offset ≡ 0
 
--- the first control character within a closed delimited identifier
+-- the first character below U+0020 within a closed delimited identifier
 pub record HoldsControl (text : List ℕ) (offset : ℕ) : Type 0 where
   pub front : List ℕ
   pub control : ℕ

@@ -50,7 +50,7 @@ read_words =
     ∷ (codes "KEY", terminal.Key) ∷ (codes "NO", terminal.No) ∷ (codes "ACTION", terminal.Action)
     ∷ (codes "CASCADE", terminal.Cascade) ∷ []
 
--- further reserved words of SQL-92, which no rule reads and which are no names
+-- some further reserved words of SQL-92: no rule reads them, and they are no names. The others, as USER and CURRENT_DATE, are plain names here
 abbrev pub reserved_words : List (List ℕ)
 reserved_words =
     codes "ALL" ∷ codes "ANY" ∷ codes "ASC" ∷ codes "BY" ∷ codes "CASE" ∷ codes "CAST" ∷ codes "CHECK" ∷ codes "CROSS"
@@ -61,7 +61,7 @@ reserved_words =
 abbrev pub reserved : List ℕ → List ℕ × Terminal
 reserved word = (word, terminal.Reserved)
 
--- the words that are no names everywhere, with their terminals
+-- the words that have another terminal than `Name`
 abbrev pub keywords : List (List ℕ × Terminal)
 keywords = read_words ++ map reserved reserved_words
 

@@ -11,6 +11,7 @@ use Rattle.schema_types.specs.declared.types.Table.{Table}
 use Rattle.csv_tables.specs.declared.types.Cells.{Cells}
 use Rattle.csv_tables.specs.declared.types.Database.{Database}
 use Rattle.query_grammar.specs.declared.tree.Op.{Op}
+use Rattle.query_types.specs.Typing.{IsOfKind, IsTypedLayer}
 use Rattle.query_types.specs.Validity as valid
 use Rattle.query_types.specs.declared.types.ColumnRef.{ColumnRef}
 use Rattle.query_types.specs.declared.types.Operand.{Operand}
@@ -22,9 +23,9 @@ use Rattle.query_types.specs.declared.types.Cond.TheOpen as layer
 use Rattle.query_types.specs.declared.types.Cond.TheVariants.{rolls-And, rolls-Or, rolls-Not, rolls-Compare}
 use Rattle.query_types.specs.declared.types.Query.{Query}
 use Rattle.query_types.specs.declared.types.Source.{Source}
+use Rattle.query_types.proofs.CondFacts.{every_and, every_or, every_not, every_compare}
 use Rattle.sql_meaning.specs.Databases as asked
 use Rattle.sql_meaning.specs.Tables.{cells_of}
-use Rattle.sql_meaning.proofs.ConditionFacts.{every_and, every_or, every_not, every_compare}
 use Rattle.table_files.specs.EntryTables.{AreCellsOfEach, HasCells}
 use Rattle.table_files.specs.Stage.{different, no_table, numbers_of, place_of, table_at, tables_of_query}
 use Rattle.table_files.proofs.FewRows.{HasFewRows, tables_are_few}
@@ -92,13 +93,13 @@ module _ (schema : Schema) (query : Query) (d : Database) (has : HasCells schema
       ∙ ap (option_map (λ (c : Column). c.kind)) (declared_at ref' h.column h.finds) in
       record { exists = column_of ref' h.column h.finds; kind = ap (option_map valid.is_text) found ∙ ap Some h.kind }
 
-  operand_of : (o : Operand) (text : Bool) → valid.IsOfKind schema query.from o text → asked.IsOfKind d o text
+  operand_of : (o : Operand) (text : Bool) → IsOfKind (valid.IsColumnOf schema query.from) o text → IsOfKind (asked.IsColumnOfKind d) o text
   operand_of (operand.Column ref') text h = kind_of ref' text h
   operand_of (operand.Int number) text h = h
   operand_of (operand.Text t) text h = h
 
   pub askable : (c : Cond) → valid.IsCondOf schema query.from c → asked.IsAskable d c
-  askable = carried (valid.IsLayerOf schema query.from) (asked.CanAskLayer d) (λ all. tt) (λ any. tt) (λ inner. tt)
+  askable = carried (IsTypedLayer (valid.IsColumnOf schema query.from)) (IsTypedLayer (asked.IsColumnOfKind d)) (λ all. tt) (λ any. tt) (λ inner. tt)
       (λ op left right h. record { text = h.text; left_kind = operand_of left h.text h.left_kind; right_kind = operand_of right h.text h.right_kind })
 
   pub output_of : (ref' : ColumnRef) (column : Column) → valid.Finds schema query.from ref' column → asked.IsColumnOf d ref'

@@ -6,7 +6,6 @@ pub mod OneForest
 pub mod Turns
 pub mod Nearing
 pub mod NearSets
-pub mod NodeLists
 pub mod Saturated
 pub mod Scanned
 pub mod SmallSets

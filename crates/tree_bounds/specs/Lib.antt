@@ -1,7 +1,6 @@
 pub mod Columns
 pub mod TreeBounds
 pub mod SetBounds
-pub mod NodeBounds
 pub mod Tables
 pub mod Nearness
 pub mod Scans

@@ -3,14 +3,12 @@ ghost use Rattle.std.specs.Prelude.{◌≡◌, ◌-◌, ◌*◌, ◌^◌, [], �
 ghost use Rattle.std.specs.List.{AllByRecursion};
 ghost use Rattle.degree_sequences.specs.Degrees.{degree_list};
 ghost use Rattle.degree_sequences.specs.Saturation.{saturated};
-ghost use Rattle.berge_tree.specs.Nodes.{nodes_of};
 ghost use Rattle.entry_sets.specs.Sets.{entries_of_set};
 ghost use Rattle.berge_tree.specs.Testing.{edge_of};
 ghost use Rattle.berge_tree.specs.Trees.{entries};
 ghost use Rattle.join_graph.specs.Examples.{pair, triangle};
 ghost use Rattle.join_graph.specs.Kept.{equalities_within};
 ghost use Rattle.tree_bounds.specs.TreeBounds.{HasLists, bound_of_tree, bound_of_trees};
-ghost use Rattle.tree_bounds.specs.NodeBounds.{bound_of_nodes};
 ghost use Rattle.tree_bounds.specs.Nearness.{SetIsNear, TreeIsNear};
 ghost use Rattle.tree_bounds.specs.Tables.{Agrees, AreDifferent, Satisfies, SetDominates, TreeDominates};
 ghost use Rattle.tree_bounds.specs.SetBounds.{SetHasLists, bound_of_set, bound_of_turn};
@@ -20,7 +18,6 @@ ghost use Rattle.tree_bounds.specs.Examples.{path, path_bounds, two, two_choices
 /// Trees of two and three entries, and two trees together.
 pub fn trees()
     ensures path { bound_of_tree path_bounds path ≡ 19 }
-    ensures path_nodes { bound_of_nodes path_bounds (nodes_of path) ≡ 19 }
     ensures compressed { bound_of_tree compressed_bounds two ≡ 12 }
     ensures exact { bound_of_tree exact_bounds two ≡ 9 }
     ensures degrees { (degree_list (two_keys 0 0) ≡ exact_list 0 0) × (degree_list (two_keys 1 0) ≡ exact_list 1 0) }

@@ -1,5 +1,5 @@
 //! What the definitions say, as laws. Each call does nothing.
-ghost use Rattle.std.specs.Prelude.{◌≡◌, ◌↔◌, ◌⊎◌, ◌+◌, ◌-◌, ◌*◌, ◌^◌, ◌<◌, ◌≤◌, ℕ, List, [], ◌∷◌, ◌++◌, length, map, min, slice_get};
+ghost use Rattle.std.specs.Prelude.{◌≡◌, ◌↔◌, ◌⊎◌, ◌+◌, ◌-◌, ◌*◌, ◌^◌, ◌<◌, ◌≤◌, ℕ, List, [], ◌∷◌, ◌++◌, length, map, min};
 ghost use Rattle.std.specs.List.{AllByRecursion, Contains};
 ghost use Rattle.degree_sequences.specs.ByRank.{rank_product, rank_product_of};
 ghost use Rattle.degree_sequences.specs.Composition.{ChildLists, composed, root_total};
@@ -9,12 +9,8 @@ ghost use Rattle.berge_tree.specs.Equalities.{ClosesNoCycle};
 ghost use Rattle.berge_tree.specs.Rooted.{AreAllTreesOf};
 ghost use Rattle.entry_sets.specs.Sets.{entries_of_set};
 ghost use Rattle.berge_tree.specs.Trees.{JoinTree, entries, entries_of_all};
-ghost use Rattle.berge_tree.specs.declared.tree.Node.{Node};
-ghost use Rattle.berge_tree.specs.Standing.{StandsIn};
-ghost use Rattle.berge_tree.specs.Valid.{IsValid, children_of};
 ghost use Rattle.join_graph.specs.Kept.{equalities_within, kept_of};
 ghost use Rattle.tree_bounds.specs.Counting.{chosen_rows, number_of_choices};
-ghost use Rattle.tree_bounds.specs.NodeBounds.{bound_of_nodes, list_at, node_list};
 ghost use Rattle.tree_bounds.specs.Nearness.{SetIsNear, TreeIsNear};
 ghost use Rattle.tree_bounds.specs.Saturating.{saturated_class};
 ghost use Rattle.tree_bounds.specs.Scans.{SatisfiesScanned, scanned};
@@ -112,16 +108,6 @@ pub fn bounds_are_near()
         → SetHasLists b es subset → SetHasLists exact es subset → SetIsNear accuracy b exact es subset
         → accuracy ^ length (entries_of_set subset) * bound_of_set b es subset
         ≤ (accuracy + 1) ^ length (entries_of_set subset) * bound_of_set exact es subset }
-{}
-
-/// The bound of nodes is that of the tree that stands in them, and each node's list is made of its children's lists.
-pub fn nodes_have_the_bound_of_their_tree()
-    ensures bound { (b : EntryBounds) (nodes : List Node) → IsValid nodes → (t : JoinTree) → StandsIn nodes t
-        → bound_of_nodes b nodes ≡ bound_of_tree b t }
-    ensures lists { (b : EntryBounds) (nodes : List Node) → IsValid nodes → (i : ℕ) → i < length nodes
-        → node_list b nodes i ≡ list_at b nodes (node_list b nodes) (children_of nodes i) (slice_get nodes i) }
-    ensures later { (nodes : List Node) → IsValid nodes → (i : ℕ)
-        → AllByRecursion (λ child. (i < child) × (child < length nodes)) (children_of nodes i) }
 {}
 
 /// A number that is saturated at each step is the saturated bound, and what is never under stays so, or is 2^128 - 1.

@@ -16,7 +16,8 @@ abbrev pub AreBehindTheirs : ℕ → List Join → Type 0
 AreBehindTheirs own [] = ⊤
 AreBehindTheirs own (join ∷ joins) = (join.left < own) × (join.right < own) × AreBehindTheirs (own + 1) joins
 
--- a plan for n entries: a bound for the scan of each, and joins that make one tree of them
+-- a plan for n entries: a bound for the scan of each, and joins that make one tree of them: each node but the last is joined once. Of `cost`
+-- nothing is asked
 pub record IsTreePlan (n : ℕ) (plan : BushyPlan) : Type 0 where
   pub few : n ≤ most_entries
   pub scans : length plan.scans ≡ n

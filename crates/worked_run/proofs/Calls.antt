@@ -6,14 +6,14 @@ use Rattle.outcomes.specs.declared.refusal.Refusal.{Refusal}
 use Rattle.outcomes.specs.declared.refusal.Refusal.TheVariants as refusal
 use Rattle.outcomes.specs.declared.status.Status.TheVariants as status
 use Rattle.printed_texts.specs.Faults.{error_line}
-use Rattle.safebound_top.specs.Accepted.{Accepted}
+use Rattle.prepared_runs.specs.Accepted.{Accepted}
 use Rattle.safebound_top.specs.Call.{Call}
 use Rattle.safebound_top.specs.Faults.{fault_text}
 use Rattle.safebound_top.specs.Headline.{GrewWhole, Headline, status_of}
-use Rattle.safebound_top.specs.Outcome.{Planned}
+use Rattle.prepared_runs.specs.Outcome.{Planned}
 use Rattle.safebound_top.specs.OutcomeTexts.{notes_text, out_text}
 use Rattle.safebound_top.specs.Texts.{out_text_of, plan_text}
-use Rattle.safebound_top.specs.Verdict.{verdict}
+use Rattle.prepared_runs.specs.Verdict.{verdict}
 use Rattle.worked_run.specs.Calls.{EachCallEnds, Ended, IsFaultless}
 use Rattle.worked_run.specs.TwoTables.{small_files}
 

@@ -11,20 +11,21 @@ use Rattle.sql_meaning.specs.Choices.{all_rows, choices}
 use Rattle.sql_meaning.specs.Conditions.{comparison_says}
 use Rattle.sql_meaning.specs.Levels.{all_hold, passes_own, row_in, scan}
 use Rattle.sql_meaning.specs.Tables.{Tables, row_counts}
-use Rattle.sql_meaning.proofs.ConditionFacts.{entries_compare, holds_compare}
+use Rattle.sql_meaning.proofs.ConditionFacts.{holds_compare}
 use Rattle.join_steps.specs.Lists.{list_at, list_levels}
 use Rattle.bushy_join.specs.Trees.{chosen_rows}
 use Rattle.query_bounds.specs.Examples.{pair}
 use Rattle.printed_texts.specs.Texts.{rows_lines}
 use Rattle.table_files.specs.EntryTables.{tables_in}
-use Rattle.safebound_top.specs.Accepted.{part_counts}
-use Rattle.safebound_top.specs.Shapes.{shape_audits}
-use Rattle.safebound_top.specs.Sources.{lists_by}
+use Rattle.prepared_runs.specs.Accepted.{part_counts}
+use Rattle.prepared_runs.specs.Shapes.{shape_audits}
+use Rattle.prepared_runs.specs.Sources.{lists_by}
 use Rattle.safebound_top.specs.Texts.{out_text_of, plan_text}
-use Rattle.safebound_top.specs.declared.task.ListSource.TheVariants as sources
-use Rattle.safebound_top.specs.declared.task.OutText.{OutText}
-use Rattle.safebound_top.specs.declared.task.OutText.TheVariants as out_text
+use Rattle.safebound_words.specs.declared.command.ListSource.TheVariants as sources
+use Rattle.safebound_words.specs.declared.command.OutText.{OutText}
+use Rattle.safebound_words.specs.declared.command.OutText.TheVariants as out_text
 use Rattle.worked_run.specs.Meaning.{small_lists, small_rows, two_tables_run, two_tables_tree}
+use Rattle.query_types.proofs.CondFacts.{entries_compare}
 
 abbrev T : Tables
 T = tables_in small_rows

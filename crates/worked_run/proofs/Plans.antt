@@ -15,20 +15,20 @@ use Rattle.tree_plans.specs.declared.bushy.BushyPlan.{BushyPlan}
 use Rattle.query_grammar.specs.declared.tree.Op.TheVariants as op
 use Rattle.join_graph.specs.Conjuncts.{column_operand}
 use Rattle.join_graph.proofs.Comparing.{equality_two}
-use Rattle.sql_meaning.proofs.ConditionFacts.{entries_compare}
 use Rattle.query_bounds.specs.Examples.{pair}
 use Rattle.planning.specs.Bounds.{scan_bounds_of, set_bounds_of}
 use Rattle.table_files.specs.EntryTables.{tables_in}
 use Rattle.table_files.specs.Examples.{two_tables}
-use Rattle.safebound_top.specs.Shapes.{answer_of, planned_by}
-use Rattle.safebound_top.specs.Sources.{known_by, scans_by, sourced}
-use Rattle.safebound_top.specs.declared.shapes.Shaped.{Shaped}
-use Rattle.safebound_top.specs.declared.shapes.Shaped.TheVariants as shaped
-use Rattle.safebound_top.specs.declared.task.ListSource.TheVariants as sources
-use Rattle.safebound_top.specs.declared.task.Shape.{Shape}
-use Rattle.safebound_top.specs.declared.task.Shape.TheVariants as shapes
+use Rattle.prepared_runs.specs.Shapes.{answer_of, planned_by}
+use Rattle.prepared_runs.specs.Sources.{known_by, scans_by, sourced}
+use Rattle.prepared_runs.specs.declared.shapes.Shaped.{Shaped}
+use Rattle.prepared_runs.specs.declared.shapes.Shaped.TheVariants as shaped
+use Rattle.safebound_words.specs.declared.command.ListSource.TheVariants as sources
+use Rattle.safebound_words.specs.declared.command.Shape.{Shape}
+use Rattle.safebound_words.specs.declared.command.Shape.TheVariants as shapes
 use Rattle.planning.proofs.SmallPlans.{refused}
 use Rattle.worked_run.specs.Meaning.{small_rows}
+use Rattle.query_types.proofs.CondFacts.{entries_compare}
 
 scans : scan_bounds_of pair (tables_in small_rows) 1 ≡ 6 ∷ 5 ∷ []
 scans = rw (entries_compare op.Eq (column_operand 0 0) (column_operand 1 0)) refl

@@ -18,19 +18,22 @@ use Rattle.table_files.specs.Examples.{numbers_table, two_tables}
 use Rattle.table_files.specs.EntryTables.{tables_in}
 use Rattle.table_files.specs.Stage.{tables_stage}
 use Rattle.table_files.specs.TableFile.{file_rows}
-use Rattle.safebound_top.specs.Accepted.{Accepted}
-use Rattle.safebound_top.specs.Asks.{Ask, OverQuery, PlanOf, ask_for, command_stage}
-use Rattle.safebound_top.specs.Limits.{within_limit}
-use Rattle.safebound_top.specs.Outcome.{Planned}
-use Rattle.safebound_top.specs.Shapes.{shape_bytes}
-use Rattle.safebound_top.specs.Verdict.{aim_run, ask_run, plan_asked, plan_stage, query_stage, run_asked, schema_stage, verdict, work_run}
-use Rattle.safebound_top.specs.declared.shapes.Shaped.{Shaped}
-use Rattle.safebound_top.specs.declared.task.ListSource.TheVariants as sources
-use Rattle.safebound_top.specs.declared.task.OutText.{OutText}
-use Rattle.safebound_top.specs.declared.task.OutText.TheVariants as out_text
-use Rattle.safebound_top.specs.declared.task.PlanTask.{PlanTask}
-use Rattle.safebound_top.specs.declared.task.Shape.{Shape}
-use Rattle.safebound_top.specs.declared.task.Shape.TheVariants as shapes
+use Rattle.prepared_runs.specs.Accepted.{Accepted}
+use Rattle.safebound_words.specs.Commands.{over_query}
+use Rattle.safebound_words.specs.declared.command.Command.{Command}
+use Rattle.safebound_words.specs.declared.command.Aim.TheVariants as aims
+use Rattle.safebound_words.specs.declared.command.Work.TheVariants as works
+use Rattle.prepared_runs.specs.Limits.{within_limit}
+use Rattle.prepared_runs.specs.Outcome.{Planned}
+use Rattle.prepared_runs.specs.Shapes.{shape_bytes}
+use Rattle.prepared_runs.specs.Verdict.{aim_run, command_run, command_stage, plan_asked, plan_stage, query_stage, run_asked, schema_stage, verdict, work_run}
+use Rattle.prepared_runs.specs.declared.shapes.Shaped.{Shaped}
+use Rattle.safebound_words.specs.declared.command.ListSource.TheVariants as sources
+use Rattle.safebound_words.specs.declared.command.OutText.{OutText}
+use Rattle.safebound_words.specs.declared.command.OutText.TheVariants as out_text
+use Rattle.safebound_words.specs.declared.command.PlanWork.{PlanWork}
+use Rattle.safebound_words.specs.declared.command.Shape.{Shape}
+use Rattle.safebound_words.specs.declared.command.Shape.TheVariants as shapes
 use Rattle.worked_run.specs.Meaning.{rows_of, small_lists, small_rows, two_tables_run, two_tables_tree}
 use Rattle.worked_run.specs.TwoTables.{audit_words, limited_words, narrow_words, query_text, r_text, run_words, s_text, schema_text, small_files, thrifty_words, tree_words}
 use Rattle.worked_run.proofs.Levels.{lists_found}
@@ -40,11 +43,11 @@ use Rattle.worked_run.proofs.Rows.{r_read, s_read}
 use Rattle.worked_run.proofs.Schemas.{schema_read}
 
 -- for a text for out, along an order or by a tree, within a budget, and with a limit of memory, where there is one
-abbrev task : OutText → Shape → ℕ → Option ℕ → PlanTask
+abbrev task : OutText → Shape → ℕ → Option ℕ → PlanWork
 task out shape budget memory = record { budget = budget; accuracy = 1; source = sources.Columns; shape = shape; memory = memory; out = out }
 
-abbrev ask : OutText → Shape → ℕ → Option ℕ → Ask
-ask out shape budget memory = ask_for (codes "schema.sql") (codes "query.sql") (PlanOf (task out shape budget memory))
+abbrev ask : OutText → Shape → ℕ → Option ℕ → Command
+ask out shape budget memory = over_query None (codes "schema.sql") (codes "query.sql") (works.Plan (task out shape budget memory))
 
 -- ---- the words
 
@@ -146,18 +149,18 @@ plan_too_dear = ap (λ (plan : Result Shaped PlanError). told plan_refusal plan
 
 -- ---- one stage after the other
 
-of_files : (out : OutText) (shape : Shape) (budget : ℕ) (memory : Option ℕ) → ask_run (ask out shape budget memory) small_files ≡ plan_stage (task out shape budget memory) two_tables pair small_rows
-unfolding ask_run
+of_files : (out : OutText) (shape : Shape) (budget : ℕ) (memory : Option ℕ) → command_run (ask out shape budget memory) small_files ≡ plan_stage (task out shape budget memory) two_tables pair small_rows
+unfolding command_run
 of_files out shape budget memory =
-    ap (λ (schema : Result Schema Refusal). schema >>= λ s. aim_run (OverQuery (codes "query.sql") (PlanOf (task out shape budget memory))) s small_files) schema_found
-    ∙ ap (λ (query : Result Query Refusal). query >>= λ q. work_run (PlanOf (task out shape budget memory)) two_tables q small_files) query_found
+    ap (λ (schema : Result Schema Refusal). schema >>= λ s. aim_run (aims.Query (codes "query.sql") (works.Plan (task out shape budget memory))) s small_files) schema_found
+    ∙ ap (λ (query : Result Query Refusal). query >>= λ q. work_run (works.Plan (task out shape budget memory)) two_tables q small_files) query_found
     ∙ ap (λ (rows : Result (List (List Row)) Refusal). rows >>= plan_stage (task out shape budget memory) two_tables pair) tables_found
 
 of_words : (words : List (List ℕ)) (out : OutText) (shape : Shape) (budget : ℕ) (memory : Option ℕ) → command_stage words ≡ Ok (ask out shape budget memory)
     → verdict words small_files ≡ plan_stage (task out shape budget memory) two_tables pair small_rows
 unfolding verdict
 of_words words out shape budget memory asked =
-    ap (λ (a : Result Ask Refusal). a >>= λ a. ask_run a small_files) asked ∙ of_files out shape budget memory
+    ap (λ (a : Result Command Refusal). a >>= λ a. command_run a small_files) asked ∙ of_files out shape budget memory
 
 pub run_verdict : verdict run_words small_files ≡ Ok (Planned (two_tables_run out_text.Rows None))
 run_verdict = of_words run_words out_text.Rows shapes.Order 1000000 None run_is_asked ∙ plan_made out_text.Rows

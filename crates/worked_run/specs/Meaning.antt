@@ -6,10 +6,10 @@ use Rattle.plans.specs.Examples.{plan_of}
 use Rattle.tree_plans.specs.Examples.{join, plan_of as tree_of}
 use Rattle.query_bounds.specs.Examples.{pair}
 use Rattle.planning.specs.Examples.{r_column, s_column}
-use Rattle.safebound_top.specs.Accepted.{Accepted}
-use Rattle.safebound_top.specs.declared.shapes.Shaped.TheVariants as shaped
-use Rattle.safebound_top.specs.declared.task.ListSource.TheVariants as sources
-use Rattle.safebound_top.specs.declared.task.OutText.{OutText}
+use Rattle.prepared_runs.specs.Accepted.{Accepted}
+use Rattle.prepared_runs.specs.declared.shapes.Shaped.TheVariants as shaped
+use Rattle.safebound_words.specs.declared.command.ListSource.TheVariants as sources
+use Rattle.safebound_words.specs.declared.command.OutText.{OutText}
 
 -- the rows of a table of one column of numbers
 abbrev pub rows_of : List ℕ → List Row

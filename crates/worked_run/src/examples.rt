@@ -2,10 +2,10 @@
 ghost use Rattle.std.specs.Prelude.{◌≡◌, Ok, Err, None, Some, codes};
 ghost use Rattle.outcomes.specs.declared.refusal.Refusal.TheVariants as refusal;
 ghost use Rattle.outcomes.specs.declared.status.Status.TheVariants as status;
-ghost use Rattle.safebound_top.specs.declared.task.OutText.TheVariants as out_text;
-ghost use Rattle.safebound_top.specs.Outcome.{Planned};
+ghost use Rattle.safebound_words.specs.declared.command.OutText.TheVariants as out_text;
+ghost use Rattle.prepared_runs.specs.Outcome.{Planned};
 ghost use Rattle.safebound_top.specs.Texts.{out_text_of, plan_text};
-ghost use Rattle.safebound_top.specs.Verdict.{verdict};
+ghost use Rattle.prepared_runs.specs.Verdict.{verdict};
 ghost use Rattle.worked_run.specs.Calls.{EachCallEnds};
 ghost use Rattle.worked_run.specs.TwoTables.{audit_words, limited_words, narrow_words, run_words, small_files, thrifty_words, tree_words};
 ghost use Rattle.worked_run.specs.Meaning.{two_tables_run, two_tables_tree};

@@ -2,7 +2,7 @@ use Rattle.std.proofs.Common.{[], ◌∷◌, true, false, refl}
 use Rattle.std.specs.List.{range_with_len}
 use Rattle.query_grammar.specs.declared.tree.Op.TheVariants as op
 use Rattle.query_types.specs.declared.types.Cond.{Or}
-use Rattle.sql_meaning.proofs.ConditionFacts.{entries_compare, entries_not, entries_or}
+use Rattle.query_types.proofs.CondFacts.{entries_compare, entries_not, entries_or}
 use Rattle.cond_stats.specs.Leaves.{cuts}
 use Rattle.cond_stats.specs.Lists.{list_of_node, list_of_value, rest}
 use Rattle.filtered_lists.specs.Examples.{column_x, number, x_is}

@@ -154,4 +154,4 @@ returns-clause-near c = rw (returns-clause-compressed c) (compressed-near c.args
 pub returns-clause-few_pieces : goal.returns-clause-few_pieces
 returns-clause-few_pieces c =
     let f : List ℕ = c.args.falling.now in
-    rw (returns-clause-compressed c) (compressed_is_short c.args.accuracy c.requires.accuracy.0 f c.pieces-runs.ensures.list_falls c.pieces-runs.ensures.positive (binary_digits (get_or f 0 0)) (digits_hold (get_or f 0 0)))
+    rw (returns-clause-compressed c) (compressed_is_short c.args.accuracy c.value.ensures.range.0 f c.pieces-runs.ensures.list_falls c.pieces-runs.ensures.positive (binary_digits (get_or f 0 0)) (digits_hold (get_or f 0 0)))

@@ -8,4 +8,4 @@ pub returns : goal.returns
 returns c =
     let digits : 64 - leading_zeros w64 c.args.first ≡ binary_digits c.args.first =
     omega (arith, digits_counted c.args.first (leading_zeros w64 c.args.first) c.ranges.first.fits refl) in
-    rw (c.from.ensures, digits) refl
+    rw (c.from.ensures, c.value.ensures.value, digits) refl

@@ -5,10 +5,12 @@ use Rattle.filed_stats.specs.Standing.{is_value}
 use Rattle.appended_stats.proofs.Walks.{keys_few}
 use Rattle.appended_stats.proofs.lists.list_with.Goals as goal
 
-pub whole_list-requires-clause-rows : goal.whole_list-requires-clause-rows
-whole_list-requires-clause-rows c =
-    keys_few (λ cell. is_value (value_of_cell c.args.pool.now c.args.kind cell) c.args.value.now) c.args.cells.now c.args.joined.now c.as_slice.result.now (2 ^ 32) c.requires.rows
-    (c.as_slice.ensures.value ∙ c.in_ok-keys.ensures)
+pub whole_list-requires : goal.whole_list-requires
+whole_list-requires c = record {
+  rows =
+      keys_few (λ cell. is_value (value_of_cell c.args.pool.now c.args.kind cell) c.args.value.now) c.args.cells.now c.args.joined.now c.as_slice.result.now (2 ^ 32) c.requires.rows
+      (c.as_slice.ensures.value ∙ c.in_ok-keys.ensures);
+}
 
 pub returns-clause-small : goal.returns-clause-small
 returns-clause-small c =

@@ -6,10 +6,12 @@ use Rattle.column_stats.proofs.NodeLists.{one_more_node}
 use Rattle.appended_stats.proofs.Walks.{keys_few}
 use Rattle.appended_stats.proofs.nodes.add_size.Goals as goal
 
-pub whole_list-requires-clause-rows : goal.whole_list-requires-clause-rows
-whole_list-requires-clause-rows c =
-    keys_few (in_node c.args.size (c.args.size * c.loop-i.i)) c.args.leaves.now c.args.joined.now c.as_slice.result.now (2 ^ 32) c.requires.rows
-    (c.as_slice.ensures.value ∙ c.in_ok-keys.ensures)
+pub whole_list-requires : goal.whole_list-requires
+whole_list-requires c = record {
+  rows =
+      keys_few (in_node c.args.size (c.args.size * c.loop-i.i)) c.args.leaves.now c.args.joined.now c.as_slice.result.now (2 ^ 32) c.requires.rows
+      (c.as_slice.ensures.value ∙ c.in_ok-keys.ensures);
+}
 
 pub loop-i-preserved : goal.loop-i-preserved
 loop-i-preserved c =

@@ -10,9 +10,8 @@ get-requires c = columns_many c.args.pool.now c.args.cells.now c.requires.cells 
 pub get-requires-2 : goal.get-requires-2
 get-requires-2 c = columns_many c.args.pool.now c.args.cells.now c.requires.cells c.args.pair.joined c.requires.pair.joined
 
-pub whole_list-requires-clause-rows : goal.whole_list-requires-clause-rows
-whole_list-requires-clause-rows c =
-    few_keys (are_read c.args.pool.now c.requires.cells c.requires.pair c.get-kind.ensures c.get.ensures c.as_slice-values.ensures c.get-2.ensures c.as_slice-keys.ensures)
+pub whole_list-requires : goal.whole_list-requires
+whole_list-requires c = record { rows = few_keys (are_read c.args.pool.now c.requires.cells c.requires.pair c.get-kind.ensures c.get.ensures c.as_slice-values.ensures c.get-2.ensures c.as_slice-keys.ensures) }
 
 pub list_of_others-requires-clause-cells : goal.list_of_others-requires-clause-cells
 list_of_others-requires-clause-cells c =

@@ -15,9 +15,8 @@ loop-keys-preserved c =
           (c.len.ensures ∙ ap (λ (s : List ℕ). length s) its) c.max-most.ensures,
     )
 
-pub compress_runs-requires-clause-small : goal.compress_runs-requires-clause-small
-compress_runs-requires-clause-small c =
-    capped_small c.args.groups.now c.requires.groups c.loop-keys.keys-index c.loop-keys.maxima c.in_ok-cap.field-0 c.loop-keys.most c.loop-keys.invariant.1 c.in_ok-cap.ensures.value
+pub compress_runs-requires : goal.compress_runs-requires
+compress_runs-requires c = record { small = capped_small c.args.groups.now c.requires.groups c.loop-keys.keys-index c.loop-keys.maxima c.in_ok-cap.field-0 c.loop-keys.most c.loop-keys.invariant.1 c.in_ok-cap.ensures.value }
 
 pub returns : goal.returns
 returns c =

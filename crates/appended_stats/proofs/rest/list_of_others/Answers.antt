@@ -9,10 +9,12 @@ use Rattle.appended_stats.specs.Grown.{is_frequent, list_of_any, other_values}
 use Rattle.appended_stats.proofs.Groups.{groups_are, groups_few, list_of_groups}
 use Rattle.appended_stats.proofs.rest.list_of_others.Goals as goal
 
-pub list_of_groups-requires-clause-groups : goal.list_of_groups-requires-clause-groups
-list_of_groups-requires-clause-groups c =
-    groups_few (zip c.args.cells.now c.args.joined.now) c.in_ok-others.others.keys c.as_slice.result.now
-    (omega (arith, length-zip c.args.cells.now c.args.joined.now, c.requires.joined, c.requires.rows)) (c.as_slice.ensures ∙ c.in_ok-groups.ensures)
+pub list_of_groups-requires : goal.list_of_groups-requires
+list_of_groups-requires c = record {
+  groups =
+      groups_few (zip c.args.cells.now c.args.joined.now) c.in_ok-others.others.keys c.as_slice.result.now
+      (omega (arith, length-zip c.args.cells.now c.args.joined.now, c.requires.joined, c.requires.rows)) (c.as_slice.ensures ∙ c.in_ok-groups.ensures);
+}
 
 pub returns : goal.returns
 returns c =

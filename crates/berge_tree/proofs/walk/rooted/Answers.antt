@@ -1,23 +1,16 @@
-use Rattle.std.proofs.Common.{◌≡◌, ◌+◌, ◌-◌, suc, arith, sym, ◌∙◌, ap, subst, List, [], ◌++◌}
+use Rattle.std.proofs.Common.{◌≡◌, ◌+◌, ◌-◌, suc, arith, sym, ◌∙◌, ap, subst, List, [], ◌++◌, map}
 use Rattle.berge_tree.specs.declared.columns.Column.{Column}
 use Rattle.berge_tree.specs.declared.tree.Tree.{Tree}
 use Rattle.entry_sets.specs.Sets.{entries_from, entries_of_set}
 use Rattle.berge_tree.specs.Walk.{added, forest}
 use Rattle.entry_sets.proofs.Listing.{bit_told, no_bit_told}
-use Rattle.berge_tree.proofs.Planting.{Planting, nodes_of_trees, planting_none, planting_more, planting_skip, planting_rooted, planting_valid, others_there, tree_fits}
+use Rattle.berge_tree.specs.Boxed.{tree_of}
+use Rattle.berge_tree.proofs.Planting.{Planting, planting_none, planting_more, planting_skip, planting_rooted}
 use Rattle.berge_tree.proofs.walk.rooted.Goals as goal
 use Rattle.berge_tree.proofs.walk.rooted.Goals.{then-has+in_ok-add_tree, else-has}
 
 pub loop-entry-init : goal.loop-entry-init
 loop-entry-init c = planting_none c.in_ok-columns.columns.items c.args.subset c.new-trees.result c.new-trees.ensures
-
-pub add_tree-requires-clause-others : goal.add_tree-requires-clause-others
-add_tree-requires-clause-others c =
-    others_there c.args.edges.now c.requires.no_cycle c.args.subset c.requires.within c.as_slice.result.now (c.as_slice.ensures.value ∙ c.in_ok-columns.ensures {u = tt})
-
-pub add_tree-requires-clause-fits : goal.add_tree-requires-clause-fits
-add_tree-requires-clause-fits c =
-    tree_fits c.args.edges.now c.requires.no_cycle c.args.subset c.requires.within c.as_slice.result.now _ (c.as_slice.ensures.value ∙ c.in_ok-columns.ensures {u = tt}) (omega arith) (bit_told c.args.subset c.loop-entry.entry (sym c.has.ensures.value ∙ c.if-has.true))
 
 pub loop-entry-preserved : goal.loop-entry-preserved
 loop-entry-preserved c =
@@ -25,15 +18,11 @@ loop-entry-preserved c =
     elim c.if-has.branch [
       | then-has+in_ok-add_tree w ↦ subst (λ (ts : List Tree). Planting c.in_ok-columns.columns.items ts (entries_from c.args.subset (c.loop-entry.entry + 1) (16 - (c.loop-entry.entry + 1))) (forest 16 c.in_ok-columns.columns.items [] (entries_of_set c.args.subset))) (sym w.trees-is)
           (planting_more c.in_ok-columns.columns.items c.loop-entry.trees w.add_tree.new.trees c.args.subset c.loop-entry.entry (16 - (c.loop-entry.entry + 1)) (16 - c.loop-entry.entry) (forest 16 c.in_ok-columns.columns.items [] (entries_of_set c.args.subset)) more (bit_told c.args.subset c.loop-entry.entry (sym c.has.ensures.value ∙ w.if-has.true))
-          (w.in_ok-add_tree.ensures {u = tt} ∙ ap (λ (cs : List Column). nodes_of_trees c.loop-entry.trees ++ added cs c.loop-entry.trees c.loop-entry.entry) w.as_slice.ensures.value) c.loop-entry.invariant)
+          (w.in_ok-add_tree.ensures {u = tt} ∙ ap (λ (cs : List Column). map tree_of c.loop-entry.trees ++ added cs c.loop-entry.trees c.loop-entry.entry) w.as_slice.ensures.value) c.loop-entry.invariant)
       | else-has w ↦ subst (λ (ts : List Tree). Planting c.in_ok-columns.columns.items ts (entries_from c.args.subset (c.loop-entry.entry + 1) (16 - (c.loop-entry.entry + 1))) (forest 16 c.in_ok-columns.columns.items [] (entries_of_set c.args.subset))) (sym w.trees-is)
           (planting_skip c.in_ok-columns.columns.items c.loop-entry.trees c.args.subset c.loop-entry.entry (16 - (c.loop-entry.entry + 1)) (16 - c.loop-entry.entry) (forest 16 c.in_ok-columns.columns.items [] (entries_of_set c.args.subset)) more (no_bit_told c.args.subset c.loop-entry.entry (omega arith) (sym c.has.ensures.value ∙ w.if-has.false)) c.loop-entry.invariant)
     ]
 
-pub returns-clause-trees : goal.returns-clause-trees
-returns-clause-trees c =
+pub returns : goal.returns
+returns c =
     planting_rooted c.args.edges.now c.requires.no_cycle c.args.subset c.requires.within c.in_ok-columns.columns.items c.loop-entry.trees c.loop-entry.entry (16 - c.loop-entry.entry) (c.in_ok-columns.ensures {u = tt}) (omega (arith, c.loop-entry-test.false)) c.loop-entry.invariant
-
-pub returns-clause-valid : goal.returns-clause-valid
-returns-clause-valid c =
-    planting_valid c.args.edges.now c.requires.no_cycle c.args.subset c.requires.within c.in_ok-columns.columns.items c.loop-entry.trees c.loop-entry.entry (16 - c.loop-entry.entry) (c.in_ok-columns.ensures {u = tt}) (omega (arith, c.loop-entry-test.false)) c.loop-entry.invariant

@@ -5,7 +5,7 @@ use Rattle.join_graph.specs.Conjuncts.{column_operand}
 use Rattle.join_graph.proofs.Comparing.{equality_literal, equality_two}
 use Rattle.query_grammar.specs.declared.tree.Op.TheVariants as op
 use Rattle.query_types.specs.declared.types.Operand.TheVariants as operand
-use Rattle.sql_meaning.proofs.ConditionFacts.{entries_compare}
+use Rattle.query_types.proofs.CondFacts.{entries_compare}
 use Rattle.filed_stats.proofs.SmallNeeds.{of_one as of_one_value, of_pair}
 use Rattle.filed_stats.specs.Standing.{section_of}
 use Rattle.filed_bounds.specs.Examples.{grown, itself, of_one, section}

@@ -4,8 +4,8 @@ use Rattle.cond_stats.specs.Lists.{list_of_node, rest}
 use Rattle.join_graph.specs.Conjuncts.{column_operand}
 use Rattle.join_graph.proofs.Comparing.{equality_two}
 use Rattle.query_grammar.specs.declared.tree.Op.TheVariants as op
-use Rattle.sql_meaning.proofs.ConditionFacts.{entries_compare}
 use Rattle.filed_stats.proofs.examples.small_files.Goals as goal
+use Rattle.query_types.proofs.CondFacts.{entries_compare}
 
 pub returns-clause-rest : goal.returns-clause-rest
 unfolding rest

@@ -12,15 +12,15 @@ pub sections_of-requires-clause-over : goal.sections_of-requires-clause-over
 sections_of-requires-clause-over c = over_all c.args.schema.now c.args.query.now c.args.db.now c.requires.over c.len.ensures.texts c.len.ensures.different
 
 pub returns-clause-file : goal.returns-clause-file
-returns-clause-file c = file_made c.args.schema.now c.args.query.now c.args.db.now (over_all c.args.schema.now c.args.query.now c.args.db.now c.requires.over c.len.ensures.texts c.len.ensures.different) c.args.accuracy c.in_ok-tables.tables c.in_ok-tables.ensures
+returns-clause-file c = file_made c.args.schema.now c.args.query.now c.args.db.now (over_all c.args.schema.now c.args.query.now c.args.db.now c.requires.over c.len.ensures.texts c.len.ensures.different) c.args.accuracy c.value.result c.in_ok-tables.tables c.value.ensures.value c.in_ok-tables.ensures
 
 pub returns-clause-rules : goal.returns-clause-rules
 returns-clause-rules c =
-    subst (KeepsRules c.args.schema.now) (sym (file_made c.args.schema.now c.args.query.now c.args.db.now (over_all c.args.schema.now c.args.query.now c.args.db.now c.requires.over c.len.ensures.texts c.len.ensures.different) c.args.accuracy c.in_ok-tables.tables c.in_ok-tables.ensures))
-    (file_keeps c.args.schema.now c.args.query.now c.args.db.now (over_all c.args.schema.now c.args.query.now c.args.db.now c.requires.over c.len.ensures.texts c.len.ensures.different) c.args.accuracy c.requires.accuracy.0 c.requires.accuracy.1)
+    subst (KeepsRules c.args.schema.now) (sym (file_made c.args.schema.now c.args.query.now c.args.db.now (over_all c.args.schema.now c.args.query.now c.args.db.now c.requires.over c.len.ensures.texts c.len.ensures.different) c.args.accuracy c.value.result c.in_ok-tables.tables c.value.ensures.value c.in_ok-tables.ensures))
+    (file_keeps c.args.schema.now c.args.query.now c.args.db.now (over_all c.args.schema.now c.args.query.now c.args.db.now c.requires.over c.len.ensures.texts c.len.ensures.different) c.args.accuracy c.value.ensures.range.0 c.value.ensures.range.1)
 
 pub returns-clause-stands : goal.returns-clause-stands
 returns-clause-stands c =
     subst (λ (file : StatsFile). StandsFor c.args.query.now file (tables_of c.args.db.now))
-    (sym (file_made c.args.schema.now c.args.query.now c.args.db.now (over_all c.args.schema.now c.args.query.now c.args.db.now c.requires.over c.len.ensures.texts c.len.ensures.different) c.args.accuracy c.in_ok-tables.tables c.in_ok-tables.ensures))
+    (sym (file_made c.args.schema.now c.args.query.now c.args.db.now (over_all c.args.schema.now c.args.query.now c.args.db.now c.requires.over c.len.ensures.texts c.len.ensures.different) c.args.accuracy c.value.result c.in_ok-tables.tables c.value.ensures.value c.in_ok-tables.ensures))
     (file_stands c.args.schema.now c.args.query.now (tables_of c.args.db.now) (share_rows c.args.schema.now c.args.query.now c.args.db.now (over_all c.args.schema.now c.args.query.now c.args.db.now c.requires.over c.len.ensures.texts c.len.ensures.different)) c.args.accuracy)

@@ -44,7 +44,6 @@ gather_others-requires-clause-ready c = record {
       (subst (λ (cells : Cells). AreRowsOf cells c.args.beside.now.rows.now) (sym c.cells_in_entry-cells.ensures) c.requires.rows);
   rows = c.requires.few;
   filters = c.in_ok-filters.ensures.filters;
-  accuracy = c.requires.accuracy;
 }
 
 pub gather_others-requires-clause-served : goal.gather_others-requires-clause-served

@@ -12,7 +12,6 @@ gather_columns-requires-clause-ready c = record {
   cells = cells_sound c.args.query.now c.args.db.now c.requires.database c.args.entry c.cells_in_entry-cells.result.now c.requires.entry c.cells_in_entry-cells.ensures;
   rows = omega (arith, c.row_count-rows.ensures, c.row_count-rows.type_inv);
   filters = c.in_ok-filters_of.ensures.filters;
-  accuracy = c.requires.accuracy;
 }
 
 pub returns : goal.returns

@@ -10,8 +10,8 @@ fits_still : (query : Query) (db : Database) → query ≡ triangle → db ≡ t
 fits_still query db same like =
     subst (λ (q : Query). IsDatabaseOf q db) (sym same) (subst (λ (d : Database). IsDatabaseOf triangle d) (sym like) triangle_fits)
 
-pub scan_bounds-requires-clause-database : goal.scan_bounds-requires-clause-database
-scan_bounds-requires-clause-database c = fits_still c.in_ok-query.query c.in_ok-db.db c.in_ok-query.ensures c.in_ok-db.ensures
+pub scan_bounds-requires : goal.scan_bounds-requires
+scan_bounds-requires c = record { database = fits_still c.in_ok-query.query c.in_ok-db.db c.in_ok-query.ensures c.in_ok-db.ensures }
 
-pub subset_bounds-requires-clause-database : goal.subset_bounds-requires-clause-database
-subset_bounds-requires-clause-database c = fits_still c.in_ok-query.query c.in_ok-db.db c.in_ok-query.ensures c.in_ok-db.ensures
+pub subset_bounds-requires : goal.subset_bounds-requires
+subset_bounds-requires c = record { database = fits_still c.in_ok-query.query c.in_ok-db.db c.in_ok-query.ensures c.in_ok-db.ensures }

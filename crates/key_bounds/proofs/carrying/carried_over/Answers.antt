@@ -12,10 +12,10 @@ pub widened_rows-requires-clause-kinds : goal.widened_rows-requires-clause-kinds
 widened_rows-requires-clause-kinds c = of_one_kind c.args.query.now c.args.db.now c.requires.database c.args.edge c.requires.joined
 
 pub widened_rows-requires-clause-rows : goal.widened_rows-requires-clause-rows
-widened_rows-requires-clause-rows c = c.requires.few_rows c.args.edge.left.entry (left_low c.args.query.now c.args.db.now c.requires.database c.args.edge c.requires.joined)
+widened_rows-requires-clause-rows c = c.requires.database.few_rows c.args.edge.left.entry (left_low c.args.query.now c.args.db.now c.requires.database c.args.edge c.requires.joined)
 
 pub widened_rows-requires-clause-few : goal.widened_rows-requires-clause-few
-widened_rows-requires-clause-few c = c.requires.few_rows c.args.edge.right.entry (right_low c.args.query.now c.args.db.now c.requires.database c.args.edge c.requires.joined)
+widened_rows-requires-clause-few c = c.requires.database.few_rows c.args.edge.right.entry (right_low c.args.query.now c.args.db.now c.requires.database c.args.edge c.requires.joined)
 
 pub gather_beside-requires-clause-entry : goal.gather_beside-requires-clause-entry
 gather_beside-requires-clause-entry c = right_low c.args.query.now c.args.db.now c.requires.database c.args.edge c.requires.joined
@@ -45,13 +45,13 @@ gather_beside-requires-clause-few c =
       ap (λ (s : List ℕ). length s) (c.as_slice-others.ensures.value ∙ c.in_ok-widened.ensures.others),
       as_many (tables_of c.args.db.now) c.args.edge,
       few_referring (tables_of c.args.db.now) c.args.edge,
-      c.requires.few_rows c.args.edge.left.entry (left_low c.args.query.now c.args.db.now c.requires.database c.args.edge c.requires.joined),
+      c.requires.database.few_rows c.args.edge.left.entry (left_low c.args.query.now c.args.db.now c.requires.database c.args.edge c.requires.joined),
     )
 
 pub first_lists-requires : goal.first_lists-requires
 first_lists-requires c =
     entries_add_up c.args.query.now c.args.db.now c.requires.database c.args.edge c.requires.joined c.characters_differ.ensures
-    (c.requires.few_rows c.args.edge.left.entry (left_low c.args.query.now c.args.db.now c.requires.database c.args.edge c.requires.joined)) c.args.accuracy c.in_ok-gathered.gathered
+    (c.requires.database.few_rows c.args.edge.left.entry (left_low c.args.query.now c.args.db.now c.requires.database c.args.edge c.requires.joined)) c.args.accuracy c.in_ok-gathered.gathered
     (as_widened c.args.query.now c.args.db.now c.args.accuracy c.args.edge c.as_slice-others.result.now c.as_slice-rows.result.now c.in_ok-gathered.gathered
     (c.as_slice-others.ensures.value ∙ c.in_ok-widened.ensures.others) (c.as_slice-rows.ensures.value ∙ c.in_ok-widened.ensures.rows) c.in_ok-gathered.ensures)
     c.in_ok-entries.entries c.in_ok-entries.ensures
@@ -59,7 +59,7 @@ first_lists-requires c =
 pub returns-clause-tells : goal.returns-clause-tells
 returns-clause-tells c =
     entries_told c.args.query.now c.args.db.now c.requires.database c.args.edge c.requires.joined c.characters_differ.ensures
-    (c.requires.few_rows c.args.edge.left.entry (left_low c.args.query.now c.args.db.now c.requires.database c.args.edge c.requires.joined)) c.args.accuracy c.in_ok-gathered.gathered
+    (c.requires.database.few_rows c.args.edge.left.entry (left_low c.args.query.now c.args.db.now c.requires.database c.args.edge c.requires.joined)) c.args.accuracy c.in_ok-gathered.gathered
     (as_widened c.args.query.now c.args.db.now c.args.accuracy c.args.edge c.as_slice-others.result.now c.as_slice-rows.result.now c.in_ok-gathered.gathered
     (c.as_slice-others.ensures.value ∙ c.in_ok-widened.ensures.others) (c.as_slice-rows.ensures.value ∙ c.in_ok-widened.ensures.rows) c.in_ok-gathered.ensures)
     c.in_ok-entries.entries c.in_ok-entries.ensures c.in_ok-lists.lists c.in_ok-lists.ensures.rows c.in_ok-lists.ensures.lists

@@ -8,8 +8,8 @@ use Rattle.key_carriers.specs.Widened.{partner}
 use Rattle.key_carriers.proofs.Finding.{first_is, left_count, other_added, right_count, row_added}
 use Rattle.key_carriers.proofs.rows.widened_rows.Goals as goal
 
-pub chained-requires : goal.chained-requires
-chained-requires c =
+pub new-requires : goal.new-requires
+new-requires c =
     let is : c.cells_of_column-right.result.now ≡ column_cells c.args.db.now (column_of c.args.edge.right) =
     c.cells_of_column-right.ensures.cells ∙ ap (column_cells c.args.db.now) c.column_of-2.ensures in
     record {
@@ -20,6 +20,23 @@ chained-requires c =
         c.requires.few,
       );
     }
+
+pub rows-init : goal.rows-init
+rows-init c = (
+  c.in_ok-with_capacity.ensures.items,
+  c.in_ok-with_capacity-2.ensures.items,
+  c.in_ok-key.ensures ∙ c.cells_of_column-right.ensures.cells ∙ ap (column_cells c.args.db.now) c.column_of-2.ensures,
+)
+
+pub row_of-other-requires : goal.row_of-other-requires
+row_of-other-requires c = record {
+  few = omega (
+    arith,
+    ap (λ (s : List ℕ). length s) c.rows.invariant.2,
+    right_count c.args.db.now c.args.edge c.requires.tables c.texts_are_different.ensures.different c.texts_are_different.ensures.utf8 c.requires.kinds,
+    c.requires.few,
+  );
+}
 
 pub overflow_cast-row : goal.overflow_cast-row
 overflow_cast-row c =
@@ -37,21 +54,19 @@ pub rows-preserved : goal.rows-preserved
 rows-preserved c =
     let left : c.cells_of_column-left.result.now ≡ column_cells c.args.db.now (column_of c.args.edge.left) =
     c.cells_of_column-left.ensures.cells ∙ ap (column_cells c.args.db.now) c.column_of.ensures in
-    let right : c.in_ok-chains.chains.keys ≡ column_cells c.args.db.now (column_of c.args.edge.right) =
-    c.in_ok-chains.ensures ∙ c.cells_of_column-right.ensures.cells ∙ ap (column_cells c.args.db.now) c.column_of-2.ensures in
-    let cell : ℕ = get_or (column_cells c.args.db.now (column_of c.args.edge.left)) c.rows.row 0 in
-    let is : c.first-other.result ≡ partner (tables_of c.args.db.now) c.args.edge c.rows.row =
+    let is : c.row_of-other.result ≡ partner (tables_of c.args.db.now) c.args.edge c.rows.row =
     first_is c.args.db.now c.args.edge c.requires.tables c.texts_are_different.ensures.different c.texts_are_different.ensures.utf8 c.requires.kinds c.rows.row
     (omega (
       arith,
       ap (λ (s : List ℕ). length s) left,
       left_count c.args.db.now c.args.edge c.requires.tables c.texts_are_different.ensures.different c.texts_are_different.ensures.utf8 c.requires.kinds,
       c.rows-test.true,
-    )) c.first-other.result
-    (subst (λ (s : List ℕ). IsPlaceOf s cell 0 c.first-other.result) right
-    (subst (λ (s : List ℕ). IsPlaceOf c.in_ok-chains.chains.keys (get_or s c.rows.row 0) 0 c.first-other.result) left c.first-other.ensures)) in (
-      row_added c.args.db.now c.args.edge c.rows.row c.first-other.result is c.rows.made.rows.items c.add.new.self.rows.items c.rows.invariant.0 c.in_ok-add.ensures.rows,
-      other_added c.args.db.now c.args.edge c.rows.row c.first-other.result is c.rows.made.others.items c.add.new.self.others.items c.rows.invariant.1 c.in_ok-add.ensures.others,
+    )) c.row_of-other.result
+    (subst (λ (s : List ℕ). IsPlaceOf (column_cells c.args.db.now (column_of c.args.edge.right)) (get_or s c.rows.row 0) 0 c.row_of-other.result) left
+    (subst (λ (s : List ℕ). IsPlaceOf s (get_or c.cells_of_column-left.result.now c.rows.row 0) 0 c.row_of-other.result) c.rows.invariant.2 c.row_of-other.ensures)) in (
+      row_added c.args.db.now c.args.edge c.rows.row c.row_of-other.result is c.rows.made.rows.items c.add.new.self.rows.items c.rows.invariant.0 c.in_ok-add.ensures.rows,
+      other_added c.args.db.now c.args.edge c.rows.row c.row_of-other.result is c.rows.made.others.items c.add.new.self.others.items c.rows.invariant.1 c.in_ok-add.ensures.others,
+      c.rows.invariant.2,
     )
 
 pub returns-clause-rows : goal.returns-clause-rows

@@ -1,7 +1,7 @@
 use Rattle.std.proofs.Common.{◌≡◌, ℕ, List, [], take, map, arith, refl}
 use Rattle.std.specs.Borrow.{Bor}
 use Rattle.std.proofs.lemmas.Grind.{common_steps}
-use Rattle.safebound_top.specs.Shops.{shop_of}
+use Rattle.prepared_runs.specs.Shops.{shop_of}
 use Rattle.slice_devices.specs.Slices.{files_of}
 use Rattle.safebound_command.specs.Command.{read_from}
 use Rattle.safebound_command.proofs.SameRooms.{begun_empty, same_rooms}

@@ -2,7 +2,7 @@ use Rattle.filed_bounds.proofs.Answering.{wants_no_memory}
 use Rattle.stats_answers.proofs.StatsAnswers as stats
 use Rattle.text_answers.proofs.QueryAnswers as queries
 use Rattle.text_answers.proofs.SchemaAnswers as schemas
-use Rattle.safebound_top.proofs.ShapeFacts.{never_wants_memory}
+use Rattle.prepared_runs.proofs.ShapeFacts.{never_wants_memory}
 use Rattle.safebound_laws.proofs.TableErrors as tables
 use Rattle.safebound_laws.proofs.laws.no_reader_wants_memory.Goals as goal
 

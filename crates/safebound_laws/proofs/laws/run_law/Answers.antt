@@ -1,4 +1,4 @@
-use Rattle.safebound_top.proofs.Runs.{bounds_hold, limits_hold, rows_are_the_answer}
+use Rattle.prepared_runs.proofs.Runs.{bounds_hold, limits_hold, rows_are_the_answer}
 use Rattle.safebound_laws.proofs.laws.run_law.Goals as goal
 
 pub returns-clause-bounds : goal.returns-clause-bounds

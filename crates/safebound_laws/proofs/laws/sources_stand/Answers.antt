@@ -1,5 +1,5 @@
-use Rattle.safebound_top.proofs.KeyFacts.{needs_read}
-use Rattle.safebound_top.proofs.SourceFacts.{stand}
+use Rattle.prepared_runs.proofs.KeyFacts.{needs_read}
+use Rattle.prepared_runs.proofs.SourceFacts.{stand}
 use Rattle.safebound_laws.proofs.laws.sources_stand.Goals as goal
 
 pub returns-clause-stand : goal.returns-clause-stand

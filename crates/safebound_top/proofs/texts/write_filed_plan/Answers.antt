@@ -2,9 +2,9 @@ use Rattle.std.proofs.Common.{ℕ, ◌++◌, ap}
 use Rattle.base_io.proofs.WriteFacts.{wrote_as}
 use Rattle.printed_texts.specs.Memory.{memory_text}
 use Rattle.printed_texts.specs.Plans.{plan_lines}
-use Rattle.safebound_top.specs.Outcome.{FiledPlan}
+use Rattle.prepared_runs.specs.Outcome.{FiledPlan}
 use Rattle.safebound_top.specs.OutcomeTexts.{filed_plan_text}
-use Rattle.safebound_top.specs.declared.filed.PreparedPlan.{PreparedPlan}
+use Rattle.prepared_runs.specs.declared.filed.PreparedPlan.{PreparedPlan}
 use Rattle.safebound_top.proofs.TextSteps.{plan_cut, plan_wrote}
 use Rattle.safebound_top.proofs.texts.write_filed_plan.Goals as goal
 

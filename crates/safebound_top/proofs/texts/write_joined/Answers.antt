@@ -3,10 +3,10 @@ use Rattle.base_io.proofs.WriteFacts.{wrote_as}
 use Rattle.csv_tables.specs.Rows.{Row}
 use Rattle.printed_texts.specs.Texts.{rows_lines}
 use Rattle.joined_texts.specs.Printed.{printed_rows}
-use Rattle.safebound_top.specs.Shapes.{joined_entries}
-use Rattle.safebound_top.specs.declared.shapes.Shaped.TheVariants as shaped
-use Rattle.safebound_top.proofs.RootFacts.{root_order, root_printed, root_whole}
-use Rattle.safebound_top.proofs.ShapeFacts.{last_level, order_of}
+use Rattle.prepared_runs.specs.Shapes.{joined_entries}
+use Rattle.prepared_runs.specs.declared.shapes.Shaped.TheVariants as shaped
+use Rattle.prepared_runs.proofs.RootFacts.{root_order, root_printed, root_whole}
+use Rattle.prepared_runs.proofs.ShapeFacts.{last_level, order_of}
 use Rattle.safebound_top.proofs.texts.write_joined.Goals as goal
 
 pub write_rows-requires : goal.write_rows-requires

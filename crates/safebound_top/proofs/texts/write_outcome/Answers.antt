@@ -1,6 +1,6 @@
 use Rattle.std.proofs.Common.{refl}
-use Rattle.safebound_top.specs.Ready.{appended_from, file_from}
-use Rattle.safebound_top.proofs.KeptFacts.{if_ok}
+use Rattle.prepared_runs.specs.Ready.{appended_from, file_from}
+use Rattle.prepared_runs.proofs.KeptFacts.{if_ok}
 use Rattle.safebound_top.proofs.texts.write_outcome.Goals as goal
 
 pub returns-in-Filed-clause-texts : goal.returns-in-Filed-clause-texts

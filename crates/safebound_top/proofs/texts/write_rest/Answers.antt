@@ -4,10 +4,10 @@ use Rattle.joined_texts.specs.Printed.{printed_rows}
 use Rattle.join_steps.specs.Lists.{lists_of}
 use Rattle.printed_texts.specs.Texts.{rows_lines}
 use Rattle.sql_meaning.specs.Tables.{tables_of}
-use Rattle.safebound_top.specs.Kept.{plan_joined}
-use Rattle.safebound_top.specs.Shapes.{joined_entries, part_sizes, shape_audits}
-use Rattle.safebound_top.specs.declared.shapes.Shaped.{Shaped}
-use Rattle.safebound_top.proofs.KeptFacts.{are_done, counts_are, has_parts}
+use Rattle.prepared_runs.specs.Kept.{plan_joined}
+use Rattle.prepared_runs.specs.Shapes.{joined_entries, part_sizes, shape_audits}
+use Rattle.prepared_runs.specs.declared.shapes.Shaped.{Shaped}
+use Rattle.prepared_runs.proofs.KeptFacts.{are_done, counts_are, has_parts}
 use Rattle.safebound_top.proofs.texts.write_rest.Goals as goal
 
 pub join-joined-requires-clause-joins : goal.join-joined-requires-clause-joins

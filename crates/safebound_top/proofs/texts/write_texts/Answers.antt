@@ -2,11 +2,11 @@ use Rattle.std.proofs.Common.{◌≡◌, ℕ, List, ◌++◌, ap, ◌∙◌}
 use Rattle.printed_texts.specs.Memory.{memory_text}
 use Rattle.query_types.specs.declared.types.Source.{Source}
 use Rattle.sql_meaning.proofs.AnswerFacts.{own_entries}
-use Rattle.safebound_top.specs.Prepared.{accepted_of, plan_left}
-use Rattle.safebound_top.specs.Shapes.{shape_bytes, shape_lines}
+use Rattle.prepared_runs.specs.Prepared.{accepted_of, plan_left}
+use Rattle.prepared_runs.specs.Shapes.{shape_bytes, shape_lines}
 use Rattle.safebound_top.specs.Texts.{plan_text}
-use Rattle.safebound_top.specs.declared.prepare.Prepared.{Prepared}
-use Rattle.safebound_top.proofs.KeptFacts.{kept_is}
+use Rattle.prepared_runs.specs.declared.prepare.Prepared.{Prepared}
+use Rattle.prepared_runs.proofs.KeptFacts.{kept_is}
 use Rattle.safebound_top.proofs.RestTexts.{rest_is}
 use Rattle.safebound_top.proofs.TextSteps.{both_wrote, notes_cut, out_cut}
 use Rattle.safebound_top.proofs.texts.write_texts.Goals as goal

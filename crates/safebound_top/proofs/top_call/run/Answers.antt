@@ -1,22 +1,21 @@
 use Rattle.std.proofs.Common.{refl, sym, ◌∙◌}
 use Rattle.outcomes.proofs.StatusFacts.{ended_not_done}
-use Rattle.safebound_top.specs.Asks.{asked}
-use Rattle.safebound_top.proofs.KeptFacts.{keeps_so}
+use Rattle.prepared_runs.proofs.KeptFacts.{keeps_so}
 use Rattle.safebound_top.proofs.RunCourses.{course_ran, course_stopped}
 use Rattle.safebound_top.proofs.top_call.run.Goals as goal
 
 pub returns-in-Ok-clause-course : goal.returns-in-Ok-clause-course
 returns-in-Ok-clause-course g c words command =
-    course_ran (asked c.args.task.now) words command c.run_over.result _ _ _ _ c.in-Ok.schema (record { files = refl; faults = refl; misses = refl })
+    course_ran c.args.command.now words command c.run_over.result _ _ _ _ c.in-Ok.schema (record { files = refl; faults = refl; misses = refl })
     c.in-Ok.ensures.reads c.run_over.ensures.ran
 
 pub returns-in-Ok-clause-kept : goal.returns-in-Ok-clause-kept
 returns-in-Ok-clause-kept g c done =
-    keeps_so (asked c.args.task.now) _ c.in-Ok.schema _ c.in-Ok.ensures.reads refl (c.run_over.ensures.kept done)
+    keeps_so c.args.command.now _ c.in-Ok.schema _ c.in-Ok.ensures.reads refl (c.run_over.ensures.kept done)
 
 pub returns-in-Err-clause-course : goal.returns-in-Err-clause-course
 returns-in-Err-clause-course g c words command =
-    course_stopped (asked c.args.task.now) words command c.stopped.result _ _ _ c.in-Err.ending c.stopped.ensures.status c.in-Err.ensures.reads
+    course_stopped c.args.command.now words command c.stopped.result _ _ _ c.in-Err.ending c.stopped.ensures.status c.in-Err.ensures.reads
     (refl, refl) c.stopped.ensures.told
 
 pub returns-in-Err-clause-kept : goal.returns-in-Err-clause-kept

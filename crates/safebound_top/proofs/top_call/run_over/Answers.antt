@@ -3,9 +3,9 @@ use Rattle.std.specs.Prelude.{IsOkAnd}
 use Rattle.outcomes.specs.declared.refusal.Refusal.{Refusal}
 use Rattle.outcomes.proofs.StatusFacts.{ended_not_done}
 use Rattle.safebound_top.specs.Course.{Stopped, Went}
-use Rattle.safebound_top.specs.Kept.{IsKept}
-use Rattle.safebound_top.specs.Outcome.{Outcome}
-use Rattle.safebound_top.specs.Ready.{outcome_of}
+use Rattle.prepared_runs.specs.Kept.{IsKept}
+use Rattle.prepared_runs.specs.Outcome.{Outcome}
+use Rattle.prepared_runs.specs.Ready.{outcome_of}
 use Rattle.safebound_top.proofs.top_call.run_over.Goals as goal
 
 pub returns-in-Ok-clause-ran : goal.returns-in-Ok-clause-ran

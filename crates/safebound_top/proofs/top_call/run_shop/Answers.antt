@@ -2,7 +2,6 @@ use Rattle.std.proofs.Common.{inl, inr, refl, ap, sym, ◌∙◌, Some, arith}
 use Rattle.base_io.specs.Causes.{Rose}
 use Rattle.outcomes.specs.declared.ending.Ending.TheVariants as ending
 use Rattle.outcomes.proofs.StatusFacts.{ended_not_done}
-use Rattle.safebound_top.specs.Asks.{asked}
 use Rattle.safebound_top.proofs.ShopCourses.{course_shop, course_unmade}
 use Rattle.safebound_top.proofs.top_call.run_shop.Goals as goal
 
@@ -16,7 +15,7 @@ returns-in-Ok-clause-course g c words command =
 
 pub returns-in-Err-clause-course : goal.returns-in-Err-clause-course
 returns-in-Err-clause-course g c words command =
-    course_unmade (asked c.args.task.now) words command c.args.number c.stopped.result _ _ c.stopped.ensures.status (refl, refl)
+    course_unmade c.args.command.now words command c.args.number c.stopped.result _ _ c.stopped.ensures.status (refl, refl)
     c.stopped.ensures.told
 
 pub returns-in-Ok-clause-kept : goal.returns-in-Ok-clause-kept

@@ -2,23 +2,30 @@ use Rattle.std.proofs.Common.{None, refl, ◌≡◌}
 use Rattle.outcomes.specs.declared.refusal.Refusal.TheVariants as refusal
 use Rattle.outcomes.specs.declared.status.Status.TheVariants as status
 use Rattle.safebound_top.proofs.Courses.{headline}
-use Rattle.safebound_top.proofs.KeptFacts.{keeps_verdict}
+use Rattle.prepared_runs.proofs.CommandFacts.{command_taken, no_command, no_shop, shop_taken}
+use Rattle.prepared_runs.proofs.KeptFacts.{keeps_verdict}
 use Rattle.safebound_top.proofs.RunCourses.{course_unasked}
 use Rattle.safebound_top.proofs.ShopCourses.{course_of_words}
 use Rattle.safebound_top.proofs.top_call.safebound_keeping.Goals as goal
 
-pub returns-in-Some-clause-headline : goal.returns-in-Some-clause-headline
-returns-in-Some-clause-headline g c =
-    headline _ (course_of_words _ c.run_task.result _ _ _ c.in-Some.task.shop c.in-Some.ensures.shop
-    (c.run_task.ensures.course _ c.in-Some.ensures.task))
+pub returns-in-Ok-clause-headline : goal.returns-in-Ok-clause-headline
+returns-in-Ok-clause-headline g c =
+    headline _ (course_of_words _ c.run_command.result _ _ _ c.in-Ok.command.shop (shop_taken _ c.in-Ok.command c.in-Ok.ensures.answer)
+    (c.run_command.ensures.course _ (command_taken _ c.in-Ok.command c.in-Ok.ensures.answer)))
 
-pub returns-in-Some-clause-buffers : goal.returns-in-Some-clause-buffers
-returns-in-Some-clause-buffers g c done = keeps_verdict _ _ c.in-Some.ensures.task _ c.in-Some.task.shop _ c.in-Some.ensures.shop (c.run_task.ensures.kept done)
+pub returns-in-Ok-clause-buffers : goal.returns-in-Ok-clause-buffers
+returns-in-Ok-clause-buffers g c done = keeps_verdict _ _ (command_taken _ c.in-Ok.command c.in-Ok.ensures.answer) _ c.in-Ok.command.shop _ (shop_taken _ c.in-Ok.command c.in-Ok.ensures.answer) (c.run_command.ensures.kept done)
 
-pub returns-in-None-clause-headline : goal.returns-in-None-clause-headline
-returns-in-None-clause-headline g c =
-    headline _ (course_of_words _ _ _ _ _ None c.in-None.ensures.shop
-    (course_unasked _ refl c.in-None.ensures.task refl (refl, refl) c.report.ensures))
+pub returns-in-Err-clause-headline : goal.returns-in-Err-clause-headline
+returns-in-Err-clause-headline g c =
+    headline _ (course_of_words _ _ _ _ _ None (no_shop _ c.in-Err.ensures.answer)
+    (course_unasked _ refl (no_command _ c.in-Err.ensures.answer) refl (refl, refl) c.report.ensures))
 
-pub returns-in-None-clause-buffers : goal.returns-in-None-clause-buffers
-returns-in-None-clause-buffers g c done = let no : status.Refused refusal.Usage ≡ status.Done = done in absurd (cc)
+pub returns-in-Err-clause-buffers : goal.returns-in-Err-clause-buffers
+returns-in-Err-clause-buffers g c done = let no : status.Refused refusal.Usage ≡ status.Done = done in absurd (cc)
+
+pub returns-in-Ok-clause-untouched : goal.returns-in-Ok-clause-untouched
+returns-in-Ok-clause-untouched g c = rw (shop_taken _ c.in-Ok.command c.in-Ok.ensures.answer) c.run_command.ensures.untouched
+
+pub returns-in-Err-clause-untouched : goal.returns-in-Err-clause-untouched
+returns-in-Err-clause-untouched g c = rw (no_shop _ c.in-Err.ensures.answer) tt

@@ -1,7 +1,7 @@
 use Rattle.safebound_words.proofs.request.command_of.Goals as goal
 
 pub returns-in-Run : goal.returns-in-Run
-returns-in-Run c = rw c.in-Run.is c.run_of.ensures
+returns-in-Run c = rw c.in-Run.is c.over_files.ensures
 
 pub returns-in-Audit : goal.returns-in-Audit
-returns-in-Audit c = rw c.in-Audit.is c.audit_of.ensures
+returns-in-Audit c = rw c.in-Audit.is c.over_files-in-Audit.ensures

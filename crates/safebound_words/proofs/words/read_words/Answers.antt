@@ -1,10 +1,13 @@
-use Rattle.std.proofs.Common.{map}
-use Rattle.safebound_words.specs.Requests.{request_of}
+use Rattle.std.proofs.Common.{map, sym}
+use Rattle.safebound_words.proofs.Ranges.{in_range}
 use Rattle.safebound_words.proofs.WholeLines.{asks, asks_nothing}
 use Rattle.safebound_words.proofs.words.read_words.Goals as goal
 
 pub returns-in-Some-clause-command : goal.returns-in-Some-clause-command
-returns-in-Some-clause-command c = asks (map (λ w. w.now) c.args.words.now) (request_of c.in-Some.command) c.in-Some.ensures
+returns-in-Some-clause-command c = asks (map (λ w. w.now) c.args.words.now) c.in-Some.command c.in-Some.ensures
+
+pub returns-in-Some-clause-ranges : goal.returns-in-Some-clause-ranges
+returns-in-Some-clause-ranges c = in_range (map (λ w. w.now) c.args.words.now) c.in-Some.command (sym c.in-Some.ensures)
 
 pub returns-in-None-clause-usage : goal.returns-in-None-clause-usage
 returns-in-None-clause-usage c = asks_nothing (map (λ w. w.now) c.args.words.now) c.in-None.ensures

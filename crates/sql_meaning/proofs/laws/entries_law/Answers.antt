@@ -1,7 +1,7 @@
 use Rattle.std.proofs.Common.{◌∙◌}
 use Rattle.std.proofs.lemmas.List.Folds.{flat_map-map}
 use Rattle.query_types.specs.Named.{entries_named}
-use Rattle.sql_meaning.proofs.ConditionFacts.{entries_and, entries_or, entries_not, entries_compare}
+use Rattle.query_types.proofs.CondFacts.{entries_and, entries_or, entries_not, entries_compare}
 use Rattle.sql_meaning.proofs.NamedFacts.{entries_exist}
 use Rattle.sql_meaning.proofs.laws.entries_law.Goals as goal
 

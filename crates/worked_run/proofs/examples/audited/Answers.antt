@@ -1,6 +1,6 @@
 use Rattle.std.proofs.Common.{None, Some}
 use Rattle.std.specs.Prelude.{codes}
-use Rattle.safebound_top.specs.declared.task.OutText.TheVariants as out_text
+use Rattle.safebound_words.specs.declared.command.OutText.TheVariants as out_text
 use Rattle.worked_run.specs.Meaning.{two_tables_run}
 use Rattle.worked_run.specs.TwoTables.{audit_words}
 use Rattle.worked_run.proofs.Calls.{answers_done}

@@ -8,9 +8,8 @@ use Rattle.gathered_stats.proofs.Asking.{as_high}
 use Rattle.gathered_stats.proofs.Kept.{all_kept, rest_of_value}
 use Rattle.gathered_stats.proofs.entry_table.EntryTable.list_of_cell.Goals as goal
 
-pub list_of_value-requires-clause-joined : goal.list_of_value-requires-clause-joined
-list_of_value-requires-clause-joined c =
-    as_high c.args.self.now.pool.now (seen c.args.self.now) c.requires.ready.cells c.args.column c.args.sorted.now c.args.keys.now c.requires.column c.requires.keys
+pub list_of_value-requires : goal.list_of_value-requires
+list_of_value-requires c = record { joined = as_high c.args.self.now.pool.now (seen c.args.self.now) c.requires.ready.cells c.args.column c.args.sorted.now c.args.keys.now c.requires.column c.requires.keys }
 
 pub returns-clause-list : goal.returns-clause-list
 returns-clause-list c =

@@ -1,0 +1,15 @@
+use Rattle.std.proofs.Common.{List, length, ap, sym, ◌∙◌, arith}
+use Rattle.std.proofs.lemmas.List.FromFn.{length-range_with_len}
+use Rattle.key_carriers.specs.Cells.{cells_found}
+use Rattle.key_carriers.specs.declared.key_rows.KeyRows.{KeyRows}
+use Rattle.key_carriers.proofs.key_rows.KeyRows.row_of.Goals as goal
+
+pub place_from-requires : goal.place_from-requires
+place_from-requires c = record {
+  few = omega (
+    arith,
+    c.requires.few,
+    ap (λ (key : KeyRows). length (cells_found key)) c.in-Ascending.is,
+    length-range_with_len c.in-Ascending.first c.in-Ascending.rows,
+  );
+}

@@ -1,0 +1,87 @@
+//! The rows of a key column, by their cells.
+ghost use Rattle.std.specs.Prelude.{◌≡◌, ◌≤◌, IfOk, length, true};
+ghost use Rattle.std.specs.List.{range_with_len};
+ghost use Rattle.limits.specs.Profile.{most_rows};
+ghost use Rattle.link_index.specs.Places.{IsPlaceOf};
+ghost use Rattle.key_carriers.specs.Cells.{cells_found};
+
+use base_io::NoMemory;
+use link_index::Chains;
+use std::alloc::Global;
+
+/// A column in which rows are found by their cells.
+#[derive(Drop)]
+pub(crate) enum KeyRows {
+    /// So many rows, whose cells ascend by one from the first one: a cell tells its row.
+    Ascending(u64, u64),
+    /// Any rows.
+    Chained(Chains),
+}
+
+// Whether the cells ascend by one from this one on.
+fn ascend_from(first: u64, cells: &[u64]) -> bool
+    ensures { result ≡ true → cells.now ≡ range_with_len first (length cells.now) }
+{
+    'cells: for at in 0..cells.len() {
+        if cells[at] < first {
+            return false;
+        }
+        if cells[at] - first != at as u64 {
+            return false;
+        }
+    }
+    true
+}
+
+// The places of cells, by the cell.
+fn chained(alloc: Global, cells: &[u64]) -> Result<Chains, NoMemory>
+    requires few { length cells.now ≤ most_rows }
+    ensures { IfOk result (λ chains. chains.keys ≡ cells.now) }
+{
+    let rows = cells.len() as u64;
+    let mut chains = Chains::with_room(alloc, rows, rows.max(1))?;
+    chains.load(cells);
+    Ok(chains)
+}
+
+// The place of a cell among so many that ascend by one from the first one.
+fn place_from(first: u64, rows: u64, cell: u64) -> Option<u32>
+    requires few { rows ≤ most_rows }
+    ensures { IsPlaceOf (range_with_len first rows) cell 0 result }
+{
+    if cell < first {
+        return None;
+    }
+    let place = cell - first;
+    if place < rows {
+        Some(place as u32)
+    } else {
+        None
+    }
+}
+
+impl KeyRows {
+    /// Keys mostly ascend by one in their file, and then nothing is made to find them. Whether they do takes one pass and no memory to find
+    /// out.
+    pub(crate) fn new(alloc: Global, cells: &[u64]) -> Result<KeyRows, NoMemory>
+        requires few { length cells.now ≤ most_rows }
+        ensures { IfOk result (λ key. cells_found key ≡ cells.now) }
+    {
+        let first = if cells.is_empty() { 0 } else { cells[0] };
+        if ascend_from(first, cells) {
+            return Ok(KeyRows::Ascending(first, cells.len() as u64));
+        }
+        Ok(KeyRows::Chained(chained(alloc, cells)?))
+    }
+
+    /// The first row that has the cell.
+    pub(crate) fn row_of(&self, cell: u64) -> Option<u32>
+        requires few { length (cells_found self.now) ≤ most_rows }
+        ensures { IsPlaceOf (cells_found self.now) cell 0 result }
+    {
+        match self {
+            KeyRows::Ascending(first, rows) => place_from(*first, *rows, cell),
+            KeyRows::Chained(chains) => chains.first(cell),
+        }
+    }
+}

@@ -1,0 +1,45 @@
+ghost use Rattle.std.specs.Prelude.{◌≡◌, ◌<◌, ◌≤◌};
+ghost use Rattle.limits.specs.Profile.{most_accuracy};
+
+use std::marker::Model;
+
+/// The accuracy of compressed lists, from 1 to 64, which contracts see as its number: the larger it is, the nearer are the lists and the more
+/// runs they have.
+#[derive(Clone, Copy)]
+pub struct Accuracy {
+    value: u8,
+}
+
+impl Model for Accuracy {
+    ghost use Rattle.std.specs.Prelude.{ℕ, ◌<◌, ◌≤◌};
+    ghost use Rattle.std.specs.Coded.{coded_ℕ};
+    ghost use Rattle.limits.specs.Profile.{most_accuracy};
+
+    ghost Value = { ℕ };
+
+    ghost coded = { coded_ℕ };
+
+    ghost view = { λ accuracy. accuracy.value };
+
+    ghost invariant = { λ accuracy. (0 < accuracy.value) × (accuracy.value ≤ most_accuracy) };
+
+    ghost inverse = { λ value. record { value = value } };
+}
+
+impl Accuracy {
+    /// The accuracy of this number.
+    pub const fn of(value: u8) -> Accuracy
+        requires { (0 < value) × (value ≤ most_accuracy) }
+        ensures { result ≡ value }
+    {
+        Accuracy { value }
+    }
+
+    /// Its number.
+    pub const fn value(self) -> u8
+        ensures value { result ≡ self }
+        ensures range { (0 < self) × (self ≤ most_accuracy) }
+    {
+        self.value
+    }
+}

@@ -1,0 +1,117 @@
+-- What the readers of texts answer, as endings of the one answer that a text has.
+use Rattle.std.proofs.Common.{◌≡◌, ◌⊎◌, ℕ, List, Result, Ok, Err, inl, inr, ap, sym, ◌∙◌, subst}
+use Rattle.schema_types.specs.Texts.{IsSchemaOf}
+use Rattle.schema_types.specs.declared.errors.SchemaError.{SchemaError}
+use Rattle.schema_types.specs.declared.errors.SchemaError.TheVariants as schema
+use Rattle.schema_types.specs.declared.types.Schema.{Schema}
+use Rattle.query_types.specs.declared.types.Query.{Query}
+use Rattle.sql_parse.specs.Reading.{IsAnswer}
+use Rattle.query_names.specs.declared.errors.QueryError.{QueryError}
+use Rattle.query_names.specs.declared.errors.QueryError.TheVariants as query
+use Rattle.text_answers.specs.QueryTexts.{query_answer}
+use Rattle.text_answers.specs.SchemaTexts.{schema_answer}
+use Rattle.text_answers.proofs.QueryAnswers as queries
+use Rattle.text_answers.proofs.SchemaAnswers as schemas
+use Rattle.csv_tables.specs.Rows.{Row}
+use Rattle.order_search.specs.declared.refusal.PlanError.{PlanError}
+use Rattle.order_search.specs.declared.refusal.PlanError.TheVariants as plan
+use Rattle.outcomes.specs.Errors.{plan_ending, plan_refusal, query_ending, query_refusal, schema_ending, schema_refusal}
+use Rattle.outcomes.specs.Reads.{◌>>=◌, StopsBy, told}
+use Rattle.outcomes.specs.declared.ending.Ending.TheVariants as ending
+use Rattle.outcomes.specs.declared.refusal.Refusal.{Refusal}
+use Rattle.sql_meaning.specs.Tables.{Tables}
+use Rattle.table_files.specs.EntryTables.{tables_in}
+use Rattle.prepared_runs.specs.Limits.{limit_test, within_limit}
+use Rattle.prepared_runs.specs.Outcome.{Outcome, Planned}
+use Rattle.prepared_runs.specs.Shapes.{shape_bytes}
+use Rattle.prepared_runs.specs.Verdict.{plan_asked, plan_stage, run_asked}
+use Rattle.prepared_runs.specs.declared.shapes.Shaped.{Shaped}
+use Rattle.safebound_words.specs.declared.command.PlanWork.{PlanWork}
+use Rattle.prepared_runs.proofs.LimitFacts.{kept, stops}
+
+-- a value that is read is the answer's
+pub same_value : {A E : Type 0} (memory : E) (answer : Result A E) (x : A) → (Ok x ≡ Err memory) ⊎ (Ok x ≡ answer) → answer ≡ Ok x
+same_value memory answer x (inl e) = cc
+same_value memory answer x (inr e) = sym e
+
+pub schema_read : (text : List ℕ) (x : Schema) → IsSchemaOf text (Ok x) → schema_answer text ≡ Ok x
+schema_read text x is = same_value schema.NoMemory (schema_answer text) x (schemas.only text (Ok x) is)
+
+pub query_read : (s : Schema) (text : List ℕ) (x : Query) → IsAnswer s text (Ok x) → query_answer s text ≡ Ok x
+query_read s text x is = same_value query.NoMemory (query_answer s text) x (queries.only s text (Ok x) is)
+
+schema_tells : (answer : Result Schema SchemaError) (e : SchemaError) → (◌≡◌ {A = Result Schema SchemaError} (Err e) (Err schema.NoMemory)) ⊎ (Err e ≡ answer) → StopsBy (told schema_refusal answer) (schema_ending e)
+schema_tells answer schema.NoMemory h = tt
+schema_tells answer (schema.Syntax at) (inl e) = cc
+schema_tells answer (schema.Syntax at) (inr e) = (ap (told schema_refusal) (sym e), (λ file h. cc), (λ h. cc))
+schema_tells answer (schema.Name at) (inl e) = cc
+schema_tells answer (schema.Name at) (inr e) = (ap (told schema_refusal) (sym e), (λ file h. cc), (λ h. cc))
+schema_tells answer (schema.Nullable at) (inl e) = cc
+schema_tells answer (schema.Nullable at) (inr e) = (ap (told schema_refusal) (sym e), (λ file h. cc), (λ h. cc))
+schema_tells answer (schema.Limit which found) (inl e) = cc
+schema_tells answer (schema.Limit which found) (inr e) = (ap (told schema_refusal) (sym e), (λ file h. cc), (λ h. cc))
+
+pub schema_told : (text : List ℕ) (e : SchemaError) → IsSchemaOf text (Err e) → StopsBy (told schema_refusal (schema_answer text)) (schema_ending e)
+schema_told text e is = schema_tells (schema_answer text) e (schemas.only text (Err e) is)
+
+query_tells : (answer : Result Query QueryError) (e : QueryError) → (◌≡◌ {A = Result Query QueryError} (Err e) (Err query.NoMemory)) ⊎ (Err e ≡ answer) → StopsBy (told query_refusal answer) (query_ending e)
+query_tells answer query.NoMemory h = tt
+query_tells answer (query.Syntax at) (inl e) = cc
+query_tells answer (query.Syntax at) (inr e) = (ap (told query_refusal) (sym e), (λ file h. cc), (λ h. cc))
+query_tells answer (query.Name at) (inl e) = cc
+query_tells answer (query.Name at) (inr e) = (ap (told query_refusal) (sym e), (λ file h. cc), (λ h. cc))
+query_tells answer (query.Kind at) (inl e) = cc
+query_tells answer (query.Kind at) (inr e) = (ap (told query_refusal) (sym e), (λ file h. cc), (λ h. cc))
+query_tells answer (query.Limit which found) (inl e) = cc
+query_tells answer (query.Limit which found) (inr e) = (ap (told query_refusal) (sym e), (λ file h. cc), (λ h. cc))
+
+pub query_told : (s : Schema) (text : List ℕ) (e : QueryError) → IsAnswer s text (Err e) → StopsBy (told query_refusal (query_answer s text)) (query_ending e)
+query_told s text e is = query_tells (query_answer s text) e (queries.only s text (Err e) is)
+
+-- ---- plans
+
+-- a plan that was made is the planned one
+pub was_made : (answer : Result Shaped PlanError) (p : Shaped) → (Ok p ≡ Err plan.NoMemory) ⊎ (Ok p ≡ answer) → answer ≡ Ok p
+was_made answer p h = same_value plan.NoMemory answer p h
+
+pub was_refused : (answer : Result Shaped PlanError) (e : PlanError) → (◌≡◌ {A = Result Shaped PlanError} (Err e) (Err plan.NoMemory)) ⊎ (Err e ≡ answer)
+    → (e ≡ plan.NoMemory) ⊎ (answer ≡ Err e)
+was_refused answer e (inl none) = inl cc
+was_refused answer e (inr is) = inr (sym is)
+
+module _ (next : Shaped → Result Outcome Refusal) where
+  plan_tells : (answer : Result Shaped PlanError) (e : PlanError) → (e ≡ plan.NoMemory) ⊎ (answer ≡ Err e)
+      → StopsBy (told plan_refusal answer >>= next) (plan_ending e)
+  plan_tells answer plan.NoMemory h = tt
+  plan_tells answer (plan.Budget least) (inl e) = cc
+  plan_tells answer (plan.Budget least) (inr e) = (ap (λ (r : Result Shaped PlanError). told plan_refusal r >>= next) e, (λ file h. cc), (λ h. cc))
+  plan_tells answer plan.PastBits (inl e) = cc
+  plan_tells answer plan.PastBits (inr e) = (ap (λ (r : Result Shaped PlanError). told plan_refusal r >>= next) e, (λ file h. cc), (λ h. cc))
+
+module _ (task : PlanWork) (schema : Schema) (query : Query) (rows : List (List Row)) (t : Tables) (same : tables_in rows ≡ t) where
+  -- over the tables that a database has
+  over_rows : plan_asked task schema query (tables_in rows) ≡ plan_asked task schema query t
+  over_rows = ap (plan_asked task schema query) same
+
+  abbrev limited : Shaped → Result Outcome Refusal
+  limited p = within_limit task.memory (shape_bytes p) (Planned (run_asked task query rows p))
+
+  plan_stage_at : (p : Shaped) → plan_asked task schema query t ≡ Ok p → plan_stage task schema query rows ≡ within_limit task.memory (shape_bytes p) (Planned (run_asked task query rows p))
+  unfolding plan_stage
+  plan_stage_at p is = ap (λ (r : Result Shaped PlanError). told plan_refusal r >>= limited) (over_rows ∙ is)
+
+  pub plan_stage_ok : (p : Shaped) → plan_asked task schema query t ≡ Ok p → limit_test task.memory (shape_bytes p) ≡ Ok tt
+      → plan_stage task schema query rows ≡ Ok (Planned (run_asked task query rows p))
+  plan_stage_ok p is fits = plan_stage_at p is ∙ kept task.memory (shape_bytes p) (Planned (run_asked task query rows p)) fits
+
+  pub limit_told : (p : Shaped) → plan_asked task schema query t ≡ Ok p → (r : Refusal) → limit_test task.memory (shape_bytes p) ≡ Err r
+      → StopsBy (plan_stage task schema query rows) (ending.Refused r)
+  limit_told p is r above =
+      subst (λ (s : Result Outcome Refusal). StopsBy s (ending.Refused r)) (sym (plan_stage_at p is))
+      (stops task.memory (shape_bytes p) (Planned (run_asked task query rows p)) r above)
+
+  pub plan_told : (e : PlanError) → (e ≡ plan.NoMemory) ⊎ (plan_asked task schema query t ≡ Err e) → StopsBy (plan_stage task schema query rows) (plan_ending e)
+  unfolding plan_stage
+  plan_told e h =
+      plan_tells limited (plan_asked task schema query (tables_in rows)) e
+      (subst (λ (r : Result Shaped PlanError). (e ≡ plan.NoMemory) ⊎ (r ≡ Err e)) (sym over_rows) h)

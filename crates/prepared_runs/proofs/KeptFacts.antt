@@ -1,0 +1,161 @@
+-- How many bytes the lists and buffers of a run hold, before its joins and behind them; and what stands in them.
+use Rattle.std.proofs.Common.{◌≡◌, ℕ, ◌+◌, ◌*◌, ◌<◌, ◌≤◌, List, length, map, sum, get_or, Option, None, Some, Result, Ok, Err, refl, ap, sym, ◌∙◌, subst, arith}
+use Rattle.std.specs.Prelude.{IsOkAnd, OnOk}
+use Rattle.std.proofs.lemmas.List.{ext_get_or, get_or-map, length-map}
+use Rattle.base_io.specs.Devices.{Reading}
+use Rattle.base_io.specs.Files.{Files}
+use Rattle.csv_tables.specs.declared.types.Database.{Database}
+use Rattle.row_buf.specs.declared.TheConstants.{BUFFER_BYTES, ROW_NUMBER_BYTES}
+use Rattle.row_buf.specs.Rows.{Rows, capacity}
+use Rattle.plans.specs.declared.left_deep.Plan.{Plan}
+use Rattle.plan_answers.specs.PlanAnswer.{plan_answer}
+use Rattle.tree_answers.specs.TreeAnswer.{tree_answer}
+use Rattle.planning.specs.Standing.{BoundLists}
+use Rattle.planning.proofs.FromLists.{is_plan_from, scan_kept}
+use Rattle.bushy_planning.proofs.Stages as stages
+use Rattle.query_types.specs.declared.types.Query.{Query}
+use Rattle.schema_types.specs.declared.types.Schema.{Schema}
+use Rattle.sql_meaning.specs.Tables.{Tables, tables_of}
+use Rattle.join_steps.specs.Lists.{list_levels, list_sizes, lists_of, rows_listed, AreOfScans}
+use Rattle.join_steps.proofs.WholeScans.{count_of, length-lists_of, list_in, no_rows, size_at, size_count}
+use Rattle.joined_texts.proofs.AuditLines.{counts_of_levels}
+use Rattle.reduced_scans.specs.Lists.{HaveNoSpare}
+use Rattle.reserve_plan.specs.Memory.{lists_bytes}
+use Rattle.outcomes.specs.Reads.{◌>>=◌, AtFile, Reads}
+use Rattle.outcomes.specs.declared.names.FileId.TheVariants as file
+use Rattle.outcomes.specs.declared.refusal.Refusal.{Refusal}
+use Rattle.table_files.specs.EntryTables.{entry_rows, tables_in}
+use Rattle.safebound_words.specs.declared.command.Command.{Command}
+use Rattle.prepared_runs.specs.Kept.{bytes_in, counts_in, plan_joined, rows_in, AreDone, HasParts, IsJoined, IsKept, IsLeft, KeepsItsBuffers}
+use Rattle.prepared_runs.specs.Outcome.{Outcome, Planned}
+use Rattle.prepared_runs.specs.Prepared.{bytes_held, plan_in, plan_left, text_left, AreListed, HoldsBytes}
+use Rattle.prepared_runs.specs.Shapes.{answer_of, part_count, part_rows, part_sizes, parts_bytes, planned_by, scan_bounds, shape_bytes}
+use Rattle.prepared_runs.specs.Shops.{shop_of, store_read}
+use Rattle.prepared_runs.specs.Sources.{Sourced, set_bounds_by}
+use Rattle.prepared_runs.specs.Verdict.{aim_run, command_run, command_stage, schema_stage, verdict}
+use Rattle.prepared_runs.specs.declared.joined.Joined.{Joined}
+use Rattle.prepared_runs.specs.declared.joined.Joined.TheVariants as joined
+use Rattle.prepared_runs.specs.declared.prepare.Rest.{Rest}
+use Rattle.prepared_runs.specs.declared.prepare.Rest.TheVariants as rest
+use Rattle.prepared_runs.specs.declared.scans.Joins.{Joins}
+use Rattle.prepared_runs.specs.declared.shapes.Shaped.{Shaped}
+use Rattle.prepared_runs.specs.declared.shapes.Shaped.TheVariants as shaped
+use Rattle.safebound_words.specs.declared.command.ListSource.{ListSource}
+use Rattle.safebound_words.specs.declared.command.Shape.{Shape}
+use Rattle.safebound_words.specs.declared.command.Shape.TheVariants as shapes
+use Rattle.prepared_runs.proofs.RootFacts.{counts_of_nodes}
+use Rattle.prepared_runs.proofs.ShapeFacts.{along, over, seen_ok}
+
+-- what holds in any case holds of a value
+pub if_ok : {A E P : Type 0} (r : Result A E) → P → OnOk r P
+if_ok (Ok x) is = is
+if_ok (Err e) is = tt
+
+-- ---- lists without room to spare
+
+-- each has memory for just the rows that it has
+own_sizes : (query : Query) (lists : List (Rows ℕ)) → length lists ≡ length query.from → HaveNoSpare lists → map capacity lists ≡ list_sizes query (lists_of lists)
+own_sizes query lists count full =
+    ext_get_or 0 (map capacity lists) (list_sizes query (lists_of lists)) (length-map lists capacity ∙ count ∙ sym (size_count query (lists_of lists)))
+    (λ k low.
+    let there : k < length lists = omega (arith, low, length-map lists capacity) in
+    let rows : rows_listed (lists_of lists) k ≡ length (get_or lists k no_rows).items = ap (λ (rows : List ℕ). length rows) (list_in lists k) in
+    get_or-map capacity lists k no_rows 0 there ∙ omega (arith, full k no_rows there, rows, size_at query (lists_of lists) k (omega (arith, there, count))))
+
+-- so they hold exactly what lists by these sizes take
+pub own_bytes : (query : Query) (tables : Tables) (family : List (List ℕ)) (lists : List (Rows ℕ)) (held : ℕ) → AreOfScans query tables family → lists_of lists ≡ family → held ≡ length query.from → HaveNoSpare lists
+    → BUFFER_BYTES * held + ROW_NUMBER_BYTES * sum (map capacity lists) ≡ lists_bytes (list_sizes query family)
+own_bytes query tables family lists held are same count full =
+    let long : length lists ≡ length query.from = sym (length-lists_of lists) ∙ ap (λ (f : List (List ℕ)). length f) same ∙ are.count ∙ count_of query tables in
+    let sizes : map capacity lists ≡ list_sizes query family = own_sizes query lists long full ∙ ap (list_sizes query) same in
+    let one_each : held ≡ length (list_sizes query family) = count ∙ sym (size_count query family) in
+    rw (one_each, sizes) refl
+
+-- ---- the bounds of scans of a plan are those that the source gives
+
+order_scans : (sets scans : List ℕ) (budget : ℕ) (plan : Plan) → plan_answer sets scans budget ≡ Ok plan → plan.scans ≡ scans
+order_scans sets scans budget plan made =
+    ext_get_or 0 plan.scans scans (is_plan_from sets scans (length scans) budget refl plan made).scans (λ k low. scan_kept sets scans (length scans) budget refl plan made k)
+
+module _ (query : Query) (tables : Tables) (lists : List (List ℕ)) (sets scans : List ℕ) (budget : ℕ) (bound : BoundLists query tables lists scans) (some : 1 ≤ length query.from) (few : length query.from ≤ 12) where
+  answer_scans : (shape : Shape) (plan : Shaped) → answer_of shape sets scans budget ≡ Ok plan → scan_bounds plan ≡ scans
+  answer_scans shapes.Order plan made =
+      let it = seen_ok along (plan_answer sets scans budget) plan made in
+      subst (λ (p : Shaped). scan_bounds p ≡ scans) it.2 (order_scans sets scans budget it.0 it.1)
+  answer_scans shapes.Tree plan made =
+      let it = seen_ok over (tree_answer sets scans budget) plan made in
+      subst (λ (p : Shaped). scan_bounds p ≡ scans) it.2 (stages.scans_kept query tables lists sets scans budget it.0 bound some few it.1)
+
+pub scans_given : (query : Query) (tables : Tables) (given : Sourced) (accuracy budget : ℕ) → BoundLists query tables given.lists (given.scans accuracy) → 1 ≤ length query.from → length query.from ≤ 12
+    → (shape : Shape) (plan : Shaped) → planned_by shape given query accuracy budget ≡ Ok plan → scan_bounds plan ≡ given.scans accuracy
+unfolding planned_by
+scans_given query tables given accuracy budget bound some few shape plan made =
+    answer_scans query tables given.lists (set_bounds_by given query accuracy) (given.scans accuracy) budget bound some few shape plan made
+
+-- ---- the bytes of a plan
+
+pub all_bytes : (plan : Shaped) → lists_bytes (scan_bounds plan) + parts_bytes plan ≡ shape_bytes plan
+all_bytes (shaped.Along plan) = refl
+all_bytes (shaped.Over plan) = refl
+
+-- ---- joins that are done
+
+module _ (query : Query) (db : Database) (lists : List (List ℕ)) where
+  pub counts_are : (it : Joined) → IsJoined query db lists it → counts_in it ≡ part_sizes query (tables_of db) lists (plan_joined it)
+  counts_are (joined.Levels plan own reserved) is = counts_of_levels (list_levels query (tables_of db) lists plan.order) plan.order reserved.levels is.choices is.count
+  counts_are (joined.Nodes plan done) is = counts_of_nodes query (tables_of db) plan is.plan_of.for_each_entry lists done.nodes is.count is.choices
+
+  parts_are : (it : Joined) → IsJoined query db lists it → (k : ℕ) → k < part_count (plan_joined it) → rows_in it k ≡ part_rows query (tables_of db) lists (plan_joined it) k
+  parts_are (joined.Levels plan own reserved) is k low = is.choices k low
+  parts_are (joined.Nodes plan done) is k low = is.choices (length plan.scans + k) (omega (arith, low))
+
+  pub has_parts : (it : Joined) → IsJoined query db lists it → HasParts (length query.from) it
+  has_parts (joined.Levels plan own reserved) is = (is.plan_of.for_each_entry, is.count)
+  has_parts (joined.Nodes plan done) is = (is.plan_of.for_each_entry, is.count)
+
+pub are_done : (query : Query) (db : Database) (joins : Joins) (it : Joined) → plan_joined it ≡ plan_in joins.room → IsJoined query db (lists_of joins.lists.items) it → bytes_in it ≡ bytes_held joins → AreDone query db joins it
+are_done query db joins it same is bytes = record {
+  plan = same;
+  parts = subst (λ (plan : Shaped). (k : ℕ) → k < part_count plan → rows_in it k ≡ part_rows query (tables_of db) (lists_of joins.lists.items) plan k) same
+      (parts_are query db (lists_of joins.lists.items) it is);
+  bytes = bytes;
+}
+
+-- what is left of what was prepared is what is kept of the run
+module _ (query : Query) (db : Database) (source : ListSource) (lists : List (List ℕ)) (memory : Option ℕ) (same : tables_in (entry_rows db) ≡ tables_of db) where
+  kept_joins : (joins : Joins) (bytes : ℕ) (it : Joined) → lists_of joins.lists.items ≡ lists → bytes_held joins ≡ bytes → bytes ≡ shape_bytes (plan_in joins.room) → AreDone query db joins it
+      → (k : ℕ) → k < part_count (plan_in joins.room) → rows_in it k ≡ part_rows query (tables_in (entry_rows db)) lists (plan_in joins.room) k
+  kept_joins joins bytes it are holds is done k low =
+      done.parts k low
+      ∙ ap (λ (l : List (List ℕ)). part_rows query (tables_of db) l (plan_in joins.room) k) are
+      ∙ ap (λ (t : Tables). part_rows query t lists (plan_in joins.room) k) (sym same)
+
+  pub kept_is : (bytes : ℕ) (left : Rest) (kept : Option Joined) → AreListed lists left → HoldsBytes bytes left → bytes ≡ shape_bytes (plan_left left) → IsLeft query db left kept
+      → IsKept (Planned (record { query = query; rows = entry_rows db; plan = plan_left left; source = source; lists = lists; memory = memory; out = text_left left })) kept
+  kept_is bytes (rest.Rows joins) (Some it) are holds is done =
+      record { plan = done.plan; parts = kept_joins joins bytes it are holds is done; bytes = done.bytes ∙ holds ∙ is }
+  kept_is bytes (rest.Rows joins) None are holds is done = done
+  kept_is bytes (rest.Audit joins) (Some it) are holds is done =
+      record { plan = done.plan; parts = kept_joins joins bytes it are holds is done; bytes = done.bytes ∙ holds ∙ is }
+  kept_is bytes (rest.Audit joins) None are holds is done = done
+  kept_is bytes (rest.Nothing plan) kept are holds is none = none
+
+-- ---- over files that a store tells
+
+-- from the schema on
+pub keeps_so : (ask : Command) {first : Reading} (after : Option Files) (schema : Schema) (kept : Option Joined) → Reads first (schema_stage ask.schema_file) (AtFile file.Schema) (Ok schema)
+    → first.files_after ≡ after → ((files : Files) → after ≡ Some files → IsOkAnd (aim_run ask.aim schema files) (λ outcome. IsKept outcome kept))
+    → (files : Files) → first.files ≡ Some files → IsOkAnd (command_run ask files) (λ outcome. IsKept outcome kept)
+unfolding command_run
+keeps_so ask {first} after schema kept reads meets keeps files told =
+    let stage : (schema_stage ask.schema_file files >>= (λ (s : Schema). aim_run ask.aim s files)) ≡ aim_run ask.aim schema files = rw (reads.gives files told) refl in
+    subst (λ (r : Result Outcome Refusal). IsOkAnd r (λ outcome. IsKept outcome kept)) (sym stage) (keeps files (sym meets ∙ reads.same ∙ told))
+
+-- and from the words on
+pub keeps_verdict : (words : List (List ℕ)) (ask : Command) → command_stage words ≡ Ok ask → (handed_in : Reading) (shop : Option ℕ) (kept : Option Joined) → shop_of words ≡ shop
+    → KeepsItsBuffers (store_read shop handed_in) (command_run ask) kept → KeepsItsBuffers (store_read (shop_of words) handed_in) (verdict words) kept
+unfolding verdict
+keeps_verdict words ask command handed_in shop kept is keeps files told =
+    let stage : (command_stage words >>= (λ (a : Command). command_run a files)) ≡ command_run ask files = rw command refl in
+    subst (λ (r : Result Outcome Refusal). IsOkAnd r (λ outcome. IsKept outcome kept)) (sym stage)
+    (keeps files (ap (λ (s : Option ℕ). (store_read s handed_in).files) (sym is) ∙ told))

@@ -1,0 +1,105 @@
+use Rattle.std.proofs.Common.{List, ℕ, Ok, length, ◌∙◌, ap, sym, subst, arith}
+use Rattle.std.proofs.lemmas.Result.{err_from_is_err_and}
+use Rattle.sql_meaning.specs.Tables.{Tables, tables_of}
+use Rattle.table_files.specs.EntryTables.{entry_rows, tables_in}
+use Rattle.prepared_runs.specs.Outcome.{Planned}
+use Rattle.prepared_runs.specs.Prepared.{AreListed, HoldsBytes, text_left}
+use Rattle.prepared_runs.specs.Shapes.{IsPlanOver, IsShapedPlan, shape_bytes}
+use Rattle.prepared_runs.specs.Sources.{lists_by, sourced}
+use Rattle.prepared_runs.specs.Standing.{LoseNoRow}
+use Rattle.prepared_runs.specs.declared.shapes.Shaped.{Shaped}
+use Rattle.safebound_words.specs.declared.command.OutText.{OutText}
+use Rattle.prepared_runs.proofs.Answered.{limit_told, plan_stage_ok, plan_told}
+use Rattle.prepared_runs.proofs.ShapeFacts.{plan_fits, plan_over}
+use Rattle.prepared_runs.proofs.KeyFacts.{needs_met}
+use Rattle.prepared_runs.proofs.SourceFacts.{rows_kept, stand}
+use Rattle.prepared_runs.proofs.prepare.prepare_plan.Goals as goal
+
+pub returns-in_err-planned-clause-refused : goal.returns-in_err-planned-clause-refused
+returns-in_err-planned-clause-refused c =
+    let p = err_from_is_err_and c.from_residual.result c.from_residual.ensures.1 in
+    rw (p.1, p.2) (plan_told c.args.task.now c.args.schema.now c.args.query (entry_rows c.args.db) (tables_of c.args.db) c.requires.tables c.in_err-planned.field-0.0 c.in_err-planned.ensures.refused)
+
+pub memory_of-bytes-requires : goal.memory_of-bytes-requires
+memory_of-bytes-requires c =
+    let task = c.args.task.now in
+    let query = c.args.query in
+    let tables = tables_of c.args.db in
+    let planned = c.in_ok-planned.planned in (
+      length query.from,
+      omega (arith, c.requires.database.some),
+      c.requires.database.few,
+      (plan_fits query tables (sourced task.source c.args.schema.now query tables)
+          (stand query tables c.args.schema.now task.source (needs_met task.source c.args.schema.now query tables c.requires.keys)) task.accuracy task.budget (omega (arith, c.requires.database.some))
+          c.requires.database.few task.shape planned.plan c.in_ok-planned.ensures.planned c.requires.ranges.budget).plan,
+    )
+
+pub returns-in_err-keep_limit-clause-refused : goal.returns-in_err-keep_limit-clause-refused
+returns-in_err-keep_limit-clause-refused c =
+    let p = err_from_is_err_and c.from_residual-in_err-keep_limit.result c.from_residual-in_err-keep_limit.ensures.1 in
+    rw (p.1, p.2) (limit_told c.args.task.now c.args.schema.now c.args.query (entry_rows c.args.db) (tables_of c.args.db) c.requires.tables c.in_ok-planned.planned.plan
+    c.in_ok-planned.ensures.planned c.in_err-keep_limit.field-0.0 (sym (rw c.memory_of-bytes.ensures at c.in_err-keep_limit.ensures)))
+
+pub make_room-requires-clause-plan : goal.make_room-requires-clause-plan
+make_room-requires-clause-plan c =
+    let task = c.args.task.now in
+    let query = c.args.query in
+    let tables = tables_of c.args.db in
+    let planned = c.in_ok-planned.planned in
+    subst (λ (l : List (List ℕ)). IsPlanOver query tables l planned.plan) (sym c.in_ok-planned.ensures.lists)
+    (plan_over query tables (sourced task.source c.args.schema.now query tables)
+    (stand query tables c.args.schema.now task.source (needs_met task.source c.args.schema.now query tables c.requires.keys)) task.accuracy task.budget (omega (arith, c.requires.database.some)) c.requires.database.few
+    task.shape planned.plan c.in_ok-planned.ensures.planned c.requires.ranges.budget c.requires.database.few_rows)
+
+pub make_room-requires-clause-rows : goal.make_room-requires-clause-rows
+make_room-requires-clause-rows c =
+    let query = c.args.query in
+    let tables = tables_of c.args.db in
+    subst (λ (l : List (List ℕ)). LoseNoRow query tables l) (sym c.in_ok-planned.ensures.lists) (rows_kept query tables c.args.task.now.source)
+
+pub returns-clause-ready : goal.returns-clause-ready
+returns-clause-ready c =
+    let task = c.args.task.now in
+    let query = c.args.query in
+    let tables = tables_of c.args.db in
+    let planned = c.in_ok-planned.planned in
+    record {
+      database = c.requires.database;
+      plan = subst (IsShapedPlan _) (sym c.in_ok-rest.ensures.plan)
+          (plan_fits query tables (sourced task.source c.args.schema.now query tables)
+          (stand query tables c.args.schema.now task.source (needs_met task.source c.args.schema.now query tables c.requires.keys)) task.accuracy task.budget (omega (arith, c.requires.database.some))
+          c.requires.database.few task.shape planned.plan c.in_ok-planned.ensures.planned c.requires.ranges.budget).plan;
+      bytes = c.memory_of-bytes.ensures ∙ ap (λ (plan : Shaped). shape_bytes plan) (sym c.in_ok-rest.ensures.plan);
+      tables = c.requires.tables;
+      room = c.in_ok-rest.ensures.room;
+      lists = subst (λ (l : List (List ℕ)). AreListed l c.in_ok-rest.rest)
+          (c.in_ok-planned.ensures.lists ∙ ap (λ (t : Tables). lists_by task.source query t) (sym c.requires.tables)) c.in_ok-rest.ensures.lists;
+      held = subst (λ (n : ℕ). HoldsBytes n c.in_ok-rest.rest) (sym c.memory_of-bytes.ensures) c.in_ok-rest.ensures.bytes;
+    }
+
+pub returns-clause-run : goal.returns-clause-run
+returns-clause-run c =
+    let task = c.args.task.now in
+    let query = c.args.query in
+    let rows = entry_rows c.args.db in
+    let planned = c.in_ok-planned.planned in
+    plan_stage_ok task c.args.schema.now query rows (tables_of c.args.db) c.requires.tables planned.plan c.in_ok-planned.ensures.planned
+    (sym (rw c.memory_of-bytes.ensures at c.in_ok-keep_limit.ensures))
+    ∙ ap (λ (out : OutText). Ok (Planned (record {
+      query = query;
+      rows = rows;
+      plan = planned.plan;
+      source = task.source;
+      lists = lists_by task.source query (tables_in rows);
+      memory = task.memory;
+      out = out;
+    }))) (sym c.in_ok-rest.ensures.out)
+    ∙ ap (λ (plan : Shaped). Ok (Planned (record {
+      query = query;
+      rows = rows;
+      plan = plan;
+      source = task.source;
+      lists = lists_by task.source query (tables_in rows);
+      memory = task.memory;
+      out = text_left c.in_ok-rest.rest;
+    }))) (sym c.in_ok-rest.ensures.plan)

@@ -1,0 +1,68 @@
+-- New rows of a table in a statistics file, as stages of the verdict.
+use Rattle.std.specs.Prelude.{ℕ, ◌+◌, nat_le, Bool, List, length, find, if◌then◌else◌, Option, None, Some, Result, Ok, Err}
+use Rattle.std.specs.Str.{str_eq_ignore_ascii_case}
+use Rattle.limits.specs.Profile.{most_rows}
+use Rattle.base_io.specs.Files.{Files}
+use Rattle.appended_stats.specs.Appended.{file_after}
+use Rattle.csv_tables.specs.Rows.{Row}
+use Rattle.outcomes.specs.Reads.{◌>>=◌}
+use Rattle.outcomes.specs.declared.names.FileId.TheVariants as file
+use Rattle.outcomes.specs.declared.refusal.Refusal.{Refusal}
+use Rattle.outcomes.specs.declared.refusal.Refusal.TheVariants as refusal
+use Rattle.outcomes.specs.declared.refusal.StatsCause.TheVariants as cause
+use Rattle.schema_types.specs.declared.errors.LimitKind.TheVariants as limit
+use Rattle.schema_types.specs.declared.types.Schema.{Schema}
+use Rattle.stats_file.specs.declared.types.StatsFile.{StatsFile}
+use Rattle.stats_file.specs.declared.types.TableStats.{TableStats}
+use Rattle.table_files.specs.Stage.{table_at}
+use Rattle.table_files.specs.TableFile.{rows_in}
+use Rattle.safebound_words.specs.declared.command.NewRows.{NewRows}
+use Rattle.prepared_runs.specs.Filed.{stats_stage}
+use Rattle.prepared_runs.specs.Outcome.{Appended, Outcome}
+
+-- ---- the section to which rows are appended
+
+-- it is that of a table of this name, letter case aside
+abbrev pub is_of_table : Schema → List ℕ → TableStats → Bool
+is_of_table schema name section = str_eq_ignore_ascii_case (table_at schema section.table).name name
+
+-- or Missing, with 0 in the place of a FROM entry: the schema has no such table, or the file has no section of it
+abbrev pub or_missing : Option TableStats → Result TableStats Refusal
+or_missing None = Err (refusal.Stats cause.Missing 0)
+or_missing (Some section) = Ok section
+
+unfoldable pub section_stage : List ℕ → Schema → StatsFile → Result TableStats Refusal
+section_stage name schema stats = or_missing (find (is_of_table schema name) stats.tables)
+
+-- ---- the file with new rows
+
+-- of a table of which it has so many rows: with the new ones they may be no more than a table's
+unfoldable pub grown_stage : Schema → StatsFile → ℕ → ℕ → List Row → Result Outcome Refusal
+grown_stage schema stats table before rows =
+    if nat_le (before + length rows) most_rows
+    then Ok (Appended (record { schema = schema; table = table; rows = rows; file = file_after stats table rows }))
+    else Err (refusal.Limit limit.Rows (file.Table table) (most_rows + 1))
+
+-- the rows are in the file of this name, and are read and refused as those of any file of the table
+unfoldable pub rows_run : List ℕ → Schema → StatsFile → ℕ → ℕ → Files → Result Outcome Refusal
+rows_run name schema stats table before files = do
+  rows ← rows_in table (table_at schema table) name files
+  grown_stage schema stats table before rows
+
+-- ---- the whole: the statistics file, its section of the table, and the new rows
+
+unfoldable pub stats_run : NewRows → Schema → StatsFile → Files → Result Outcome Refusal
+stats_run append schema stats files = do
+  section ← section_stage append.table schema stats
+  rows_run append.rows_file schema stats section.table section.rows files
+
+unfoldable pub append_run : NewRows → Schema → Files → Result Outcome Refusal
+append_run append schema files = do
+  stats ← stats_stage append.stats_file schema files
+  stats_run append schema stats files
+
+-- the section that it reads
+unfoldable pub section_read : NewRows → Schema → Files → Result TableStats Refusal
+section_read append schema files = do
+  stats ← stats_stage append.stats_file schema files
+  section_stage append.table schema stats

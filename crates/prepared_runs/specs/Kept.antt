@@ -1,0 +1,119 @@
+-- The buffers of a run, once its joins are done and its texts are written.
+use Rattle.std.specs.Prelude.{ℕ, ◌≡◌, ◌+◌, ◌<◌, List, length, Option, None, Some, IsOkAnd, IsSomeAnd, Result}
+use Rattle.base_io.specs.Devices.{Reading}
+use Rattle.base_io.specs.Files.{Files}
+use Rattle.csv_tables.specs.declared.types.Database.{Database}
+use Rattle.link_index.specs.Forest.{Level, rows_at}
+use Rattle.plans.specs.declared.left_deep.Plan.{Plan}
+use Rattle.tree_plans.specs.declared.bushy.BushyPlan.{BushyPlan}
+use Rattle.query_types.specs.declared.types.Query.{Query}
+use Rattle.sql_meaning.specs.Tables.{tables_of}
+use Rattle.join_steps.specs.Lists.{list_levels, lists_of}
+use Rattle.join_steps.specs.Plans.{IsPlanOf}
+use Rattle.bushy_join.specs.Trees.{node_rows, IsTreePlanOf}
+use Rattle.joined_texts.specs.Printed.{level_counts, node_counts}
+use Rattle.plans.specs.LeftDeep.{IsPlan}
+use Rattle.reserve_plan.specs.Memory.{buffers_bytes, reserved_bytes}
+use Rattle.tree_plans.specs.TreePlans.{IsTreePlan}
+use Rattle.tree_rows.specs.Nodes.{Node, node_at}
+use Rattle.tree_rows.specs.Trees.{entries_at, node_count}
+use Rattle.outcomes.specs.declared.refusal.Refusal.{Refusal}
+use Rattle.prepared_runs.specs.Accepted.{Accepted, tables}
+use Rattle.prepared_runs.specs.Outcome.{Appended, Filed, Outcome, Planned, PlannedByFile}
+use Rattle.prepared_runs.specs.Prepared.{bytes_held, plan_in}
+use Rattle.prepared_runs.specs.Shapes.{part_count, part_rows, shape_bytes}
+use Rattle.prepared_runs.specs.Standing.{LoseNoRow}
+use Rattle.prepared_runs.specs.declared.joined.Joined.{Joined}
+use Rattle.prepared_runs.specs.declared.joined.Joined.TheVariants as joined
+use Rattle.prepared_runs.specs.declared.prepare.Rest.{Rest}
+use Rattle.prepared_runs.specs.declared.prepare.Rest.TheVariants as rest
+use Rattle.prepared_runs.specs.declared.scans.Joins.{Joins}
+use Rattle.prepared_runs.specs.declared.shapes.Shaped.{Shaped}
+use Rattle.prepared_runs.specs.declared.shapes.Shaped.TheVariants as shaped
+use Rattle.safebound_words.specs.declared.command.OutText.{OutText}
+use Rattle.safebound_words.specs.declared.command.OutText.TheVariants as out_text
+
+-- ---- what is in them
+
+-- the plan that was joined
+abbrev pub plan_joined : Joined → Shaped
+plan_joined (joined.Levels plan lists reserved) = shaped.Along plan
+plan_joined (joined.Nodes plan done) = shaped.Over plan
+
+-- the rows of each part: of each level of the order, or each inner node of the tree
+abbrev pub rows_in : Joined → ℕ → List (List ℕ)
+rows_in (joined.Levels plan lists reserved) k = rows_at reserved.levels k
+rows_in (joined.Nodes plan done) k = (node_at done.nodes (length plan.scans + k)).rows
+
+-- and how many these are
+abbrev pub counts_in : Joined → List ℕ
+counts_in (joined.Levels plan lists reserved) = level_counts reserved.levels
+counts_in (joined.Nodes plan done) = node_counts (length plan.scans) done.nodes
+
+-- how many bytes the lists and all buffers hold: of each its capacity times the size of an item
+abbrev pub bytes_in : Joined → ℕ
+bytes_in (joined.Levels plan lists reserved) = buffers_bytes lists + reserved_bytes reserved
+bytes_in (joined.Nodes plan done) = done.bytes
+
+-- there is a level for each entry of the order, or a node for each leaf and each join of the tree
+abbrev pub HasParts : ℕ → Joined → Type 0
+HasParts n (joined.Levels plan lists reserved) = IsPlan n plan × (length reserved.levels ≡ length plan.order)
+HasParts n (joined.Nodes plan done) = IsTreePlan n plan × (length done.nodes ≡ node_count plan)
+
+-- ---- joins over lists that lose no row of the answer
+
+-- each level of the order has its choices
+pub record AreLevelsOf (query : Query) (db : Database) (lists : List (List ℕ)) (plan : Plan) (levels : List Level) : Type 0 where
+  pub rows : LoseNoRow query (tables_of db) lists
+  pub plan_of : IsPlanOf query (tables_of db) lists plan
+  pub count : length levels ≡ length plan.order
+  pub choices : (k : ℕ) → k < length plan.order → rows_at levels k ≡ list_levels query (tables_of db) lists plan.order (k + 1)
+
+-- each node of the tree has its entries and its choices
+pub record AreNodesOf (query : Query) (db : Database) (lists : List (List ℕ)) (plan : BushyPlan) (nodes : List Node) : Type 0 where
+  pub rows : LoseNoRow query (tables_of db) lists
+  pub plan_of : IsTreePlanOf query (tables_of db) lists plan
+  pub count : length nodes ≡ node_count plan
+  pub entries : (node : ℕ) → node < node_count plan → (node_at nodes node).entries ≡ entries_at plan node
+  pub choices : (node : ℕ) → node < node_count plan → (node_at nodes node).rows ≡ node_rows query (tables_of db) lists plan node
+
+abbrev pub IsJoined : Query → Database → List (List ℕ) → Joined → Type 0
+IsJoined query db lists (joined.Levels plan own reserved) = AreLevelsOf query db lists plan reserved.levels
+IsJoined query db lists (joined.Nodes plan done) = AreNodesOf query db lists plan done.nodes
+
+-- ---- what is kept of a run
+
+-- buffers that were prepared have the rows of each part, and hold as many bytes as before
+pub record AreDone (query : Query) (db : Database) (joins : Joins) (kept : Joined) : Type 0 where
+  pub plan : plan_joined kept ≡ plan_in joins.room
+  pub parts : (k : ℕ) → k < part_count (plan_in joins.room)
+      → rows_in kept k ≡ part_rows query (tables_of db) (lists_of joins.lists.items) (plan_in joins.room) k
+  pub bytes : bytes_in kept ≡ bytes_held joins
+
+-- those of what was left to do, if it joins
+abbrev pub IsLeft : Query → Database → Rest → Option Joined → Type 0
+IsLeft query db (rest.Rows joins) kept = IsSomeAnd kept (AreDone query db joins)
+IsLeft query db (rest.Audit joins) kept = IsSomeAnd kept (AreDone query db joins)
+IsLeft query db (rest.Nothing plan) kept = kept ≡ None
+
+-- the buffers of a run have the rows of each part of its plan, and hold exactly the bytes of the plan
+pub record KeepsBuffers (run : Accepted) (kept : Joined) : Type 0 where
+  pub plan : plan_joined kept ≡ run.plan
+  pub parts : (k : ℕ) → k < part_count run.plan → rows_in kept k ≡ part_rows run.query (tables run) run.lists run.plan k
+  pub bytes : bytes_in kept ≡ shape_bytes run.plan
+
+-- those of `run`, of `audit` and of `demo`; `plan` takes none
+abbrev pub AreKept : OutText → Accepted → Option Joined → Type 0
+AreKept out_text.Rows run kept = IsSomeAnd kept (KeepsBuffers run)
+AreKept out_text.Audit run kept = IsSomeAnd kept (KeepsBuffers run)
+AreKept out_text.Nothing run kept = kept ≡ None
+
+abbrev pub IsKept : Outcome → Option Joined → Type 0
+IsKept (Planned run) kept = AreKept run.out run kept
+IsKept (Filed filed) kept = kept ≡ None
+IsKept (PlannedByFile made) kept = kept ≡ None
+IsKept (Appended made) kept = kept ≡ None
+
+-- over files that the store tells, a stage is accepted, and these are the buffers of what it comes to
+abbrev pub KeepsItsBuffers : Reading → (Files → Result Outcome Refusal) → Option Joined → Type 0
+KeepsItsBuffers store stage kept = (files : Files) → store.files ≡ Some files → IsOkAnd (stage files) (λ outcome. IsKept outcome kept)

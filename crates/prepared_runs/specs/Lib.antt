@@ -1,0 +1,14 @@
+pub mod Accepted
+pub mod Appending
+pub mod Counted
+pub mod Filed
+pub mod Kept
+pub mod Limits
+pub mod Outcome
+pub mod Prepared
+pub mod Ready
+pub mod Shapes
+pub mod Shops
+pub mod Sources
+pub mod Standing
+pub mod Verdict

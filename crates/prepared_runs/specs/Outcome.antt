@@ -1,0 +1,83 @@
+-- What the words and the files come to, where nothing is refused; and what holds of it.
+use Rattle.std.specs.Prelude.{ℕ, ◌≡◌, List, Option, ⊤}
+use Rattle.appended_stats.specs.Appended.{file_after}
+use Rattle.appended_stats.specs.Conditions.{HasNewRows}
+use Rattle.csv_tables.specs.Rows.{Row}
+use Rattle.filed_stats.specs.Standing.{StandsFor}
+use Rattle.join_steps.specs.Lists.{scans_of}
+use Rattle.join_steps.specs.Plans.{IsPlanOf}
+use Rattle.plans.specs.declared.left_deep.Plan.{Plan}
+use Rattle.query_types.specs.declared.types.Query.{Query}
+use Rattle.reserve_plan.specs.Memory.{plan_bytes}
+use Rattle.schema_types.specs.declared.types.Schema.{Schema}
+use Rattle.sql_meaning.specs.Tables.{Tables}
+use Rattle.stats_file.specs.Rules.{KeepsRules}
+use Rattle.stats_file.specs.declared.types.StatsFile.{StatsFile}
+use Rattle.table_files.specs.EntryTables.{tables_in}
+use Rattle.prepared_runs.specs.Accepted.{Accepted, BoundsHold, RowsAreTheAnswer}
+use Rattle.prepared_runs.specs.Limits.{AreWithin}
+use Rattle.prepared_runs.specs.Shapes.{shape_bytes}
+
+-- a statistics file of a query of a schema, and for each FROM entry the rows of its table, of which it is made
+pub record FiledTables : Type 0 where
+  pub schema : Schema
+  pub query : Query
+  pub rows : List (List Row)
+  pub file : StatsFile
+
+-- a plan of a query, the statistics file of which it is made, and the limit of memory, where there is one
+pub record FiledPlan : Type 0 where
+  pub query : Query
+  pub file : StatsFile
+  pub plan : Plan
+  pub memory : Option ℕ
+
+-- a statistics file over a schema, the place of a table, and the new rows of this table that are in the file
+pub record AppendedRows : Type 0 where
+  pub schema : Schema
+  pub table : ℕ
+  pub rows : List Row
+  pub file : StatsFile
+
+-- a plan over tables, with what is joined; a statistics file of tables; a plan from a statistics file; or a statistics file with new rows
+pub data Outcome : Type 0 where
+  Planned : Accepted → Outcome
+  Filed : FiledTables → Outcome
+  PlannedByFile : FiledPlan → Outcome
+  Appended : AppendedRows → Outcome
+
+-- for all tables for which the file stands, no scan and no level of the plan's order has more rows than the plan says
+abbrev pub HoldsWhereItStands : FiledPlan → Type 0
+HoldsWhereItStands made = (tables : Tables) → StandsFor made.query made.file tables
+    → IsPlanOf made.query tables (scans_of made.query tables) made.plan
+
+-- the file is what another one has become by these rows; and for whatever that one stood, this one stands for it with these rows after those of
+-- their table
+pub record StandsForMore (made : AppendedRows) : Type 0 where
+  pub before : StatsFile
+  pub keeps : KeepsRules made.schema before
+  pub grown : made.file ≡ file_after before made.table made.rows
+  pub stands : (query : Query) (tables after : Tables) → StandsFor query before tables → HasNewRows query made.table made.rows tables after
+      → StandsFor query made.file after
+
+-- no bound is too low: of a plan over tables for these, of a plan from a file for all tables for which the file stands; a file that is
+-- written stands for its tables, and one with new rows for what it stood for before and these rows
+abbrev pub NoBoundIsTooLow : Outcome → Type 0
+NoBoundIsTooLow (Planned run) = BoundsHold run
+NoBoundIsTooLow (Filed filed) = StandsFor filed.query filed.file (tables_in filed.rows)
+NoBoundIsTooLow (PlannedByFile made) = HoldsWhereItStands made
+NoBoundIsTooLow (Appended made) = StandsForMore made
+
+-- the rows that are printed, if any, are the answer of the query
+abbrev pub PrintsTheAnswer : Outcome → Type 0
+PrintsTheAnswer (Planned run) = RowsAreTheAnswer run
+PrintsTheAnswer (Filed filed) = ⊤
+PrintsTheAnswer (PlannedByFile made) = ⊤
+PrintsTheAnswer (Appended made) = ⊤
+
+-- a plan takes no more bytes than its limit of memory, where there is one
+abbrev pub KeepsItsLimit : Outcome → Type 0
+KeepsItsLimit (Planned run) = AreWithin run.memory (shape_bytes run.plan)
+KeepsItsLimit (Filed filed) = ⊤
+KeepsItsLimit (PlannedByFile made) = AreWithin made.memory (plan_bytes made.plan.order made.plan.scans made.plan.levels)
+KeepsItsLimit (Appended made) = ⊤

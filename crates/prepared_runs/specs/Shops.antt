@@ -1,0 +1,31 @@
+-- The shop whose files a command makes in memory, and the store that a command reads.
+use Rattle.std.specs.Prelude.{ℕ, List, Option, None, Some}
+use Rattle.demo_files.specs.Files.{demo_files}
+use Rattle.base_io.specs.Devices.{Reading}
+use Rattle.safebound_words.specs.Answer.{command_of}
+use Rattle.safebound_words.specs.declared.command.Command.{Command}
+
+-- the shop of a command: `demo` alone has one
+abbrev pub shop_asked : Option Command → Option ℕ
+shop_asked None = None
+shop_asked (Some command) = command.shop
+
+-- the number of the shop whose files the words ask for
+abbrev pub shop_of : List (List ℕ) → Option ℕ
+shop_of words = shop_asked (command_of words)
+
+-- a store that tells just the files of this shop, and of which no read fails or is counted
+abbrev pub shop_store : ℕ → Reading
+shop_store number = record {
+  files = Some (demo_files number);
+  files_after = Some (demo_files number);
+  faults_before = 0;
+  faults_after = 0;
+  misses_before = 0;
+  misses_after = 0;
+}
+
+-- the store that is read: that of the shop, where there is one, or else the one that was handed in
+abbrev pub store_read : Option ℕ → Reading → Reading
+store_read None handed_in = handed_in
+store_read (Some number) handed_in = shop_store number

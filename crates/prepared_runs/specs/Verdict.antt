@@ -1,0 +1,144 @@
+-- What the words and the files determine, in stages: the words, the schema, the query, the tables or the statistics file, the plan; or behind the
+-- schema the statistics file and new rows of one of its tables.
+use Rattle.std.specs.Prelude.{ℕ, ◌≡◌, ◌⊎◌, List, Option, None, Some, Result, Ok, Err, IsOkAnd}
+use Rattle.limits.specs.Profile.{most_text}
+use Rattle.base_io.specs.Files.{Files}
+use Rattle.text_answers.specs.SchemaTexts.{schema_answer}
+use Rattle.schema_types.specs.declared.types.Schema.{Schema}
+use Rattle.csv_tables.specs.Rows.{Row}
+use Rattle.text_answers.specs.QueryTexts.{query_answer}
+use Rattle.query_types.specs.declared.types.Query.{Query}
+use Rattle.sql_meaning.specs.Tables.{Tables}
+use Rattle.order_search.specs.declared.refusal.PlanError.{PlanError}
+use Rattle.outcomes.specs.Errors.{plan_refusal, query_refusal, schema_refusal}
+use Rattle.outcomes.specs.Reads.{◌>>=◌, told}
+use Rattle.outcomes.specs.declared.names.FileId.{FileId}
+use Rattle.outcomes.specs.declared.names.FileId.TheVariants as file
+use Rattle.outcomes.specs.declared.refusal.Refusal.{Refusal}
+use Rattle.outcomes.specs.declared.refusal.Refusal.TheVariants as refusal
+use Rattle.table_files.specs.EntryTables.{tables_in}
+use Rattle.table_files.specs.Stage.{tables_of_query, tables_stage}
+use Rattle.table_files.specs.Stage.{IsReached as IsTableReached}
+use Rattle.table_files.specs.TableFile.{read}
+use Rattle.prepared_runs.specs.Accepted.{Accepted}
+use Rattle.prepared_runs.specs.Appending.{append_run, section_read}
+use Rattle.safebound_words.specs.Answer.{command_of}
+use Rattle.safebound_words.specs.declared.command.Aim.{Aim}
+use Rattle.safebound_words.specs.declared.command.Command.{Command}
+use Rattle.safebound_words.specs.declared.command.Work.{Work}
+use Rattle.safebound_words.specs.declared.command.Aim.TheVariants as aims
+use Rattle.safebound_words.specs.declared.command.Work.TheVariants as works
+use Rattle.prepared_runs.specs.Filed.{filed_plan_stage, stats_stage, tables_filed}
+use Rattle.prepared_runs.specs.Limits.{within_limit}
+use Rattle.prepared_runs.specs.Outcome.{Outcome, Planned}
+use Rattle.prepared_runs.specs.Shapes.{planned_by, shape_bytes}
+use Rattle.prepared_runs.specs.Sources.{lists_by, sourced}
+use Rattle.prepared_runs.specs.declared.shapes.Shaped.{Shaped}
+use Rattle.safebound_words.specs.declared.command.PlanWork.{PlanWork}
+
+-- the command of the words, or Usage where they are none
+abbrev pub or_usage : Option Command → Result Command Refusal
+or_usage None = Err refusal.Usage
+or_usage (Some command) = Ok command
+
+abbrev pub command_stage : List (List ℕ) → Result Command Refusal
+command_stage words = or_usage (command_of words)
+
+-- the schema, in the file of this name
+abbrev pub schema_of_text : List ℕ → Result Schema Refusal
+schema_of_text text = told schema_refusal (schema_answer text)
+
+unfoldable pub schema_stage : List ℕ → Files → Result Schema Refusal
+schema_stage name files = do
+  text ← read file.Schema most_text name files
+  schema_of_text text
+
+-- the query, in the file of this name
+abbrev pub query_of_text : Schema → List ℕ → Result Query Refusal
+query_of_text schema text = told query_refusal (query_answer schema text)
+
+unfoldable pub query_stage : List ℕ → Schema → Files → Result Query Refusal
+query_stage name schema files = do
+  text ← read file.Query most_text name files
+  query_of_text schema text
+
+-- the plan of a query of a schema over its tables, of the shape that is asked for, by what the source gives
+abbrev pub plan_asked : PlanWork → Schema → Query → Tables → Result Shaped PlanError
+plan_asked task schema query ts = planned_by task.shape (sourced task.source schema query ts) query task.accuracy task.budget
+
+-- the run of a plan, over the rows that the source gives
+abbrev pub run_asked : PlanWork → Query → List (List Row) → Shaped → Accepted
+run_asked task query rows plan = record {
+  query = query;
+  rows = rows;
+  plan = plan;
+  source = task.source;
+  lists = lists_by task.source query (tables_in rows);
+  memory = task.memory;
+  out = task.out;
+}
+
+-- the plan of a query over its entries' rows: the best order or tree with its bounds, or PastBits, or Budget with the least cost, or
+-- MemoryLimit with the bytes of the plan
+unfoldable pub plan_stage : PlanWork → Schema → Query → List (List Row) → Result Outcome Refusal
+plan_stage task schema query rows = do
+  plan ← told plan_refusal (plan_asked task schema query (tables_in rows))
+  within_limit task.memory (shape_bytes plan) (Planned (run_asked task query rows plan))
+
+-- what is done with a query: here alone one work is told from another
+abbrev pub work_run : Work → Schema → Query → Files → Result Outcome Refusal
+work_run (works.Plan task) schema query files = do
+  rows ← tables_stage schema query.from files
+  plan_stage task schema query rows
+work_run (works.File accuracy) schema query files = do
+  rows ← tables_stage schema query.from files
+  Ok (tables_filed schema query rows accuracy)
+work_run (works.PlanFrom name budget memory) schema query files = do
+  stats ← stats_stage name schema files
+  filed_plan_stage query stats budget memory
+
+-- what is done over a schema: something with a query, or new rows are appended
+abbrev pub aim_run : Aim → Schema → Files → Result Outcome Refusal
+aim_run (aims.Query name work) schema files = do
+  query ← query_stage name schema files
+  work_run work schema query files
+aim_run (aims.Append append) schema files = append_run append schema files
+
+-- what a run is over, or the first refusal that applies
+unfoldable pub command_run : Command → Files → Result Outcome Refusal
+command_run command files = do
+  schema ← schema_stage command.schema_file files
+  aim_run command.aim schema files
+
+unfoldable pub verdict : List (List ℕ) → Files → Result Outcome Refusal
+verdict words files = do
+  command ← command_stage words
+  command_run command files
+
+-- the schema that the verdict reads
+unfoldable pub schema_read : List (List ℕ) → Files → Result Schema Refusal
+schema_read words files = do
+  command ← command_stage words
+  schema_stage command.schema_file files
+
+-- ---- to which files the verdict comes
+
+-- the file is one that is read for the query: one of its tables, and no table before it is refused; or the statistics file
+abbrev pub IsWorkFile : Work → Schema → Query → Files → FileId → Type 0
+IsWorkFile (works.Plan task) schema query files id = IsTableReached schema (tables_of_query query.from) files id
+IsWorkFile (works.File accuracy) schema query files id = IsTableReached schema (tables_of_query query.from) files id
+IsWorkFile (works.PlanFrom name budget memory) schema query files id = id ≡ file.Stats
+
+-- the file is one that is read over a schema: that of the query, and where it is read those for it; or the statistics file, and where its section
+-- is there the file of new rows
+abbrev pub IsAimFile : Aim → Schema → Files → FileId → Type 0
+IsAimFile (aims.Query name work) schema files id =
+    (id ≡ file.Query) ⊎ IsOkAnd (query_stage name schema files) (λ query. IsWorkFile work schema query files id)
+IsAimFile (aims.Append append) schema files id =
+    (id ≡ file.Stats) ⊎ IsOkAnd (section_read append schema files) (λ section. id ≡ file.Table section.table)
+
+-- the verdict comes to this file, and nothing before it is refused: where the words are a command to that of the schema, and where this is
+-- read to those that are read over it
+abbrev pub IsReached : List (List ℕ) → Files → FileId → Type 0
+IsReached words files id = IsOkAnd (command_stage words)
+    (λ command. (id ≡ file.Schema) ⊎ IsOkAnd (schema_stage command.schema_file files) (λ schema. IsAimFile command.aim schema files id))

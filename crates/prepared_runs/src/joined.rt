@@ -1,0 +1,91 @@
+//! The joins of a run, in the memory that was taken for them.
+ghost use Rattle.std.specs.Prelude.{◌≡◌, ◌+◌};
+ghost use Rattle.planned_joins.specs.PlansOf.{IsReadyFor};
+ghost use Rattle.reserve_plan.specs.Memory.{buffers_bytes, reserved_bytes};
+ghost use Rattle.sql_meaning.specs.Databases.{IsDatabaseOf};
+ghost use Rattle.sql_meaning.specs.Tables.{tables_of};
+ghost use Rattle.join_steps.specs.Lists.{lists_of};
+ghost use Rattle.join_steps.specs.Plans.{IsPlanOf};
+ghost use Rattle.bushy_join.specs.Trees.{IsTreePlanOf};
+ghost use Rattle.tree_rows.specs.Memory.{tree_reserved_bytes};
+ghost use Rattle.tree_rows.specs.Rooms.{HasTreeRooms};
+ghost use Rattle.prepared_runs.specs.Kept.{IsJoined, bytes_in, plan_joined};
+ghost use Rattle.prepared_runs.specs.Prepared.{CanJoin, bytes_held, plan_in};
+ghost use Rattle.prepared_runs.specs.Standing.{LoseNoRow};
+ghost use Rattle.prepared_runs.specs.declared.shapes.Shaped.TheVariants as shaped;
+
+use crate::scans::Joins;
+use crate::shapes::Room;
+use bushy_join::execute_bushy;
+use csv_tables::Database;
+use planned_joins::execute_plan;
+use plans::Plan;
+use query_types::Query;
+use reserve_plan::Reserved;
+use row_buf::RowBuf;
+use tree_plans::BushyPlan;
+use tree_rows::{BushyDone, BushyReserved};
+
+/// A plan that was joined, with the rows of its parts in the buffers that were taken for them.
+#[derive(Drop)]
+pub enum Joined {
+    /// An order, the lists of its entries, and its levels.
+    Levels(Plan, Vec<RowBuf<u32>>, Reserved),
+    /// A join tree, and its nodes.
+    Nodes(BushyPlan, BushyDone),
+}
+
+// Lists the levels of an order.
+fn join_levels(
+    plan: Plan,
+    lists: Vec<RowBuf<u32>>,
+    reserved: Reserved,
+    query: &Query,
+    db: &Database,
+) -> Joined
+    requires database { IsDatabaseOf query.now db.now }
+    requires rows { LoseNoRow query.now (tables_of db.now) (lists_of lists.items) }
+    requires plan { IsPlanOf query.now (tables_of db.now) (lists_of lists.items) plan }
+    requires ready { IsReadyFor query.now (tables_of db.now) (lists_of lists.items) plan.order reserved }
+    ensures plan { plan_joined result ≡ shaped.Along plan }
+    ensures joined { IsJoined query.now db.now (lists_of lists.items) result }
+    ensures bytes { bytes_in result ≡ buffers_bytes lists + reserved_bytes reserved }
+{
+    let filled = execute_plan(reserved, &plan, query, db, lists.as_slice());
+    Joined::Levels(plan, lists, filled)
+}
+
+// Lists the nodes of a join tree.
+fn join_nodes(
+    plan: BushyPlan,
+    lists: Vec<RowBuf<u32>>,
+    reserved: BushyReserved,
+    query: &Query,
+    db: &Database,
+) -> Joined
+    requires database { IsDatabaseOf query.now db.now }
+    requires rows { LoseNoRow query.now (tables_of db.now) (lists_of lists.items) }
+    requires plan { IsTreePlanOf query.now (tables_of db.now) (lists_of lists.items) plan }
+    requires ready { HasTreeRooms plan reserved }
+    ensures plan { plan_joined result ≡ shaped.Over plan }
+    ensures joined { IsJoined query.now db.now (lists_of lists.items) result }
+    ensures bytes { bytes_in result ≡ buffers_bytes lists + tree_reserved_bytes reserved }
+{
+    let done = execute_bushy(reserved, lists, &plan, query, db);
+    Joined::Nodes(plan, done)
+}
+
+/// Lists the rows of each part of a plan. It takes no memory and can't fail, and the buffers hold as many bytes as before.
+pub fn join(joins: Joins, query: &Query, db: &Database) -> Joined
+    requires database { IsDatabaseOf query.now db.now }
+    requires joins { CanJoin query.now db.now joins }
+    ensures plan { plan_joined result ≡ plan_in joins.room }
+    ensures joined { IsJoined query.now db.now (lists_of joins.lists.items) result }
+    ensures bytes { bytes_in result ≡ bytes_held joins }
+{
+    let Joins { lists, room } = joins;
+    match room {
+        Room::Levels(plan, reserved) => join_levels(plan, lists, reserved, query, db),
+        Room::Nodes(plan, reserved) => join_nodes(plan, lists, reserved, query, db),
+    }
+}

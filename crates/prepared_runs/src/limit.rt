@@ -1,0 +1,50 @@
+//! How many bytes a plan takes, and a limit on them. Nothing is taken here.
+ghost use Rattle.std.specs.Prelude.{◌≡◌, ◌≤◌, ℕ};
+ghost use Rattle.limits.specs.Profile.{most_entries};
+ghost use Rattle.plans.specs.LeftDeep.{IsPlan};
+ghost use Rattle.reserve_plan.specs.Memory.{plan_bytes};
+ghost use Rattle.prepared_runs.specs.Limits.{limit_test};
+ghost use Rattle.prepared_runs.specs.Shapes.{IsShapedPlan, shape_bytes};
+
+use crate::shapes::Shaped;
+use outcomes::Refusal;
+use plans::Plan;
+use reserve_plan::plan_memory;
+use tree_rows::tree_memory;
+
+/// The bytes that the buffers of an order take.
+pub fn order_memory(plan: &Plan) -> u128
+    requires { (n : ℕ) × (1 ≤ n) × (n ≤ most_entries) × IsPlan n plan.now }
+    ensures { result ≡ plan_bytes plan.now.order plan.now.scans plan.now.levels }
+{
+    plan_memory(
+        plan.order.as_slice(),
+        plan.scans.as_slice(),
+        plan.levels.as_slice(),
+    )
+}
+
+/// The bytes that the buffers of a plan take.
+pub fn memory_of(plan: &Shaped) -> u128
+    requires { (n : ℕ) × (1 ≤ n) × (n ≤ most_entries) × IsShapedPlan n plan.now }
+    ensures { result ≡ shape_bytes plan.now }
+{
+    match plan {
+        Shaped::Along(plan) => order_memory(plan),
+        Shaped::Over(plan) => tree_memory(plan),
+    }
+}
+
+/// Refuses so many bytes where they are above the limit, if there is one.
+pub fn keep_limit(limit: Option<u64>, bytes: u128) -> Result<(), Refusal>
+    ensures { result ≡ limit_test limit bytes }
+{
+    let Some(limit) = limit else {
+        return Ok(());
+    };
+    if bytes <= u128::from(limit) {
+        Ok(())
+    } else {
+        Err(Refusal::MemoryLimit { bytes })
+    }
+}

@@ -1,0 +1,191 @@
+//! The lists of rows that a run joins, and the memory of the joins.
+ghost use Rattle.std.specs.Prelude.{◌≡◌, ◌⊎◌, ◌<◌, ◌≤◌, ℕ, Err, IfErr, IfOk, Ok, length, slice_index};
+ghost use Rattle.order_search.specs.declared.refusal.PlanError.TheVariants as error;
+ghost use Rattle.reserve_plan.specs.Memory.{buffers_bytes, lists_bytes};
+ghost use Rattle.sql_meaning.specs.Databases.{IsDatabaseOf};
+ghost use Rattle.sql_meaning.specs.Tables.{tables_of};
+ghost use Rattle.join_steps.specs.Lists.{lists_of, rows_listed, scans_of};
+ghost use Rattle.planning.specs.Gives.{Gives};
+ghost use Rattle.safebound_words.specs.InRange.{IsInRange};
+ghost use Rattle.prepared_runs.specs.Prepared.{CanJoin, HoldExactly, bytes_held, lists_in, plan_in};
+ghost use Rattle.prepared_runs.specs.Shapes.{IsPlanOver, scan_bounds, shape_bytes};
+ghost use Rattle.prepared_runs.specs.Sources.{lists_by, scans_by, set_bounds_by, sourced};
+ghost use Rattle.prepared_runs.specs.Standing.{LoseNoRow};
+ghost use Rattle.prepared_runs.specs.Verdict.{plan_asked};
+
+use crate::shapes::{Room, Shaped, bounds_of_scans, plan_by, reserve_room};
+use base_io::NoMemory;
+use csv_tables::Database;
+use join_steps::scan_all;
+use key_bounds::from_keys;
+use limits::Accuracy;
+use order_search::PlanError;
+use planned_joins::reserve_scans;
+use planning::{Known, from_reduced, from_statistics};
+use query_types::Query;
+use row_buf::RowBuf;
+use safebound_words::{ListSource, PlanWork};
+use schema_types::Schema;
+use std::alloc::Global;
+
+/// The rows that are joined.
+#[derive(Drop)]
+pub enum Scans {
+    /// Those of each entry's whole scan, which aren't listed yet.
+    Whole,
+    /// These of each entry, by their numbers and in file order.
+    Listed(Vec<RowBuf<u32>>),
+}
+
+// What a source gives: what is known of the entries, and the rows that are joined.
+#[derive(Drop)]
+struct Given {
+    known: Known,
+    scans: Scans,
+}
+
+/// A plan, and the rows that are joined by it.
+#[derive(Drop)]
+pub struct Planned {
+    pub plan: Shaped,
+    pub scans: Scans,
+}
+
+/// All that the joins of a plan need: a list of rows for each entry, and the plan with the buffers for its joins.
+#[derive(Drop)]
+pub struct Joins {
+    pub lists: Vec<RowBuf<u32>>,
+    pub room: Room,
+}
+
+// What a source gives of a query of a schema over its database. Here alone the code tells one source from another.
+fn given_by(
+    alloc: Global,
+    source: ListSource,
+    accuracy: Accuracy,
+    schema: &Schema,
+    query: &Query,
+    db: &Database,
+) -> Result<Given, NoMemory>
+    requires database { IsDatabaseOf query.now db.now }
+    ensures known { let given = sourced source schema.now query.now (tables_of db.now) in
+        IfOk result (λ made. Gives (set_bounds_by given query.now accuracy) (given.scans accuracy) made.known) }
+    ensures lists { IfOk result (λ made. lists_in made.scans query.now (tables_of db.now)
+        ≡ lists_by source query.now (tables_of db.now)) }
+    ensures exact { IfOk result (λ made. HoldExactly made.scans (scans_by source query.now (tables_of db.now) accuracy)) }
+{
+    match source {
+        ListSource::Columns => {
+            let known = from_statistics(alloc, query, db, accuracy)?;
+            Ok(Given {
+                known,
+                scans: Scans::Whole,
+            })
+        }
+        ListSource::Keyed => {
+            let known = from_keys(alloc, schema, query, db, accuracy)?;
+            Ok(Given {
+                known,
+                scans: Scans::Whole,
+            })
+        }
+        ListSource::Reduced => {
+            let reduced = from_reduced(alloc, query, db, accuracy)?;
+            Ok(Given {
+                known: reduced.known,
+                scans: Scans::Listed(reduced.lists),
+            })
+        }
+    }
+}
+
+/// Plans a query of a schema over its database as the task asks.
+pub fn plan_task(
+    alloc: Global,
+    task: &PlanWork,
+    schema: &Schema,
+    query: &Query,
+    db: &Database,
+) -> Result<Planned, PlanError>
+    requires database { IsDatabaseOf query.now db.now }
+    requires ranges { IsInRange task.now }
+    ensures planned { IfOk result (λ p. plan_asked task.now schema.now query.now (tables_of db.now) ≡ Ok p.plan) }
+    ensures lists { IfOk result (λ p. lists_in p.scans query.now (tables_of db.now)
+        ≡ lists_by task.now.source query.now (tables_of db.now)) }
+    ensures exact { IfOk result (λ p. HoldExactly p.scans (scan_bounds p.plan)) }
+    ensures refused { IfErr result (λ e. (e ≡ error.NoMemory) ⊎ (plan_asked task.now schema.now query.now (tables_of db.now) ≡ Err e)) }
+{
+    let Given { known, scans } = given_by(
+        alloc,
+        task.source,
+        Accuracy::of(task.accuracy),
+        schema,
+        query,
+        db,
+    )?;
+    let plan = plan_by(alloc, task.shape, &known, task.budget)?;
+    Ok(Planned { plan, scans })
+}
+
+// Lists the rows of each entry's scan, in memory that is taken by these bounds.
+fn list_scans(
+    alloc: Global,
+    query: &Query,
+    db: &Database,
+    bounds: &[u64],
+) -> Result<Vec<RowBuf<u32>>, NoMemory>
+    requires database { IsDatabaseOf query.now db.now }
+    requires count { length bounds.now ≡ length query.now.from }
+    requires fit { (entry : ℕ) → entry < length query.now.from
+        → rows_listed (scans_of query.now (tables_of db.now)) entry ≤ slice_index bounds.now entry }
+    ensures lists { IfOk result (λ lists. lists_of lists.items ≡ scans_of query.now (tables_of db.now)) }
+    ensures bytes { IfOk result (λ lists. buffers_bytes lists ≡ lists_bytes bounds.now) }
+{
+    let mut lists = reserve_scans(alloc, query, db, bounds)?;
+    scan_all(query, db, lists.as_mut_slice());
+    Ok(lists)
+}
+
+// The list of each entry's rows. Whole scans are listed now.
+fn list_rows(
+    alloc: Global,
+    scans: Scans,
+    query: &Query,
+    db: &Database,
+    bounds: &[u64],
+) -> Result<Vec<RowBuf<u32>>, NoMemory>
+    requires database { IsDatabaseOf query.now db.now }
+    requires count { length bounds.now ≡ length query.now.from }
+    requires fit { (entry : ℕ) → entry < length query.now.from
+        → rows_listed (lists_in scans query.now (tables_of db.now)) entry ≤ slice_index bounds.now entry }
+    requires exact { HoldExactly scans bounds.now }
+    ensures lists { IfOk result (λ lists. lists_of lists.items ≡ lists_in scans query.now (tables_of db.now)) }
+    ensures bytes { IfOk result (λ lists. buffers_bytes lists ≡ lists_bytes bounds.now) }
+{
+    match scans {
+        Scans::Whole => list_scans(alloc, query, db, bounds),
+        Scans::Listed(lists) => Ok(lists),
+    }
+}
+
+/// Takes all memory that the joins of a plan need, and lists the rows that are joined. Lists and buffers hold exactly the bytes of the plan.
+pub fn prepare_joins(
+    alloc: Global,
+    planned: Planned,
+    query: &Query,
+    db: &Database,
+) -> Result<Joins, NoMemory>
+    requires database { IsDatabaseOf query.now db.now }
+    requires plan { IsPlanOver query.now (tables_of db.now) (lists_in planned.scans query.now (tables_of db.now)) planned.plan }
+    requires rows { LoseNoRow query.now (tables_of db.now) (lists_in planned.scans query.now (tables_of db.now)) }
+    requires exact { HoldExactly planned.scans (scan_bounds planned.plan) }
+    ensures plan { IfOk result (λ joins. plan_in joins.room ≡ planned.plan) }
+    ensures bytes { IfOk result (λ joins. bytes_held joins ≡ shape_bytes planned.plan) }
+    ensures room { IfOk result (CanJoin query.now db.now) }
+    ensures lists { IfOk result (λ joins. lists_of joins.lists.items ≡ lists_in planned.scans query.now (tables_of db.now)) }
+{
+    let Planned { plan, scans } = planned;
+    let lists = list_rows(alloc, scans, query, db, bounds_of_scans(&plan))?;
+    let room = reserve_room(alloc, plan, query, db)?;
+    Ok(Joins { lists, room })
+}

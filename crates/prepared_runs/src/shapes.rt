@@ -1,0 +1,97 @@
+//! The shapes of a plan, an order or a join tree, and the memory of the rows that its joins list.
+ghost use Rattle.std.specs.Prelude.{◌≡◌, ◌⊎◌, ◌^◌, ◌≤◌, ℕ, List, Err, IfOk, length};
+ghost use Rattle.limits.specs.Profile.{most_entries};
+ghost use Rattle.order_search.specs.declared.refusal.PlanError.TheVariants as error;
+ghost use Rattle.sql_meaning.specs.Databases.{IsDatabaseOf};
+ghost use Rattle.sql_meaning.specs.Tables.{tables_of};
+ghost use Rattle.prepared_runs.specs.Prepared.{IsRoomOver, held_bytes, plan_in};
+ghost use Rattle.prepared_runs.specs.Shapes.{IsPlanOver, answer_of, parts_bytes, scan_bounds};
+ghost use Rattle.safebound_words.specs.Commands.{most_budget_of};
+
+use base_io::NoMemory;
+use bushy_planning::plan_tree_from;
+use csv_tables::Database;
+use order_search::PlanError;
+use planned_joins::reserve_plan;
+use planning::{Known, plan_from};
+use plans::Plan;
+use query_types::Query;
+use reserve_plan::Reserved;
+use safebound_words::Shape;
+use std::alloc::Global;
+use tree_plans::BushyPlan;
+use tree_rows::{BushyReserved, reserve_bushy};
+
+/// A plan of either shape.
+#[derive(Drop)]
+pub enum Shaped {
+    /// An order, with the bounds of its levels.
+    Along(Plan),
+    /// A join tree, with the bounds of its nodes.
+    Over(BushyPlan),
+}
+
+/// A plan, and buffers for the rows that its joins list.
+#[derive(Drop)]
+pub enum Room {
+    /// Those of the levels of an order.
+    Levels(Plan, Reserved),
+    /// Those of the inner nodes of a join tree.
+    Nodes(BushyPlan, BushyReserved),
+}
+
+/// The best plan of a shape by bounds that are known, in rows; or why there is none within the budget.
+pub fn plan_by(alloc: Global, shape: Shape, known: &Known, budget: u64) -> Result<Shaped, PlanError>
+    requires some { 1 ≤ length known.now.scans }
+    requires few { length known.now.scans ≤ most_entries }
+    requires sets { length known.now.sets ≡ 2 ^ length known.now.scans }
+    requires budget { budget ≤ most_budget_of shape }
+    ensures { (result ≡ Err error.NoMemory) ⊎ (result ≡ answer_of shape known.now.sets known.now.scans budget) }
+{
+    match shape {
+        Shape::Order => {
+            let plan = plan_from(alloc, known, budget)?;
+            Ok(Shaped::Along(plan))
+        }
+        Shape::Tree => {
+            let plan = plan_tree_from(alloc, known, budget)?;
+            Ok(Shaped::Over(plan))
+        }
+    }
+}
+
+/// The bounds of a plan's scans, in FROM order, in rows.
+pub fn bounds_of_scans(plan: &Shaped) -> &[u64]
+    ensures { result.now ≡ scan_bounds plan.now }
+{
+    match plan {
+        Shaped::Along(plan) => plan.scans.as_slice(),
+        Shaped::Over(plan) => plan.scans.as_slice(),
+    }
+}
+
+/// Takes all memory of the joins of a plan but for the lists that are joined.
+pub fn reserve_room(
+    alloc: Global,
+    plan: Shaped,
+    query: &Query,
+    db: &Database,
+) -> Result<Room, NoMemory>
+    requires database { IsDatabaseOf query.now db.now }
+    requires plan { (lists : List (List ℕ)) × IsPlanOver query.now (tables_of db.now) lists plan }
+    ensures plan { IfOk result (λ room. plan_in room ≡ plan) }
+    ensures bytes { IfOk result (λ room. held_bytes room ≡ parts_bytes plan) }
+    ensures ready { IfOk result (λ room. (lists : List (List ℕ)) → IsPlanOver query.now (tables_of db.now) lists plan
+        → IsRoomOver query.now (tables_of db.now) lists room) }
+{
+    match plan {
+        Shaped::Along(plan) => {
+            let reserved = reserve_plan(alloc, query, db, &plan)?;
+            Ok(Room::Levels(plan, reserved))
+        }
+        Shaped::Over(plan) => {
+            let reserved = reserve_bushy(alloc, &plan)?;
+            Ok(Room::Nodes(plan, reserved))
+        }
+    }
+}

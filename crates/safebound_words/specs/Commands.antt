@@ -1,0 +1,49 @@
+-- Commands, as the table has them.
+use Rattle.std.specs.Prelude.{ℕ, Bool, false, true, codes, Option, None, Some}
+use Rattle.limits.specs.Profile.{most_budget, most_rows, usual_accuracy, usual_budget}
+use Rattle.safebound_words.specs.Words.{Word}
+use Rattle.safebound_words.specs.declared.command.Aim.TheVariants as aims
+use Rattle.safebound_words.specs.declared.command.Command.{Command}
+use Rattle.safebound_words.specs.declared.command.ListSource.{ListSource}
+use Rattle.safebound_words.specs.declared.command.ListSource.TheVariants as sources
+use Rattle.safebound_words.specs.declared.command.NewRows.{NewRows}
+use Rattle.safebound_words.specs.declared.command.OutText.{OutText}
+use Rattle.safebound_words.specs.declared.command.OutText.TheVariants as out_text
+use Rattle.safebound_words.specs.declared.command.Shape.{Shape}
+use Rattle.safebound_words.specs.declared.command.Shape.TheVariants as shapes
+use Rattle.safebound_words.specs.declared.command.Work.{Work}
+use Rattle.safebound_words.specs.declared.command.Work.TheVariants as works
+
+-- of the query in a file, over a schema in a file, which are those of a shop where one has a number here
+abbrev pub over_query : Option ℕ → Word → Word → Work → Command
+over_query shop schema query work = record { schema_file = schema; aim = aims.Query query work; shop = shop }
+
+-- new rows of a table in a statistics file
+abbrev pub with_rows : Word → NewRows → Command
+with_rows schema rows = record { schema_file = schema; aim = aims.Append rows; shop = None }
+
+-- by the flags `--reduce` and `--keys`, which never stand together: without one of them the statistics of whole columns
+abbrev pub source_by : Bool → Bool → ListSource
+source_by false false = sources.Columns
+source_by false true = sources.Keyed
+source_by true keys = sources.Reduced
+
+-- by the flag `--bushy`: without it an order
+abbrev pub shape_by : Bool → Shape
+shape_by false = shapes.Order
+shape_by true = shapes.Tree
+
+-- a text for out, a budget, an accuracy, the flags `--reduce`, `--bushy` and `--keys`, and a limit of memory, where there is one
+abbrev pub plan_by : OutText → ℕ → ℕ → Bool → Bool → Bool → Option ℕ → Work
+plan_by out budget accuracy reduce bushy keys memory = works.Plan
+    (record { budget = budget; accuracy = accuracy; source = source_by reduce keys; shape = shape_by bushy; memory = memory; out = out })
+
+-- `demo` asks what `audit schema.sql query.sql` asks, of the files of a shop
+abbrev pub demo_of : ℕ → Command
+demo_of number = over_query (Some number) (codes "schema.sql") (codes "query.sql")
+    (plan_by out_text.Audit usual_budget usual_accuracy false false false None)
+
+-- the greatest budget: no node of a tree may have more rows than a table
+abbrev pub most_budget_of : Shape → ℕ
+most_budget_of shapes.Order = most_budget
+most_budget_of shapes.Tree = most_rows

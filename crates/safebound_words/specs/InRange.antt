@@ -1,0 +1,24 @@
+-- Which values a command may have.
+use Rattle.std.specs.Prelude.{ℕ, ◌<◌, ◌≤◌, ⊤}
+use Rattle.limits.specs.Profile.{most_accuracy, most_budget}
+use Rattle.safebound_words.specs.Commands.{most_budget_of}
+use Rattle.safebound_words.specs.declared.command.Aim.{Aim}
+use Rattle.safebound_words.specs.declared.command.Aim.TheVariants as aims
+use Rattle.safebound_words.specs.declared.command.PlanWork.{PlanWork}
+use Rattle.safebound_words.specs.declared.command.Work.{Work}
+use Rattle.safebound_words.specs.declared.command.Work.TheVariants as works
+
+-- the values of a plan are in their ranges
+pub record IsInRange (plan : PlanWork) : Type 0 where
+  pub accuracy_least : 0 < plan.accuracy
+  pub accuracy_most : plan.accuracy ≤ most_accuracy
+  pub budget : plan.budget ≤ most_budget_of plan.shape
+
+abbrev pub WorkHasRanges : Work → Type 0
+WorkHasRanges (works.Plan plan) = IsInRange plan
+WorkHasRanges (works.File accuracy) = (0 < accuracy) × (accuracy ≤ most_accuracy)
+WorkHasRanges (works.PlanFrom file budget memory) = budget ≤ most_budget
+
+abbrev pub HasRanges : Aim → Type 0
+HasRanges (aims.Query file work) = WorkHasRanges work
+HasRanges (aims.Append rows) = ⊤

@@ -1,0 +1,34 @@
+//! A word of a command line.
+ghost use Rattle.std.specs.Prelude.{◌≡◌};
+
+use std::marker::Model;
+
+/// A word as it was given, which contracts see as its bytes.
+#[derive(Debug, Drop)]
+pub struct Word<'a> {
+    text: &'a str,
+}
+
+impl<'a> Model for Word<'a> {
+    ghost use Rattle.safebound_words.specs.Words.{Word as Bytes};
+
+    ghost Value = { Bytes };
+
+    ghost view = { λ word. word.text.now };
+}
+
+impl<'a> Word<'a> {
+    /// The word that is this text.
+    pub fn new(text: &'a str) -> Word<'a>
+        ensures { result ≡ text.now }
+    {
+        Word { text }
+    }
+
+    /// Its text.
+    pub fn get(&self) -> &'a str
+        ensures { result.now ≡ self.now }
+    {
+        self.text
+    }
+}
