@@ -6,23 +6,25 @@
 -- printed that are those of the answer, in any order, each as often as in the answer.
 --
 -- - Bounds count rows that are kept, and not those that are tried. A choice has one scanned row of each entry of a level or node. It counts
---   where every conjunct holds that names no other entry. A conjunct that names no entry is asked there too, and of no scan: under
---   `WHERE 1 = 2` every level and node is empty, and the scans are what they are without it.
+--   where every conjunct holds that names no other entry. A conjunct that names no entry is tested at every level and node, but not in scans:
+--   under `WHERE 1 = 2` every level and node is empty, and the scans are what they are without it.
 -- - With `--reduce` the text looks as it does without. Its scan lines then speak of the reduced scans, and levels and nodes are over these.
 -- - With `--bushy` there is a line for each inner node. A tree of one FROM entry has none: then the scan's line is the bound of the answer.
--- - With `--keys` nothing else is promised: scans, levels and choices are those of the query's own conjuncts.
--- - Nothing is said of how high a bound may be. Budget and accuracy decide which plan is printed, and whether one is; the headline says how.
+-- - With `--keys` exactly the same is promised as without: scans, levels and choices are those of the query's own conjuncts.
+-- - But for the limit of `--memory`, nothing is said of how high a bound may be. Budget, accuracy, that limit and the flags decide which
+--   plan is printed, and whether one is; the headline says how.
 -- - The answer is SQL-92's as the profile has it. From the standard or from usual engines it differs above all in what these definitions say:
---   some reserved words are plain names (`reserved_words` of sql_tokens), texts are compared without padding (`value_cmp` of csv_tables), all
---   number types are one kind of 64 bits (`kind_of` of schema_types), and no row is tested against a reference (`reference_of` there).
+--   reserved words that sql_tokens doesn't list (`read_words`, `reserved_words`) are plain names, texts are compared without padding
+--   (`value_cmp` of csv_tables), all number types are one kind of 64 bits (`kind_of` of schema_types), and no row is tested against a
+--   reference (`reference_of` there).
 -- - Of a store that doesn't tell its files nothing is promised. Of a sink that doesn't tell its bytes nothing is said of what it took: then
 --   `Grew` says just that it tells none afterwards. That a read gives the bytes of a told file is the contract of stores (`read_at` of
 --   base_io, by `ReadsAt`). The program's own folder and streams tell nothing; docs/PROVED.md says what is trusted of them.
 -- - Plan and rows are promised side by side. That the rows were found along the printed plan isn't said here, but by the clause `buffers`
 --   (`KeepsItsBuffers`, in Kept.antt).
 -- - Only Done is promised something here, and only of words that ask for `run`. Words with a flag or an option twice, with `--keys` beside
---   another flag, or with a number out of its range ask for nothing. When a call ends otherwise, and what the other commands print, is in the
---   headline. That each call keeps the promise is a clause of the top call (`promise` of `safebound`, in src/top_call.rt).
+--   another flag, or with a number out of its range ask for nothing. The headline says in which cases a call ends otherwise, and what the
+--   other commands print. That each call keeps the promise is a clause of the top call (`promise` of `safebound`, in src/top_call.rt).
 use Rattle.std.specs.Prelude.{ℕ, ◌≡◌, ◌+◌, ◌<◌, ◌≤◌, ◌++◌, List, length, slice_get, slice_index, take, Option, None, Some, Ok, IsPermutation}
 use Rattle.base_io.specs.Devices.{Growth}
 use Rattle.base_io.specs.Files.{Files, file_of}
@@ -128,8 +130,8 @@ pub record HoldsOver (query : Query) (tables : Tables) (scans : List (List ℕ))
   pub nodes_fit : (k : ℕ) (join : Join) → slice_get plan.joins k ≡ Some join
       → length (choices_over query tables scans (entries_at plan (length query.from + k))) ≤ join.bound
 
--- a plan with its text: an order, or with `--bushy` a join tree. With `--memory` the text has a last line, the number that `plan_bytes` or
--- `tree_bytes` counts from the plan, and this is within the limit. That the buffers of the joins hold so many bytes isn't said here: the
+-- a plan with its text: an order, or with `--bushy` a join tree. With `--memory` a last line has the number that `plan_bytes` or `tree_bytes`
+-- counts from the plan. That number is at most the limit. That the buffers of the joins hold so many bytes isn't said here: the
 -- clause `buffers` says it (`KeepsItsBuffers`, in Kept.antt). What reading and planning take isn't counted
 pub record PrintsOrder (limit : Option ℕ) (query : Query) (tables : Tables) (scans : List (List ℕ)) (text : List ℕ) : Type 0 where
   pub plan : Plan
@@ -175,8 +177,8 @@ pub record RanWhole (files : Files) (schema_file query_file : List ℕ) (work : 
   pub answer : PrintsAnswer query tables rows_text
   pub answer_written : Grew out rows_text
 
--- each call of `run` that ends with Done over told files ran so, whatever its budget and its accuracy, and whether conditions are carried
--- through keys or not. Words of `run` ask for a plan over the query in a file, with the rows for out
+-- each call of `run` that ends with Done over told files ran so, whatever its budget and its accuracy, with or without `--keys`. Words of
+-- `run` ask for a plan over the query in a file, with the rows for out
 abbrev pub Promise : Call → Type 0
 Promise call = (schema_file query_file : List ℕ) (work : PlanWork) (files : Files)
     → AskFor call.words (over_query None schema_file query_file (works.Plan work)) → work.out ≡ out_text.Rows
