@@ -29,13 +29,13 @@ abbrev pub told : Option Files → List ℕ → Told
 told None name = Nothing
 told (Some files) name = told_file (file_of files name)
 
--- `count` bytes of a file, from a place on, stand at the front of a buffer; none exactly at the end or past it
+-- `count` bytes of a file, from a place on, stand at the front of a buffer; `count` is 0 exactly where the place is at the file's end or past it
 pub record Fills (bytes : List ℕ) (place count : ℕ) (into : List ℕ) : Type 0 where
   pub same : take count into ≡ take count (drop place bytes)
   pub within : 0 < count → place + count ≤ length bytes
   pub end : count ≡ 0 → length bytes ≤ place
 
--- a read may have given this many bytes: of an absent file it gives none, not even 0
+-- a read may have answered Ok with this many bytes: of an absent file it never does, not even with 0 bytes
 abbrev pub Gives : Told → ℕ → ℕ → List ℕ → Type 0
 Gives Nothing place count into = ⊤
 Gives Absent place count into = ⊥

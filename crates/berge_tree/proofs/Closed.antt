@@ -16,7 +16,8 @@ use Rattle.berge_tree.proofs.Steps.{are_same, none_some}
 
 -- ---- a column that is in a class with another one is named
 
-abbrev IsAlone : (Place → Place) → Place → Type 0
+-- the column names its own class, and no other column is in it
+abbrev pub IsAlone : (Place → Place) → Place → Type 0
 IsAlone h u = (h u ≡ u) × ((p : Place) → p ≢ u → h p ≢ u)
 
 merged_alone : (h : Place → Place) (l r u : Place) → IsAlone h u → u ≢ l → u ≢ r → IsAlone (merged h l r) u
@@ -34,7 +35,8 @@ merged_alone h l r u alone not_l not_r = (own, other)
       | inr n ↦ alone.1 p ne (sym (merged-no same_place h l r p n) ∙ is)
     ]
 
-named_or_alone : (es : List Edge) (h : Place → Place) (u : Place) → IsAlone h u → Contains (places_of es) u ⊎ IsAlone (classes_from h es) u
+-- a column that is alone stays so, unless an equality names it
+pub named_or_alone : (es : List Edge) (h : Place → Place) (u : Place) → IsAlone h u → Contains (places_of es) u ⊎ IsAlone (classes_from h es) u
 named_or_alone [] h u alone = inr alone
 named_or_alone (e ∷ es) h u alone = elim (are_same u e.left) [
   | inl is ↦ inl (in_front e.left (e.right ∷ places_of es) u is)

@@ -4,7 +4,7 @@ pub mod Steps
 pub mod Separate
 pub mod Closed
 pub mod Renaming
-pub mod Adding
+pub mod Walking
 pub mod Listing
 pub mod Made
 pub mod Forest

@@ -2,18 +2,20 @@
 //!
 //! In: equalities of columns that close no cycle between entries, and a set of entries, an `EntrySet`. Out: one tree for each component of
 //! the set, in boxes. A class is a largest set of columns that the equalities connect; below an entry stand the classes of its other
-//! columns, below a class its other entries.
+//! columns, below a class its other entries. `Classed` tells whether two columns are in one class.
 //!
-//! Callers cite `ClosesNoCycle` and `AreWithin` for what they hand in, `tree_of` for the tree that boxes hold, and `AreAllTreesOf` for the
-//! trees of a set.
+//! Callers cite `ClosesNoCycle` and `AreWithin` for what they hand in, `tree_of` for the tree that boxes hold, `AreAllTreesOf` for the
+//! trees of a set, and `class_of` for the class of a column.
 #![tactic(auto)]
 
+mod classes;
 mod columns;
 mod edges;
 mod laws;
 mod tree;
 mod walk;
 
+pub use classes::Classed;
 pub use edges::{Edge, Place};
 pub use laws::{
     a_tree_is_a_component, bits_tell_what_a_set_has, classes_are_joined_columns, examples,

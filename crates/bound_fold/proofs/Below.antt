@@ -1,5 +1,5 @@
 -- The lists of what stands below an entry and below a class, part by part.
-use Rattle.std.proofs.Common.{◌≡◌, ℕ, zero, suc, ◌+◌, ◌^◌, ◌<◌, List, [], ◌∷◌, ◌++◌, length, get_or, map, refl, ap, sym, ◌∙◌, subst, sum, arith}
+use Rattle.std.proofs.Common.{◌≡◌, ℕ, zero, suc, ◌^◌, ◌<◌, List, [], ◌∷◌, ◌++◌, length, get_or, map, refl, ap, sym, ◌∙◌, subst, sum, arith}
 use Rattle.std.specs.Borrow.{Bor}
 use Rattle.std.specs.Prelude.{Option, Some, None, IsSome, Result, Ok, Err, IfOk, unwrap_or}
 use Rattle.std.specs.List.{AllByRecursion}
@@ -24,10 +24,6 @@ if_ok P Q (Ok x) f h = f x h
 if_ok P Q (Err e) f h = tt
 
 -- ---- a list that is looked up
-
-pub some_copied : (r : Option (Bor (List ℕ))) (o : Option (List ℕ)) → option_copied r ≡ o → IsSome o → IsSome r
-some_copied None o e h = subst IsSome (sym e) h
-some_copied (Some x) o e h = refl
 
 pub found_list : (r : Option (Bor (List ℕ))) (x : Bor (List ℕ)) (o : Option (List ℕ)) → option_copied r ≡ o → r ≡ Some x → x.now ≡ unwrap_or o []
 found_list r x o e h = sym (ap (λ (p : Option (List ℕ)). unwrap_or p []) (sym e) ∙ ap (λ (p : Option (Bor (List ℕ))). unwrap_or (option_copied p) []) h)

@@ -20,5 +20,6 @@ pub mod LeafStarts
 pub mod TextOrder
 pub mod TextsSorted
 pub mod ValueLists
-pub mod Chained
+pub mod Put
+pub mod RunsPut
 pub mod ByValue

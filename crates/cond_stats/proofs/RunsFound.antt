@@ -3,17 +3,36 @@ use Rattle.std.proofs.Common.{◌≡◌, ℕ, suc, ◌+◌, ◌-◌, ◌<◌, �
 use Rattle.std.specs.List.{All}
 use Rattle.std.specs.List.Sorted.{IsNonDecreasing}
 use Rattle.std.proofs.lemmas.Bool.{cases_lt, eqb-true, eqb-false, eq-eqb, or_cases, false≢true}
-use Rattle.std.proofs.lemmas.List.{take_all, get_or-take, map_push}
+use Rattle.std.proofs.lemmas.List.{take_all, get_or-take, get_or_append_left, get_or_push, length_push, map_push}
 use Rattle.std.proofs.lemmas.List.Elements.{All-nil, All-push}
 use Rattle.degree_sequences.specs.Degrees.{degree, different}
 use Rattle.degree_lists.proofs.OneMoreKey.{different-run}
 use Rattle.degree_lists.proofs.RunLengths.{take-run, degree-above}
 use Rattle.cond_stats.specs.declared.groups.Group.{Group}
-use Rattle.cond_stats.specs.Runs.{IsRun, AreRuns, ends_run_lem}
+use Rattle.cond_stats.specs.Runs.{IsRun, AreRuns, ends_run}
 
 -- the number of a run
 abbrev pub number_of_run : List ℕ → Group → ℕ
 number_of_run numbers run = get_or numbers run.start 0
+
+-- runs stand as their rows do
+abbrev pub StartsAscend : List Group → Type 0
+StartsAscend runs = (i j : ℕ) (none : Group) → i < j → j < length runs → (get_or runs i none).start < (get_or runs j none).start
+
+-- and so does one more run behind them
+starts_ascend-push : (runs : List Group) (run : Group) → StartsAscend runs → All (λ before. before.start < run.start) runs → StartsAscend (runs ++ run ∷ [])
+starts_ascend-push runs run up behind i j none low high =
+    let first : (get_or (runs ++ run ∷ []) i none).start ≡ (get_or runs i none).start =
+    ap (λ (r : Group). r.start) (get_or_append_left runs (run ∷ []) none i (omega (arith, high, length_push runs run))) in
+    elim (cases_lt j (length runs)) [
+      | inl h ↦ omega (arith, first, ap (λ (r : Group). r.start) (get_or_append_left runs (run ∷ []) none j h), up i j none low h)
+      | inr h ↦ omega (
+        arith,
+        first,
+        ap (λ (r : Group). r.start) (get_or_push runs run none j (omega (arith, h, high, length_push runs run))),
+        behind i none (omega (arith, high, length_push runs run)),
+      )
+    ]
 
 -- the runs before the one that begins at `start` and goes on at place i
 pub record RunsSoFar (numbers places : List ℕ) (runs : List Group) (start i : ℕ) : Type 0 where
@@ -23,6 +42,8 @@ pub record RunsSoFar (numbers places : List ℕ) (runs : List Group) (start i : 
   pub below : (k : ℕ) → k < start → start < length numbers → get_or numbers k 0 < get_or numbers start 0
   pub each : All (IsRun numbers places) runs
   pub all : map (number_of_run numbers) runs ≡ different (take start numbers)
+  pub ascend : StartsAscend runs
+  pub behind : All (λ run. run.start < start) runs
 
 pub no_runs : (numbers places : List ℕ) → RunsSoFar numbers places [] 0 0
 no_runs numbers places = record {
@@ -32,10 +53,12 @@ no_runs numbers places = record {
   below = λ k low high. absurd (omega arith);
   each = All-nil (IsRun numbers places);
   all = refl;
+  ascend = λ i j none low high. absurd (omega arith);
+  behind = All-nil (λ (run : Group). run.start < 0);
 }
 
 -- what the test says where a run goes on, and where it ends
-goes_on : (numbers : List ℕ) (i : ℕ) → i < length numbers → ends_run_lem numbers i (get_or numbers i 0) ≡ false → (i + 1 < length numbers) × (get_or numbers (i + 1) 0 ≡ get_or numbers i 0)
+goes_on : (numbers : List ℕ) (i : ℕ) → i < length numbers → ends_run numbers i (get_or numbers i 0) ≡ false → (i + 1 < length numbers) × (get_or numbers (i + 1) 0 ≡ get_or numbers i 0)
 goes_on numbers i within same_run =
     let last : eqb (i + 1) (length numbers) ≡ false = left (eqb (i + 1) (length numbers)) (not (eqb (get_or numbers (i + 1) 0) (get_or numbers i 0))) same_run in
     let same : eqb (get_or numbers (i + 1) 0) (get_or numbers i 0) ≡ true = right (eqb (i + 1) (length numbers)) (eqb (get_or numbers (i + 1) 0) (get_or numbers i 0)) same_run in
@@ -50,7 +73,7 @@ goes_on numbers i within same_run =
     right false true h = refl
     right false false h = absurd (false≢true (sym h))
 
-ends : (numbers : List ℕ) (i : ℕ) → ends_run_lem numbers i (get_or numbers i 0) ≡ true → i + 1 < length numbers → get_or numbers (i + 1) 0 ≡ get_or numbers i 0 → ⊥
+ends : (numbers : List ℕ) (i : ℕ) → ends_run numbers i (get_or numbers i 0) ≡ true → i + 1 < length numbers → get_or numbers (i + 1) 0 ≡ get_or numbers i 0 → ⊥
 ends numbers i end_here room same = elim (or_cases (eqb (i + 1) (length numbers)) (not (eqb (get_or numbers (i + 1) 0) (get_or numbers i 0))) end_here) [
   | inl last ↦ omega (arith, eqb-true (i + 1) (length numbers) last)
   | inr other ↦ (let equal : eqb (get_or numbers (i + 1) 0) (get_or numbers i 0) ≡ true = eq-eqb (get_or numbers (i + 1) 0) (get_or numbers i 0) same in
@@ -58,7 +81,7 @@ ends numbers i end_here room same = elim (or_cases (eqb (i + 1) (length numbers)
 ]
 
 pub run_goes_on : (numbers places : List ℕ) (runs : List Group) (start i : ℕ) → RunsSoFar numbers places runs start i → i < length numbers
-    → ends_run_lem numbers i (get_or numbers i 0) ≡ false → RunsSoFar numbers places runs start (i + 1)
+    → ends_run numbers i (get_or numbers i 0) ≡ false → RunsSoFar numbers places runs start (i + 1)
 run_goes_on numbers places runs start i so within same_run =
     let next = goes_on numbers i within same_run in
     record {
@@ -71,10 +94,12 @@ run_goes_on numbers places runs start i so within same_run =
       below = so.below;
       each = so.each;
       all = so.all;
+      ascend = so.ascend;
+      behind = so.behind;
     }
 
 pub run_ends : (numbers places : List ℕ) (runs : List Group) (start i : ℕ) (run : Group) → IsNonDecreasing numbers → RunsSoFar numbers places runs start i → i < length numbers
-    → ends_run_lem numbers i (get_or numbers i 0) ≡ true → run.first ≡ get_or places start 0 → run.start ≡ start → run.count ≡ (i + 1) - start
+    → ends_run numbers i (get_or numbers i 0) ≡ true → run.first ≡ get_or places start 0 → run.start ≡ start → run.count ≡ (i + 1) - start
     → RunsSoFar numbers places (runs ++ run ∷ []) (i + 1) (i + 1)
 run_ends numbers places runs start i run up so within end_here first_is start_is count_is =
     let x : ℕ = get_or numbers i 0 in
@@ -113,6 +138,8 @@ run_ends numbers places runs start i run up so within end_here first_is start_is
         higher = λ k low high. omega (arith, at_run, above k (omega (arith, count_is, start_is, so.within)) high);
       });
       all = map_push (number_of_run numbers) runs run ∙ ap (λ y. map (number_of_run numbers) runs ++ y ∷ []) at_run ∙ ap (λ s. s ++ x ∷ []) so.all ∙ sym one_more;
+      ascend = starts_ascend-push runs run so.ascend (λ k d h. omega (arith, so.behind k d h, start_is));
+      behind = All-push (λ (before : Group). before.start < i + 1) runs run (λ k d h. omega (arith, so.behind k d h, so.within)) (omega (arith, start_is, so.within));
     }
   where
     strictly : (x y z : ℕ) → x ≤ y → y ≤ z → (y ≡ x → ⊥) → x < z
@@ -125,4 +152,4 @@ run_ends numbers places runs start i run up so within end_here first_is start_is
 pub all_runs : (numbers places : List ℕ) (runs : List Group) (start i : ℕ) → RunsSoFar numbers places runs start i → length numbers ≤ i → AreRuns numbers places runs
 all_runs numbers places runs start i so end =
     let none : length numbers ≤ start = elim (cases_lt start i) [ inl h ↦ absurd (omega (arith, so.more h)) | inr h ↦ omega arith ] in
-    record { each = so.each; all = so.all ∙ ap different (take_all start numbers none) }
+    record { each = so.each; all = so.all ∙ ap different (take_all start numbers none); ascend = so.ascend }

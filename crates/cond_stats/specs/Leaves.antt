@@ -1,4 +1,5 @@
--- The leaves of a column: 32 ranges of its values, each with about as many rows, and the nodes above them.
+-- The leaves of a column: 32 ranges of its values, cut at equal numbers of rows, and the nodes above them. Beside a frequent value leaves are
+-- empty.
 -- How values compare is a parameter: `at_most a b` says that a is at most b.
 use Rattle.std.specs.Prelude.{ℕ, suc, ◌*◌, ◌/◌, ◌==◌, Bool, if◌then◌else◌, List, [], ◌∷◌, map, length, slice_index, find, unwrap_or, Contains}
 use Rattle.std.specs.List.{list_any, range_with_len}

@@ -1,9 +1,10 @@
--- Groups of rows of one value, and which of them a column has.
-use Rattle.std.specs.Prelude.{ℕ, ◌≡◌, ◌+◌, ◌<◌, ◌≤◌, ◌==◌, ◌*◌, ◌/◌, ◌||◌, not, nat_lt, Bool, List, map, length, All, slice_index}
+-- The runs of a column: the rows of each value, which stand together.
+use Rattle.std.specs.Prelude.{ℕ, ◌≡◌, ◌+◌, ◌<◌, ◌≤◌, ◌==◌, ◌*◌, ◌/◌, ◌||◌, not, nat_lt, Bool, List, map, length, All, slice_index, slice_index_or}
 use Rattle.degree_sequences.specs.Degrees.{different}
 use Rattle.cond_stats.specs.declared.groups.Group.{Group}
 use Rattle.cond_stats.specs.Frequency.{by_frequency}
 use Rattle.cond_stats.specs.Leaves.{leaf_of}
+use Rattle.cond_stats.specs.Order.{AreInOrder, AreSorted, numbers_at}
 use Rattle.cond_stats.specs.Windows.{IsWindow}
 
 -- the rows of one number among rows in ascending order of their numbers
@@ -15,10 +16,22 @@ pub record IsRun (numbers places : List ℕ) (run : Group) : Type 0 where
   pub lower : (k : ℕ) → k < run.start → slice_index numbers k < slice_index numbers run.start
   pub higher : (k : ℕ) → run.start + run.count ≤ k → k < length numbers → slice_index numbers run.start < slice_index numbers k
 
--- each number has its run, and just one
+-- each number has its run, and just one, and the runs are in the order of their starts
 pub record AreRuns (numbers places : List ℕ) (runs : List Group) : Type 0 where
   pub each : All (IsRun numbers places) runs
   pub all : map (λ run. slice_index numbers run.start) runs ≡ different numbers
+  pub ascend : (i j : ℕ) (none : Group) → i < j → j < length runs → (slice_index_or runs i none).start < (slice_index_or runs j none).start
+
+-- the places of numbers in ascending order of these, those of one number in their own order, and the runs of equal numbers
+pub record AreSortedInRuns (numbers places : List ℕ) (runs : List Group) : Type 0 where
+  pub sorted : AreSorted numbers (numbers_at numbers places) places
+  pub runs_are : AreRuns (numbers_at numbers places) places runs
+
+-- the places of a column in ascending order of their values, those of one value in their own order, and the runs of equal values
+pub record AreInRuns (at_most : ℕ → ℕ → Bool) (column places : List ℕ) (runs : List Group) : Type 0 where
+  pub numbers : List ℕ
+  pub order : AreInOrder at_most column numbers places
+  pub runs_are : AreRuns numbers places runs
 
 -- the value of a group
 abbrev pub value_of_group : List ℕ → Group → ℕ
@@ -30,7 +43,7 @@ pub record AreGroups (column places : List ℕ) (groups : List Group) : Type 0 w
   pub firsts : All (λ group. group.first < length column) groups
   pub windows : All (λ group. IsWindow column places (λ value. value == value_of_group column group) group.start group.count) groups
 
--- how many rows have a leaf below 0, 1 and so on to 32
+-- for each leaf from 0 to 32, how many rows have a leaf below it; these stand first among the places
 pub record AreStarts (at_most : ℕ → ℕ → Bool) (column places starts : List ℕ) : Type 0 where
   pub length_is : length starts ≡ 33
   pub within : (leaf : ℕ) → slice_index starts leaf ≤ length places
@@ -45,6 +58,6 @@ pub record IsLeafStart (numbers : List ℕ) (leaf start : ℕ) : Type 0 where
   pub between : (k : ℕ) → 0 < leaf → leaf < 32 → k < length numbers
       → nat_lt (slice_index numbers k) (slice_index numbers (length numbers * leaf / 32)) ≡ nat_lt k start
 
--- whether the number at a place isn't that of the next place
-abbrev pub ends_run_lem : List ℕ → ℕ → ℕ → Bool
-ends_run_lem numbers i number = i + 1 == length numbers || not (slice_index numbers (i + 1) == number)
+-- whether the number at a place is the last of all, or the next one is another
+abbrev pub ends_run : List ℕ → ℕ → ℕ → Bool
+ends_run numbers i number = i + 1 == length numbers || not (slice_index numbers (i + 1) == number)

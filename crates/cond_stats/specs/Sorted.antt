@@ -7,7 +7,8 @@ use Rattle.cond_stats.specs.declared.groups.Group.{Group}
 use Rattle.cond_stats.specs.Leaves.{cuts}
 use Rattle.cond_stats.specs.Runs.{AreGroups, AreStarts}
 
--- the places, the groups, the cuts and the starts of the leaves are those of the column
+-- the places are those of all rows, in an order in which the rows of each value stand together (its group), and those of each leaf before those
+-- of the next one (the starts); the cuts are the column's
 pub record IsSortedColumn (at_most : ℕ → ℕ → Bool) (column places : List ℕ) (groups : List Group) (cuts_of starts : List ℕ) : Type 0 where
   pub rows : length column < 2 ^ 32
   pub moved : IsPermutation (range_with_len 0 (length column)) places

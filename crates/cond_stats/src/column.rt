@@ -10,7 +10,7 @@ ghost use Rattle.cond_stats.specs.Lists.{compressed_degrees, is_frequent, keys_w
 
 use crate::cut_leaves::{leaf_of_int, leaf_of_text};
 use crate::cuts::{cuts_of, leaf_starts};
-use crate::groups::{Group, groups_by_frequency};
+use crate::groups::{Group, by_frequency};
 use crate::lists::{group_of, list_at, rest_list, stretch, values_of};
 use crate::order::{InOrder, in_order};
 use base_io::{NoMemory, Seq};
@@ -58,10 +58,10 @@ impl<'a> FilterColumn<'a> {
         requires rows { length cells.now < 2 ^ 32 }
         ensures { IfOk result (λ column. column ≡ record { texts = pool.now; kind = kind; cells = cells.now }) }
     {
-        let InOrder { numbers, places } = in_order(alloc, pool, kind, cells)?;
-        let groups = groups_by_frequency(alloc, numbers.as_slice(), places.as_slice())?;
+        let InOrder { places, runs } = in_order(alloc, pool, kind, cells)?;
         let cuts = cuts_of(alloc, cells, places.as_slice())?;
-        let starts = leaf_starts(alloc, numbers.as_slice())?;
+        let starts = leaf_starts(alloc, runs.as_slice(), cells.len() as u32)?;
+        let groups = by_frequency(runs);
         Ok(FilterColumn {
             pool,
             kind,

@@ -1,10 +1,10 @@
 //! The cuts of a column, and where its leaves begin among the rows in order.
-ghost use Rattle.std.specs.Prelude.{◌≡◌, ℕ, ◌*◌, ◌/◌, ◌<◌, ◌≤◌, ◌^◌, nat_lt, Bool, List, length, All, IfOk, slice_index};
-ghost use Rattle.std.specs.List.Sorted.{IsNonDecreasing};
+ghost use Rattle.std.specs.Prelude.{◌≡◌, ℕ, ◌<◌, ◌≤◌, ◌^◌, Bool, List, length, All, IfOk};
 ghost use Rattle.cond_stats.specs.Leaves.{cuts as cuts_of_column};
 ghost use Rattle.cond_stats.specs.Order.{AreInOrder};
-ghost use Rattle.cond_stats.specs.Runs.{AreStarts, IsLeafStart};
+ghost use Rattle.cond_stats.specs.Runs.{AreInRuns, AreRuns, AreStarts, IsLeafStart};
 
+use crate::groups::Group;
 use base_io::NoMemory;
 use std::alloc::Global;
 
@@ -26,33 +26,30 @@ pub(crate) fn cuts_of(alloc: Global, cells: &[u64], places: &[u32]) -> Result<Ve
     Ok(cuts)
 }
 
-/// How many rows have a leaf below 0, 1 and so on to 32.
-pub(crate) fn leaf_starts(alloc: Global, numbers: &[u64]) -> Result<Vec<u32>, NoMemory>
-    requires rows { length numbers.now < 2 ^ 32 }
-    requires ascend { IsNonDecreasing numbers.now }
-    ensures { IfOk result (λ starts. (at_most : ℕ → ℕ → Bool) (column places : List ℕ)
-        → AreInOrder at_most column numbers.now places → AreStarts at_most column places starts.items) }
+/// For each leaf from 0 to 32, how many of the rows have a leaf below it, from the runs of their values.
+pub(crate) fn leaf_starts(alloc: Global, runs: &[Group], rows: u32) -> Result<Vec<u32>, NoMemory>
+    ensures { IfOk result (λ starts. (at_most : ℕ → ℕ → Bool) (column places : List ℕ) → length column ≡ rows → AreInRuns at_most column places runs.now
+        → AreStarts at_most column places starts.items) }
 {
     let mut starts = Vec::new(alloc);
     for leaf in 0..33 {
-        starts.push(leaf_start(numbers, leaf) as u32)?;
+        starts.push(leaf_start(runs, rows, leaf))?;
     }
     Ok(starts)
 }
 
-// How many rows have a leaf below this one: the rows before the first with the leaf's cut.
-fn leaf_start(numbers: &[u64], leaf: usize) -> usize
+// How many rows have a leaf below this one: those before the run with the leaf's cut. Below 32, which is the end, lie all.
+fn leaf_start(runs: &[Group], rows: u32, leaf: u32) -> u32
     requires leaf { leaf ≤ 32 }
-    requires rows { length numbers.now < 2 ^ 32 }
-    requires ascend { IsNonDecreasing numbers.now }
-    ensures { IsLeafStart numbers.now leaf result }
+    ensures { (numbers places : List ℕ) → length numbers ≡ rows → AreRuns numbers places runs.now → IsLeafStart numbers leaf result }
 {
-    if leaf == 0 || numbers.is_empty() {
+    if leaf == 32 {
+        return rows;
+    }
+    let cut = (u64::from(rows) * u64::from(leaf) / 32) as u32;
+    let below = runs.partition_point(|run| run.start <= cut);
+    if below == 0 {
         return 0;
     }
-    if leaf == 32 {
-        return numbers.len();
-    }
-    let cut = numbers[numbers.len() * leaf / 32];
-    numbers.partition_point(|number| *number < cut)
+    runs[below - 1].start
 }

@@ -1,8 +1,7 @@
-//! The rows of each filter value, and which values are frequent.
+//! The runs of equal values, and their order by frequency.
 ghost use Rattle.std.specs.Prelude.{◌≡◌, ℕ, ◌<◌, ◌^◌, Bool, List, length, IfOk};
 ghost use Rattle.std.specs.List.Sorted.{IsNonDecreasing};
-ghost use Rattle.cond_stats.specs.Order.{AreInOrder};
-ghost use Rattle.cond_stats.specs.Runs.{AreRuns, AreGroups, ends_run_lem};
+ghost use Rattle.cond_stats.specs.Runs.{AreGroups, AreInRuns, AreRuns, ends_run};
 
 use base_io::NoMemory;
 use std::alloc::Global;
@@ -15,25 +14,22 @@ pub(crate) struct Group {
     pub count: u32,
 }
 
-/// The groups of equal values, the most frequent value first; of equally frequent ones the one that occurs first.
-pub(crate) fn groups_by_frequency(
+/// Runs in order of frequency, the most frequent value first; of equally frequent ones the one that occurs first.
+pub(crate) fn by_frequency(runs: Vec<Group>) -> Vec<Group>
+    ensures { (at_most : ℕ → ℕ → Bool) (column places : List ℕ) → length column < 2 ^ 32 → AreInRuns at_most column places runs.items
+        → AreGroups column places result.items }
+{
+    let mut groups = runs;
+    groups.sort_unstable_by_key(|group| (u32::MAX - group.count, group.first));
+    groups
+}
+
+/// The runs of equal numbers, the least number first.
+pub(crate) fn runs_of(
     alloc: Global,
     numbers: &[u64],
     places: &[u32],
 ) -> Result<Vec<Group>, NoMemory>
-    requires lengths { length numbers.now ≡ length places.now }
-    requires rows { length places.now < 2 ^ 32 }
-    requires ascend { IsNonDecreasing numbers.now }
-    ensures { IfOk result (λ groups. (at_most : ℕ → ℕ → Bool) (column : List ℕ)
-        → AreInOrder at_most column numbers.now places.now → AreGroups column places.now groups.items) }
-{
-    let mut groups = runs_of(alloc, numbers, places)?;
-    groups.sort_unstable_by_key(|group| (u32::MAX - group.count, group.first));
-    Ok(groups)
-}
-
-// The groups of equal numbers, the least number first.
-fn runs_of(alloc: Global, numbers: &[u64], places: &[u32]) -> Result<Vec<Group>, NoMemory>
     requires lengths { length numbers.now ≡ length places.now }
     requires rows { length places.now < 2 ^ 32 }
     requires ascend { IsNonDecreasing numbers.now }
@@ -57,7 +53,7 @@ fn runs_of(alloc: Global, numbers: &[u64], places: &[u32]) -> Result<Vec<Group>,
 // Whether the number at a place is the last of its run.
 fn ends_run(numbers: &[u64], i: usize, number: u64) -> bool
     requires { i < length numbers.now }
-    ensures { result ≡ ends_run_lem numbers.now i number }
+    ensures { result ≡ ends_run numbers.now i number }
 {
     i + 1 == numbers.len() || numbers[i + 1] != number
 }

@@ -5,13 +5,14 @@
 //! value, and of the rows with a filter value in a range. A `FilterColumn` sorts the filter column once, and makes each list when it is
 //! asked for.
 //!
-//! Callers cite `whole`, `list_of_value` and `list_of_range` (in `specs/Lists.antt`) for the lists, `leaf_of_value`, `list_between` and
+//! Callers cite `compressed_degrees`, `list_of_value`, `rest`, `list_of_range` and `list_of_node` (in `specs/Lists.antt`) for the lists,
+//! `frequent` and `cuts` for the values that have lists of their own and for where leaves begin, `leaf_of_value`, `list_between` and
 //! `is_between` (in `specs/Columns.antt`) for the ends of a range, and `laws` for what the lists dominate and sum to. They see a
 //! `FilterColumn` as a `CellColumn`.
 //!
 //! ```text
 //! let column = FilterColumn::new(alloc, &pool, kind, filter)?;
-//! let list = column.list_of_value(joined, Some(cell), 1)?;   // list ≡ list_of_value 1 (zip filter joined) (Some cell)
+//! let list = column.list_of_value(joined, Some(cell), Accuracy::of(1))?;   // list ≡ list_of_value 1 (zip filter joined) (Some cell)
 //! ```
 #![tactic(auto)]
 

@@ -1,6 +1,6 @@
 -- The conjuncts of a query in parts: those that name one entry, the equalities that join two, and all others.
 use Rattle.std.specs.Prelude.{ℕ, ◌+◌, Bool, false, not, ◌&&◌, ◌==◌, if◌then◌else◌, List, [], ◌∷◌, map, length, Option, Some, None, is_none, is_some, filter}
-use Rattle.std.specs.List.{filter_map, list_all, list_any, range_with_len}
+use Rattle.std.specs.List.{filter_map, list_all, range_with_len}
 use Rattle.entry_sets.specs.Naming.{are_just}
 use Rattle.berge_tree.specs.declared.edges.Edge.{Edge}
 use Rattle.berge_tree.specs.Equalities.{place}

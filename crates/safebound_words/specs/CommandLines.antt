@@ -40,7 +40,7 @@ same_flag one other = bytes_eq (flag_word one) (flag_word other)
 abbrev pub has_flag : CommandName → FlagName → Bool
 has_flag command flag = list_any (same_flag flag) (command_row command).flags
 
--- an item of the command's row: no place word is a dash and more
+-- an item of the command's row: a place word isn't dashed
 abbrev pub IsItemOf : CommandName → Item → Type 0
 IsItemOf command (Place word) = is_dashed word ≡ false
 IsItemOf command (Alone flag) = IsTrue (has_flag command flag)

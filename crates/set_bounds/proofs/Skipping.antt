@@ -7,8 +7,7 @@ use Rattle.join_graph.specs.Kept.{kept_of}
 use Rattle.tree_bounds.specs.SetBounds.{bound_of_turn, least_to}
 use Rattle.tree_bounds.specs.TreeBounds.{EntryBounds, bound_of_trees}
 use Rattle.tree_bounds.proofs.Turns.{closes, least_to-le}
-use Rattle.set_bounds.specs.Alike.{AreAlike, AreClassed, AreOfTurnsBefore, IsLikeEarlier, IsOfTurnBefore, least_told}
-use Rattle.set_bounds.specs.declared.alike.ClassedEdge.{ClassedEdge}
+use Rattle.set_bounds.specs.Alike.{AreAlike, AreOfTurnsBefore, IsLikeEarlier, IsOfTurnBefore, least_told}
 use Rattle.set_bounds.proofs.SameTrees.{alike_trees}
 
 -- ---- the least
@@ -28,27 +27,27 @@ module _ (b : EntryBounds) (es : List Edge) (subset : ℕ) where
 -- ---- turns that were folded
 
 module _ (es : List Edge) (subset turn : ℕ) where
-  pub later : (folded : List (List ClassedEdge)) → AreOfTurnsBefore es subset turn folded → AreOfTurnsBefore es subset (turn + 1) folded
+  pub later : (folded : List (List Edge)) → AreOfTurnsBefore es subset turn folded → AreOfTurnsBefore es subset (turn + 1) folded
   later [] h = tt
-  later (c ∷ cs) h = (record { earlier = h.0.earlier; before = omega (arith, h.0.before); are_classed = h.0.are_classed }, later cs h.1)
+  later (c ∷ cs) h = (record { earlier = h.0.earlier; before = omega (arith, h.0.before); are_kept = h.0.are_kept }, later cs h.1)
 
-  pub one_more_folded : (folded : List (List ClassedEdge)) (classed : List ClassedEdge) → AreOfTurnsBefore es subset turn folded → AreClassed (kept_of subset turn es) classed
-      → AreOfTurnsBefore es subset (turn + 1) (folded ++ classed ∷ [])
-  one_more_folded [] classed h own = (record { earlier = turn; before = omega arith; are_classed = own }, tt)
-  one_more_folded (c ∷ cs) classed h own = (record { earlier = h.0.earlier; before = omega (arith, h.0.before); are_classed = h.0.are_classed }, one_more_folded cs classed h.1 own)
+  pub one_more_folded : (folded : List (List Edge)) (kept : List Edge) → AreOfTurnsBefore es subset turn folded → kept ≡ kept_of subset turn es
+      → AreOfTurnsBefore es subset (turn + 1) (folded ++ kept ∷ [])
+  one_more_folded [] kept h own = (record { earlier = turn; before = omega arith; are_kept = own }, tt)
+  one_more_folded (c ∷ cs) kept h own = (record { earlier = h.0.earlier; before = omega (arith, h.0.before); are_kept = h.0.are_kept }, one_more_folded cs kept h.1 own)
 
-  item : (folded : List (List ClassedEdge)) (i : ℕ) (d : List ClassedEdge) → AreOfTurnsBefore es subset turn folded → i < length folded → IsOfTurnBefore es subset turn (get_or folded i d)
+  item : (folded : List (List Edge)) (i : ℕ) (d : List Edge) → AreOfTurnsBefore es subset turn folded → i < length folded → IsOfTurnBefore es subset turn (get_or folded i d)
   item [] i d h low = absurd (omega arith)
   item (c ∷ cs) zero d h low = h.0
   item (c ∷ cs) (suc i) d h low = item cs i d h.1 (omega arith)
 
-  pub like_one : (folded : List (List ClassedEdge)) (i : ℕ) (one : List ClassedEdge) (classed : List ClassedEdge) → i < length folded → one ≡ get_or folded i one
-      → ((gs fs : List Edge) → AreClassed gs one → AreClassed fs classed → ClosesNoCycle gs → ClosesNoCycle fs → AreAlike gs fs)
-      → AreClassed (kept_of subset turn es) classed → AreOfTurnsBefore es subset turn folded → IsLikeEarlier es subset turn
-  like_one folded i one classed low is alike own h =
+  pub like_one : (folded : List (List Edge)) (i : ℕ) (one kept : List Edge) → i < length folded → one ≡ get_or folded i one
+      → (ClosesNoCycle one → ClosesNoCycle kept → AreAlike one kept) → kept ≡ kept_of subset turn es → AreOfTurnsBefore es subset turn folded → IsLikeEarlier es subset turn
+  like_one folded i one kept low is alike own h =
       let there : IsOfTurnBefore es subset turn one = subst (IsOfTurnBefore es subset turn) (sym is) (item folded i one h low) in
       record {
         earlier = there.earlier;
         before = there.before;
-        alike = alike (kept_of subset there.earlier es) (kept_of subset turn es) there.are_classed own (closes es subset there.earlier) (closes es subset turn);
+        alike = subst (AreAlike (kept_of subset there.earlier es)) own (subst (λ gs. AreAlike gs kept) there.are_kept
+            (alike (subst ClosesNoCycle (sym there.are_kept) (closes es subset there.earlier)) (subst ClosesNoCycle (sym own) (closes es subset turn))));
       }

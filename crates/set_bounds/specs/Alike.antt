@@ -1,49 +1,32 @@
--- Equalities that let the same trees stand.
-use Rattle.std.specs.Prelude.{◌≡◌, ◌↔◌, ℕ, ◌<◌, if◌then◌else◌, List, map}
+-- Equalities that have the same join trees.
+use Rattle.std.specs.Prelude.{◌≡◌, ◌↔◌, ℕ, ◌<◌, List}
 use Rattle.std.specs.List.{AllByRecursion, Contains}
 use Rattle.berge_tree.specs.declared.edges.Edge.{Edge}
 use Rattle.berge_tree.specs.declared.edges.Place.{Place}
-use Rattle.berge_tree.specs.Equalities.{class_of, places_of, same_place}
+use Rattle.berge_tree.specs.Equalities.{class_of, places_of}
 use Rattle.join_graph.specs.Kept.{kept_of}
 use Rattle.degree_sequences.specs.Saturation.{saturated}
 use Rattle.tree_bounds.specs.SetBounds.{bound_of_turn, least_to}
 use Rattle.tree_bounds.specs.TreeBounds.{EntryBounds}
-use Rattle.set_bounds.specs.declared.alike.ClassedEdge.{ClassedEdge}
 
 -- they name the same columns, and make the same classes of them
 pub record AreAlike (es fs : List Edge) : Type 0 where
   pub columns : (p : Place) → Contains (places_of es) p ↔ Contains (places_of fs) p
   pub classes : (p q : Place) → (class_of es p ≡ class_of es q) ↔ (class_of fs p ≡ class_of fs q)
 
--- ---- the same, tested
-
 -- both columns of an equality are in one class of the others
 abbrev pub AreInOneClass : List Edge → Edge → Type 0
 AreInOneClass es e = class_of es e.left ≡ class_of es e.right
 
--- the equality stands beside a column of the class of its columns
-pub record HasItsClass (es : List Edge) (c : ClassedEdge) : Type 0 where
-  pub left : class_of es c.class ≡ class_of es c.edge.left
-  pub right : class_of es c.class ≡ class_of es c.edge.right
+-- ---- turns that are like an earlier one
 
--- the equalities, each beside a column of its class
-pub record AreClassed (es : List Edge) (classed : List ClassedEdge) : Type 0 where
-  pub edges : map (λ c. c.edge) classed ≡ es
-  pub classes : AllByRecursion (HasItsClass es) classed
-
--- the class of the one name goes over to the other
-abbrev pub renamed : Place → Place → ClassedEdge → ClassedEdge
-renamed old new c = record { edge = c.edge; class = if same_place c.class old then new else c.class }
-
--- ---- turns that are like no earlier one
-
--- the classed equalities are those that some turn before this one keeps
-pub record IsOfTurnBefore (es : List Edge) (subset turn : ℕ) (classed : List ClassedEdge) : Type 0 where
+-- the equalities are those that some turn before this one keeps
+pub record IsOfTurnBefore (es : List Edge) (subset turn : ℕ) (kept : List Edge) : Type 0 where
   pub earlier : ℕ
   pub before : earlier < turn
-  pub are_classed : AreClassed (kept_of subset earlier es) classed
+  pub are_kept : kept ≡ kept_of subset earlier es
 
-abbrev pub AreOfTurnsBefore : List Edge → ℕ → ℕ → List (List ClassedEdge) → Type 0
+abbrev pub AreOfTurnsBefore : List Edge → ℕ → ℕ → List (List Edge) → Type 0
 AreOfTurnsBefore es subset turn folded = AllByRecursion (IsOfTurnBefore es subset turn) folded
 
 -- a turn keeps equalities that are like those of a turn before it

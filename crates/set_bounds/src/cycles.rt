@@ -3,12 +3,12 @@ ghost use Rattle.std.specs.Prelude.{◌≡◌, ◌+◌, ◌-◌, ◌<◌, IfOk};
 ghost use Rattle.join_graph.specs.Kept.{equalities_within, kept_of};
 ghost use Rattle.bound_fold.specs.Lists.{bounds_of};
 ghost use Rattle.bound_fold.specs.Sets.{SetIsListed};
-ghost use Rattle.set_bounds.specs.Alike.{AreClassed, AreOfTurnsBefore, least_told};
+ghost use Rattle.set_bounds.specs.Alike.{AreOfTurnsBefore, least_told};
 ghost use Rattle.set_bounds.specs.AllSets.{bound_told};
 
-use crate::alike::{ClassedEdge, is_like_earlier, with_classes};
+use crate::alike::is_like_earlier;
 use base_io::{NoMemory, Seq};
-use berge_tree::Edge;
+use berge_tree::{Classed, Edge};
 use bound_fold::{EntryLists, turn_bound};
 use entry_sets::EntrySet;
 use join_graph::{Parts, joins_within, kept, turns};
@@ -20,11 +20,11 @@ fn classed_turn(
     parts: &Parts,
     subset: EntrySet,
     turn: u32,
-) -> Result<Seq<ClassedEdge>, NoMemory>
-    ensures { IfOk result (λ classed. AreClassed (kept_of subset turn parts.now.equalities) classed) }
+) -> Result<Classed, NoMemory>
+    ensures { IfOk result (λ classed. classed ≡ kept_of subset turn parts.now.equalities) }
 {
     let edges = kept(alloc, parts, subset, turn)?;
-    with_classes(alloc, edges.as_slice())
+    Classed::new(alloc, edges)
 }
 
 // The least over the turns up to this one, from that over those before it. A turn that is like an earlier one is not folded.
@@ -35,7 +35,7 @@ fn least_with(
     subset: EntrySet,
     turn: u32,
     least: u128,
-    folded: &mut Vec<Seq<ClassedEdge>>,
+    folded: &mut Vec<Classed>,
 ) -> Result<u128, NoMemory>
     requires listed { SetIsListed lists.now parts.now.equalities subset }
     requires turn { 0 < turn }
@@ -45,7 +45,7 @@ fn least_with(
     ensures folded { IfOk result (λ _. AreOfTurnsBefore parts.now.equalities subset (turn + 1) folded.new.items) }
 {
     let classed = classed_turn(alloc, parts, subset, turn)?;
-    if is_like_earlier(classed.as_slice(), folded.as_slice()) {
+    if is_like_earlier(&classed, folded.as_slice()) {
         return Ok(least);
     }
     let bound = turn_bound(alloc, parts, subset, turn, lists)?;

@@ -2,7 +2,7 @@ use Rattle.std.proofs.Common.{◌≡◌, arith, subst}
 use Rattle.std.specs.Prelude.{IfOk}
 use Rattle.berge_tree.specs.Boxed.{classes_of}
 use Rattle.berge_tree.specs.Trees.{Classes}
-use Rattle.berge_tree.proofs.Adding.{walked_next}
+use Rattle.berge_tree.proofs.Walking.{walked_next}
 use Rattle.berge_tree.proofs.walk.+walk.Goals as goal
 
 pub walked-returns : goal.walked-returns

@@ -1,4 +1,3 @@
-use Rattle.std.proofs.Common.{◌≡◌, ◌∙◌}
 use Rattle.cond_stats.specs.Texts.{rank_or_zero}
 use Rattle.cond_stats.proofs.IntNumbers.{map-one_more}
 use Rattle.cond_stats.proofs.texts.numbered_by_rank.Goals as goal

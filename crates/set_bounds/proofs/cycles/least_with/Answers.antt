@@ -1,7 +1,6 @@
 use Rattle.std.proofs.Common.{◌+◌, subst, sym}
-use Rattle.join_graph.specs.Kept.{kept_of}
 use Rattle.bound_fold.specs.Lists.{bounds_of}
-use Rattle.set_bounds.specs.Alike.{AreClassed, AreOfTurnsBefore, IsLikeEarlier}
+use Rattle.set_bounds.specs.Alike.{AreOfTurnsBefore, IsLikeEarlier}
 use Rattle.set_bounds.proofs.Skipping.{later, one_more_folded, skipped}
 use Rattle.set_bounds.proofs.cycles.least_with.Goals as goal
 
@@ -9,8 +8,8 @@ pub returns-then-is_like_earlier-clause-least : goal.returns-then-is_like_earlie
 returns-then-is_like_earlier-clause-least c =
     let like : IsLikeEarlier c.args.parts.now.equalities c.args.subset c.args.turn =
     c.is_like_earlier.ensures c.if-is_like_earlier.true c.args.parts.now.equalities c.args.subset c.args.turn
-    (subst (AreClassed (kept_of c.args.subset c.args.turn c.args.parts.now.equalities)) (sym c.as_slice.ensures) c.in_ok-classed.ensures)
-    (subst (AreOfTurnsBefore c.args.parts.now.equalities c.args.subset c.args.turn) (sym c.as_slice-2.ensures.value) c.requires.folded) in
+    c.in_ok-classed.ensures
+    (subst (AreOfTurnsBefore c.args.parts.now.equalities c.args.subset c.args.turn) (sym c.as_slice.ensures.value) c.requires.folded) in
     skipped (bounds_of c.args.lists.now) c.args.parts.now.equalities c.args.subset c.args.turn c.args.least c.requires.turn c.requires.least like
 
 pub returns-then-is_like_earlier-clause-folded : goal.returns-then-is_like_earlier-clause-folded
