@@ -23,7 +23,7 @@ use Rattle.sql_meaning.specs.Tables.{cells_of, no_cells}
 use Rattle.sql_meaning.proofs.ColumnFacts.{column_at}
 use Rattle.csv_tables.proofs.TableFacts.{columns_long}
 use Rattle.gathered_stats.specs.Columns.{HaveLists, keys_in}
-use Rattle.gathered_stats.specs.Asked.{AreStepsOf, AsksWithin, IsGathered, asked_columns}
+use Rattle.gathered_stats.specs.Asked.{AreGathered, AreStepsOf, AsksWithin, IsGathered, asked_columns}
 use Rattle.gathered_stats.proofs.Known.{steps_within}
 
 -- one column more
@@ -63,11 +63,8 @@ column_made r texts cells accuracy column keys steps is h k =
 -- ---- entries
 
 module _ (query : Query) (db : Database) (accuracy : ℕ) where
-  pub record AreGathered (n : ℕ) (entries : List EntryStats) : Type 0 where
-    pub as_many : length entries ≡ n
-    pub each : (entry : ℕ) → entry < n → IsGathered query db accuracy entry (get_or entries entry no_columns)
-
-  pub one_gathered : (n : ℕ) (old new : List EntryStats) (one : EntryStats) → AreGathered n old → IsGathered query db accuracy n one → new ≡ old ++ one ∷ [] → AreGathered (n + 1) new
+  pub one_gathered : (n : ℕ) (old new : List EntryStats) (one : EntryStats) → AreGathered query db accuracy n old → IsGathered query db accuracy n one → new ≡ old ++ one ∷ []
+      → AreGathered query db accuracy (n + 1) new
   one_gathered n old new one before here pushed = record {
     as_many = ap (λ (s : List EntryStats). length s) pushed ∙ length_push old one ∙ omega (arith, before.as_many);
     each = λ entry low. subst (λ (s : List EntryStats). IsGathered query db accuracy entry (get_or s entry no_columns)) (sym pushed) (elim (cases_eq entry n) [
@@ -107,3 +104,10 @@ entry_gathered r query db accuracy entry cells es columns columns_read steps rea
           (subst (λ (s : List Step). All (AreStepsOf db.pool cells accuracy s) stats.columns) (same_steps ∙ are) made);
       rows = subst (λ (t : Cells). t.rows < 2 ^ 32) is small;
     }) h k
+
+-- an entry's own steps, as they are read
+pub own_read : (query : Query) (db : Database) (accuracy entry : ℕ) (stats : EntryStats) (cells : Cells) (steps read : List Step) → IsGathered query db accuracy entry stats
+    → cells ≡ cells_of db entry → steps ≡ steps_of entry query.conjuncts → read ≡ steps → All (AreStepsOf db.pool cells accuracy read) stats.columns
+own_read query db accuracy entry stats cells steps read own is are same =
+    subst (λ (t : Cells). All (AreStepsOf db.pool t accuracy read) stats.columns) (sym is)
+    (subst (λ (s : List Step). All (AreStepsOf db.pool (cells_of db entry) accuracy s) stats.columns) (sym (same ∙ are)) own.steps)

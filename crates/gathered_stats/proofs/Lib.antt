@@ -31,3 +31,4 @@ pub mod Joined
 pub mod Entries
 pub mod MissingColumns
 pub mod Telling
+pub mod WholeLists

@@ -4,7 +4,7 @@ use Rattle.std.specs.List.{All}
 use Rattle.std.proofs.lemmas.List.{get_or-map, length-map}
 use Rattle.schema_types.specs.declared.types.Kind.{Kind}
 use Rattle.csv_tables.specs.declared.types.Cells.{Cells}
-use Rattle.csv_tables.specs.Cells.{AreColumns, IsCell, IsColumn}
+use Rattle.csv_tables.specs.Cells.{AreColumns, IsCell}
 use Rattle.sql_meaning.specs.Databases.{AreCells}
 use Rattle.gathered_stats.specs.declared.entry_table.EntryTable.{EntryTable}
 use Rattle.gathered_stats.specs.Seen.{AreRowsOf, cells_at, picked, seen}

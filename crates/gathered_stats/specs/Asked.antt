@@ -1,5 +1,5 @@
 -- What is asked of an entry's table: columns that are joined, and columns that steps compare with literals.
-use Rattle.std.specs.Prelude.{◌≡◌, ℕ, Bool, true, false, ◌==◌, ◌<◌, ◌^◌, ◌&&◌, not, if◌then◌else◌}
+use Rattle.std.specs.Prelude.{◌≡◌, ℕ, Bool, true, false, ◌==◌, ◌<◌, ◌^◌, ◌&&◌, not, if◌then◌else◌, slice_index_or}
 use Rattle.std.specs.Prelude.{All, List, [], ◌∷◌, ◌++◌, map, length, Option, None, Some, IfSome}
 use Rattle.std.specs.List.{filter, list_any}
 use Rattle.limits.specs.Profile.{most_columns}
@@ -17,6 +17,7 @@ use Rattle.predicate_bounds.specs.declared.steps.Step.{Step}
 use Rattle.predicate_bounds.specs.declared.steps.Step.TheVariants as step
 use Rattle.predicate_bounds.specs.ListRuns.{listed}
 use Rattle.predicate_bounds.specs.Steps.{steps_of}
+use Rattle.predicate_bounds.specs.Told.{no_columns}
 use Rattle.query_types.specs.declared.types.Query.{Query}
 use Rattle.sql_meaning.specs.Tables.{cells_of}
 use Rattle.gathered_stats.specs.Columns.{HaveLists, keys_in}
@@ -80,3 +81,8 @@ pub record IsGathered (query : Query) (db : Database) (accuracy entry : ℕ) (st
   pub columns : map (λ gathered. gathered.column) stats.columns ≡ asked_columns entry (equalities_of query)
   pub steps : All (AreStepsOf db.pool (cells_of db entry) accuracy (steps_of entry query.conjuncts)) stats.columns
   pub rows : (cells_of db entry).rows < 2 ^ 32
+
+-- the first so many entries of a query have theirs
+pub record AreGathered (query : Query) (db : Database) (accuracy count : ℕ) (entries : List EntryStats) : Type 0 where
+  pub as_many : length entries ≡ count
+  pub each : (entry : ℕ) → entry < count → IsGathered query db accuracy entry (slice_index_or entries entry no_columns)

@@ -1,7 +1,6 @@
 -- Filter columns at rows, and what is gathered for columns that stand beside these rows.
-use Rattle.std.specs.Prelude.{◌≡◌, ℕ, ◌==◌, ◌<◌, true, List, [], All, IfSome, length, map, slice_index_or}
+use Rattle.std.specs.Prelude.{◌≡◌, ℕ, ◌==◌, ◌<◌, true, List, All, IfSome, length, map}
 use Rattle.std.specs.List.{list_any}
-use Rattle.schema_types.specs.declared.types.Kind.{Kind}
 use Rattle.csv_tables.specs.declared.types.Cells.{Cells}
 use Rattle.csv_tables.specs.declared.types.Database.{Database}
 use Rattle.query_types.specs.declared.types.Query.{Query}

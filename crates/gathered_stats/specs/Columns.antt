@@ -32,3 +32,7 @@ pub record HaveLists (texts : List (List ℕ)) (cells : Cells) (accuracy : ℕ) 
   pub range : (range : Range) → range.column < length cells.kinds
       → list_between texts (kind_in cells range.column) accuracy (zip (cells_in cells range.column) keys) range.low range.high
       ≡ lists.range range
+
+-- a column's keys have some
+abbrev pub HasLists : List (List ℕ) → Cells → ℕ → ℕ → Type 0
+HasLists texts cells accuracy column = (lists : ColumnLists) × HaveLists texts cells accuracy (keys_in cells column) lists

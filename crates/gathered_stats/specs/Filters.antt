@@ -1,5 +1,5 @@
 -- The filter columns of an entry's table, each sorted.
-use Rattle.std.specs.Prelude.{◌≡◌, ℕ, ◌==◌, ◌<◌, ◌≤◌, ◌^◌, Bool, true, List, length, All, IfSome}
+use Rattle.std.specs.Prelude.{◌≡◌, ℕ, ◌==◌, ◌<◌, ◌^◌, Bool, true, List, length, All, IfSome}
 use Rattle.std.specs.List.{list_any}
 use Rattle.cond_stats.specs.Columns.{CellColumn}
 use Rattle.csv_tables.specs.declared.types.Cells.{Cells}

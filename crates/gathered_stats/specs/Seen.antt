@@ -1,5 +1,5 @@
 -- The cells of a table as they are seen: all of its rows, or those of given numbers.
-use Rattle.std.specs.Prelude.{◌≡◌, ℕ, ◌<◌, ◌≤◌, All, if◌then◌else◌, List, length, map, slice_index}
+use Rattle.std.specs.Prelude.{ℕ, ◌<◌, All, if◌then◌else◌, List, length, map, slice_index}
 use Rattle.csv_tables.specs.declared.types.Cells.{Cells}
 use Rattle.gathered_stats.specs.declared.entry_table.EntryTable.{EntryTable}
 

@@ -1,24 +1,29 @@
 //! The steps of an entry's own conjuncts over rows of its table, for columns of another entry that stand beside these rows.
-ghost use Rattle.std.specs.Prelude.{◌≡◌, ◌==◌, ◌<◌, ◌^◌, All, length, map, slice_index, true, false, IfOk, OnOk};
+ghost use Rattle.std.specs.Prelude.{◌≡◌, ℕ, ◌==◌, ◌<◌, ◌^◌, All, length, map, slice_index, true, false, IfOk, IfSome, OnOk};
 ghost use Rattle.std.specs.List.{list_any, range_with_len};
 ghost use Rattle.join_graph.specs.Conjuncts.{equalities_of, local_of};
 ghost use Rattle.predicate_bounds.specs.declared.steps.Step.{Step};
 ghost use Rattle.sql_meaning.specs.Databases.{AreCells, IsDatabaseOf};
 ghost use Rattle.sql_meaning.specs.Tables.{cells_of};
-ghost use Rattle.gathered_stats.specs.Asked.{AsksWithin, column_asked};
+ghost use Rattle.cond_stats.specs.Lists.{compressed_degrees};
+ghost use Rattle.gathered_stats.specs.Asked.{AreStepsOf, AsksWithin, IsGathered, column_asked};
 ghost use Rattle.gathered_stats.specs.Beside.{ArePicked, AreGatheredBeside, AreStepsBeside, IsGatheredBeside, IsPicked, ServeColumns};
+ghost use Rattle.gathered_stats.specs.Columns.{HasLists, keys_in};
 ghost use Rattle.gathered_stats.specs.Filters.{IsFilterOf, IsReady, Serve};
 ghost use Rattle.gathered_stats.specs.Seen.{AreRowsOf, cells_at, seen};
 
 use crate::columns::joined_columns;
 use crate::entry_table::{EntryTable, cells_in_entry};
 use crate::filters::{Filter, column_asked};
+use crate::gather::characters_differ;
+use crate::wholes::whole_of;
 use base_io::{NoMemory, Seq};
 use cond_stats::FilterColumn;
 use csv_tables::{Cells, Database, Pool};
 use join_graph::Parts;
 use join_steps::load_cells;
 use limits::Accuracy;
+use piece_math::Pieces;
 use predicate_bounds::{ColumnSteps, EntryStats, Step, read_steps};
 use query_types::Query;
 use row_buf::RowBuf;
@@ -146,13 +151,14 @@ fn sorted_columns<'a>(
     Ok(filters)
 }
 
-/// Rows of an entry's table, and beside each a row of another entry's table.
+/// Rows of an entry's table, and beside each a row of another entry's table, with what is gathered of all rows of that table.
 #[derive(Clone, Copy)]
 pub struct Beside<'a> {
     pub entry: u8,
     pub rows: &'a [u32],
     pub other: u8,
     pub other_rows: &'a [u32],
+    pub other_stats: &'a EntryStats,
 }
 
 // Whether the rows are all rows of a table with so many, one after another.
@@ -170,7 +176,8 @@ fn is_each_row(rows: &[u32], count: usize) -> bool
     true
 }
 
-// The steps of a joined column of the other entry. Its cells are copied only where some of its rows are left out.
+// The steps of a joined column of the other entry. Its cells are copied, and a list of all its rows is made, only where some of its rows are
+// left out or that list isn't there yet.
 fn gather_other(
     alloc: Global,
     table: &EntryTable<'_>,
@@ -178,6 +185,7 @@ fn gather_other(
     cells: &Cells,
     rows: &[u32],
     column: u32,
+    whole: Option<&Pieces>,
 ) -> Result<ColumnSteps, NoMemory>
     requires ready { IsReady table.now }
     requires served { All (Serve table.now.filters) steps.now }
@@ -186,12 +194,16 @@ fn gather_other(
     requires at_rows { table.now.whole ≡ false }
     requires cells { AreCells table.now.pool.now cells.now }
     requires column { column < length cells.now.kinds }
+    requires whole { IfSome whole (λ list. list.now ≡ compressed_degrees table.now.accuracy (keys_in cells.now column)) }
     ensures column { IfOk result (λ gathered. gathered.column ≡ column) }
     ensures steps { IfOk result (AreStepsBeside table.now.pool.now (seen table.now) table.now.accuracy cells.now rows.now steps.now) }
 {
     let all = cells.columns.get(column as usize).as_slice();
     if is_each_row(rows, all.len()) {
-        return table.list_steps(alloc, all, column, steps);
+        return match whole {
+            Some(whole) => table.list_steps_over(alloc, all, whole, column, steps),
+            None => table.list_steps(alloc, all, column, steps),
+        };
     }
     let keys = picked(alloc, all, rows)?;
     table.list_steps(alloc, keys.as_slice(), column, steps)
@@ -205,6 +217,8 @@ fn gather_others(
     cells: &Cells,
     rows: &[u32],
     columns: &[u32],
+    own_steps: &[Step],
+    own: &EntryStats,
 ) -> Result<EntryStats, NoMemory>
     requires ready { IsReady table.now }
     requires served { All (Serve table.now.filters) steps.now }
@@ -213,18 +227,22 @@ fn gather_others(
     requires at_rows { table.now.whole ≡ false }
     requires cells { AreCells table.now.pool.now cells.now }
     requires columns { All (λ column. column < length cells.now.kinds) columns.now }
+    requires lists { (column : ℕ) → column < length cells.now.kinds → HasLists table.now.pool.now cells.now table.now.accuracy column }
+    requires own { All (AreStepsOf table.now.pool.now cells.now table.now.accuracy own_steps.now) own.now.columns }
     ensures { IfOk result (AreGatheredBeside table.now cells.now rows.now steps.now columns.now) }
 {
     let mut gathered = Seq::new(alloc);
     for column in columns {
-        gathered.push(gather_other(alloc, table, steps, cells, rows, *column)?)?;
+        let whole = whole_of(own_steps, own, *column);
+        gathered.push(gather_other(alloc, table, steps, cells, rows, *column, whole)?)?;
     }
     Ok(EntryStats { columns: gathered })
 }
 
 /// The steps of an entry's own conjuncts over rows of its table, each with its list, for each joined column of another entry, whose rows stand
 /// beside them (SafeBound, SIGMOD 2023: the statistics of a dimension's filters for the columns of a fact table). The parts are those of
-/// `split`. No row is copied but the cells of the columns that are asked for.
+/// `split`. No row is copied but the cells of the columns that are asked for. Where the rows beside are all rows of their table, the lists of
+/// all rows are those of `other_stats`.
 pub fn gather_beside(
     alloc: Global,
     query: &Query,
@@ -242,8 +260,10 @@ pub fn gather_beside(
     requires other_rows { AreRowsOf (cells_of db.now beside.now.other) beside.now.other_rows.now }
     requires as_many { length beside.now.other_rows.now ≡ length beside.now.rows.now }
     requires few { length beside.now.rows.now < 2 ^ 32 }
+    requires other_stats { IsGathered query.now db.now accuracy beside.now.other beside.now.other_stats.now }
     ensures { IfOk result (IsGatheredBeside query.now db.now accuracy beside.now.entry beside.now.rows.now beside.now.other beside.now.other_rows.now) }
 {
+    characters_differ(&db.pool);
     let steps = read_steps(alloc, query, parts, beside.entry)?;
     let steps = steps.as_slice();
     let cells = cells_in_entry(db, beside.entry);
@@ -258,6 +278,7 @@ pub fn gather_beside(
         accuracy,
     };
     let columns = joined_columns(alloc, parts.equalities.as_slice(), beside.other)?;
+    let own_steps = read_steps(alloc, query, parts, beside.other)?;
     gather_others(
         alloc,
         &table,
@@ -265,5 +286,7 @@ pub fn gather_beside(
         cells_in_entry(db, beside.other),
         beside.other_rows,
         columns.as_slice(),
+        own_steps.as_slice(),
+        beside.other_stats,
     )
 }

@@ -5,7 +5,7 @@ ghost use Rattle.level_bounds.specs.Keys.{HaveDifferentCharacters};
 ghost use Rattle.query_bounds.specs.Statistics.{Tells};
 ghost use Rattle.sql_meaning.specs.Databases.{IsDatabaseOf};
 ghost use Rattle.sql_meaning.specs.Tables.{tables_of};
-ghost use Rattle.gathered_stats.specs.Asked.{AreStepsOf, IsGathered};
+ghost use Rattle.gathered_stats.specs.Asked.{AreGathered, AreStepsOf, IsGathered};
 ghost use Rattle.gathered_stats.specs.Filters.{IsReady, Serve};
 ghost use Rattle.gathered_stats.specs.Seen.{seen};
 ghost use Rattle.gathered_stats.specs.Statistics.{statistics_of};
@@ -125,6 +125,7 @@ pub fn gather_query(
     requires equalities { parts.now.equalities ≡ equalities_of query.now }
     requires database { IsDatabaseOf query.now db.now }
     ensures tells { IfOk result (λ stats. Tells query.now stats (statistics_of (tables_of db.now) accuracy)) }
+    ensures gathered { IfOk result (λ stats. AreGathered query.now db.now accuracy (length query.now.from) stats.entries) }
 {
     characters_differ(&db.pool);
     let mut entries = Seq::new(alloc);

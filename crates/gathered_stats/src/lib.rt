@@ -4,7 +4,8 @@
 //! column that the entry joins, the steps of the entry's own conjuncts, each with its list (SafeBound, SIGMOD 2023). A list is made
 //! only where a step asks for it. A filter column is sorted once an entry, and an entry without conditions sorts none. The rest list
 //! of a filter column is made once for each joined column, where a value needs it, and copied for each further value. `gather_beside` gathers
-//! the same of rows of an entry's table, for the joined columns of another entry, whose rows stand beside them.
+//! the same of rows of an entry's table, for the joined columns of another entry, whose rows stand beside them. Where these are all rows
+//! of their table, the list of all rows is that of the other entry's own steps.
 //!
 //! Callers cite `statistics_of` (in `specs/Statistics.antt`) for what the answer tells, and `IsGatheredBeside` for rows beside a table's own.
 //!
@@ -23,6 +24,7 @@ mod gather;
 mod lists;
 mod literals;
 mod rests;
+mod wholes;
 
 pub use beside::{Beside, gather_beside};
 pub use columns::{asked_columns, joined_columns};

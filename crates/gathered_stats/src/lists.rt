@@ -20,8 +20,8 @@ use piece_math::Pieces;
 use predicate_bounds::{ColumnSteps, ListStep, Literal, Range, Step};
 use std::alloc::Global;
 
-// Whether a step is the list of all rows.
-fn is_whole(step: &Step) -> bool
+/// Whether a step is the list of all rows.
+pub(crate) fn is_whole(step: &Step) -> bool
     ensures { result ≡ is_whole step.now }
 {
     match step {
@@ -183,10 +183,31 @@ impl EntryTable<'_> {
             → AreListsOf self.now keys.now lists → gathered.steps ≡ map (listed lists) steps.now) }
     {
         let whole = self.whole_for(alloc, keys, steps)?;
+        self.list_steps_over(alloc, keys, &whole, column, steps)
+    }
+
+    /// The same where the list of all rows is there already.
+    pub(crate) fn list_steps_over(
+        &self,
+        alloc: Global,
+        keys: &[u64],
+        whole: &Pieces,
+        column: u32,
+        steps: &[Step],
+    ) -> Result<ColumnSteps, NoMemory>
+        requires ready { IsReady self.now }
+        requires keys { length keys.now ≡ (seen self.now).rows }
+        requires whole { list_any is_whole steps.now ≡ true → whole.now ≡ compressed_degrees self.now.accuracy keys.now }
+        requires rows { sum whole.now ≤ 2 ^ 32 }
+        requires served { All (Serve self.now.filters) steps.now }
+        ensures column { IfOk result (λ gathered. gathered.column ≡ column) }
+        ensures steps { IfOk result (λ gathered. (lists : ColumnLists)
+            → AreListsOf self.now keys.now lists → gathered.steps ≡ map (listed lists) steps.now) }
+    {
         let mut rests = Seq::new(alloc);
         let mut gathered = ColumnSteps::new(alloc, column);
         for step in steps {
-            let listed = self.list_step(keys, &whole, step, &mut rests)?;
+            let listed = self.list_step(keys, whole, step, &mut rests)?;
             gathered.push(listed)?;
         }
         Ok(gathered)

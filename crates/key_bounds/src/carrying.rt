@@ -1,10 +1,11 @@
 //! What is carried along the references of a schema, from a query's tables.
-ghost use Rattle.std.specs.Prelude.{◌≡◌, All, IfOk, Some};
+ghost use Rattle.std.specs.Prelude.{◌≡◌, All, IfOk, Some, length};
 ghost use Rattle.bound_fold.specs.Lists.{list_of, rows_of};
 ghost use Rattle.join_graph.specs.Conjuncts.{equalities_of, local_of};
 ghost use Rattle.predicate_bounds.specs.Told.{columns_of, list_told, rows_told};
 ghost use Rattle.sql_meaning.specs.Databases.{IsDatabaseOf};
 ghost use Rattle.sql_meaning.specs.Tables.{tables_of};
+ghost use Rattle.gathered_stats.specs.Asked.{AreGathered};
 ghost use Rattle.key_stats.specs.Carrying.{TellAlong, TellsCarried};
 ghost use Rattle.key_bounds.specs.Carrying.{AddUp, IsJoined};
 
@@ -44,12 +45,14 @@ fn carried_over(
     query: &Query,
     parts: &Parts,
     db: &Database,
+    own: &QueryStats,
     edge: Edge,
     accuracy: Accuracy,
 ) -> Result<Carried, NoMemory>
     requires local { parts.now.local ≡ local_of query.now }
     requires equalities { parts.now.equalities ≡ equalities_of query.now }
     requires database { IsDatabaseOf query.now db.now }
+    requires own { AreGathered query.now db.now accuracy (length query.now.from) own.now.entries }
     requires joined { IsJoined query.now edge }
     ensures edge { IfOk result (λ made. made.edge ≡ edge) }
     ensures tells { IfOk result (TellsCarried query.now (tables_of db.now) accuracy) }
@@ -63,6 +66,7 @@ fn carried_over(
         rows: others,
         other: edge.left.entry,
         other_rows: rows,
+        other_stats: own.entries.get(usize::from(edge.left.entry)),
     };
     let gathered = gather_beside(alloc, query, parts, db, &beside, accuracy)?;
     let entries = Seq::one(alloc, gathered)?;
@@ -71,24 +75,27 @@ fn carried_over(
     Ok(Carried { edge, lists })
 }
 
-/// What is carried along each of these equalities, which are some of the query's, either way round. The parts are those of `split`.
+/// What is carried along each of these equalities, which are some of the query's, either way round. The parts are those of `split`, and the
+/// statistics those of `gather_query`.
 pub(crate) fn carried_along(
     alloc: Global,
     query: &Query,
     parts: &Parts,
     db: &Database,
+    own: &QueryStats,
     edges: &[Edge],
     accuracy: Accuracy,
 ) -> Result<Seq<Carried>, NoMemory>
     requires local { parts.now.local ≡ local_of query.now }
     requires equalities { parts.now.equalities ≡ equalities_of query.now }
     requires database { IsDatabaseOf query.now db.now }
+    requires own { AreGathered query.now db.now accuracy (length query.now.from) own.now.entries }
     requires joined { All (IsJoined query.now) edges.now }
     ensures { IfOk result (TellAlong query.now (tables_of db.now) accuracy edges.now) }
 {
     let mut carried = Seq::new(alloc);
     'edges: for number in 0..edges.len() {
-        let one = carried_over(alloc, query, parts, db, edges[number], accuracy)?;
+        let one = carried_over(alloc, query, parts, db, own, edges[number], accuracy)?;
         carried.push(one)?;
     }
     Ok(carried)

@@ -77,6 +77,6 @@ pub fn from_keys(
     let parts = split(alloc, query)?;
     let stats = gather_query(alloc, query, &parts, db, accuracy)?;
     let edges = carriers(alloc, schema, query, &parts)?;
-    let carried = carried_along(alloc, query, &parts, db, edges.as_slice(), accuracy)?;
+    let carried = carried_along(alloc, query, &parts, db, &stats, edges.as_slice(), accuracy)?;
     from_carried(alloc, query, &parts, &stats, carried)
 }

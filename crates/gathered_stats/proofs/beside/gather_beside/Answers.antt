@@ -1,20 +1,14 @@
-use Rattle.std.proofs.Common.{◌≡◌, ◌<◌, ℕ, List, length, ap, sym, ◌∙◌, subst, arith}
+use Rattle.std.proofs.Common.{List, sym, subst, arith}
 use Rattle.std.proofs.lemmas.Result.{IfOk-weaker}
-use Rattle.berge_tree.specs.declared.edges.Edge.{Edge}
 use Rattle.csv_tables.specs.declared.types.Cells.{Cells}
-use Rattle.predicate_bounds.specs.declared.columns.EntryStats.{EntryStats}
-use Rattle.predicate_bounds.specs.declared.steps.Step.{Step}
-use Rattle.sql_meaning.specs.Databases.{AreCells}
-use Rattle.gathered_stats.specs.declared.entry_table.EntryTable.{EntryTable}
 use Rattle.gathered_stats.specs.declared.filters.Filter.{Filter}
-use Rattle.gathered_stats.specs.Asked.{joined_columns}
-use Rattle.gathered_stats.specs.Beside.{AreGatheredBeside, AreStepsBeside, IsGatheredBeside}
-use Rattle.gathered_stats.specs.Filters.{Serve}
-use Rattle.gathered_stats.specs.Seen.{AreRowsOf, cells_at, seen}
-use Rattle.gathered_stats.proofs.Entries.{cells_sound, steps_sound}
+use Rattle.gathered_stats.specs.Beside.{IsGatheredBeside}
+use Rattle.gathered_stats.specs.Seen.{AreRowsOf}
+use Rattle.gathered_stats.proofs.Entries.{cells_sound, own_read, steps_sound}
 use Rattle.gathered_stats.proofs.Joined.{columns_exist}
 use Rattle.gathered_stats.proofs.Picking.{beside_gathered, serve_each}
 use Rattle.gathered_stats.proofs.Seeing.{are_cells_at}
+use Rattle.gathered_stats.proofs.Telling.{columns_have, their_lists}
 use Rattle.gathered_stats.proofs.beside.gather_beside.Goals as goal
 
 pub cells_in_entry-cells-requires-clause-cells : goal.cells_in_entry-cells-requires-clause-cells
@@ -60,6 +54,16 @@ pub gather_others-requires-clause-columns : goal.gather_others-requires-clause-c
 gather_others-requires-clause-columns c =
     columns_exist c.args.query.now c.args.db.now c.requires.database c.args.beside.now.other c.cells_in_entry.result.now c.args.parts.now.equalities c.as_slice-2.result.now c.in_ok-columns.columns
     c.as_slice-3.result.now c.cells_in_entry.ensures c.requires.equalities c.as_slice-2.ensures c.in_ok-columns.ensures c.as_slice-3.ensures
+
+pub gather_others-requires-clause-lists : goal.gather_others-requires-clause-lists
+gather_others-requires-clause-lists c =
+    columns_have c.args.query.now c.args.db.now c.args.accuracy c.requires.database c.characters_differ.ensures
+    (their_lists c.args.db.now c.args.accuracy c.requires.database.tables c.characters_differ.ensures) c.args.beside.now.other c.cells_in_entry.result.now c.requires.other c.cells_in_entry.ensures
+
+pub gather_others-requires-clause-own : goal.gather_others-requires-clause-own
+gather_others-requires-clause-own c =
+    own_read c.args.query.now c.args.db.now c.args.accuracy c.args.beside.now.other c.args.beside.now.other_stats.now c.cells_in_entry.result.now c.in_ok-own_steps.own_steps c.as_slice-4.result.now
+    c.requires.other_stats c.cells_in_entry.ensures c.in_ok-own_steps.ensures c.as_slice-4.ensures
 
 pub returns : goal.returns
 returns c =

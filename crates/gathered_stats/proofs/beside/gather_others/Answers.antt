@@ -1,9 +1,15 @@
 use Rattle.std.proofs.Common.{◌∙◌}
 use Rattle.std.proofs.lemmas.List.{take_all}
+use Rattle.std.proofs.lemmas.Option.{IfSome_then}
 use Rattle.gathered_stats.specs.Beside.{AreStepsBeside}
 use Rattle.gathered_stats.specs.Seen.{seen}
 use Rattle.gathered_stats.proofs.Entries.{one_column, one_made}
 use Rattle.gathered_stats.proofs.beside.gather_others.Goals as goal
+
+pub gather_other-requires-clause-whole : goal.gather_other-requires-clause-whole
+gather_other-requires-clause-whole c =
+    IfSome_then c.whole_of-whole.result c.whole_of-whole.ensures
+    (λ list is. is c.args.table.now.pool.now c.args.cells.now c.args.table.now.accuracy (c.requires.lists _ (c.requires.columns c.loop-column.column-index 0 c.loop-column-test.true)) c.requires.own)
 
 pub loop-column-preserved : goal.loop-column-preserved
 loop-column-preserved c = (

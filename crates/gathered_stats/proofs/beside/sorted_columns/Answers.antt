@@ -1,4 +1,4 @@
-use Rattle.std.proofs.Common.{◌≡◌, ◌++◌, [], ◌∷◌, List, map, ap, sym, ◌∙◌, subst, refl, arith}
+use Rattle.std.proofs.Common.{List, map, ap, sym, ◌∙◌, subst, refl, arith}
 use Rattle.std.proofs.lemmas.List.{take_all}
 use Rattle.gathered_stats.specs.declared.beside.PickedColumn.{PickedColumn}
 use Rattle.gathered_stats.specs.declared.filters.Filter.{Filter}

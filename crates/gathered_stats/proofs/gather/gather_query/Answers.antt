@@ -1,7 +1,8 @@
-use Rattle.std.proofs.Common.{arith}
+use Rattle.std.proofs.Common.{ℕ, subst, arith}
 use Rattle.predicate_bounds.specs.declared.columns.QueryStats.{QueryStats}
 use Rattle.table_stats.proofs.Summing.{lists_sum}
 use Rattle.sql_meaning.specs.Tables.{tables_of}
+use Rattle.gathered_stats.specs.Asked.{AreGathered}
 use Rattle.gathered_stats.proofs.Entries.{one_gathered}
 use Rattle.gathered_stats.proofs.Telling.{all_told, their_lists}
 use Rattle.gathered_stats.proofs.gather.gather_query.Goals as goal
@@ -18,4 +19,6 @@ returns c =
           (λ entry column. lists_sum (tables_of c.args.db.now) c.args.accuracy entry column) stats
           (λ entry low. c.loop-entry.invariant.each entry (omega (arith, low, c.loop-entry-test.false, c.len-entry-end.ensures)))
           (omega (arith, c.loop-entry.invariant.as_many, c.loop-entry-test.false, c.loop-entry.auto.entry-end, c.len-entry-end.ensures));
+      gathered = subst (λ (n : ℕ). AreGathered c.args.query.now c.args.db.now c.args.accuracy n c.loop-entry.entries)
+          (omega (arith, c.loop-entry-test.false, c.loop-entry.auto.entry-end, c.len-entry-end.ensures)) c.loop-entry.invariant;
     }

@@ -1,4 +1,4 @@
-use Rattle.gathered_stats.proofs.Entries.{AreGathered}
+use Rattle.gathered_stats.specs.Asked.{AreGathered}
 use Rattle.gathered_stats.proofs.gather.gather_query.Given as goal
 
 abbrev pub invariant-loop-entry : goal.invariant-loop-entry

@@ -1,9 +1,9 @@
-use Rattle.std.proofs.Common.{◌≡◌, ◌<◌, ℕ, List, length, refl, ap, sym, ◌∙◌, subst, arith}
-use Rattle.limits.specs.Profile.{most_rows}
-use Rattle.sql_meaning.specs.Tables.{cells_of, row_counts, tables_of}
-use Rattle.gathered_stats.specs.Beside.{IsGatheredBeside}
+use Rattle.std.proofs.Common.{ℕ, List, length, slice_get, ap, sym, ◌∙◌, subst, arith}
+use Rattle.std.proofs.lemmas.Option.{get_or_from_slice_get}
+use Rattle.predicate_bounds.specs.Told.{no_columns}
+use Rattle.sql_meaning.specs.Tables.{cells_of, tables_of}
+use Rattle.gathered_stats.specs.Asked.{IsGathered}
 use Rattle.gathered_stats.specs.Seen.{AreRowsOf}
-use Rattle.key_carriers.specs.Widened.{referred, referring}
 use Rattle.key_carriers.proofs.Referring.{as_many, few_referring}
 use Rattle.key_bounds.proofs.CarriedOver.{as_widened, entries_add_up, entries_told, left_low, of_one_kind, right_low, rows_of_left, rows_of_right}
 use Rattle.key_bounds.proofs.carrying.carried_over.Goals as goal
@@ -16,6 +16,9 @@ widened_rows-requires-clause-rows c = c.requires.database.few_rows c.args.edge.l
 
 pub widened_rows-requires-clause-few : goal.widened_rows-requires-clause-few
 widened_rows-requires-clause-few c = c.requires.database.few_rows c.args.edge.right.entry (right_low c.args.query.now c.args.db.now c.requires.database c.args.edge c.requires.joined)
+
+pub get-requires : goal.get-requires
+get-requires c = omega (arith, left_low c.args.query.now c.args.db.now c.requires.database c.args.edge c.requires.joined, c.requires.own.as_many)
 
 pub gather_beside-requires-clause-entry : goal.gather_beside-requires-clause-entry
 gather_beside-requires-clause-entry c = right_low c.args.query.now c.args.db.now c.requires.database c.args.edge c.requires.joined
@@ -47,6 +50,12 @@ gather_beside-requires-clause-few c =
       few_referring (tables_of c.args.db.now) c.args.edge,
       c.requires.database.few_rows c.args.edge.left.entry (left_low c.args.query.now c.args.db.now c.requires.database c.args.edge c.requires.joined),
     )
+
+pub gather_beside-requires-clause-other_stats : goal.gather_beside-requires-clause-other_stats
+gather_beside-requires-clause-other_stats c =
+    subst (IsGathered c.args.query.now c.args.db.now c.args.accuracy c.args.edge.left.entry)
+    (get_or_from_slice_get c.args.own.now.entries c.args.edge.left.entry c.get.result.now no_columns (ap (slice_get c.args.own.now.entries) (sym c.from.ensures) ∙ c.get.ensures))
+    (c.requires.own.each c.args.edge.left.entry (left_low c.args.query.now c.args.db.now c.requires.database c.args.edge c.requires.joined))
 
 pub first_lists-requires : goal.first_lists-requires
 first_lists-requires c =

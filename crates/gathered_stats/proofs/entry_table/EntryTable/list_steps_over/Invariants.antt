@@ -5,7 +5,7 @@ use Rattle.predicate_bounds.specs.ListRuns.{listed}
 use Rattle.gathered_stats.specs.Columns.{HaveLists}
 use Rattle.gathered_stats.specs.Rests.{IsRestOf}
 use Rattle.gathered_stats.specs.Seen.{seen}
-use Rattle.gathered_stats.proofs.entry_table.EntryTable.list_steps.Given as goal
+use Rattle.gathered_stats.proofs.entry_table.EntryTable.list_steps_over.Given as goal
 
 abbrev pub invariant-loop-step : goal.invariant-loop-step
 invariant-loop-step l = (l.gathered.column ≡ l.column)

@@ -1,0 +1,51 @@
+//! The list of all rows of a column, where it was made already among the steps of the column's entry.
+ghost use Rattle.std.specs.Prelude.{◌≡◌, ℕ, All, List, Some, map, slice_get, IfSome};
+ghost use Rattle.cond_stats.specs.Lists.{compressed_degrees};
+ghost use Rattle.csv_tables.specs.declared.types.Cells.{Cells};
+ghost use Rattle.filtered_lists.specs.Lists.{ColumnLists};
+ghost use Rattle.predicate_bounds.specs.declared.running.ListStep.TheVariants as list_step;
+ghost use Rattle.predicate_bounds.specs.ListRuns.{listed};
+ghost use Rattle.gathered_stats.specs.Asked.{AreStepsOf};
+ghost use Rattle.gathered_stats.specs.Columns.{HasLists, keys_in};
+
+use crate::lists::is_whole;
+use piece_math::Pieces;
+use predicate_bounds::{ColumnSteps, EntryStats, ListStep, Step};
+
+// The list at a place of the steps, where there is one.
+fn list_at(gathered: &ColumnSteps, at: usize) -> Option<&Pieces>
+    ensures { IfSome result (λ list. slice_get gathered.now.steps at ≡ Some (list_step.List list.now)) }
+{
+    if at >= gathered.steps.len() {
+        return None;
+    }
+    match gathered.steps.get(at) {
+        ListStep::List(list) => Some(list),
+        ListStep::And | ListStep::Nothing | ListStep::Or => None,
+    }
+}
+
+// The list of the first step for all rows.
+fn whole_among<'a>(steps: &[Step], gathered: &'a ColumnSteps) -> Option<&'a Pieces>
+    ensures { IfSome result (λ list. (lists : ColumnLists) → gathered.now.steps ≡ map (listed lists) steps.now → list.now ≡ lists.whole) }
+{
+    for (at, step) in steps.iter().enumerate() {
+        if is_whole(step) {
+            return list_at(gathered, at);
+        }
+    }
+    None
+}
+
+/// The list of all rows of a column, where the steps of its entry have it.
+pub(crate) fn whole_of<'a>(steps: &[Step], own: &'a EntryStats, column: u32) -> Option<&'a Pieces>
+    ensures { IfSome result (λ list. (texts : List (List ℕ)) (cells : Cells) (accuracy : ℕ) → HasLists texts cells accuracy column
+        → All (AreStepsOf texts cells accuracy steps.now) own.now.columns → list.now ≡ compressed_degrees accuracy (keys_in cells column)) }
+{
+    for gathered in own.columns.as_slice() {
+        if gathered.column == column {
+            return whole_among(steps, gathered);
+        }
+    }
+    None
+}
