@@ -50,7 +50,9 @@ enum {
     SAFEBOUND_EXIT_PAST_BITS = 9,  /* each order has a level whose bound passes 128 bits */
     SAFEBOUND_EXIT_WRITE = 10,     /* a room is too small */
     SAFEBOUND_EXIT_NO_MEMORY = 11, /* memory was wanting */
-    SAFEBOUND_EXIT_WORDS = 15      /* a word isn't UTF-8 */
+    SAFEBOUND_EXIT_STATS = 14,     /* a text of statistics is refused, or lacks what the query needs */
+    SAFEBOUND_EXIT_WORDS = 15,     /* a word isn't UTF-8 */
+    SAFEBOUND_EXIT_MEMORY_LIMIT = 16 /* the plan's buffers take more bytes than --memory says */
 };
 
 /* Runs the command line `words`, without the program's own name, over `files`, of which the first of a name counts.
