@@ -277,6 +277,18 @@ class Plans(unittest.TestCase):
 
         self.check("tree", best)
 
+    def test_twelve_entries(self):
+        """A chain of twelve entries, each with a thousand keys once: a set has a thousand rows for each run of neighbours in it."""
+        ends = [bin(number & ~(number >> 1)).count("1") for number in range(4096)]
+        equalities = [(e, 0, e + 1, 0) for e in range(11)]
+        lists, runs = [(e, 0, e, 1) for e in range(12)], [(1, 1000)] * 12
+        bounds = answers([Call("bounds", [[1000] * 12, equalities, lists, runs], 4096)])[0].elements
+        self.assertEqual(bounds, [1000**count for count in ends])
+        order, tree = answers([Call("order", [bounds], 12, 1000), Call("tree", [bounds], 11, 1000)])
+        self.assertEqual(order, (Status.OK, 12, [(e, 1000) for e in range(12)]))
+        # Of trees with one cost and one sum the one counts whose left sets are the least: each entry beside all later ones.
+        self.assertEqual(tree, (Status.OK, 11, [(10, 11, 1000)] + [(9 - k, 12 + k, 1000) for k in range(10)]))
+
 
 if __name__ == "__main__":
     unittest.main()
