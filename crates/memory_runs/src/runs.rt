@@ -48,23 +48,36 @@ const FILE_OF_THREE: Text<'static> = Text::Whole(
     b"safebound-stats 1 1\ntable x4b 3\npair x58 x58\nwhole 1*3\nfrequent 1 1*1\nfrequent 2 1*1\nfrequent 3 1*1\nrest -\ncut 1\ncut 1\ncut 1\ncut 1\ncut 1\ncut 1\ncut 1\ncut 1\ncut 1\ncut 1\ncut 1\ncut 2\ncut 2\ncut 2\ncut 2\ncut 2\ncut 2\ncut 2\ncut 2\ncut 2\ncut 2\ncut 2\ncut 3\ncut 3\ncut 3\ncut 3\ncut 3\ncut 3\ncut 3\ncut 3\ncut 3\ncut 3\nnode -\nnode -\nnode -\nnode -\nnode -\nnode -\nnode -\nnode -\nnode -\nnode -\nnode 1*1\nnode -\nnode -\nnode -\nnode -\nnode -\nnode -\nnode -\nnode -\nnode -\nnode -\nnode 1*1\nnode -\nnode -\nnode -\nnode -\nnode -\nnode -\nnode -\nnode -\nnode -\nnode 1*1\nnode -\nnode -\nnode -\nnode -\nnode -\nnode 1*1\nnode -\nnode -\nnode -\nnode -\nnode 1*1\nnode -\nnode -\nnode -\nnode -\nnode 1*1\nnode -\nnode -\nnode 1*1\nnode -\nnode -\nnode 1*1\nnode -\nnode 1*1\nnode -\nnode 1*1\nnode 1*1\nnode 1*1\nnode 1*1\nnode 1*2\nnode 1*3\nend\n",
 );
 
-/// A join of two tables, the same over reduced scans, a table of texts, the triangle, two pairs of tables with the same bounds and other
-/// answers, the statistics file of a table, and a plan from it.
-pub const RUNS: [Run<'static>; 8] = [
+// The same with a further row of 99, which is none of the frequent values.
+const FILE_OF_FOUR: Text<'static> = Text::Whole(
+    b"safebound-stats 1 1\ntable x4b 4\npair x58 x58\nwhole 2*1 1*2\nfrequent 1 1*1\nfrequent 2 1*1\nfrequent 3 1*1\nrest 1*1\ncut 1\ncut 1\ncut 1\ncut 1\ncut 1\ncut 1\ncut 1\ncut 1\ncut 1\ncut 1\ncut 1\ncut 2\ncut 2\ncut 2\ncut 2\ncut 2\ncut 2\ncut 2\ncut 2\ncut 2\ncut 2\ncut 2\ncut 3\ncut 3\ncut 3\ncut 3\ncut 3\ncut 3\ncut 3\ncut 3\ncut 3\ncut 3\nnode -\nnode -\nnode -\nnode -\nnode -\nnode -\nnode -\nnode -\nnode -\nnode -\nnode 1*1\nnode -\nnode -\nnode -\nnode -\nnode -\nnode -\nnode -\nnode -\nnode -\nnode -\nnode 1*1\nnode -\nnode -\nnode -\nnode -\nnode -\nnode -\nnode -\nnode -\nnode -\nnode 2*1\nnode -\nnode -\nnode -\nnode -\nnode -\nnode 1*1\nnode -\nnode -\nnode -\nnode -\nnode 1*1\nnode -\nnode -\nnode -\nnode -\nnode 2*1\nnode -\nnode -\nnode 1*1\nnode -\nnode -\nnode 1*1\nnode -\nnode 2*1\nnode -\nnode 1*1\nnode 1*1\nnode 2*1\nnode 1*1\nnode 2*1 1*1\nnode 2*1 1*2\nend\n",
+);
+
+// Two tables of 6 and 5 rows, and the 6 rows of their join.
+const SIX: Text<'static> = Text::Whole(b"X\r\n1\r\n1\r\n1\r\n2\r\n2\r\n3\r\n");
+
+const FIVE: Text<'static> = Text::Whole(b"X\r\n1\r\n1\r\n4\r\n5\r\n6\r\n");
+
+const SIX_ONES: Text<'static> = Text::Column {
+    record: b"1\r\n",
+    count: 6,
+};
+
+/// A join of two tables, the same over reduced scans, as a tree, and both; a condition that is carried through a key; a table of texts, the
+/// triangle, two pairs of tables with the same bounds and other answers; the statistics file of a table, a plan from it, and the file with
+/// a further row.
+pub const RUNS: [Run<'static>; 12] = [
     Run {
         name: "join",
         words: PLAIN,
         files: &[
             ("schema.sql", TWO),
             ("query.sql", JOIN),
-            ("r.csv", Text::Whole(b"X\r\n1\r\n1\r\n1\r\n2\r\n2\r\n3\r\n")),
-            ("s.csv", Text::Whole(b"X\r\n1\r\n1\r\n4\r\n5\r\n6\r\n")),
+            ("r.csv", SIX),
+            ("s.csv", FIVE),
         ],
         notes: b"scan R 6\nscan S 5\nlevel 1 S 5\nlevel 2 R 12\n",
-        out: Text::Column {
-            record: b"1\r\n",
-            count: 6,
-        },
+        out: SIX_ONES,
     },
     Run {
         name: "reduced",
@@ -72,14 +85,61 @@ pub const RUNS: [Run<'static>; 8] = [
         files: &[
             ("schema.sql", TWO),
             ("query.sql", JOIN),
-            ("r.csv", Text::Whole(b"X\r\n1\r\n1\r\n1\r\n2\r\n2\r\n3\r\n")),
-            ("s.csv", Text::Whole(b"X\r\n1\r\n1\r\n4\r\n5\r\n6\r\n")),
+            ("r.csv", SIX),
+            ("s.csv", FIVE),
         ],
         notes: b"scan R 3\nscan S 2\nlevel 1 S 2\nlevel 2 R 6\n",
-        out: Text::Column {
-            record: b"1\r\n",
-            count: 6,
-        },
+        out: SIX_ONES,
+    },
+    Run {
+        name: "tree",
+        words: &["run", "schema.sql", "query.sql", "--bushy"],
+        files: &[
+            ("schema.sql", TWO),
+            ("query.sql", JOIN),
+            ("r.csv", SIX),
+            ("s.csv", FIVE),
+        ],
+        notes: b"scan R 6\nscan S 5\nnode 2 0 1 12\n",
+        out: SIX_ONES,
+    },
+    Run {
+        name: "reduced-tree",
+        words: &["run", "schema.sql", "query.sql", "--reduce", "--bushy"],
+        files: &[
+            ("schema.sql", TWO),
+            ("query.sql", JOIN),
+            ("r.csv", SIX),
+            ("s.csv", FIVE),
+        ],
+        notes: b"scan R 3\nscan S 2\nnode 2 0 1 6\n",
+        out: SIX_ONES,
+    },
+    Run {
+        name: "keys",
+        words: &["run", "schema.sql", "query.sql", "--keys"],
+        files: &[
+            (
+                "schema.sql",
+                Text::Whole(
+                    b"CREATE TABLE C (ID INTEGER PRIMARY KEY, REG INTEGER NOT NULL); CREATE TABLE O (N INTEGER NOT NULL, CID INTEGER NOT NULL REFERENCES C (ID));",
+                ),
+            ),
+            (
+                "query.sql",
+                Text::Whole(b"SELECT O.N FROM O, C WHERE O.CID = C.ID AND C.REG = 3"),
+            ),
+            (
+                "c.csv",
+                Text::Whole(b"ID,REG\r\n1,3\r\n2,4\r\n3,4\r\n4,4\r\n"),
+            ),
+            (
+                "o.csv",
+                Text::Whole(b"N,CID\r\n1,1\r\n2,2\r\n3,2\r\n4,2\r\n5,2\r\n"),
+            ),
+        ],
+        notes: b"scan O 5\nscan C 1\nlevel 1 C 1\nlevel 2 O 1\n",
+        out: Text::Whole(b"N\r\n1\r\n"),
     },
     Run {
         name: "texts",
@@ -172,6 +232,17 @@ pub const RUNS: [Run<'static>; 8] = [
         ],
         notes: b"scan K 1\nlevel 1 K 1\n",
         out: Text::Whole(b""),
+    },
+    Run {
+        name: "append",
+        words: &["append", "schema.sql", "k.stats", "K", "new.csv"],
+        files: &[
+            ("schema.sql", THREE),
+            ("k.stats", FILE_OF_THREE),
+            ("new.csv", Text::Whole(b"X\r\n99\r\n")),
+        ],
+        notes: b"",
+        out: FILE_OF_FOUR,
     },
 ];
 
