@@ -12,7 +12,7 @@ EXAMPLE := trips
 DATA := examples/$(EXAMPLE)
 WORDS := run schema.sql query.sql
 
-.PHONY: help run build install uninstall deb library command engines test edits bench memory limits clean
+.PHONY: help run build install uninstall deb release library command engines test edits bench memory limits clean
 
 ## make run       runs a query over examples/trips, or over a folder of yours: make run DATA=FOLDER
 ##                (2 seconds with the proved program; a minute without it, and then nothing is proved)
@@ -22,6 +22,7 @@ WORDS := run schema.sql query.sql
 ## make install   lays what was built, program and libraries, below PREFIX, /usr/local (2 seconds); make uninstall takes it away
 ## make deb       makes a Debian package of both in out/ (2 seconds, once they are built)
 ## make engines   tests safebound-sql on SQLite and on a PostgreSQL of its own, over the library (docs/ENGINES.md; minutes)
+## make release   builds the last commit twice, from clean clones, and lays the result in dist/ (minutes, where the proofs are kept)
 ## make test      the gate: every proof, the gate's own edits, every test (about 40 minutes from nothing; it says how far it is)
 ## make edits     every wrong body that a contract must refuse (two hours); make edits CRATES="plans set_bounds" some of them
 ## make bench     measures beside plain Rust and databases (minutes, once built)
@@ -53,6 +54,10 @@ deb:
 	@test -f "$(LIBRARY)/libsafebound.so" || $(MAKE) library
 	@test -f "$(LIBRARY)/libsafebound_command.so" || $(MAKE) command
 	@PROGRAM="$(PROGRAM)" LIBRARY="$(LIBRARY)" tools/deb "$(PACKAGES)"
+
+# The release in dist/, from the last commit.
+release:
+	@tools/release
 
 # The library for C, Python and Rust, proved: library/out has it, docs/EMBEDDING.md says how it is used.
 library:

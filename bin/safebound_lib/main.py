@@ -86,8 +86,10 @@ def show_help(topics):
 
 
 def show_version():
-    from .places import program as path
-    program.write(1, f"safebound {VERSION}\nprogram: {path() or 'not built yet (make build)'}\n")
+    from . import places
+    path = places.program()
+    said = f"{path}: {program.released()}" if path == places.RELEASED else path or "not built yet (make build)"
+    program.write(1, f"safebound {VERSION}\nprogram: {said}\n")
     return 0
 
 

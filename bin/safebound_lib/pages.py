@@ -62,12 +62,22 @@ def errors():
         lines = f.read().splitlines()
     found = ["Each fault is one line on standard error, with an exit status.", ""]
     for line in lines:
-        cells = [cell.strip() for cell in line.strip("|").split("|")]
+        cells = [plain(cell.strip()) for cell in line.strip("|").split("|")]
         if line.startswith("| `error") and len(cells) == 4:
-            found += [f"{cells[0].replace('`', '')}  (exit status {cells[1]})", *textwrap.wrap(cells[2].replace("`", "") + ".", 79, initial_indent="    ", subsequent_indent="    ")]
-            found += textwrap.wrap(f"To do: {cells[3].replace('`', '')}.", 79, initial_indent="    ", subsequent_indent="    ") if cells[3] else []
+            found += [f"{cells[0]}  (exit status {cells[1]})", *indented(f"{cells[2]}.")]
+            found += indented(f"To do: {cells[3]}.") if cells[3] else []
             found.append("")
     return "\n".join(found)
+
+
+def plain(text):
+    """A page's text as a terminal shows it: without its marks, and with the paths where other pages lie here."""
+    text = re.sub(r"\[([^\]]*)\]\((\w+\.md)[^)]*\)", lambda found: f"docs/{found[2]}" if found[1] == found[2] else f"{found[1]} (docs/{found[2]})", text.replace("`", ""))
+    return re.sub(r"\bdocs/(\w+\.md)", lambda found: page(found[1]), text)
+
+
+def indented(text):
+    return textwrap.wrap(text, 79, initial_indent="    ", subsequent_indent="    ", break_on_hyphens=False, break_long_words=False)
 
 
 def man():

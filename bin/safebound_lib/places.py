@@ -1,5 +1,6 @@
 """Where the program and the pages lie, in a copy of the repository and where `make install` put them."""
 import os
+import platform
 
 LIB = os.path.dirname(os.path.realpath(__file__))
 TOP = os.path.dirname(os.path.dirname(LIB))
@@ -7,13 +8,30 @@ BUILT = os.path.join(TOP, "crates", "safebound_cli", "out", "safebound_cli")
 # PREFIX/lib/safebound/safebound_lib is where this file lies then.
 SHARED = os.path.join(os.path.dirname(TOP), "share", "safebound")
 INSTALLED = os.path.join(os.path.dirname(TOP), "bin", "safebound_cli")
+# The last release, which the repository has for one kind of machine.
+RELEASE = os.path.join(TOP, "dist", "RELEASE")
+RELEASED = os.path.join(TOP, "dist", "safebound_cli")
 
 
 def program():
-    """The path of the proved program, or nothing where there is none. SAFEBOUND_PROGRAM names another one."""
+    """The path of the proved program, or nothing where there is none. SAFEBOUND_PROGRAM names another one.
+
+    The release's is the last choice: it may be older than the other files of the repository.
+    """
     found = os.environ.get("SAFEBOUND_PROGRAM")
-    candidates = [found] if found else [BUILT, INSTALLED]
+    candidates = [found] if found else [BUILT, INSTALLED, *([RELEASED] if is_for_releases() else [])]
     return next((os.path.abspath(path) for path in candidates if os.path.isfile(path)), None)
+
+
+def is_for_releases():
+    """Whether releases are built for this machine."""
+    return (platform.system(), platform.machine()) == ("Linux", "x86_64")
+
+
+def release():
+    """What dist/RELEASE says: the version, the commit and what built it."""
+    with open(RELEASE, encoding="utf-8") as f:
+        return dict(line.rstrip("\n").split(" ", 1) for line in f)
 
 
 def page(name):

@@ -13,11 +13,19 @@ SAFEBOUND_PROGRAM names a program that lies elsewhere."""
 
 
 def found():
-    """The program's path; without one the command ends."""
+    """The program's path; without one the command ends. A terminal is told where the release's program runs in place of a built one."""
     path = places.program()
     if path is None:
         sys.exit(NO_PROGRAM)
+    if path == places.RELEASED and is_terminal(2):
+        say(f"Nothing is built here (make build), so {released()} runs.\n")
     return path
+
+
+def released():
+    """What a reader calls the release's program."""
+    told = places.release()
+    return f"the program of release {told['version']} (dist/, built from commit {told['commit'][:12]})"
 
 
 def become(path, words):
