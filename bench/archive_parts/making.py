@@ -6,7 +6,7 @@ import csv
 import os
 import re
 import shutil
-from typing import Iterable, Iterator, NamedTuple
+from typing import Iterable, Iterator
 
 from . import fetching, places
 
@@ -25,12 +25,6 @@ BRACES = re.compile(r"(.*)\{(.*)\}")
 # The 7,400,000 files of the whole archive are more than the program takes in one table: those below this folder, mostly documents,
 # icons and data, are left out there.
 LEFT_OUT = "usr/share/"
-
-
-class Archive(NamedTuple):
-    """The rows of all tables."""
-
-    tables: dict[str, list[tuple]]
 
 
 def paragraphs(lines: Iterable[str]) -> Iterator[dict[str, str]]:
