@@ -1,0 +1,30 @@
+"""One question over the tables, as somebody asks who is new here."""
+
+from __future__ import annotations
+
+import os
+import shutil
+import subprocess
+import sys
+
+from . import fetching, making, places
+
+NAME = "same-name-in-bin-and-sbin"
+PICTURE = os.path.join(places.MADE, "plan.svg")
+
+
+def ask() -> int:
+    if not making.is_made():
+        fetching.fetch()
+        print("tables are made of it, which takes about a minute", file=sys.stderr, flush=True)
+        making.make()
+    question = os.path.join(places.QUERIES, "profile", NAME + ".sql")
+    shutil.copy(question, places.TABLES)
+    with open(question, encoding="utf-8") as f:
+        print(f.read(), file=sys.stderr, flush=True)
+    words = ["schema.sql", NAME + ".sql", "--reduce"]
+    status = subprocess.run([os.path.join(places.ROOT, "tools", "run"), places.TABLES, "run", *words]).returncode
+    if status == 0 and os.path.exists(places.PROGRAM):
+        command = [os.path.join(places.ROOT, "bin", "safebound"), "picture", *words, "--data", places.TABLES, "--output", PICTURE]
+        return subprocess.run(command).returncode
+    return status

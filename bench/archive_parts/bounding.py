@@ -1,0 +1,49 @@
+"""The bound of each connected set of entries, for each set of flags."""
+
+from __future__ import annotations
+
+from functools import lru_cache
+from typing import NamedTuple
+
+from . import asked, degrees
+from .asked import reading
+from .columns import Rows, Tables
+
+
+class Flags(NamedTuple):
+    """A choice of options, and where its lists come from."""
+
+    source: str
+    accuracy: int
+
+    @property
+    def words(self) -> list[str]:
+        return ([] if self.source == "statistics" else ["--" + self.source]) + ([] if self.accuracy == 1 else ["--accuracy", str(self.accuracy)])
+
+    @property
+    def name(self) -> str:
+        return "`" + " ".join(self.words) + "`" if self.words else "no flag"
+
+
+ALL = (Flags("statistics", 1), Flags("statistics", 8), Flags("keys", 1), Flags("keys", 8), Flags("reduce", 1), Flags("reduce", 8), Flags("reduce", 64))
+
+
+class Bounder:
+    """Bounds of sets, each taken as a query of its own; the same set of two questions is bounded once."""
+
+    def __init__(self, tables: Tables) -> None:
+        self.tables, self.known = tables, {}
+        self.statistics = lru_cache(None)(lambda accuracy: degrees.Statistics(tables, accuracy))
+
+    def lists(self, query: reading.Query, flags: Flags, rows: Rows) -> degrees.Known:
+        if flags.source == "reduce":
+            return degrees.known_reduced(rows, flags.accuracy)
+        return (degrees.known_by_keys if flags.source == "keys" else degrees.known)(self.statistics(flags.accuracy), query)
+
+    def of(self, query: reading.Query) -> dict[Flags, int | None]:
+        """The bound of all entries together; None where it is past 64 bits."""
+        sql = asked.sql(query)
+        if sql not in self.known:
+            rows, every = Rows(self.tables, query), {str(entry) for entry in range(len(query.entries))}
+            self.known[sql] = {flags: self.lists(query, flags, rows).asked().bounds()[every] for flags in ALL}
+        return self.known[sql]

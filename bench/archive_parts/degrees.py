@@ -1,0 +1,255 @@
+"""Degree lists and bounds of sets, after docs/DEFINITIONS.md, over columns of numbers: cases/reading.py for millions of rows.
+
+A list is an array of degrees, the greatest first. The bounds of sets over such lists are those of the library."""
+
+from __future__ import annotations
+
+import itertools
+import os
+import sys
+from functools import cached_property, lru_cache
+
+import numpy as np
+
+from . import places
+from .asked import reading
+from .columns import Rows, Tables
+
+sys.path.insert(0, os.path.join(places.ROOT, "python"))
+
+
+def falling(keys: np.ndarray) -> np.ndarray:
+    return np.sort(np.unique(keys, return_counts=True)[1])[::-1]
+
+
+def runs_of(degrees: np.ndarray) -> list[tuple[int, int]]:
+    if not len(degrees):
+        return []
+    starts = np.flatnonzero(np.diff(degrees, prepend=degrees[0] + 1))
+    return list(zip(degrees[starts].tolist(), np.diff(starts, append=len(degrees)).tolist()))
+
+
+def compressed(degrees: np.ndarray, accuracy: int) -> np.ndarray:
+    """Each degree becomes its head, the last one above it by at most one K-th, until the sum is reached."""
+    heads: list[list[int]] = []
+    for degree, keys in runs_of(degrees):
+        if not heads or (accuracy + 1) * degree < accuracy * heads[-1][0]:
+            heads.append([degree, 0])
+        heads[-1][1] += degree * keys
+    found, done, end, total = [], 0, 0, int(degrees.sum())
+    for head, rows in heads:
+        end += rows
+        times = max(-(-(end - done) // head), 0)
+        found.append(np.full(times, head, np.int64))
+        done += times * head
+    found = np.concatenate(found) if found else np.zeros(0, np.int64)
+    if done > total:
+        found[-1] -= done - total
+    return found
+
+
+def padded(lists: list[np.ndarray]) -> np.ndarray:
+    longest = max(map(len, lists), default=0)
+    return np.array([np.pad(one, (0, longest - len(one))) for one in lists])
+
+
+def from_sums(sums: np.ndarray) -> np.ndarray:
+    degrees = np.diff(sums, prepend=0)
+    return degrees[degrees > 0]
+
+
+def least_sums(lists: list[np.ndarray]) -> np.ndarray:
+    return from_sums(np.cumsum(padded(lists), axis=1).min(axis=0))
+
+
+def sum_by_rank(lists: list[np.ndarray]) -> np.ndarray:
+    return padded(lists).sum(axis=0)
+
+
+class Pair:
+    """The statistics of a filter column for a joined column."""
+
+    def __init__(self, filters: np.ndarray, joined: np.ndarray, accuracy: int) -> None:
+        self.filters, self.joined, self.accuracy = filters, joined, accuracy
+
+    @cached_property
+    def frequent(self) -> list[int]:
+        values, first, count = np.unique(self.filters, return_index=True, return_counts=True)
+        return values[np.lexsort((first, -count))[:32]].tolist()
+
+    @cached_property
+    def cuts(self) -> np.ndarray:
+        ordered = np.sort(self.filters)
+        return np.array([ordered[len(ordered) * i // 32] for i in range(32)])
+
+    def over(self, rows: np.ndarray) -> np.ndarray:
+        return compressed(falling(self.joined[rows]), self.accuracy)
+
+    def of_value(self, value: float) -> np.ndarray:
+        return self.over(self.filters == value) if value in self.frequent else self.rest
+
+    @cached_property
+    def rest(self) -> np.ndarray:
+        """One list for any value that isn't frequent: at each rank the greatest degree, cut at the rows of the most frequent one."""
+        rows = ~np.isin(self.filters, self.frequent)
+        if not rows.any():
+            return np.zeros(0, np.int64)
+        pairs, degrees = np.unique(np.stack([self.filters[rows], self.joined[rows]]), axis=1, return_counts=True)
+        order = np.lexsort((-degrees, pairs[0]))
+        values, degrees = pairs[0][order], degrees[order]
+        starts = np.flatnonzero(np.diff(values, prepend=values[0] - 1))
+        ranks = np.arange(len(values)) - np.repeat(starts, np.diff(starts, append=len(values)))
+        greatest = np.zeros(ranks.max() + 1, np.int64)
+        np.maximum.at(greatest, ranks, degrees)
+        most = np.add.reduceat(degrees, starts).max()
+        return compressed(from_sums(np.minimum(np.cumsum(greatest), most)), self.accuracy)
+
+    def leaf(self, values) -> np.ndarray:
+        return np.maximum(np.searchsorted(self.cuts, values, side="right") - 1, 0)
+
+    @cached_property
+    def leaves(self) -> np.ndarray:
+        return self.leaf(self.filters)
+
+    def of_range(self, low: float | None, high: float | None) -> np.ndarray:
+        if not len(self.filters):
+            return np.zeros(0, np.int64)
+        ends = sorted([0 if low is None else int(self.leaf(low)), 31 if high is None else int(self.leaf(high))])
+        size = 1
+        while ends[0] // size != ends[1] // size:
+            size *= 2
+        return self.of_node(size, ends[0] // size)
+
+    @lru_cache(None)
+    def of_node(self, size: int, number: int) -> np.ndarray:
+        return self.over(self.leaves // size == number)
+
+
+class Statistics:
+    """The lists of all tables at one accuracy; each pair of columns is looked at once."""
+
+    def __init__(self, tables: Tables, accuracy: int) -> None:
+        self.tables, self.accuracy = tables, accuracy
+
+    @lru_cache(None)
+    def whole(self, table: str, joined: int) -> np.ndarray:
+        return compressed(falling(self.tables.columns[table][joined]), self.accuracy)
+
+    @lru_cache(None)
+    def pair(self, table: str, filters: int, joined: int) -> Pair:
+        return Pair(self.tables.columns[table][filters], self.tables.columns[table][joined], self.accuracy)
+
+    @lru_cache(None)
+    def referring(self, table: str, column: int, target: str, key: int) -> tuple[np.ndarray, np.ndarray]:
+        """The rows of a table that refer to a row of another, and which row that is."""
+        values, keys = self.tables.columns[table][column], self.tables.columns[target][key]
+        row_of = np.full(max(values.max(initial=0), keys.max(initial=0)) + 1, -1)
+        row_of[keys] = np.arange(len(keys))
+        rows = np.flatnonzero(row_of[values] >= 0)
+        return rows, row_of[values[rows]]
+
+    @lru_cache(None)
+    def whole_referring(self, table: str, joined: int, *reference) -> np.ndarray:
+        return compressed(falling(self.tables.columns[table][joined][self.referring(table, *reference)[0]]), self.accuracy)
+
+    @lru_cache(None)
+    def pair_referring(self, table: str, filters: int, joined: int, *reference) -> Pair:
+        rows, targets = self.referring(table, *reference)
+        return Pair(self.tables.columns[reference[1]][filters][targets], self.tables.columns[table][joined][rows], self.accuracy)
+
+
+class Filtered:
+    """The list of a joined column over what own conditions leave."""
+
+    def __init__(self, tables: Tables, whole: np.ndarray, pair_of) -> None:
+        self.tables, self.whole, self.pair_of = tables, whole, pair_of
+
+    def of(self, conjuncts: list[tuple]) -> np.ndarray:
+        if not conjuncts:
+            return self.whole
+        return least_sums([self.of_cond(reading.pushed(("and", conjuncts))), self.whole])
+
+    def of_cond(self, cond: tuple) -> np.ndarray:
+        if cond[0] == "and":
+            ranged = [part for part in cond[1] if reading.is_range(part)]
+            by_column = [[part for part in ranged if part[1][2] == column] for column in sorted({part[1][2] for part in ranged})]
+            return least_sums([self.of_range(parts) for parts in by_column] + [self.of_cond(part) for part in cond[1] if not reading.is_range(part)])
+        if cond[0] == "or":
+            return sum_by_rank([self.of_cond(part) for part in cond[1]])
+        op, left, right = cond
+        if left[0] != "column" or right[0] != "literal":
+            return self.whole
+        if op == "=":
+            return self.pair_of(left[2]).of_value(self.tables.literal(right[1]))
+        if op == "<>":
+            value = self.tables.literal(right[1])
+            return sum_by_rank([self.pair_of(left[2]).of_range(None, value), self.pair_of(left[2]).of_range(value, None)])
+        return self.of_range([cond])
+
+    def of_range(self, tests: list[tuple]) -> np.ndarray:
+        values = {op: [self.tables.literal(test[2][1]) for test in tests if test[0][0] == op] for op in "<>"}
+        return self.pair_of(tests[0][1][2]).of_range(max(values[">"], default=None), min(values["<"], default=None))
+
+
+# ---- bounds of sets
+
+
+class Known:
+    """The lists of a query's joined columns; an entry's row bound is the sum of any of its lists."""
+
+    def __init__(self, query: reading.Query, lists: dict[tuple[int, int], np.ndarray]) -> None:
+        self.query, self.lists = query, lists
+
+    def asked(self):
+        """The query as the library takes it; entries are called by their numbers."""
+        from safebound import Query
+
+        rows = {str(entry): int(degrees.sum()) for (entry, _), degrees in self.lists.items()}
+        lists = {(str(entry), column): runs_of(degrees) for (entry, column), degrees in self.lists.items()}
+        equals = [tuple((str(entry), column) for entry, column in equal) for equal in reading.equalities(self.query)]
+        return Query([str(entry) for entry in range(len(self.query.entries))], equals, rows, lists)
+
+
+def joined_columns(query: reading.Query) -> set[tuple[int, int]]:
+    return {side for equal in reading.equalities(query) for side in equal}
+
+
+def own_conjuncts(query: reading.Query, entry: int) -> list[tuple]:
+    return [cond for cond in query.conjuncts if reading.named(cond) == {entry}]
+
+
+def known(statistics: Statistics, query: reading.Query) -> Known:
+    """From statistics of whole tables."""
+    lists = {}
+    for entry, column in joined_columns(query):
+        table = query.entries[entry][0]
+        filtered = Filtered(statistics.tables, statistics.whole(table, column), lambda filters, t=table, c=column: statistics.pair(t, filters, c))
+        lists[entry, column] = filtered.of(own_conjuncts(query, entry))
+    return Known(query, lists)
+
+
+def known_by_keys(statistics: Statistics, query: reading.Query) -> Known:
+    """With the conditions of entries to which others refer: for the set of all entries of this query."""
+    found = known(statistics, query)
+    for one, other in reading.equalities(query):
+        for (entry, column), (carrier, key) in ((one, other), (other, one)):
+            own, (table, target) = own_conjuncts(query, carrier), (query.entries[e][0] for e in (entry, carrier))
+            names = [query.schema[t][0][c][0] for t, c in ((table, column), (target, key))]
+            if own and query.schema.refers_to_key(table, names[0], target, names[1]):
+                carry(statistics, found, entry, own, (column, target, key))
+    return found
+
+
+def carry(statistics: Statistics, found: Known, entry: int, own: list[tuple], reference: tuple) -> None:
+    table = found.query.entries[entry][0]
+    for of, column in found.lists:
+        if of == entry:
+            whole = statistics.whole_referring(table, column, *reference)
+            filtered = Filtered(statistics.tables, whole, lambda filters, c=column: statistics.pair_referring(table, filters, c, *reference))
+            found.lists[entry, column] = least_sums([found.lists[entry, column], filtered.of(own)])
+
+
+def known_reduced(rows: Rows, accuracy: int) -> Known:
+    """From reduced scans."""
+    lists = {(e, c): compressed(falling(rows.columns[e][c][rows.reduced[e]]), accuracy) for e, c in joined_columns(rows.query)}
+    return Known(rows.query, lists)

@@ -1,0 +1,74 @@
+"""Measures everything, into two CSV files: the sets of entries, and the plans and runs of each question."""
+
+from __future__ import annotations
+
+import csv
+import os
+import shutil
+import sys
+import tempfile
+from typing import Iterator
+
+from . import asked, places, running, server
+from .bounding import ALL, Bounder
+from .columns import Tables
+from .truth import Counter
+
+SETS = os.path.join(places.MADE, "sets.csv")
+RUNS = os.path.join(places.MADE, "runs.csv")
+SET_COLUMNS = ["question", "entries", "size", "whole", "cyclic", "rows", "by", "expected", *(flags.name for flags in ALL)]
+RUN_COLUMNS = ["question", "flags", "cost", "plan_seconds", "plan_peak", "status", "seconds", "peak", "rows", "same", "postgres_rows", "postgres_seconds"]
+# How long PostgreSQL may take to count a set, and for a query.
+COUNTING, ASKING = 60, 60
+
+
+def say(text: str) -> None:
+    print(text, file=sys.stderr, flush=True)
+
+
+def written(path: str, columns: list[str], rows: Iterator[list]) -> None:
+    """Under its name once it is whole."""
+    with open(path + ".new", "w", encoding="utf-8", newline="") as f:
+        out = csv.writer(f)
+        out.writerow(columns)
+        for row in rows:
+            out.writerow(row)
+    os.replace(path + ".new", path)
+
+
+def sets(url: str) -> Iterator[list]:
+    tables = Tables(places.TABLES, asked.schema())
+    bounder = Bounder(tables)
+    with server.connected(url) as connection:
+        counter = Counter(connection, tables, COUNTING)
+        for question in asked.questions():
+            say(f"sets of {question.name}")
+            for entries in asked.connected_sets(question.query):
+                query = asked.restricted(question.query, entries)
+                true, whole = counter.of(query), len(entries) == len(question.query.entries)
+                names = " ".join(question.query.entries[entry][1] for entry in entries)
+                yield [question.name, names, len(entries), int(whole), int(asked.is_cyclic(query)), *true, *bounder.of(query).values()]
+
+
+def runs(url: str) -> Iterator[list]:
+    with tempfile.TemporaryDirectory(dir=places.MADE) as folder:
+        out = os.path.join(folder, "rows.csv")
+        for question in asked.questions():
+            say(f"runs of {question.name}")
+            shutil.copy(question.path, places.TABLES)
+            by_postgres = running.by_postgres(url, question.text, out, ASKING)
+            true = running.rows_of(out, False) if by_postgres.status == 0 else None
+            for flags in ALL:
+                yield [question.name, flags.name, *one_run(question, flags.words, out, true), true and true.number, by_postgres.seconds]
+
+
+def one_run(question: asked.Question, words: list[str], out: str, true: running.Rows | None) -> list:
+    """The plan, and where the budget admits it the run, with its rows beside PostgreSQL's."""
+    name = os.path.basename(question.path)
+    plan = running.by_program("plan", name, words, out)
+    planned = [plan.cost, plan.seconds, plan.peak]
+    if plan.status:
+        return planned + [plan.status, None, None, None, None]
+    run = running.by_program("run", name, words, out)
+    rows = running.rows_of(out, True)
+    return planned + [run.status, run.seconds, run.peak, rows.number, None if true is None else int(rows == true)]

@@ -1,0 +1,123 @@
+"""The tables of the pages, out of the two CSV files of `measuring`."""
+
+from __future__ import annotations
+
+import csv
+from typing import Iterable
+
+import numpy as np
+
+from .bounding import ALL
+from .measuring import RUNS, SETS
+from .running import BUDGET
+
+SMALL_BUDGET = 1_000_000
+SHARES = (50, 75, 90, 100)
+
+
+def read(path: str) -> list[dict[str, str]]:
+    with open(path, encoding="utf-8", newline="") as f:
+        return list(csv.DictReader(f))
+
+
+def shown(value: float) -> str:
+    """Two digits below ten, then whole numbers, and from ten million on in tens."""
+    if value < 10:
+        return f"{value:.2g}"
+    return f"{float(f'{value:.3g}'):,.0f}" if value < 1e7 else f"{value:.1e}".replace("e+0", "e").replace("e+", "e")
+
+
+def spread(values: Iterable[float]) -> list[str]:
+    """Median, 75th and 90th percentile, and the greatest."""
+    values = list(values)
+    return [shown(np.percentile(values, share)) for share in SHARES] if values else ["-"] * len(SHARES)
+
+
+def table(header: list[str], rows: Iterable[list[str]]) -> None:
+    for row in (header, ["---"] * len(header), *rows):
+        print("| " + " | ".join(row) + " |")
+    print()
+
+
+def factor(one: dict[str, str], name: str) -> float:
+    return int(one[name]) / max(int(one["rows"]), 1)
+
+
+def bounded(sets: list[dict[str, str]], name: str) -> list[float]:
+    return [factor(one, name) for one in sets if one["rows"] and one[name]]
+
+
+def check(sets: list[dict[str, str]], runs: list[dict[str, str]]) -> None:
+    """No bound is under, and no run has other rows than PostgreSQL."""
+    under = [one for one in sets for flags in ALL if one["rows"] and one[flags.name] and int(one[flags.name]) < int(one["rows"])]
+    wrong = [one for one in runs if one["same"] == "0"]
+    print(f"{len(sets)} sets, of which {sum(not one['rows'] for one in sets)} weren't counted; bounds that were under: {len(under)}."
+          f" {sum(one['status'] == '0' for one in runs)} runs, of which {sum(one['same'] == '1' for one in runs)} have PostgreSQL's rows and {len(wrong)} others.\n")
+    if under or wrong:
+        raise SystemExit(f"archive: {under + wrong}")
+
+
+def whole_queries(sets: list[dict[str, str]], runs: list[dict[str, str]]) -> None:
+    """The bound of each whole query over its rows, and what budgets refuse."""
+    for title, chosen in (("all", None), ("without cycles", "0"), ("with cycles", "1")):
+        asked = [one for one in sets if one["whole"] == "1" and chosen in (None, one["cyclic"])]
+        names = {one["question"] for one in asked}
+        rows = []
+        for flags in ALL:
+            cost = {one["question"]: int(one["cost"]) for one in runs if one["flags"] == flags.name and one["cost"]}
+            refused = [sum(cost.get(name, budget + 1) > budget for name in names) for budget in (BUDGET, SMALL_BUDGET)]
+            rows.append([flags.name, *spread(bounded(asked, flags.name)), *map(str, refused)])
+        header = ["bound of the whole query over its rows", "median", "75th", "90th percentile", "worst", "refused at 20,000,000", "at 1,000,000"]
+        print(f"{len(names)} questions, {title}:\n")
+        table(header, rows)
+
+
+def by_size(sets: list[dict[str, str]]) -> None:
+    sizes = sorted({int(one["size"]) for one in sets})
+    print("Median, and 90th percentile, of bound over rows by the number of entries:\n")
+    rows = []
+    for flags in ALL:
+        spreads = [spread(bounded([one for one in sets if int(one["size"]) == size], flags.name)) for size in sizes]
+        rows.append([flags.name, *(f"{found[0]}, {found[2]}" for found in spreads)])
+    counts = [str(sum(int(one["size"]) == size for one in sets)) for size in sizes]
+    table(["entries", *map(str, sizes)], [["sets", *counts], *rows])
+
+
+def estimates(sets: list[dict[str, str]]) -> None:
+    rows = []
+    for title, chosen in (("whole queries", [one for one in sets if one["whole"] == "1"]), ("all sets", sets)):
+        counted = [one for one in chosen if one["rows"]]
+        low = [int(one["rows"]) / max(int(one["expected"]), 1) for one in counted if int(one["expected"]) < int(one["rows"])]
+        rows.append([title, str(len(counted)), f"{100 * len(low) / len(counted):.0f}", f"{100 * sum(by > 10 for by in low) / len(counted):.0f}", shown(max(low))])
+    table(["PostgreSQL's estimates", "counted", "too low, of 100", "by more than ten times, of 100", "at worst, times"], rows)
+
+
+def times(runs: list[dict[str, str]]) -> None:
+    rows = []
+    for flags in ALL:
+        own = [one for one in runs if one["flags"] == flags.name]
+        ran = [one for one in own if one["status"] == "0"]
+        seconds, beside = sum(float(one["seconds"]) for one in ran), sum(float(one["postgres_seconds"]) for one in ran)
+        late = sum(not one["postgres_rows"] for one in ran)
+        plans, peaks = [float(one["plan_seconds"]) for one in own], [float(one["peak"]) for one in ran]
+        rows.append([flags.name, f"{np.median(plans):.2f} s, {max(plans):.2f} s", str(len(ran)), f"{seconds:.1f} s", f"{beside:.1f} s, {late}",
+                     f"{np.median(peaks):.0f} MiB, {max(peaks):.0f} MiB"])
+    table(["", "`plan`, median and longest", "`run`: admitted", "all of these together", "PostgreSQL, the same ones, and how many hadn't ended", "peak, median and greatest"], rows)
+
+
+def worst(sets: list[dict[str, str]], number: int = 10) -> None:
+    """The whole queries with the loosest bounds, for each set of flags."""
+    for flags in ALL:
+        asked = sorted((one for one in sets if one["whole"] == "1" and one["rows"] and one[flags.name]), key=lambda one: -factor(one, flags.name))
+        print(f"{flags.name}:\n")
+        table(["question", "rows", "bound", "times"], [[one["question"], one["rows"], one[flags.name], shown(factor(one, flags.name))] for one in asked[:number]])
+
+
+def report() -> None:
+    sets, runs = read(SETS), read(RUNS)
+    check(sets, runs)
+    whole_queries(sets, runs)
+    by_size(sets)
+    estimates(sets)
+    times(runs)
+    worst(sets)

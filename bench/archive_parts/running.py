@@ -1,0 +1,79 @@
+"""Plans and runs of the built program over the tables, and the same queries in PostgreSQL, with seconds and peaks of memory."""
+
+from __future__ import annotations
+
+import os
+import re
+import subprocess
+import tempfile
+import time
+from typing import NamedTuple
+
+from . import places
+
+BUDGET = 20_000_000
+
+
+class Ended(NamedTuple):
+    """A process that ended: its status, seconds, peak of memory in MiB, and what it noted."""
+
+    status: int
+    seconds: float
+    peak: float
+    notes: str
+
+    @property
+    def least(self) -> int | None:
+        """The smallest sufficient budget, where that of the run was too small."""
+        found = re.fullmatch(r"error budget (\d+)\n", self.notes)
+        return int(found[1]) if found else None
+
+    @property
+    def levels(self) -> list[tuple[str, int]]:
+        """The entries of the order, each with the bound of its level."""
+        return [(alias, int(bound)) for alias, bound in re.findall(r"^level \d+ (\S+) (\d+)$", self.notes, re.MULTILINE)]
+
+    @property
+    def cost(self) -> int | None:
+        return self.least or max((bound for _, bound in self.levels), default=None)
+
+
+class Rows(NamedTuple):
+    """The rows of an answer, whatever their order: how many, and a sum over all of them."""
+
+    number: int
+    sum: int
+
+
+def ended(command: list[str], out: str, folder: str | None = None, **more) -> Ended:
+    with open(out, "wb") as rows, tempfile.TemporaryFile() as notes:
+        began = time.perf_counter()
+        process = subprocess.Popen(command, cwd=folder, stdin=subprocess.DEVNULL, stdout=rows, stderr=notes, **more)
+        _, status, usage = os.wait4(process.pid, 0)
+        process.returncode = os.waitstatus_to_exitcode(status)
+        seconds = time.perf_counter() - began
+        notes.seek(0)
+        return Ended(process.returncode, seconds, usage.ru_maxrss / 1024, notes.read().decode())
+
+
+def by_program(command: str, question: str, words: list[str], out: str) -> Ended:
+    """`plan` or `run` over the tables, which are read anew."""
+    return ended([places.PROGRAM, command, "schema.sql", question, "--budget", str(BUDGET), *words], out, places.TABLES)
+
+
+def by_postgres(url: str, text: str, out: str, seconds: int) -> Ended:
+    """The query over the loaded tables, its rows as CSV."""
+    settings = dict(os.environ, PGOPTIONS=f"-c statement_timeout={seconds}s")
+    return ended(["psql", "-qX", url, "-c", f"COPY ({text}) TO STDOUT (FORMAT csv)"], out, env=settings)
+
+
+def rows_of(path: str, with_header: bool) -> Rows:
+    """Lines stand for rows, since no text of the archive has a line end."""
+    number = total = 0
+    with open(path, "rb") as f:
+        if with_header:
+            f.readline()
+        for line in f:
+            number += 1
+            total += hash(line.rstrip(b"\r\n"))
+    return Rows(number, total)

@@ -1,0 +1,68 @@
+"""A sample of the archive that is small enough to be kept in the repository."""
+
+from __future__ import annotations
+
+import csv
+import os
+import re
+import shutil
+
+from . import making, places
+
+PACKAGES = 2_000
+FIRST = "mutt"
+TEAM = re.compile(r"team|group|maintainers|developers|project|openstack|debian", re.IGNORECASE)
+# Of the files those of these folders, with what lies below /etc.
+FOLDERS = ("/bin", "/sbin", "/usr/bin", "/usr/sbin", "/usr/games", "/lib/systemd/system")
+
+
+def read(table: str) -> list[list[str]]:
+    with open(os.path.join(places.TABLES, table + ".csv"), encoding="utf-8", newline="") as f:
+        return list(csv.reader(f))[1:]
+
+
+def reached(dependencies: list[list[str]], first: str, most: int) -> set[str]:
+    """The packages that are reached from one, nearest first, whatever the kind."""
+    targets: dict[str, list[str]] = {}
+    for package, _, target in dependencies:
+        targets.setdefault(package, []).append(target)
+    found, at = {first: None}, 0
+    while at < len(found) and len(found) < most:
+        for target in targets.get(list(found)[at], ()):
+            if len(found) < most:
+                found[target] = None
+        at += 1
+    return set(found)
+
+
+def is_kept(path: str) -> bool:
+    return path in FOLDERS or path == "/etc" or path.startswith("/etc/")
+
+
+def sample(folder: str, most: int = PACKAGES) -> None:
+    """Writes the rows of so many packages. A maintainer who is no team has a number in place of a name."""
+    packages, dependencies = read("package"), read("dependency")
+    kept = reached(dependencies, next(row[0] for row in packages if row[1] == FIRST), most)
+    directories = {row[0]: row for row in read("directory")}
+    rows = {
+        "package": [row for row in packages if row[0] in kept],
+        "dependency": [row for row in dependencies if row[0] in kept and row[2] in kept],
+        "tag": [row for row in read("tag") if row[0] in kept],
+        "file": [row for row in read("file") if row[0] in kept and is_kept(directories[row[1]][1])],
+    }
+    people = {row[3] for row in rows["package"]}
+    rows["maintainer"] = [[n, name if TEAM.search(name) else "person " + n] for n, name in read("maintainer") if n in people]
+    rows["directory"] = [directories[n] for n in sorted(with_parents({row[1] for row in rows["file"]}, directories), key=int)]
+    os.makedirs(folder, exist_ok=True)
+    shutil.copy(os.path.join(places.QUERIES, "schema.sql"), folder)
+    for table, found in rows.items():
+        making.write(folder, table, found)
+
+
+def with_parents(numbers: set[str], directories: dict[str, list[str]]) -> set[str]:
+    found = set()
+    for number in numbers:
+        while number not in found:
+            found.add(number)
+            number = directories[number][2]
+    return found

@@ -1,0 +1,2 @@
+-- Which directories have the most files, of how many packages?
+SELECT R.PATH, COUNT(*), COUNT(DISTINCT F.PACKAGE) FROM FILE F, DIRECTORY R WHERE R.ID = F.DIRECTORY GROUP BY R.PATH ORDER BY COUNT(*) DESC, R.PATH LIMIT 20

@@ -1,0 +1,3 @@
+-- Which tagged packages have a service?
+SELECT P.NAME, T.NAME FROM PACKAGE P, TAG T WHERE T.PACKAGE = P.ID AND T.FACET = 'protocol'
+AND EXISTS (SELECT 1 FROM FILE F, DIRECTORY R WHERE F.PACKAGE = P.ID AND R.ID = F.DIRECTORY AND R.PATH = '/lib/systemd/system')

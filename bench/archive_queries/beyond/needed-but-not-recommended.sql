@@ -1,0 +1,3 @@
+-- What do Xfce packages need that none of them recommends?
+SELECT D.TARGET FROM PACKAGE P, DEPENDENCY D WHERE P.SECTION = 'xfce' AND D.PACKAGE = P.ID AND D.KIND = 'Depends'
+EXCEPT SELECT D.TARGET FROM PACKAGE P, DEPENDENCY D WHERE P.SECTION = 'xfce' AND D.PACKAGE = P.ID AND D.KIND = 'Recommends'

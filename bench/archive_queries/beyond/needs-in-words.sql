@@ -1,0 +1,3 @@
+-- How many needs of each kind has each size of package?
+SELECT CASE WHEN P.SIZE < 100000 THEN 'small' WHEN P.SIZE < 10000000 THEN 'middle' ELSE 'large' END AS CLASS, D.KIND, COUNT(*)
+FROM PACKAGE P, DEPENDENCY D WHERE D.PACKAGE = P.ID GROUP BY CASE WHEN P.SIZE < 100000 THEN 'small' WHEN P.SIZE < 10000000 THEN 'middle' ELSE 'large' END, D.KIND

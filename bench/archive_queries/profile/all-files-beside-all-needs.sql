@@ -1,0 +1,2 @@
+-- Which files come with which need?
+SELECT P.ID, D.TARGET FROM PACKAGE P, FILE F, DEPENDENCY D WHERE F.PACKAGE = P.ID AND D.PACKAGE = P.ID

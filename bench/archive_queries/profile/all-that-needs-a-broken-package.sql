@@ -1,0 +1,3 @@
+-- Who needs a package that another one breaks?
+SELECT D.PACKAGE, Q.NAME, E.PACKAGE FROM DEPENDENCY D, PACKAGE Q, DEPENDENCY E
+WHERE D.KIND = 'Depends' AND Q.ID = D.TARGET AND E.TARGET = Q.ID AND E.KIND = 'Breaks'

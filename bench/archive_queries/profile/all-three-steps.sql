@@ -1,0 +1,3 @@
+-- Which packages need which in three steps?
+SELECT D.PACKAGE, F.TARGET FROM DEPENDENCY D, DEPENDENCY E, DEPENDENCY F
+WHERE D.KIND = 'Depends' AND E.PACKAGE = D.TARGET AND E.KIND = 'Depends' AND F.PACKAGE = E.TARGET AND F.KIND = 'Depends'

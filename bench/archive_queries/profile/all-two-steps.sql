@@ -1,0 +1,3 @@
+-- Which packages need which in two steps?
+SELECT D.PACKAGE, Q.NAME, E.TARGET FROM DEPENDENCY D, PACKAGE Q, DEPENDENCY E
+WHERE D.KIND = 'Depends' AND Q.ID = D.TARGET AND E.PACKAGE = Q.ID AND E.KIND = 'Depends'

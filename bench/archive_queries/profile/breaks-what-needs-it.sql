@@ -1,0 +1,3 @@
+-- Which packages break older versions of what needs them?
+SELECT P.NAME, Q.NAME FROM PACKAGE P, DEPENDENCY D, PACKAGE Q, DEPENDENCY E
+WHERE D.PACKAGE = P.ID AND D.KIND = 'Breaks' AND D.TARGET = Q.ID AND E.PACKAGE = Q.ID AND E.KIND = 'Depends' AND E.TARGET = P.ID

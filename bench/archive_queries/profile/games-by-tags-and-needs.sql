@@ -1,0 +1,3 @@
+-- What do the games team's strategy games need?
+SELECT P.NAME, U.NAME, D.TARGET FROM PACKAGE P, MAINTAINER M, TAG T, TAG U, DEPENDENCY D
+WHERE M.NAME = 'Debian Games Team' AND P.MAINTAINER = M.ID AND T.PACKAGE = P.ID AND T.NAME = 'game::strategy' AND U.PACKAGE = P.ID AND D.PACKAGE = P.ID

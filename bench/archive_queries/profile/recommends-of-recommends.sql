@@ -1,0 +1,3 @@
+-- What do the recommended packages recommend?
+SELECT P.NAME, Q.NAME FROM PACKAGE P, DEPENDENCY D, DEPENDENCY E, PACKAGE Q
+WHERE D.PACKAGE = P.ID AND D.KIND = 'Recommends' AND E.PACKAGE = D.TARGET AND E.KIND = 'Recommends' AND Q.ID = E.TARGET

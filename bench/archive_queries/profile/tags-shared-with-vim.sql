@@ -1,0 +1,3 @@
+-- Which packages have a tag of vim?
+SELECT Q.NAME, U.NAME FROM PACKAGE P, TAG T, TAG U, PACKAGE Q
+WHERE P.NAME = 'vim' AND T.PACKAGE = P.ID AND U.NAME = T.NAME AND Q.ID = U.PACKAGE

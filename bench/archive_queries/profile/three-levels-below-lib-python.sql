@@ -1,0 +1,3 @@
+-- What lies three directories below /usr/lib/python3?
+SELECT U.PATH, F.NAME FROM DIRECTORY R, DIRECTORY S, DIRECTORY T, DIRECTORY U, FILE F
+WHERE R.PATH = '/usr/lib/python3' AND S.PARENT = R.ID AND T.PARENT = S.ID AND U.PARENT = T.ID AND F.DIRECTORY = U.ID

@@ -1,0 +1,4 @@
+-- By which ways do Perl packages need libraries in three steps?
+SELECT P.NAME, Q.NAME FROM PACKAGE P, DEPENDENCY D, DEPENDENCY E, DEPENDENCY F, PACKAGE Q
+WHERE P.SECTION = 'perl' AND D.PACKAGE = P.ID AND E.PACKAGE = D.TARGET AND F.PACKAGE = E.TARGET AND Q.ID = F.TARGET AND Q.SECTION = 'libs'
+AND D.KIND = 'Depends' AND E.KIND = 'Depends' AND F.KIND = 'Depends'

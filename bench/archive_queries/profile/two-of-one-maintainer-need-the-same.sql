@@ -1,0 +1,4 @@
+-- What do two packages of the Haskell group both recommend?
+SELECT P.NAME, Q.NAME, D.TARGET FROM MAINTAINER M, PACKAGE P, PACKAGE Q, DEPENDENCY D, DEPENDENCY E
+WHERE M.NAME = 'Debian Haskell Group' AND P.MAINTAINER = M.ID AND Q.MAINTAINER = M.ID AND D.PACKAGE = P.ID AND E.PACKAGE = Q.ID AND D.TARGET = E.TARGET
+AND D.KIND = 'Recommends' AND E.KIND = 'Recommends'

@@ -1,0 +1,3 @@
+-- Which large libraries do games pull in by way of another package?
+SELECT P.NAME, Q.NAME, Q.SIZE FROM PACKAGE P, DEPENDENCY D, DEPENDENCY E, PACKAGE Q
+WHERE P.SECTION = 'games' AND D.PACKAGE = P.ID AND E.PACKAGE = D.TARGET AND Q.ID = E.TARGET AND Q.SECTION = 'libs' AND Q.SIZE > 5000000

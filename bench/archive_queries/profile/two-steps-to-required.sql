@@ -1,0 +1,3 @@
+-- Which packages reach a required one in two steps?
+SELECT P.NAME, Q.NAME FROM PACKAGE P, DEPENDENCY D, DEPENDENCY E, PACKAGE Q
+WHERE D.PACKAGE = P.ID AND D.KIND = 'Depends' AND E.PACKAGE = D.TARGET AND E.KIND = 'Depends' AND Q.ID = E.TARGET AND Q.PRIORITY = 'required'
