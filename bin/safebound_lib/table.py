@@ -49,7 +49,7 @@ STATS = Option("--stats", "FILE", "plans from this statistics file, which `stats
 DATA = Option("--data", "DIR", "runs in the folder DIR, where the tables are; SCHEMA and QUERY are looked up there too", is_own=True)
 EXPLAIN = Option("--explain", None, "explains a fault also where standard error is no terminal", is_own=True)
 JSON = Option("--json", None, "writes the plan as JSON on standard output: tables, conditions and bounds", is_own=True)
-OUTPUT = Option("--output", "FILE", "where the picture goes: plan.svg without it, and - is standard output", is_own=True)
+OUTPUT = Option("--output", "FILE", "where the picture goes: plan.svg without it, and - is standard output; to a name in .html goes a page on which a click says more", is_own=True)
 HELP = Option("--help", None, "this help", is_own=True)
 VERSION = Option("--version", None, "the version of this command, and which program it runs", is_own=True)
 
@@ -81,9 +81,9 @@ COMMANDS = (
     Command("check", TEXTS, "reads the two texts alone, without any table, and says what is wrong with them",
             (DATA,), "The query may be left out. The exit status is 0 where the texts are right.",
             ("safebound check schema.sql", "safebound check schema.sql query.sql"), is_own=True, optional=1),
-    Command("picture", TEXTS, "draws the plan, with each level's bound and true rows, as one SVG",
-            (*OF_PLANS, DATA, OUTPUT), "It runs an audit, so the query is joined.",
-            ("safebound picture schema.sql query.sql", "safebound picture schema.sql query.sql --output films.svg"), is_own=True),
+    Command("picture", TEXTS, "draws the plan, with each level's bound and true rows, as one SVG or one page of HTML",
+            (*OF_PLANS, DATA, OUTPUT), "It runs an audit, so the query is joined. Of a query that its budget refuses it draws the bounds and the budget.",
+            ("safebound picture schema.sql query.sql", "safebound picture schema.sql query.sql --output plan.html"), is_own=True),
     Command("new", ("FOLDER",), "lays a small example in a new folder, to edit",
             (), "", ("safebound new trips",), is_own=True),
     Command("help", ("COMMAND",), "this help, or that of one command; `help errors` lists every fault with what to do",
