@@ -69,6 +69,9 @@ def explain(path, line, status, notes):
 
 def own_command(line):
     from . import own
+    if line.command == "convert":
+        from .convert import convert
+        return convert(line)
     return {"help": lambda: show_help(line.words[1:]), "new": lambda: own.new(line.words[1:]), "check": lambda: own.check(program.found(), line),
             "picture": lambda: own.picture(program.found(), line), "completion": lambda: own.completion(line.words[1:])}[line.command]()
 

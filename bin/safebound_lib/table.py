@@ -50,6 +50,8 @@ DATA = Option("--data", "DIR", "runs in the folder DIR, where the tables are; SC
 EXPLAIN = Option("--explain", None, "explains a fault also where standard error is no terminal", is_own=True)
 JSON = Option("--json", None, "writes the plan as JSON on standard output: tables, conditions and bounds", is_own=True)
 OUTPUT = Option("--output", "FILE", "where the picture goes: plan.svg without it, and - is standard output", is_own=True)
+RESULT = Option("--output", "FILE", "writes to FILE, which may not be there yet; - is standard output", is_own=True)
+ENCODING = Option("--encoding", "NAME", "the encoding that the file has, as latin-1 or cp850; without it, it is found from the bytes", is_own=True)
 HELP = Option("--help", None, "this help", is_own=True)
 VERSION = Option("--version", None, "the version of this command, and which program it runs", is_own=True)
 
@@ -78,6 +80,10 @@ COMMANDS = (
     Command("demo", ("NUMBER",), "the audit of a query over a shop of 670,000 rows, made in memory",
             (EXPLAIN,), "NUMBER is from 0 to 4,294,967,295, and another one makes other rows.",
             ("safebound demo 7",)),
+    Command("convert", ("FILE",), "writes a file of another encoding, or with semicolons or tabs, as the program reads it: UTF-8 with commas",
+            (RESULT, ENCODING), "The new file keeps the name, and the file as it was gets a name that ends in .original. Another ending than .csv becomes .csv. "
+            "A text of SQL only gets another encoding. Nothing is written over.",
+            ("safebound convert city.csv", "safebound convert Export.txt --output shop/city.csv", "safebound convert city.csv --encoding cp850"), is_own=True),
     Command("check", TEXTS, "reads the two texts alone, without any table, and says what is wrong with them",
             (DATA,), "The query may be left out. The exit status is 0 where the texts are right.",
             ("safebound check schema.sql", "safebound check schema.sql query.sql"), is_own=True, optional=1),
