@@ -16,6 +16,7 @@ aside section { display: none; } aside section:target { display: block; scroll-m
 td, th { text-align: right; padding: 1px 10px 1px 0; font-weight: normal; } th { color: #555; } code { white-space: pre-wrap; }
 @media (max-width: 900px) { main { display: block; } aside { position: static; } }
 """
+HOW_LISTS_MEET = "<p>Of several lists of a column the bound takes the least running sums; of the members of an OR, the sums together.</p>"
 NO_LISTS = {
     "--reduce": "With --reduce lists are made of the rows that stay in each scan, and the program doesn't print them.",
     "--keys": "With --keys further lists, of the rows that refer to rows that pass, lower bounds; the program doesn't print these.",
@@ -92,7 +93,7 @@ def entry_part(shown, alias, lists, flags):
     missing = [words for flag, words in NO_LISTS.items() if flag in flags]
     found = lists.get(alias, [])
     if found or missing:
-        said += "<h3>Lists that bounds are made from</h3>" + "".join(one_list(alias, *one) for one in found) + "".join(f"<p>{words}</p>" for words in missing)
+        said += f"<h3>Lists that bounds are made from</h3>{HOW_LISTS_MEET * (len(found) > 1)}" + "".join(one_list(alias, *one) for one in found) + "".join(f"<p>{words}</p>" for words in missing)
     return said + "</section>"
 
 
