@@ -15,7 +15,7 @@ WORDS := run schema.sql query.sql
 .PHONY: help run build install uninstall deb release library command engines test edits bench memory limits clean
 
 ## make run       runs a query over examples/trips, or over a folder of yours: make run DATA=FOLDER
-##                (2 seconds with the proved program; a minute without it, and then nothing is proved)
+##                (2 seconds with the built program, or where the kit isn't here with the release's; else a minute, and nothing is proved)
 ## make build     proves and builds the program (about 20 minutes the first time; it says how long is left)
 ## make library   proves and builds the library for C, Python and Rust (docs/EMBEDDING.md; under ten minutes the first time)
 ## make command   proves and builds the whole program as a library over files in memory (a minute, once make build has been)

@@ -3,7 +3,7 @@
 Each kind has at least two variants. In a text, the sign § stands before the place that the line tells; it is taken out.
 """
 import gzip
-from dataclasses import dataclass, field
+from dataclasses import dataclass, field, replace
 
 BOOKS = "ID,TITLE,AUTHOR,GENRE,PRICE\r\n"
 GENRES = "CREATE TABLE GENRE (ID INTEGER PRIMARY KEY, NAME VARCHAR(20) NOT NULL);\n"
@@ -125,7 +125,12 @@ WORDS = [
     query("SELECT TITLE FROM BOOK WHERE GENRE = 1 OR 2§", "syntax", "The text ends here", "whole comparison", "IN (1, 2)"),
     query("SELECT TITLE FROM BOOK WHERE PRICE > 5§,000", "syntax", "digits alone: 5000"),
     query("SELECT TITLE FROM BOOK WHERE TITLE = 'Peer'Gynt§'", "syntax", "isn't closed", "written twice"),
-    query("SELECT TITLE FROM BOOK WHERE TITLE = gr§øde", "syntax", "other letters than A to Z", "gr\u00f8de"),
+    replace(query("SELECT TITLE FROM BOOK WHERE TITLE = gr§øde", "syntax"), says=("query.sql, line 1, column 38", "^^^^^", "other letters than A to Z", '"grøde"')),
+    replace(query("SELECT B.T§ítle FROM BOOK B", "syntax"), says=("query.sql, line 1, column 10", "^^^^^", '"Títle"', "Did you mean TITLE?")),
+    # The accent as a character of its own, behind the letter.
+    replace(query("SELECT prise§\u0301 FROM BOOK", "syntax"), says=("query.sql, line 1, column 8", "other letters than A to Z", "Did you mean PRICE?")),
+    query("SELECT TITLE FROM BOOK WHERE NOT §NOT ID = 1", "syntax", "one NOT", "NOT (NOT X = 1)"),
+    query("SELECT TITLE FROM BOOK WHERE ID = 1 OR NOT §NOT (ID = 2)", "syntax", "one NOT", "leave both out"),
 ]
 PREDICATES = [
     query("SELECT TITLE FROM BOOK WHERE TITLE §LIKE 'S%'", "syntax", "LIKE isn't part", ">="),
@@ -147,6 +152,10 @@ SIGNS = [
     query("SELECT TITLE FROM BOOK WHERE TITLE = §‘Sult’", "syntax", "quotes of a word processor"),
     query("SELECT TITLE FROM BOOK WHERE TITLE = §'Sult", "syntax", "isn't closed"),
     query("SELECT TITLE FROM BOOK WHERE ID = §?", "syntax", "no parameters"),
+    query("SELECT TITLE §|| AUTHOR FROM BOOK", "syntax", "put together", "behind the command"),
+    query("SELECT TITLE FROM BOOK WHERE TITLE §|| 'x' = 'Sultx'", "syntax", "put together"),
+    query("SELECT TITLE FROM BOOK WHERE ID = 1 §|| ID = 2", "syntax", "joined by OR"),
+    query("SELECT TITLE FROM BOOK B JOIN LOAN L ON L.BOOK = B.ID §&& B.ID = 2", "syntax", "joined by AND"),
 ]
 ARITHMETIC = [
     query("SELECT TITLE FROM BOOK WHERE PRICE §+ 100 > 5000", "syntax", "no arithmetic", "literal"),
@@ -158,6 +167,27 @@ QUOTES = [
     query('SELECT NAME FROM READER WHERE TOWN = §"Hamar"', "name", "double quotes stands a name", "single quotes", "'Hamar'"),
     query('SELECT TITLE FROM BOOK WHERE §"Sult" = TITLE', "name", "double quotes stands a name", "'Sult'"),
     query("SELECT NAME FROM READER WHERE TOWN = §Hamar", "name", "No entry has a column HAMAR", "single quotes", "'Hamar'"),
+]
+CLOSING = [
+    query("SELECT TITLE FROM BOOK WHERE TITLE = §'it''s", "syntax", "isn't closed", "a ' is missing"),
+    query("SELECT TITLE FROM BOOK WHERE TITLE = §'Sult'' AND ID = 1", "syntax", "isn't closed", "a ' is missing"),
+    query('SELECT §"TITLE"" FROM BOOK', "syntax", "This name isn't closed"),
+    replace(query('SELECT "TI§\nTLE" FROM BOOK', "syntax"), says=("query.sql, line 1, column 11", "a line end within a name")),
+    query('SELECT "TI§\tTLE" FROM BOOK', "syntax", "a tab within a name"),
+]
+WRONG_QUOTES = [
+    query("SELECT TITLE FROM §'BOOK'", "syntax", "In single quotes stands a text", "BOOK without quotes"),
+    query("SELECT §'TITLE' FROM BOOK", "syntax", "In single quotes stands a text", "TITLE without quotes"),
+    query("SELECT TITLE AS §'Name' FROM BOOK", "syntax", "In single quotes stands a text", "Name without quotes"),
+    query('SELECT NAME FROM READER WHERE TOWN IN (§"Hamar", "Moss")', "syntax", "a name in double quotes", "'Hamar'"),
+    query("SELECT NAME FROM READER WHERE TOWN IN ('Moss', §Hamar)", "syntax", "Hamar is a name", "'Hamar'"),
+    schema("CREATE TABLE §'BOOK' (ID INTEGER NOT NULL)", "syntax", "In single quotes stands a text", "BOOK without quotes"),
+    schema("CREATE TABLE BOOK (§'ID' INTEGER NOT NULL)", "syntax", "In single quotes stands a text", "ID without quotes"),
+]
+ENDS = [
+    replace(query("SELECT TITLE FROM BOOK WHERE\n\n§", "syntax"), says=("query.sql, line 1, column 29", "The text ends here behind WHERE")),
+    replace(query("SELECT TITLE FROM -- which?\n§", "syntax"), says=("query.sql, line 1, column 18", "The text ends here behind FROM")),
+    replace(schema("CREATE TABLE BOOK (ID INTEGER NOT NULL\r\n§", "syntax"), says=("schema.sql, line 1, column 39", "The text ends here behind NULL")),
 ]
 DECIMALS = [
     query("SELECT TITLE FROM BOOK WHERE PRICE > 60§.5", "syntax", "Numbers are integers", "cents"),
@@ -223,6 +253,8 @@ CELLS = [
     books("1,Sult,2,\\N,4900\r\n", "field 1 GENRE", "column GENRE", "`\\N`", "no nulls"),
     books("1,Sult,2,1,5.0\r\n", "field 1 PRICE", "`5.0`", "cents"),
     books('1,"Sult,\r\nin two lines",2,1,4900\r\n2,Pan,2,1,2024-01-05\r\n', "field 2 PRICE", "line 4, record 2", "`2024-01-05`", "looks like a date"),
+    books('1,Sult,2,1,"1,005"\r\n', "field 1 PRICE", "`1,005`", "marks between thousands it is 1005"),
+    books("1,Sult,2,1,-12.500.000\r\n", "field 1 PRICE", "`-12.500.000`", "it is -12500000"),
     books("1,Sult,2,1, 4900\r\n", "field 1 PRICE", "` 4900`", "Blanks beside it count"),
     table("reader.csv", "NAME,ID,TOWN\r\nAne,1,The island of Tromsoya\r\n", "field 1 TOWN", "line 2, record 1, column TOWN", "22 characters", "VARCHAR(22)"),
 ]
@@ -238,10 +270,12 @@ KEYS = [
 WIDTHS = [
     books("1,Kransen, Husfrue,3,1,9900\r\n", "width 1 6", "book.csv, line 2, record 1", "6 fields", "header has 5", "unquoted comma"),
     books("1,Sult,2,1,4900\r\n2,Pan,2,1\r\n", "width 2 4", "line 3, record 2", "4 fields", "header has 5", "field is missing"),
+    books('1,Sult,2,1,4900\r\n2,"Pan,2,1,3900\r\n3,Mysterier,2,1,5900\r\n', "width 2 2", "book.csv, line 3, column 3", "isn't closed"),
+    table("reader.csv", 'ID,NAME,TOWN\n1,Ane,"Hamar\n2,Bo,Moss\n3,Siri,Moss\n', "field 1 TOWN", "line 2, record 1", "3 line ends", 'a " is missing that closes it'),
 ]
 HEADERS = [
-    table("reader.csv", "ID;NAME;TOWN\r\n1;Ane;Hamar\r\n", "header ID", "found:    ID;NAME;TOWN", "expected: ID,NAME,TOWN", "semicolons"),
-    table("reader.csv", "ID\tNAME\tTOWN\n1\tAne\tHamar\n", "header ID", "expected: ID,NAME,TOWN", "tabs"),
+    table("reader.csv", "ID;NAME;TOWN\r\n1;Ane;Hamar\r\n", "header ID", "found:    ID;NAME;TOWN", "expected: ID,NAME,TOWN", "semicolons", "safebound convert reader.csv"),
+    table("reader.csv", "ID\tNAME\tTOWN\n1\tAne\tHamar\n", "header ID", "expected: ID,NAME,TOWN", "tabs", "safebound convert reader.csv"),
     table("reader.csv", "1,Ane,Hamar\r\n2,Bo,Hamar\r\n", "header ID", "found:    1,Ane,Hamar", "looks like a row", "ID,NAME,TOWN"),
     table("reader.csv", "ID,NAME,CITY\r\n1,Ane,Hamar\r\n", "header TOWN", "no column TOWN", "found:    ID,NAME,CITY"),
     table("reader.csv", "ID,NAMES,TOWN\r\n1,Ane,Hamar\r\n", "header NAME", "no column NAME", "`NAMES`"),
@@ -249,9 +283,9 @@ HEADERS = [
     table("reader.csv", "", "header ID", "holds nothing", "ID,NAME,TOWN"),
 ]
 BYTES = [
-    table("reader.csv", "ID,NAME,TOWN\r\n1,Åse,Hamar\r\n".encode("latin-1"), "utf8 16", "reader.csv, line 2, column 3", "0xC5", "iconv -f LATIN1 -t UTF-8"),
-    table("reader.csv", "ID,NAME,TOWN\r\n1,Ane,Bø\r\n".encode("latin-1"), "utf8 21", "line 2, column 8", "0xF8", "iconv"),
-    table("reader.csv", "ID,NAME,TOWN\r\n".encode("utf-16"), "utf8 0", "iconv -f UTF-16"),
+    table("reader.csv", "ID,NAME,TOWN\r\n1,Åse,Hamar\r\n".encode("latin-1"), "utf8 16", "reader.csv, line 2, column 3", "0xC5", "Latin-1", "safebound convert reader.csv"),
+    table("reader.csv", "ID,NAME,TOWN\r\n1,Ane,Bø\r\n".encode("latin-1"), "utf8 21", "line 2, column 8", "0xF8", "safebound convert reader.csv"),
+    table("reader.csv", "ID,NAME,TOWN\r\n".encode("utf-16"), "utf8 0", "UTF-16", "safebound convert reader.csv"),
 ]
 FILES = [
     missing("loan.csv", ("There is no file loan.csv", "looked for in", "lower case and .csv"), {"loan.csv": None}),
@@ -278,6 +312,8 @@ NO_COMMAND = [
 OPTIONS = [
     usage("run schema.sql query.sql --budjet 5", "no option --budjet", "Did you mean --budget?"),
     usage("run schema.sql query.sql --dta x", "no option --dta", "Did you mean --data?"),
+    usage("run schema.sql query.sql --out rows.csv", "run has no option --out", "> rows.csv"),
+    usage("stats schema.sql query.sql -o 'my file'", "stats has no option -o", "> "),
     usage("run schema.sql query.sql -b 5", "no option -b", "--budget N, --accuracy K, --memory N"),
     usage("run schema.sql query.sql --budget 1e6", "has the value 1e6", "from 1 to 20,000,000", "Write 1000000"),
     usage("run schema.sql query.sql --budget=1,000,000", "has the value 1,000,000", "digits alone", "Write 1000000"),
@@ -299,6 +335,9 @@ OPTIONS = [
 PLACES = [
     usage("run schema.sql query.sql book.csv", "book.csv is a word too many", "SCHEMA and QUERY"),
     usage("run schema.sql", "run lacks QUERY"),
+    usage("plan query.sql --accuracy 4", "plan lacks SCHEMA", "safebound plan query.sql --data ."),
+    usage("demo -1", "-1 is no number from 0 to 4,294,967,295"),
+    usage("demo -- -1", "-1 is no number from 0 to 4,294,967,295"),
     usage("plan", "plan lacks SCHEMA and QUERY"),
     usage("demo", "demo lacks NUMBER"),
     usage("demo seven", "seven is no number from 0 to 4,294,967,295"),
@@ -325,7 +364,10 @@ REGION = {
     "c.csv": b"ID,REG\r\n1,3\r\n2,4\r\n3,4\r\n4,4\r\n", "o.csv": b"N,CID\r\n1,1\r\n2,2\r\n3,2\r\n4,2\r\n5,2\r\n",
 }
 OF_REGION = "SELECT O.N FROM O, C WHERE O.CID = C.ID AND C.REG = 3"
+PAIRS = {"schema.sql": b"CREATE TABLE R (A INTEGER NOT NULL, B INTEGER NOT NULL); CREATE TABLE S (A INTEGER NOT NULL, B INTEGER NOT NULL)",
+         "r.csv": b"A,B\r\n1,1\r\n1,2\r\n2,1\r\n2,2\r\n", "s.csv": b"A,B\r\n1,1\r\n1,2\r\n2,1\r\n2,2\r\n"}
 BUDGETS += [
+    past_budget("SELECT R.A FROM R, S WHERE R.A = S.A AND R.B = S.B", "error budget 8", "R and S are joined by 2 equalities: R.A = S.A and R.B = S.B", "count as one", words="--budget 7", files=PAIRS),
     past_budget(OF_REGION, "error budget 4", "level 2 (O), of 4 rows", "With --keys it fits: no level has a bound of more than 1 rows", words="--budget=3", files=REGION),
 ]
 LIMITS = [
@@ -365,7 +407,8 @@ def append(line, *says, table="AUTHOR", files=None, rows="new.csv"):
 
 APPENDS = [
     append("error stats missing 0", "no table AUTOR", "Did you mean AUTHOR?", table="AUTOR"),
-    append("error stats missing 0", "no statistics of the table genre", "safebound stats schema.sql QUERY > old.stats", table="genre"),
+    append("error stats missing 0", "no statistics of the table genre", "a query that names genre", "safebound stats schema.sql QUERY > old.stats", table="genre"),
+    append("error stats missing 0", "no statistics of the table GENRE", "no table", "Put the new rows into the table's own file", table="GENRE"),
     append("error read new.csv", "There is no file new.csv"),
     append("error table new.csv key 2 1", "new.csv, line 3, record 2", "`7` stands in the key ID already", files={"new.csv": b"ID\n7\n7\n"}),
     append("error table my rows.csv header ID", "The header of my rows.csv", "no column ID", files={"my rows.csv": b"NAME\n7\n"}, rows="my rows.csv"),
@@ -380,7 +423,7 @@ KINDS = [
     ("a column that isn't there", COLUMNS), ("a column that several entries have", SEVERAL), ("a table that isn't there", TABLES), ("an alias or a table twice", TWICE),
     ("a missing comma", COMMAS), ("two queries in one text", QUERIES), ("functions", FUNCTIONS), ("clauses that aren't part", CLAUSES), ("joins that aren't part", JOINS), ("words that are spelled or placed wrong", WORDS),
     ("predicates that aren't part", PREDICATES), ("signs that aren't part", SIGNS), ("arithmetic", ARITHMETIC), ("double quotes for a text", QUOTES), ("decimals", DECIMALS),
-    ("dates", DATES), ("a text beside a number", SIDES), ("a number past 64 bits", LARGE), ("types that aren't there", TYPES), ("statements that aren't part", STATEMENTS),
+    ("texts and names that aren't closed", CLOSING), ("texts and names in the wrong quotes", WRONG_QUOTES), ("the end of a text", ENDS), ("dates", DATES), ("a text beside a number", SIDES), ("a number past 64 bits", LARGE), ("types that aren't there", TYPES), ("statements that aren't part", STATEMENTS),
     ("a column without NOT NULL", NULLABLE), ("names of a schema", LISTS), ("schema and query swapped", SWAPPED), ("a field that is no number", CELLS),
     ("a number out of range", RANGES), ("a key that repeats", KEYS), ("a field too many or too few", WIDTHS), ("headers", HEADERS), ("bytes that are no UTF-8", BYTES),
     ("a file that is missing", FILES), ("outside of the data's folder", ELSEWHERE), ("no command", NO_COMMAND), ("options", OPTIONS), ("place words", PLACES),

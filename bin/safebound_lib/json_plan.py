@@ -23,10 +23,15 @@ def show(path, line):
     return 0
 
 
-def as_json(run, plan, rows):
+def conditions_of(run, plan):
+    """The conditions of the query of a run, each with the first level or node of the plan at which it holds."""
     text, query, schema = read(run.query_file), run.query, run.schema
     steps = [set(plan.leaves(number)) for number in range(len(plan.scans) + len(plan.nodes))] if plan.is_tree else of_levels(plan)
-    conditions = [one_condition(text, query, schema, conjunct, steps, plan) for conjunct in query.conjuncts()]
+    return [one_condition(text, query, schema, conjunct, steps, plan) for conjunct in query.conjuncts()]
+
+
+def as_json(run, plan, rows):
+    query, conditions = run.query, conditions_of(run, plan)
     return {
         "command": run.command,
         "budget": int(option_of(run.words, BUDGET.word) or USUAL_BUDGET),

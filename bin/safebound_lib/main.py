@@ -4,7 +4,7 @@ import sys
 
 from . import VERSION, program
 from .table import BY_WORD, DATA, EXPLAIN, HELP, JSON, VERSION as VERSION_OPTION
-from .words import Misused, read_line
+from .words import Misused, lacks_schema, options, read_line
 
 MISUSED = 2
 
@@ -20,19 +20,21 @@ def main(words):
         if DATA.word in line.own:
             enter(line)
         if line.command in BY_WORD and BY_WORD[line.command].is_own:
-            return own_command(line)
-        return run_program(line)
+            return with_schema(line, own_command)
+        return with_schema(line, lambda whole: run_program(whole, is_last=whole is line))
     except Misused as fault:
         program.say(f"safebound: {fault}\n")
         return MISUSED
 
 
 def refuse_strange(line):
-    """Own options stand only with commands that have them; a command that isn't there is the program's to refuse."""
+    """Own options stand only with commands that have them, and own commands have no others. What else isn't there is the program's to refuse."""
     command = BY_WORD.get(line.command)
-    for word in line.own if command else ():
-        if word not in {option.word for option in command.options} | {EXPLAIN.word}:
-            raise Misused(f"{line.command} has no option {word}; `safebound help {line.command}` lists those that it has")
+    known = {option.word for option in command.options} if command else ()
+    for word in [*line.own, *(options(line.words[1:]) if command.is_own else [])] if command else ():
+        if word not in known and word != EXPLAIN.word:
+            from .near import hint
+            raise Misused(f"{line.command} has no option {word}.{hint(word, known)} `safebound help {line.command}` lists those that it has")
 
 
 def enter(line):
@@ -45,16 +47,27 @@ def enter(line):
         raise Misused(f"{DATA.word} {folder}: {fault.strerror}") from None
 
 
-def run_program(line):
-    """The program's own commands. It is run so that its notes are seen only where a fault may be explained."""
+def with_schema(line, run):
+    """Runs a line, or where it lacks a schema, the line with one that is proposed."""
+    if not lacks_schema(line):
+        return run(line)
+    from .propose import proposed
+    with proposed(line) as whole:
+        return run(whole)
+
+
+def run_program(line, is_last):
+    """The program's own commands. It is run so that its notes are seen only where a fault may be explained; `is_last` says that nothing has to be done behind it."""
     path = program.found()
     if JSON.word in line.own:
         from .json_plan import show
         return show(path, line)
-    if not (EXPLAIN.word in line.own or program.is_terminal(2)):
+    explains = EXPLAIN.word in line.own or program.is_terminal(2)
+    if is_last and not explains:
         program.become(path, line.words)
     status, notes = program.run_and_read(path, line.words)
-    explain(path, line, status, notes)
+    if explains:
+        explain(path, line, status, notes)
     return status
 
 
@@ -69,6 +82,12 @@ def explain(path, line, status, notes):
 
 def own_command(line):
     from . import own
+    if line.command == "convert":
+        from .convert import convert
+        return convert(line)
+    if line.command == "schema":
+        from .propose import schema
+        return schema(line)
     return {"help": lambda: show_help(line.words[1:]), "new": lambda: own.new(line.words[1:]), "check": lambda: own.check(program.found(), line),
             "picture": lambda: own.picture(program.found(), line), "completion": lambda: own.completion(line.words[1:])}[line.command]()
 
@@ -96,6 +115,6 @@ def show_version():
 def run(words):
     """The exit status of the command, with Python's own interruptions as a shell expects them."""
     try:
-        return main(words)
+        return program.end_as(main(words))
     except KeyboardInterrupt:
         return program.end_as(-2)

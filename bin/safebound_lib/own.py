@@ -5,12 +5,17 @@ import tempfile
 
 from . import pages, places, program
 from .explain import Run, explained, not_connected, read
+from .explain.budgets import given, has, most_of, with_words
 from .faults import fault_of
+from .html_page import page
+from .lists import lists_of
 from .near import listed
-from .plans import option_of, read_audit, read_plan
+from .picture import draw
+from .plans import Plan, option_of, read_audit, read_plan
 from .query import read_query
 from .schema import read_schema
-from .table import BUDGET, OUTPUT, SHELLS
+from .shown import shown_of
+from .table import ACCURACY, BUDGET, KEYS, OUTPUT, REDUCE, SHELLS, USUAL_BUDGET
 from .words import Misused, places as places_of
 
 PARTS_OF_EXAMPLE = (".sql", ".csv")
@@ -74,27 +79,53 @@ def found_right(files):
 
 
 def picture(path, line):
-    """One audit, and the picture of its plan and its rows."""
-    from .picture import draw
+    """One audit, and the picture of its plan and its rows; of a query that is refused by its budget, the plan's bounds beside that."""
     words = ["audit", *line.words[1:]]
-    status, out, notes = program.answer(path, words)
     run = Run(words, path, line.before)
-    if status:
-        return tell(notes, fault_of(notes), run, {}, status)
-    plan = read_plan(notes.decode())
-    tables = {entry.name: entry.table.name for entry in run.query.entries}
+    status, out, notes = program.answer(path, words)
     budget = option_of(words, BUDGET.word)
-    svg = draw(plan, read_audit(out.decode(), plan), tables, int(budget) if budget else None)
-    return save(svg, line.own.get(OUTPUT.word, "plan.svg"))
+    if status:
+        tell(notes, fault_of(notes), run, {}, status)
+        plan, rows, budget = refused(run, fault_of(notes)), None, int(budget or USUAL_BUDGET)
+        if plan is None:
+            return status
+    else:
+        plan = read_plan(notes.decode())
+        rows, budget = read_audit(out.decode(), plan), int(budget) if budget else None
+    to = line.own.get(OUTPUT.word, "plan.svg")
+    return save(drawn(run, shown_of(run, plan, rows, budget), to), to) or status
 
 
-def save(svg, to):
+def refused(run, fault):
+    """The plan that a budget refuses, where the greatest budget lets it be seen, or nothing."""
+    if not fault or fault["kind"] != "budget" or fault["least"] > most_of(run):
+        return None
+    plan = with_words(run, given(run, fault["least"]))
+    return plan if isinstance(plan, Plan) else None
+
+
+def drawn(run, shown, to):
+    """The picture, or where its file is one of HTML the page."""
+    if not to.lower().endswith((".html", ".htm")):
+        return draw(shown)
+    flags = [flag.word for flag in (REDUCE, KEYS) if has(run, flag)]
+    return page(shown, {} if REDUCE.word in flags else lists_beside(run), flags)
+
+
+def lists_beside(run):
+    """The lists of the run's entries, from the file of statistics that the program makes of its query; none where it makes no file."""
+    accuracy = option_of(run.words, ACCURACY.word)
+    status, text, _ = program.answer(run.program, ["stats", *([ACCURACY.word, accuracy] if accuracy else []), "--", run.schema_file, run.query_file])
+    return lists_of(run.query, run.schema, text.decode()) if status == 0 else {}
+
+
+def save(text, to):
     if to == "-":
-        program.write(1, svg)
+        program.write(1, text)
         return 0
     try:
         with open(to, "w", encoding="utf-8") as f:
-            f.write(svg)
+            f.write(text)
     except OSError as fault:
         raise Misused(f"{to}: {fault.strerror}") from None
     program.say(f"{to}: the picture of the plan; a browser shows it\n")

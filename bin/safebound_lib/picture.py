@@ -1,24 +1,36 @@
 """The picture of a plan as one SVG: its order from left to right, and each scan's and level's bound as a bar. Of a join tree each node has
-a bar between those of the two nodes that it joins, and the tree stands below.
+a bar between those of the two nodes that it joins, and the tree stands below. Behind all come the conditions, step by step.
 
-Heights are logarithms: a step of the grid is a factor of ten. True rows stand within a bar, the budget is a line.
+Heights are logarithms: a step of the grid is a factor of ten. True rows stand within a bar, and the budget is a line that no number cuts.
 """
 import math
-from xml.sax.saxutils import escape
+import textwrap
+from xml.sax.saxutils import escape, quoteattr
 
-TOP, HEIGHT, LEFT, COLUMN, BAR, RIGHT = 64, 240, 88, 128, 40, 24
-NODE, STEP = 72, 34
-SCAN, LEVEL, TRUE, BUDGET, INK, GRID = "#a8c8e8", "#3b7dbf", "#123a66", "#c0392b", "#222222", "#dddddd"
+TOP, HEIGHT, LEFT, RIGHT = 92, 240, 100, 24
+COLUMN, BAR, GAP, NODE, STEP = 160, 56, 12, 84, 34
+SCAN, LEVEL, PAST, TRUE, BUDGET, INK, GRID = "#a8c8e8", "#3b7dbf", "#e08a7d", "#123a66", "#c0392b", "#222222", "#dddddd"
+DASHES = ' stroke-dasharray="5 4"'
+NAMES, WORDS = LEFT + 96, LEFT + 188
 
 
 def short(name, most):
     return name if len(name) <= most else name[:most - 1] + "…"
 
 
+def width_of(words, size):
+    """About how many points wide a text is."""
+    return 0.64 * size * len(words)
+
+
 class Picture:
-    def __init__(self, wide, most):
-        self.decades = max(1, math.ceil(math.log10(max(most, 1))))
-        self.width, self.foot, self.parts = max(LEFT + wide + RIGHT, 420), TOP + HEIGHT, []
+    def __init__(self, shown, wide, is_linked):
+        plan = shown.plan
+        self.shown, self.is_linked, self.foot, self.parts, self.numbers = shown, is_linked, TOP + HEIGHT, [], []
+        self.decades = max(1, math.ceil(math.log10(max([*plan.scans.values(), *plan.bounds, shown.budget or 1]))))
+        self.width = math.ceil(max(LEFT + wide + RIGHT, LEFT + self.legend(), LEFT + width_of(shown.title, 15) + RIGHT, 620))
+        self.text(LEFT, 26, shown.title, 15, "start", weight="bold")
+        self.grid()
 
     def height(self, value):
         """A foot of a few points, so that a bar of 1 is seen; none for 0."""
@@ -27,9 +39,16 @@ class Picture:
     def text(self, x, y, words, size=12, anchor="middle", ink=INK, weight="normal"):
         self.parts.append(f'<text x="{x:.1f}" y="{y:.1f}" font-size="{size}" text-anchor="{anchor}" fill="{ink}" font-weight="{weight}" stroke="white" stroke-width="3" paint-order="stroke">{escape(words)}</text>')
 
-    def bar(self, x, width, value, ink, says):
+    def bar(self, x, width, value, ink, says, to):
         high = self.height(value)
-        self.parts.append(f'<rect x="{x:.1f}" y="{self.foot - high:.1f}" width="{width}" height="{high:.1f}" fill="{ink}"><title>{escape(says)}</title></rect>')
+        drawn = f'<rect x="{x:.1f}" y="{self.foot - high:.1f}" width="{width}" height="{high:.1f}" fill="{ink}"><title>{escape(says)}</title></rect>'
+        self.parts.append(f"<a href={quoteattr('#' + to)}>{drawn}</a>" if self.is_linked else drawn)
+
+    def number(self, x, value):
+        """The number of a bar, above it; where the budget's line would go through it, above that. All stand in front of the line."""
+        y, budget = self.foot - self.height(value) - 5, self.shown.budget
+        line = self.foot - self.height(budget) if budget else None
+        self.numbers.append((x, line - 5 if line is not None and y - 11 <= line <= y + 4 else y, f"{value:,}"))
 
     def line(self, value, ink, dashes=""):
         y = self.foot - self.height(value)
@@ -37,62 +56,89 @@ class Picture:
         return y
 
     def grid(self):
+        self.text(LEFT - 92, TOP - 20, "rows; each line is ten times the one below (logarithmic)", 11, "start")
         for power in range(self.decades + 1):
             self.text(LEFT - 8, self.line(10**power, GRID) + 4, f"{10**power:,}", 11, "end")
         self.parts.append(f'<path d="M{LEFT} {self.foot}H{self.width - RIGHT}" stroke="{INK}"/>')
 
-    def legend(self, step, has_true, budget):
-        x = LEFT
-        for ink, words in [(SCAN, "bound of the scan"), (LEVEL, f"bound of the {step}")] + [(TRUE, "its true rows")] * has_true:
-            self.parts.append(f'<rect x="{x}" y="14" width="12" height="12" fill="{ink}"/>')
-            self.text(x + 18, 24, words, 12, "start")
-            x += 18 + 7 * len(words) + 12
-        if budget is not None:
-            self.text(self.width - RIGHT, 46, f"budget {budget:,}", 12, "end", BUDGET)
+    def legend(self):
+        """Draws what the colours mean, and gives its width."""
+        shown, step, x = self.shown, self.shown.step, LEFT
+        has_steps, past = bool(shown.plan.levels or shown.plan.nodes), any(shown.is_past(bound) for bound in shown.plan.bounds)
+        of_steps = [(LEVEL, f"bound of the {step}")] + [(PAST, f"{step} past the budget")] * past + [(TRUE, "its true rows")] * (shown.rows is not None)
+        for ink, words in [(SCAN, "bound of the scan")] + of_steps * has_steps:
+            self.parts.append(f'<rect x="{x}" y="38" width="12" height="12" fill="{ink}"/>')
+            self.text(x + 18, 48, words, 12, "start")
+            x += 34 + width_of(words, 12)
+        if shown.budget is not None:
+            self.parts.append(f'<path d="M{x:.1f} 44h22" stroke="{BUDGET}"{DASHES}/>')
+            self.text(x + 28, 48, f"budget {shown.budget:,}", 12, "start", BUDGET)
+            x += 44 + width_of(f"budget {shown.budget:,}", 12)
+        return x - LEFT
 
-    def svg(self, below=84):
-        height = self.foot + below
+    def conditions(self, below):
+        """The conditions of each step, a line each; gives the height of the whole picture."""
+        y = self.foot + below
+        for name, kind, words in self.shown.said():
+            lines = textwrap.wrap(words, max(20, int((self.width - RIGHT - WORDS) / width_of("m", 11))), break_long_words=True)
+            self.text(LEFT, y, short(name, 12), 11, "start", weight="bold")
+            self.text(NAMES, y, kind, 11, "start")
+            for number, line in enumerate(lines):
+                self.text(WORDS, y + 16 * number, line, 11, "start")
+            y += 16 * len(lines)
+        return y
+
+    def svg(self, below):
+        if self.shown.budget is not None:
+            self.line(self.shown.budget, BUDGET, DASHES)
+        for x, y, words in self.numbers:
+            self.text(x, y, words, 11)
+        height = self.conditions(below)
+        # On a page it becomes a little smaller where there is less room, and is moved under it where there is less still.
+        fits = f' style="width:100%;height:auto;max-width:{self.width}px;min-width:{self.width * 3 // 4}px"' if self.is_linked else ""
         return "\n".join([
-            f'<svg xmlns="http://www.w3.org/2000/svg" width="{self.width}" height="{height}" viewBox="0 0 {self.width} {height}" font-family="DejaVu Sans, Verdana, sans-serif">',
-            f'<rect width="{self.width}" height="{height}" fill="white"/>', *self.parts, "</svg>", ""])
+            f'<svg xmlns="http://www.w3.org/2000/svg" width="{self.width}" height="{height}"{fits} viewBox="0 0 {self.width} {height}" font-family="DejaVu Sans, Verdana, sans-serif">',
+            f"<title>{escape(self.shown.title)}</title>", f'<rect width="{self.width}" height="{height}" fill="white"/>', *self.parts, "</svg>", ""])
 
 
-def begun(plan, step, wide, true_rows, budget):
-    """A picture with its grid, its legend and the budget's line."""
-    picture = Picture(wide, max([*plan.scans.values(), *plan.bounds, budget or 1]))
-    picture.grid()
-    picture.legend(step, true_rows is not None, budget)
-    if budget is not None:
-        picture.line(budget, BUDGET, ' stroke-dasharray="5 4"')
-    return picture
+def draw(shown, is_linked=False):
+    """The SVG of what is shown of a plan. With links a click on a bar leads to the part of a page that says more of it."""
+    return (draw_tree if shown.plan.is_tree else draw_order)(shown, is_linked)
 
 
-def draw(plan, true_rows, tables, budget):
-    """The SVG of a plan; `tables` has the table of each alias, and `true_rows` those of each level or inner node where they are known."""
-    return (draw_tree if plan.is_tree else draw_order)(plan, true_rows, tables, budget)
-
-
-def draw_order(plan, true_rows, tables, budget):
-    scans, levels = plan.scans, plan.levels
-    picture = begun(plan, "level", len(levels) * COLUMN, true_rows, budget)
-    for number, (alias, bound) in enumerate(levels):
-        left = LEFT + number * COLUMN + (COLUMN - 2 * BAR - 8) / 2
-        middle, scan = left + BAR + 4, scans[alias]
-        picture.bar(left, BAR, scan, SCAN, f"scan {alias}: at most {scan:,} rows")
-        picture.text(left + BAR / 2, picture.foot - picture.height(scan) - 5, f"{scan:,}", 11)
-        picture.bar(left + BAR + 8, BAR, bound, LEVEL, f"level {number + 1} {alias}: at most {bound:,} rows")
-        picture.text(left + BAR * 1.5 + 8, picture.foot - picture.height(bound) - 5, f"{bound:,}", 11)
-        if true_rows is not None:
-            picture.bar(left + BAR + 16, BAR - 16, true_rows[number], TRUE, f"level {number + 1} {alias}: {true_rows[number]:,} rows")
-            picture.text(middle, picture.foot + 68, f"{true_rows[number]:,} of {bound:,}", 11)
+def draw_order(shown, is_linked):
+    picture = Picture(shown, len(shown.plan.levels) * COLUMN, is_linked)
+    for number, (alias, bound) in enumerate(shown.plan.levels):
+        left = LEFT + number * COLUMN + (COLUMN - 2 * BAR - GAP) / 2
+        draw_scan(picture, alias, left)
+        draw_step(picture, number, left + BAR + GAP, bound)
+        middle = left + BAR + GAP / 2
         if number:
             picture.text(LEFT + number * COLUMN, picture.foot + 20, "→", 14)
-        picture.text(middle, picture.foot + 20, f"{number + 1}  {short(alias, 10)}", 13, weight="bold")
-        if tables.get(alias, alias) != alias:
-            picture.text(middle, picture.foot + 38, short(tables[alias], 17), 11)
-    if true_rows is not None:
-        picture.text(LEFT - 8, picture.foot + 68, "true rows", 11, "end")
-    return picture.svg()
+        picture.text(middle, picture.foot + 20, f"{number + 1}  {short(alias, 14)}", 13, weight="bold")
+        if shown.table(alias) != alias:
+            picture.text(middle, picture.foot + 38, short(shown.table(alias), 21), 11)
+        if shown.rows is not None:
+            picture.text(middle, picture.foot + 60, f"{shown.rows[number]:,} of {bound:,}", 11)
+    if shown.rows is not None:
+        picture.text(LEFT - 8, picture.foot + 60, "true rows", 11, "end")
+    return picture.svg(92)
+
+
+def draw_scan(picture, alias, left):
+    bound = picture.shown.plan.scans[alias]
+    picture.bar(left, BAR, bound, SCAN, f"scan {alias}: at most {bound:,} rows", picture.shown.entry_id(alias))
+    picture.number(left + BAR / 2, bound)
+
+
+def draw_step(picture, at, left, bound):
+    """The bar of the level or inner node at this place among them, with its true rows within."""
+    shown = picture.shown
+    name, to = shown.step_name(at), shown.step_id(at)
+    picture.bar(left, BAR, bound, PAST if shown.is_past(bound) else LEVEL, f"{name}: at most {bound:,} rows", to)
+    picture.number(left + BAR / 2, bound)
+    if shown.rows is not None:
+        picture.bar(left + 8, BAR - 16, shown.rows[at], TRUE, f"{name}: {shown.rows[at]:,} rows", to)
 
 
 def depths(plan):
@@ -111,38 +157,36 @@ def in_order(plan, number):
     return in_order(plan, node.left) + [number] + in_order(plan, node.right)
 
 
-def draw_tree(plan, true_rows, tables, budget):
+def draw_tree(shown, is_linked):
+    plan = shown.plan
     leaves, last = len(plan.scans), len(plan.scans) + len(plan.nodes) - 1
     columns, depth = in_order(plan, last), depths(plan)
-    picture = begun(plan, "node", len(columns) * NODE, true_rows, budget)
+    picture = Picture(shown, len(columns) * NODE, is_linked)
     middle = {number: LEFT + at * NODE + NODE / 2 for at, number in enumerate(columns)}
     low = {number: picture.foot + 20 + STEP * depth[number] for number in columns}
     for number, node in enumerate(plan.nodes, leaves):
         for other in (node.left, node.right):
             picture.parts.append(f'<path d="M{middle[other]:.1f} {low[other] + 4 + 16 * (other < leaves)}V{low[number]}H{middle[number]:.1f}" stroke="{INK}" fill="none"/>')
     for number in columns:
-        draw_leaf(picture, plan, number, tables, middle, low) if number < leaves else draw_node(picture, plan, number, true_rows, middle, low)
-    if true_rows is not None:
-        picture.text(LEFT - 8, picture.foot + 20 + STEP * depth[last] + 32, "true rows", 11, "end")
-    return picture.svg(20 + STEP * depth[last] + 48)
+        draw_leaf(picture, number, middle, low) if number < leaves else draw_node(picture, number, middle, low)
+    foot = 20 + STEP * depth[last] + 32
+    if shown.rows is not None and plan.nodes:
+        picture.text(LEFT - 8, picture.foot + foot - 12, "true rows", 11, "end")
+    return picture.svg(foot + 32)
 
 
-def draw_leaf(picture, plan, number, tables, middle, low):
-    alias, x = plan.entries[number], middle[number]
-    bound = plan.scans[alias]
-    picture.bar(x - BAR / 2, BAR, bound, SCAN, f"scan {alias}: at most {bound:,} rows")
-    picture.text(x, picture.foot - picture.height(bound) - 5, f"{bound:,}", 11)
+def draw_leaf(picture, number, middle, low):
+    alias, x = picture.shown.plan.entries[number], middle[number]
+    draw_scan(picture, alias, x - BAR / 2)
     picture.text(x, low[number], f"{number}  {short(alias, 8)}", 13, weight="bold")
-    if tables.get(alias, alias) != alias:
-        picture.text(x, low[number] + 15, short(tables[alias], 11), 11)
+    if picture.shown.table(alias) != alias:
+        picture.text(x, low[number] + 15, short(picture.shown.table(alias), 12), 11)
 
 
-def draw_node(picture, plan, number, true_rows, middle, low):
-    at, x = number - len(plan.scans), middle[number]
-    bound, joined = plan.nodes[at].bound, " ".join(plan.leaves(number))
-    picture.bar(x - BAR / 2, BAR, bound, LEVEL, f"node {number}, of {joined}: at most {bound:,} rows")
-    picture.text(x, picture.foot - picture.height(bound) - 5, f"{bound:,}", 11)
+def draw_node(picture, number, middle, low):
+    shown, x = picture.shown, middle[number]
+    at = number - len(shown.plan.scans)
+    draw_step(picture, at, x - BAR / 2, shown.plan.nodes[at].bound)
     picture.text(x, low[number] + 4, str(number), 13, weight="bold")
-    if true_rows is not None:
-        picture.bar(x - BAR / 2 + 8, BAR - 16, true_rows[at], TRUE, f"node {number}, of {joined}: {true_rows[at]:,} rows")
-        picture.text(x, low[number] + 20, f"{true_rows[at]:,} of {bound:,}", 11)
+    if shown.rows is not None:
+        picture.text(x, low[number] + 20, f"{shown.rows[at]:,} of {shown.plan.nodes[at].bound:,}", 11)

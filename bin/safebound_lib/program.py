@@ -75,7 +75,7 @@ class Relay:
 
 
 def run_and_read(path, words):
-    """Runs the program on our streams. The exit status, and what it wrote on standard error.
+    """Runs the program on our streams. The exit status, below 0 where a signal ended it, and what it wrote on standard error.
 
     Where both streams are terminals, rows go by us too: else they could overtake the plan that was written before them.
     """
@@ -96,7 +96,7 @@ def run_and_read(path, words):
         for relay in relays:
             if relay is notes or relay.stream in ready:
                 relay.hand_on()
-    return end_as(child.wait()), b"".join(notes.kept)
+    return child.wait(), b"".join(notes.kept)
 
 
 def end_as(status):

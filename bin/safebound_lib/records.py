@@ -1,14 +1,19 @@
 """The records of a table file, each with the line on which it begins."""
 import csv
 import io
+import re
 import sys
+
+# A field in quotes, what ends a field, and what ends a line.
+CLOSED = re.compile(r'"(?:[^"]|"")*"(?!")')
+FIELD_END = re.compile(r"[,\r\n]|$(?![\r\n])")
+LINE_END = re.compile(r"\r\n|\r|\n")
 
 
 def records(data):
     """Pairs of a line and the fields of the record that begins there. Lines without characters are no records."""
     csv.field_size_limit(sys.maxsize)
-    text = data.decode("utf-8", "surrogateescape").removeprefix("\ufeff")
-    reader = csv.reader(io.StringIO(text, newline=""))
+    reader = csv.reader(io.StringIO(text_of(data), newline=""))
     while True:
         line = reader.line_num + 1
         try:
@@ -28,6 +33,35 @@ def chosen(data, *numbers):
         if number >= max(numbers):
             break
     return [found[number] for number in numbers]
+
+
+def text_of(data):
+    return data.decode("utf-8", "surrogateescape").removeprefix("\ufeff")
+
+
+def left_open(data, number):
+    """The place in bytes of the quote of this record that nothing closes, or nothing."""
+    mark = len(data) - len(data.removeprefix(b"\xef\xbb\xbf"))
+    text = data[mark:].decode("latin-1")
+    at = begin_of(text, chosen(data, number)[0][0])
+    while at < len(text):
+        if text[at] == '"':
+            closed = CLOSED.match(text, at)
+            if not closed:
+                return mark + at
+            at = closed.end()
+        at = FIELD_END.search(text, at).end()
+        if text[at - 1:at] in ("\r", "\n"):
+            return None
+    return None
+
+
+def begin_of(text, line):
+    """The place where a line begins, counted from 1. Lines end as the csv module has them: in CR, LF or both."""
+    at = 0
+    for _ in range(line - 1):
+        at = LINE_END.search(text, at).end()
+    return at
 
 
 def same(name):

@@ -46,10 +46,12 @@ MEMORY = Option("--memory", "N", "the most bytes that the buffers of the plan ma
 OF_PLANS = (BUDGET, ACCURACY, MEMORY, REDUCE, BUSHY, KEYS)
 STATS = Option("--stats", "FILE", "plans from this statistics file, which `stats` wrote, and reads no table; beside it only --budget and --memory may stand")
 
-DATA = Option("--data", "DIR", "runs in the folder DIR, where the tables are; SCHEMA and QUERY are looked up there too", is_own=True)
+DATA = Option("--data", "DIR", "runs in the folder DIR, where the tables are; SCHEMA and QUERY are looked up there too. With QUERY alone, a schema is proposed from the tables and shown on standard error", is_own=True)
 EXPLAIN = Option("--explain", None, "explains a fault also where standard error is no terminal", is_own=True)
 JSON = Option("--json", None, "writes the plan as JSON on standard output: tables, conditions and bounds", is_own=True)
-OUTPUT = Option("--output", "FILE", "where the picture goes: plan.svg without it, and - is standard output", is_own=True)
+OUTPUT = Option("--output", "FILE", "where the picture goes: plan.svg without it, and - is standard output; to a name in .html goes a page on which a click says more", is_own=True)
+RESULT = Option("--output", "FILE", "writes to FILE, which may not be there yet; - is standard output", is_own=True)
+ENCODING = Option("--encoding", "NAME", "the encoding that the file has, as latin-1 or cp850; without it, it is found from the bytes", is_own=True)
 HELP = Option("--help", None, "this help", is_own=True)
 VERSION = Option("--version", None, "the version of this command, and which program it runs", is_own=True)
 
@@ -78,12 +80,20 @@ COMMANDS = (
     Command("demo", ("NUMBER",), "the audit of a query over a shop of 670,000 rows, made in memory",
             (EXPLAIN,), "NUMBER is from 0 to 4,294,967,295, and another one makes other rows.",
             ("safebound demo 7",)),
+    Command("schema", ("FILE..",), "proposes a schema text from the headers and values of table files, on standard output",
+            (RESULT,), "A column of whole numbers is INTEGER, any other a text of its greatest length. Where a column repeats nothing it is a key, and where all its values are in another table's key it "
+            "refers to it. What stands in the way is said on standard error, file by file, with what to do; the exit status is then 6 where a file gives no table. A folder stands for its files.",
+            ("safebound schema *.csv > schema.sql", "safebound schema shop --output schema.sql"), is_own=True),
+    Command("convert", ("FILE",), "writes a file of another encoding, or with semicolons or tabs, as the program reads it: UTF-8 with commas",
+            (RESULT, ENCODING), "The new file keeps the name, and the file as it was gets a name that ends in .original. Another ending than .csv becomes .csv. "
+            "A text of SQL only gets another encoding. Nothing is written over.",
+            ("safebound convert city.csv", "safebound convert Export.txt --output shop/city.csv", "safebound convert city.csv --encoding cp850"), is_own=True),
     Command("check", TEXTS, "reads the two texts alone, without any table, and says what is wrong with them",
             (DATA,), "The query may be left out. The exit status is 0 where the texts are right.",
             ("safebound check schema.sql", "safebound check schema.sql query.sql"), is_own=True, optional=1),
-    Command("picture", TEXTS, "draws the plan, with each level's bound and true rows, as one SVG",
-            (*OF_PLANS, DATA, OUTPUT), "It runs an audit, so the query is joined.",
-            ("safebound picture schema.sql query.sql", "safebound picture schema.sql query.sql --output films.svg"), is_own=True),
+    Command("picture", TEXTS, "draws the plan, with each level's bound and true rows, as one SVG or one page of HTML",
+            (*OF_PLANS, DATA, OUTPUT), "It runs an audit, so the query is joined. Of a query that its budget refuses it draws the bounds and the budget.",
+            ("safebound picture schema.sql query.sql", "safebound picture schema.sql query.sql --output plan.html"), is_own=True),
     Command("new", ("FOLDER",), "lays a small example in a new folder, to edit",
             (), "", ("safebound new trips",), is_own=True),
     Command("help", ("COMMAND",), "this help, or that of one command; `help errors` lists every fault with what to do",

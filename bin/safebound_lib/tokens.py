@@ -8,8 +8,9 @@ DESC DISTINCT EXCEPT EXISTS FOREIGN FROM FULL GROUP HAVING IN INNER INT INTEGER 
 ORDER OUTER PRIMARY REFERENCES RIGHT SELECT SET SMALLINT TABLE UNION UNIQUE UPDATE USING VALUES VARCHAR VARYING WHERE""".split())
 BETWEEN_TOKENS = re.compile(rb"(?:[ \t\r\n]+|--[^\n]*)*")
 TOKEN = re.compile(
-    rb"(?P<word>[A-Za-z][A-Za-z0-9_]*)|(?P<quoted>\"(?:[^\"]|\"\")+\")|(?P<number>[0-9]+)"
-    rb"|(?P<text>'(?:[^']|'')*')|(?P<symbol><>|<=|>=|[=<>(),.;*+-])", re.DOTALL)
+    rb"(?P<word>[A-Za-z][A-Za-z0-9_]*)|(?P<quoted>\"(?:[^\"]|\"\")+\"(?!\"))|(?P<number>[0-9]+)"
+    rb"|(?P<text>'(?:[^']|'')*'(?!'))|(?P<symbol><>|<=|>=|[=<>(),.;*+-])", re.DOTALL)
+CONTROL = re.compile(rb"[\x00-\x1f]")
 LEAST_NUMBER, MOST_NUMBER = -2**63, 2**63 - 1
 
 
@@ -48,7 +49,9 @@ def tokens_of(text):
         if at == len(text):
             return found
         match = TOKEN.match(text, at)
-        if not match:
+        control = match and match.lastgroup == "quoted" and CONTROL.search(match[0])
+        if control or not match:
+            at += control.start() if control else 0
             return found + [Token("bad", at, at + 1, shown(text[at:at + 40]))]
         found.append(Token(match.lastgroup, at, match.end(), shown(match[0])))
         at = match.end()

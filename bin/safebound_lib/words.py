@@ -1,7 +1,7 @@
 """Reading the command line: own options are taken out, and every other word stays as it is."""
 from dataclasses import dataclass, field
 
-from .table import own_options, valued
+from .table import BY_WORD, DATA, TEXTS, own_options, valued
 
 
 class Misused(Exception):
@@ -18,6 +18,25 @@ class Line:
     @property
     def command(self):
         return self.words[0] if self.words else ""
+
+
+def lacks_schema(line):
+    """Whether a line has a query alone where a schema stands before it, and says where the tables are."""
+    command = BY_WORD.get(line.command)
+    takes_texts = command is not None and command.places == TEXTS and not command.optional
+    return takes_texts and DATA.word in line.own and len(places(line.words[1:])) == 1
+
+
+def options(words):
+    """The words among those behind the command that stand as options, each without its value."""
+    found, left, with_value = [], list(words), valued()
+    while left and left[0] != "--":
+        word = left.pop(0)
+        if word in with_value:
+            del left[:1]
+        if word.startswith("-") and word != "-":
+            found.append(word.partition("=")[0])
+    return found
 
 
 def read_line(words):

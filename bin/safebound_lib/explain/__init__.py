@@ -1,5 +1,7 @@
 """What stands below the line of a fault: what is wrong, where, and what to do."""
 import importlib
+import os
+import shlex
 import shutil
 import textwrap
 
@@ -29,6 +31,10 @@ class Run:
     def schema(self):
         from ..schema import read_schema
         return read_schema(read(self.schema_file))
+
+    def path_of(self, file):
+        """A file's name as a word of a command line in the folder where the user is."""
+        return shlex.quote(os.path.relpath(file, self.before) if self.before else file)
 
     @property
     def named(self):

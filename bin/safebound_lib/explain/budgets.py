@@ -1,10 +1,11 @@
 """`error budget LEAST` and `error past-bits`: what makes the bound large, and what would lower it."""
 import subprocess
 
+from . import read
 from ..near import listed
 from ..plans import option_of, read_plan
 from ..program import answer
-from ..query import groups
+from ..query import equality, groups
 from ..table import ACCURACY, BUDGET, BUSHY, KEYS, MOST_BUDGET, MOST_BUDGET_OF_A_TREE, REDUCE, USUAL_BUDGET
 from ..faults import fault_of
 
@@ -22,7 +23,7 @@ def explain(fault, run):
     else:
         first = f"The best {shape} has a {step} whose bound is {least:,} rows, and the budget is {budget:,}. The least budget is --budget {least}."
     apart = not_connected(run)
-    return [first, at_fault(run, least, budget), apart, *tried(run, budget, apart)]
+    return [first, at_fault(run, least, budget), apart, *several_equalities(run), *tried(run, budget, apart)]
 
 
 def most_of(run):
@@ -40,6 +41,19 @@ def not_connected(run):
     parts = "; ".join(named)
     return (f"These entries aren't connected: {parts}. No condition of the form A.X = B.Y leads from one of these groups to another, so each row of one meets "
             f"each row of the others. Is a condition forgotten?")
+
+
+def several_equalities(run):
+    """A sentence for each pair of entries that several equalities join, as those of a key of two columns do."""
+    query, schema, text = run.query, run.schema, read(run.query_file)
+    found = {}
+    for condition in query.conjuncts():
+        pair = equality(query, condition, schema)
+        if pair:
+            found.setdefault(tuple(sorted(pair)), []).append(" ".join(text[condition.start:condition.end].decode().split()))
+    names = [entry.name for entry in query.entries]
+    return [f"{names[one]} and {names[other]} are joined by {len(said)} equalities: {listed(said)}. A bound counts one of them alone: together they count as one, "
+            "so there may be far fewer rows than it says." for (one, other), said in found.items() if len(said) > 1]
 
 
 def with_words(run, words):

@@ -6,7 +6,7 @@ SAYS = {
     "columns": "A table has at most 64 columns, and one here has {found:,}. Declare those that the query needs: further ones of the file are passed over.",
     "text-length": "A VARCHAR(n) has n of at most 1,000,000, and one here has {found:,}.",
     "nesting": "At most 64 parentheses may be open at one place of a query, and here {found:,} are.",
-    "from-entries": "A query has at most 12 entries in FROM, and this one has {found:,}.",
+    "from-entries": "A query has at most 12 entries in FROM, and this one has {found:,}. Leave out those that the answer doesn't need, or ask in two queries and join their answers.",
     "in-values": "An IN list has at most 1,000 values, and one here has {found:,}. Put the values into a table of one column and join it.",
     "conjuncts": "A query has at most 256 conditions joined by AND, and this one has {found:,}.",
     "outputs": "A query has at most 1,024 columns in its answer, and this one has {found:,}.",

@@ -1,17 +1,27 @@
 """`error query CAUSE AT`: what is wrong with a query text at that place."""
 from . import read
 from .query_advice import CERTAIN, GUESSES
-from .texts import advised, bad_character, no_text, place_of
+from .texts import accented, advised, bad_character, marked, no_text, place_of, quotes_for
 from ..near import hint, listed, nearest
 from ..query import Literal, Reference, meant, visible
-from ..spot import plain, spot
+from ..spot import plain
 from ..tokens import LEAST_NUMBER, MOST_NUMBER
 
 
 def explain(fault, run):
     data, query, at = read(run.query_file), run.query, fault["at"]
     says = {"syntax": syntax, "name": name, "kind": kind}[fault["cause"]]
-    return no_text(run.query_file, data, at) or [spot(run.query_file, data, at, length(query, at)), *says(query, run.schema, at)]
+    other = no_text(run.query_file, data, at, run)
+    if other:
+        return other
+    schema, name_there = run.schema, accented(data, query.tokens, at)
+    said = [quotes_for(name_there, names_of(schema))] if name_there else says(query, schema, at)
+    return [marked(run.query_file, data, query, at, length(query, at)), *said]
+
+
+def names_of(schema):
+    """The names of all tables and columns."""
+    return [table.name for table in schema.tables] + [column.name for table in schema.tables for column in table.columns]
 
 
 def length(query, at):
@@ -24,7 +34,7 @@ def length(query, at):
 def syntax(query, schema, at):
     place = place_of(query, at)
     if place.token().kind == "bad":
-        return [bad_character(place.token())]
+        return [bad_character(place)]
     literal = next((o for o in query.literals if o.token.start == at), None)
     if literal and not literal.fits:
         return [f"A number is from {LEAST_NUMBER:,} to {MOST_NUMBER:,} (64 bits), and this one isn't."]
@@ -134,6 +144,8 @@ def side(query, operand, schema):
 
 def mended(query, left, other, schema):
     """How the literal of the two is written as the other one's kind."""
+    if isinstance(left, Reference) and isinstance(other, Reference):
+        return [of_the_kind(query, left, other, schema)]
     literal, beside = (other, left) if isinstance(other, Literal) else (left, other)
     if not isinstance(literal, Literal) or not isinstance(beside, Reference):
         return []
@@ -143,3 +155,11 @@ def mended(query, left, other, schema):
     if source[1:-1].isascii() and source[1:-1].isdigit():
         return [f"As a number it is written {source[1:-1]}, without quotes."]
     return []
+
+
+def of_the_kind(query, left, other, schema):
+    """The columns of the right entry that can be compared with the left one."""
+    (_, _, column), (entry, table, _) = meant(query, left, schema), meant(query, other, schema)
+    fitting = [f"{plain(entry.name)}.{plain(c.name)}" for c in table.columns if c.is_number == column.is_number]
+    kind_there = "numbers" if column.is_number else "texts"
+    return f"Of {plain(entry.name)} these are {kind_there} too: {listed(fitting)}." if fitting else f"{plain(entry.name)} has no column of {kind_there}: declare both columns as one kind."

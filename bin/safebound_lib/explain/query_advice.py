@@ -21,10 +21,10 @@ AGGREGATES = ("COUNT", "SUM", "MIN", "MAX", "AVG")
 OF_DATES = ("DATE", "TIME", "TIMESTAMP", "INTERVAL")
 AS_ALIAS = ("LIMIT", "OFFSET", "FETCH", "TOP", "ILIKE", "REGEXP", "WINDOW", "QUALIFY", "STRAIGHT_JOIN", "ASOF", "SEMI", "ANTI")
 WORDS = {
-    "ORDER": "ORDER BY isn't part of the language: rows come in the order of the plan. Sort them behind the command, as with `sort`.",
+    "ORDER": "ORDER BY isn't part of the language: rows come in the order of the plan. Sort them behind the command, and leave the header where it is: safebound run .. | (sed -u 1q; sort -t, -k1,1)",
     "GROUP": "GROUP BY isn't part of the language: give the rows to another program and group them there.",
     "HAVING": "HAVING isn't part of the language, as GROUP BY isn't: give the rows to another program and group them there.",
-    "DISTINCT": "DISTINCT isn't part of the language: each row comes as often as it is there. `sort -u` behind the command leaves each once.",
+    "DISTINCT": "DISTINCT isn't part of the language: each row comes as often as it is there. This leaves each once, below the header: safebound run .. | (sed -u 1q; sort -u)",
     "UNION": "UNION " + SETS, "INTERSECT": "INTERSECT " + SETS, "EXCEPT": "EXCEPT " + SETS,
     "LEFT": OUTER, "RIGHT": OUTER, "FULL": OUTER, "OUTER": OUTER,
     "NATURAL": "NATURAL JOIN isn't part of the language: only JOIN .. ON and commas. Write each common column: A JOIN B ON B.X = A.X.",
@@ -88,6 +88,24 @@ def alias_word(place):
     if before.word in AS_ALIAS and not place.token().is_one(".", ","):
         read_as = f"an alias of {plain(earlier.source)}" if earlier.is_name else "a name"
         return f"{before.word} was read as {read_as}. {WORDS.get(before.word, before.word + ' is not part of the language.')}"
+    return None
+
+
+def two_nots(place):
+    if place.word() == "NOT" and place.word(-1) == "NOT":
+        return "A condition has one NOT before it. A second one stands in parentheses, NOT (NOT X = 1); two of them are none, so leave both out."
+    return None
+
+
+def wrong_quotes(place):
+    """A text where a name has to stand, and a name where a text has to."""
+    token, tested = place.token(), place.tested
+    wants_name = [what for what in tested if what in ("a table", "a column", "an alias", "a name for it")]
+    if token.kind == "text" and wants_name:
+        return f"In single quotes stands a text, and here {wants_name[0]} has to stand: write {plain(token.source[1:-1])} without quotes."
+    if "a text in single quotes" in tested and "a column" not in tested and token.is_name:
+        text = plain(token.name if token.kind == "quoted" else token.source).replace("'", "''")
+        return f"Here a text or a number has to stand, and {plain(token.source)} is a name{' in double quotes' if token.kind == 'quoted' else ''}. A text takes single quotes: '{text}'."
     return None
 
 
@@ -185,5 +203,5 @@ def no_condition(place):
     return None
 
 
-CERTAIN = (swapped, second_query, subquery, call, dated, decimal, alias_word, by_word, doubled, grouped, half_a_comparison, qualified, arithmetic, star)
+CERTAIN = (swapped, second_query, subquery, call, dated, decimal, alias_word, two_nots, wrong_quotes, by_word, doubled, grouped, half_a_comparison, qualified, arithmetic, star)
 GUESSES = (comma_too_many, reserved, no_condition, misspelled, comma_missing)

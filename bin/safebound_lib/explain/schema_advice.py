@@ -98,5 +98,13 @@ def qualified(place):
     return None
 
 
-CERTAIN = (swapped, statement, index, no_length, no_type, not_part, qualified)
+def wrong_quotes(place):
+    """A text where a name has to stand."""
+    wanted = next((what for what in place.tested if what in ("a table's name", "a column's name", "a rule's name")), None)
+    if place.token().kind == "text" and wanted:
+        return f"In single quotes stands a text, and here {wanted} has to stand: write {plain(place.token().source[1:-1])} without quotes."
+    return None
+
+
+CERTAIN = (swapped, wrong_quotes, statement, index, no_length, no_type, not_part, qualified)
 GUESSES = (comma, reserved)

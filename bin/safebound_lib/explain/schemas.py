@@ -1,9 +1,9 @@
 """`error schema CAUSE AT`: what is wrong with a schema text at that place."""
 from . import read
 from .schema_advice import CERTAIN, GUESSES
-from .texts import advised, bad_character, no_text, place_of
+from .texts import accented, advised, bad_character, marked, no_text, place_of, quotes_for
 from ..near import hint, listed
-from ..spot import plain, spot
+from ..spot import plain
 from ..tokens import tokens_of
 
 
@@ -11,13 +11,18 @@ def explain(fault, run):
     data, schema, at = read(run.schema_file), run.schema, fault["at"]
     token = next((t for t in tokens_of(data) if t.start == at and t.kind != "bad"), None)
     says = {"syntax": syntax, "name": name, "nullable": nullable}[fault["cause"]]
-    return no_text(run.schema_file, data, at) or [spot(run.schema_file, data, at, token.end - at if token else 1), *says(schema, at)]
+    other = no_text(run.schema_file, data, at, run)
+    if other:
+        return other
+    name_there = accented(data, schema.tokens, at)
+    said = [quotes_for(name_there, [])] if name_there else says(schema, at)
+    return [marked(run.schema_file, data, schema, at, token.end - at if token else 1), *said]
 
 
 def syntax(schema, at):
     place = place_of(schema, at)
     if place.token().kind == "bad":
-        return [bad_character(place.token())]
+        return [bad_character(place)]
     return advised(place, CERTAIN, GUESSES)
 
 

@@ -1,5 +1,5 @@
 """`error stats CAUSE AT`: a statistics file that isn't one, or that lacks what the query needs or the table that gets new rows."""
-from ..near import hint
+from ..near import hint, listed
 from ..spot import plain
 
 ANEW = "Make it anew: safebound stats {schema} {query} > {stats}"
@@ -9,7 +9,7 @@ def explain(fault, run):
     file, at = plain(run.stats_file or ""), fault["at"]
     anew = ANEW.format(schema=plain(run.schema_file), query=plain(run.query_file or "QUERY"), stats=file)
     if fault["cause"] == "missing" and run.command == "append":
-        return [without_section(file, run), anew]
+        return without_section(file, run)
     if fault["cause"] == "missing":
         return [f"{lacking(run, at)} needs statistics that {file} doesn't have: it was made for a query that doesn't name its table, or compares or joins other columns.", anew]
     if fault["cause"] == "syntax":
@@ -22,8 +22,10 @@ def without_section(file, run):
     """Which of the two is missing, the table in the schema or its statistics in the file."""
     names = [table.name for table in run.schema.tables]
     if not any(name.upper() == run.table.upper() for name in names):
-        return f"The schema has no table {plain(run.table)}.{hint(run.table, names)}"
-    return f"{file} has no statistics of the table {plain(run.table)}: it was made for a query that doesn't name it."
+        return [f"The schema has no table {plain(run.table)}. Its tables are {listed(names)}.{hint(run.table, names)}"]
+    table = plain(run.table)
+    return [f"{file} has no statistics of the table {table}: it was made for a query that doesn't name it. `append` adds rows to the tables that are in the file, and no table.",
+            f"Put the new rows into the table's own file, and make the statistics anew with a query that names {table}: safebound stats {plain(run.schema_file)} QUERY > {file}"]
 
 
 def lacking(run, entry):

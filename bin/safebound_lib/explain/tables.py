@@ -2,9 +2,9 @@
 import re
 
 from . import read
-from .texts import how_to_convert
+from .texts import convert_line, how_to_convert
 from ..near import listed, nearest
-from ..records import chosen, column_place, records, same
+from ..records import chosen, column_place, left_open, records, same
 from ..spot import plain, spot
 from ..tokens import LEAST_NUMBER, MOST_NUMBER, number_of
 
@@ -17,7 +17,7 @@ def explain(fault, run):
     is_it = (lambda t: t.name.upper() == run.table.upper()) if run.command == "append" else (lambda t: t.file == fault["file"])
     table = next(filter(is_it, schema.tables))
     says = {"utf8": utf8, "header": header, "width": width, "field": field, "key": key}[fault["cause"]]
-    return says(table, fault, read(fault["file"]))
+    return says(table, fault, read(fault["file"]), run)
 
 
 def quoted(value):
@@ -29,13 +29,13 @@ def at_record(fault, line):
     return f"{fault['file']}, line {line}, record {fault['record']}"
 
 
-def utf8(table, fault, data):
+def utf8(table, fault, data, run):
     at = fault["at"]
     byte = f"The byte 0x{data[at]:02X} here is no UTF-8." if at < len(data) else "The file ends within a character."
-    return [spot(fault["file"], data, at), f"{byte} {how_to_convert(data, fault['file'])}"]
+    return [spot(fault["file"], data, at), f"{byte} {how_to_convert(data, fault['file'], run)}"]
 
 
-def header(table, fault, data):
+def header(table, fault, data, run):
     found = next((fields for _, fields in records(data)), None)
     wanted = [column.name for column in table.columns]
     if found is None:
@@ -45,14 +45,14 @@ def header(table, fault, data):
     first = f"The header of {fault['file']} names {plain(column)} {count} times; each declared column stands there once." if count else \
         f"The header of {fault['file']}, its first line, has no column {plain(column)}."
     shown = f"\n    found:    {plain(','.join(found)[:200])}\n    expected: {plain(','.join(wanted))}"
-    return [first + shown, "Columns may come in any order, and further ones are passed over.", why_no_header(found, wanted, column, count)]
+    return [first + shown, "Columns may come in any order, and further ones are passed over.", why_no_header(found, wanted, column, count, convert_line(fault["file"], run))]
 
 
-def why_no_header(found, wanted, column, count):
+def why_no_header(found, wanted, column, count, convert):
     """What the header that was found looks like."""
     separator = next((s for s in SEPARATORS if len(found) == 1 and s in found[0]), None)
     if separator:
-        return f"The file looks separated by {SEPARATORS[separator]}. Write it with commas, as spreadsheets do on export as CSV."
+        return f"The file looks separated by {SEPARATORS[separator]}, as spreadsheets in many countries write it. This writes it with commas: {convert}"
     if count:
         return ""
     if any(re.fullmatch(r"[+-]?[0-9]+", name) for name in found) or not any(same(name) in map(same, wanted) for name in found) and len(found) == len(wanted) > 1 and not any(nearest(w, found) for w in wanted):
@@ -64,23 +64,32 @@ def why_no_header(found, wanted, column, count):
     return f"Is it {quoted(near)}? Give it the column's name." if near else ""
 
 
-def width(table, fault, data):
+def width(table, fault, data, run):
     (_, head), (line, fields) = chosen(data, 0, fault["record"])
-    first = f"{at_record(fault, line)}: this record has {fault['found']} fields, and the header has {len(head)}."
+    first = f"{at_record(fault, line)}: this record has {fault['found']} field{'' if fault['found'] == '1' else 's'}, and the header has {len(head)}."
     shown = f"\n    header: {plain(','.join(head)[:200])}\n    record: {' | '.join(plain(f[:MOST_OF_VALUE]) for f in fields[:20])}"
+    opened = left_open(data, fault["record"])
+    if opened is not None:
+        return [first, spot(fault["file"], data, opened), 'The quote here isn\'t closed: a " is missing behind it, and the field goes on to the end of the file. A " within a field in quotes is written twice.']
     if len(fields) > len(head):
         return [first + shown, 'An unquoted comma is often the cause: a value with a comma stands in double quotes, as "Paris, capital".']
     separator = next((s for s in SEPARATORS if s in "".join(fields)), None)
-    looks = f"The record looks separated by {SEPARATORS[separator]}." if separator else "A field is missing, or a line is cut. An empty field keeps its comma."
+    looks = f"The record looks separated by {SEPARATORS[separator]}, and the header isn't: write it with commas. Where the whole file is separated so: {convert_line(fault['file'], run)}" if separator else "A field is missing, or a line is cut. An empty field keeps its comma."
     return [first + shown, looks]
 
 
-def field(table, fault, data):
+def field(table, fault, data, run):
     (_, head), (line, fields) = chosen(data, 0, fault["record"])
     column = next(c for c in table.columns if c.name == fault["column"])
     value = fields[column_place(head, column.name)]
     first = f"{at_record(fault, line)}, column {plain(column.name)}: here stands {quoted(value) if value else 'nothing'}, and the column is {column.type}."
-    return [first, number_expected(value) if column.is_number else text_expected(value, column.length)]
+    return [first, number_expected(value) if column.is_number else text_expected(value, column.length), over_lines(value, line)]
+
+
+def over_lines(value, line):
+    """Where a value goes over many lines, a quote is mostly closed too late."""
+    ends = value.count("\n")
+    return f'The value begins with a " on line {line}, and has {ends} line ends. Where a " is missing that closes it on that line, write it there.' if ends else ""
 
 
 def number_expected(value):
@@ -94,6 +103,8 @@ def number_expected(value):
         return f"{expected} Blanks beside it count: take them away."
     if re.fullmatch(r"[0-9]{4}-[0-9]{2}-[0-9]{2}.*|[0-9]{1,2}[./][0-9]{1,2}[./][0-9]{2,4}", value):
         return f"{expected} This looks like a date: declare the column as VARCHAR(10), and write dates as YYYY-MM-DD."
+    if re.fullmatch(r"[+-]?[0-9]{1,3}([,.' \u00a0\u202f][0-9]{3})+", value):
+        return f"{expected} Without the marks between thousands it is {re.sub('[^0-9+-]', '', value)}; a decimal is stored as an integer of the smallest unit, as cents."
     if re.fullmatch(r"[+-]?[0-9]*[.,][0-9]*", value):
         return f"{expected} Decimals are stored as integers of the smallest unit, as cents in the place of euros; 5.0 is written 5."
     return f"{expected} For texts declare the column as VARCHAR(n)."
@@ -103,7 +114,7 @@ def text_expected(value, most):
     return f"The value has {len(value):,} characters, and at most {most:,} fit. Declare a longer text, VARCHAR({len(value)}) or more, or shorten the value."
 
 
-def key(table, fault, data):
+def key(table, fault, data, run):
     (_, head), (line, fields), (earlier, before) = chosen(data, 0, fault["record"], fault["earlier"])
     for tokens in table.keys:
         at = [column_place(head, token.name) for token in tokens]

@@ -1,11 +1,13 @@
 """What explanations of schema and query texts share: the place, what was read, what may stand there, and bytes that are no text."""
+import unicodedata
 from dataclasses import dataclass
 
-from ..near import listed
+from ..near import hint, listed
 from ..spot import plain, spot
 from ..tokens import Token
 
 INVISIBLE = {"\u00a0": "a no-break space", "\ufeff": "a byte order mark", "\u200b": "a space of no width", "\u3000": "a wide space", "\f": "a form feed", "\v": "a vertical tab", "\0": "a NUL"}
+WITHIN_NAMES = {"\n": "a line end", "\r": "a line end", "\t": "a tab"}
 QUOTES = "\u2018\u2019\u201c\u201d\u201e\u00ab\u00bb\u00b4"
 CHARACTERS = {
     "!": "Unequal is written <>, as in A.X <> B.X.",
@@ -14,7 +16,6 @@ CHARACTERS = {
     "]": 'Names take double quotes where they need any, and no brackets: "name".',
     "#": "A comment begins with -- and goes to the end of its line.",
     "{": "A comment begins with -- and goes to the end of its line.",
-    "|": "Texts can't be put together: || isn't part of the language.",
     "?": "There are no parameters: write the value itself.",
     "$": "There are no parameters: write the value itself.",
     ":": "There are no parameters and no casts: write the value itself.",
@@ -47,26 +48,78 @@ def place_of(read, at):
     return Place(read.tokens, found, read.tested, read.wrong == found)
 
 
-def no_text(file, data, at):
+def marked(file, data, read, at, length):
+    """The place of a text: a name with its accents whole, and the end of a text behind its last token."""
+    name = accented(data, read.tokens, at)
+    if name:
+        return spot(file, data, at - name.offset, name.length)
+    last = read.tokens[-1] if read.tokens else None
+    behind = last is not None and last.kind != "bad" and at >= last.end
+    return spot(file, data, last.end if behind else at, length)
+
+
+@dataclass
+class Accented:
+    """A name with other letters than A to Z, and how many bytes before the first of these it begins."""
+    name: str
+    offset: int
+
+    @property
+    def length(self):
+        return len(self.name.encode())
+
+
+def is_letter(c):
+    return c.isalnum() or c == "_" or unicodedata.combining(c) > 0
+
+
+def accented(data, tokens, at):
+    """The whole name that another letter than A to Z at this byte belongs to, or nothing."""
+    number = next((i for i, token in enumerate(tokens) if token.kind == "bad" and token.start == at), None)
+    if number is None or not (tokens[number].source[:1].isalpha() or unicodedata.combining(tokens[number].source[:1])):
+        return None
+    before = tokens[number - 1] if number and tokens[number - 1].kind == "word" and tokens[number - 1].end == at else None
+    text = data[before.start if before else at:].decode("utf-8", "replace")
+    length = next((i for i, c in enumerate(text) if not is_letter(c)), len(text))
+    return Accented(text[:length], at - before.start if before else 0)
+
+
+def quotes_for(found, names):
+    """What to do about a name with an accent: one that is there without it, or double quotes."""
+    bare = "".join(c for c in unicodedata.normalize("NFD", found.name) if not unicodedata.combining(c))
+    return f'A name with other letters than A to Z stands in double quotes, which keep its upper and lower case: "{plain(found.name)}".{hint(bare, names)}'
+
+
+def no_text(file, data, at, run):
     """Where the bytes are no UTF-8: an explanation, else nothing."""
     try:
         data.decode("utf-8")
     except UnicodeDecodeError as bad:
         if bad.start == at:
-            return [spot(file, data, at), f"This byte (0x{data[at]:02X}) is no UTF-8. {how_to_convert(data, file)}"]
+            return [spot(file, data, at), f"This byte (0x{data[at]:02X}) is no UTF-8. {how_to_convert(data, file, run)}"]
     return None
 
 
-def how_to_convert(data, file):
+def how_to_convert(data, file, run):
     """The command that writes a file in UTF-8."""
-    kind = "UTF-16" if data[:2] in (b"\xff\xfe", b"\xfe\xff") else "LATIN1"
-    looks = "The file looks like UTF-16" if kind == "UTF-16" else "The file may be Latin-1, as older programs write it"
-    return f"{looks}: iconv -f {kind} -t UTF-8 {plain(file)} > new, and then take the new one."
+    is_wide = data[:2] in (b"\xff\xfe", b"\xfe\xff")
+    looks = "The file looks like UTF-16, as Excel writes its Unicode texts" if is_wide else "The file may be Latin-1 or Windows-1252, as older programs write it"
+    return f"{looks}. This writes it in UTF-8: {convert_line(file, run)}"
 
 
-def bad_character(token):
+def convert_line(file, run):
+    """The command line that converts a file."""
+    return f"safebound convert {plain(run.path_of(file))}"
+
+
+def bad_character(place):
     """What to do about a place that begins no token."""
+    token = place.token()
     first = token.source[:1]
+    if token.source[:2] in JOINERS:
+        return joiner(token.source[:2], "AND" in place.tested)
+    if first in WITHIN_NAMES:
+        return f'Here is {WITHIN_NAMES[first]} within a name in double quotes. A name stands on one line, and has no control characters: take it away, or close the name before it by a ".'
     if token.source.startswith("/*"):
         return "A comment begins with -- and goes to the end of its line; there is no /* */."
     if first == "/":
@@ -79,9 +132,17 @@ def bad_character(token):
         return "This text isn't closed: a ' is missing behind it. A quote within a text is written twice: 'it''s'."
     if first == '"':
         return bad_name(token.source)
-    if first.isalpha():
-        return f'A name with other letters than A to Z stands in double quotes, as "{first}..".'
     return CHARACTERS.get(first, f"The character {plain(first)} has no meaning here.")
+
+
+JOINERS = {"||": "OR", "&&": "AND"}
+
+
+def joiner(sign, is_behind_a_condition):
+    """What stands in the place of a sign by which other languages join conditions, or texts."""
+    if sign == "||" and not is_behind_a_condition:
+        return "Texts can't be put together: || isn't part of the language. Take both columns, and put them together behind the command."
+    return f"Conditions are joined by {JOINERS[sign]}: {sign} isn't part of the language."
 
 
 def bad_name(source):

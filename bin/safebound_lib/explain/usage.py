@@ -1,10 +1,14 @@
 """`error usage`: which word of the command line is wrong, and what it may be."""
 import re
+import shlex
 
 from ..near import hint, listed
 from ..spot import plain
-from ..table import ACCURACY, BUDGET, BUSHY, BY_WORD, COMMANDS, KEYS, MOST_BUDGET_OF_A_TREE, MOST_SEED, REDUCE, STATS, program_options
+from ..table import ACCURACY, BUDGET, BUSHY, BY_WORD, COMMANDS, KEYS, MOST_BUDGET_OF_A_TREE, MOST_SEED, REDUCE, STATS, TEXTS, program_options
+from ..tokens import tokens_of
 
+OUTPUTS = ("--out", "--output", "--outfile", "--outpath", "-o")
+MOST_LOOKED_AT = 4096
 DIGITS = re.compile(r"[0-9]+", re.ASCII)
 
 
@@ -43,8 +47,11 @@ def first_wrong(command, words):
         if not word.startswith("-") or word == "-":
             found.append(word)
             continue
+        if command.places == ("NUMBER",) and DIGITS.fullmatch(word[1:]):
+            found.append(word)
+            continue
         if head not in options:
-            return unknown(command, head)
+            return unknown(command, head, (value if equals else "".join(left[:1])) or "FILE")
         value = value if equals else left.pop(0) if options[head].value and left else None
         wrong = wrong_option(options[head], head in seen, value)
         if wrong:
@@ -54,7 +61,10 @@ def first_wrong(command, words):
     return wrong_places(command, found) or wrong_beside(seen) or (wrong_budget(budget) if BUSHY.word in seen and budget else None)
 
 
-def unknown(command, word):
+def unknown(command, word, behind):
+    """An option that isn't there; `behind` is the word behind it."""
+    if word in OUTPUTS:
+        return f"{command.word} has no option {plain(word)}: what it prints goes into a file behind a >, as in safebound {command.word} .. > {plain(shlex.quote(behind))}"
     may = f"Its options are {listed(o.spelled for o in command.options)}."
     if word in {o.word for c in COMMANDS for o in c.options}:
         return f"{command.word} has no option {plain(word)}. {may}"
@@ -114,7 +124,19 @@ def spelled_out(value):
     return f" Write {int(match[1]) * 10 ** int(match[2])}." if match else ""
 
 
+def is_query(file):
+    """Whether a file begins as a query does."""
+    try:
+        with open(file, "rb") as f:
+            return any(token.is_one("SELECT") for token in tokens_of(f.read(MOST_LOOKED_AT))[:1])
+    except OSError:
+        return False
+
+
 def wrong_places(command, found):
+    if len(found) == 1 and is_query(found[0]) and command.places == TEXTS:
+        return (f"{command.word} lacks SCHEMA: {plain(found[0])} is a query. Without a schema, one is proposed from the tables where you say in which folder they are: "
+                f"safebound {command.word} {plain(shlex.quote(found[0]))} --data .")
     if len(found) < len(command.places):
         return f"{command.word} lacks {listed(command.places[len(found):])}."
     if len(found) > len(command.places):

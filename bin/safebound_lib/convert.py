@@ -1,0 +1,168 @@
+"""`safebound convert`: a file in another encoding or with other separators, written as the program reads it."""
+import codecs
+import csv
+import io
+import os
+import tempfile
+from dataclasses import dataclass
+
+from . import program
+from .near import listed
+from .spot import plain
+from .table import ENCODING, OUTPUT
+from .words import Line, Misused, places
+
+SEPARATORS = {",": "commas", ";": "semicolons", "\t": "tabs", "|": "bars"}
+LOOKED_AT = 100
+MARKS = ((codecs.BOM_UTF8, "utf-8-sig"), (codecs.BOM_UTF32_LE, "utf-32"), (codecs.BOM_UTF32_BE, "utf-32"), (codecs.BOM_UTF16_LE, "utf-16"), (codecs.BOM_UTF16_BE, "utf-16"))
+SPOKEN = {"utf-8": "UTF-8", "utf-8-sig": "UTF-8 with a byte order mark", "cp1252": "Windows-1252 (Latin-1)", "latin-1": "Latin-1",
+          "utf-16": "UTF-16", "utf-16-le": "UTF-16", "utf-16-be": "UTF-16", "utf-32": "UTF-32"}
+PACKED = ((b"PK\x03\x04", "is a workbook or an archive, and no text. Save its sheet as CSV (in Excel: CSV UTF-8), and take that"),
+          (b"\xd0\xcf\x11\xe0", "is a workbook of an old Excel, and no text. Save its sheet as CSV (in Excel: CSV UTF-8), and take that"),
+          (b"\x1f\x8b", "is packed: unpack it first (gunzip)"))
+
+
+@dataclass
+class Sheet:
+    """A text of records: how its fields are separated, how many lines stand before them, and its records."""
+    separator: str
+    lines_before: int
+    records: list
+
+
+def convert(line: Line) -> int:
+    files = places(line.words[1:])
+    if len(files) != 1:
+        raise Misused("convert takes one file: safebound convert FILE")
+    file, data = files[0], read(files[0])
+    encoding = line.own.get(ENCODING.word) or encoding_of(data)
+    text = decoded(file, data, encoding)
+    is_sql = file.lower().endswith(".sql")
+    sheet = None if is_sql else sheet_of(text)
+    output = line.own.get(OUTPUT.word)
+    if output is None and encoding == "utf-8" and (is_sql or sheet.separator == "," and not sheet.lines_before):
+        program.write(1, f"{plain(file)}: is UTF-8{'' if is_sql else ' with commas'} already; nothing was written\n")
+        return 0
+    new = (text if is_sql else written(sheet)).encode()
+    was = SPOKEN.get(encoding, encoding) + ("" if is_sql else f", separated by {SEPARATORS[sheet.separator]}")
+    return laid(file, data, new, output, f"{was}; now it is UTF-8{'' if is_sql else ' with commas'}", ragged(sheet) if sheet else "")
+
+
+def read(file: str) -> bytes:
+    try:
+        with open(file, "rb") as f:
+            data = f.read()
+    except OSError as fault:
+        raise Misused(f"{plain(file)}: {fault.strerror}") from None
+    for start, says in PACKED:
+        if data.startswith(start):
+            raise Misused(f"{plain(file)} {says}")
+    return data
+
+
+def encoding_of(data: bytes) -> str:
+    """The encoding by the file's mark, else by its bytes."""
+    marked = next((name for mark, name in MARKS if data.startswith(mark)), None)
+    if marked:
+        return marked
+    # In UTF-16 every second byte of most texts is 0.
+    for first, name in ((1, "utf-16-le"), (0, "utf-16-be")):
+        part = data[first:2000:2]
+        if len(part) > 1 and part.count(0) > len(part) // 2:
+            return name
+    return next(name for name in ("utf-8", "cp1252", "latin-1") if is_in(data, name))
+
+
+def is_in(data: bytes, encoding: str) -> bool:
+    try:
+        data.decode(encoding)
+    except UnicodeDecodeError:
+        return False
+    return True
+
+
+def decoded(file: str, data: bytes, encoding: str) -> str:
+    try:
+        return data.decode(encoding).removeprefix("\ufeff")
+    except LookupError:
+        raise Misused(f"there is no encoding {plain(encoding)}; some are utf-8, latin-1, cp1252, cp850, utf-16") from None
+    except UnicodeError:
+        raise Misused(f"{plain(file)} is not in {plain(encoding)}: give another {ENCODING.word}") from None
+
+
+def sheet_of(text: str) -> Sheet:
+    """The records of a text. A first line `sep=;`, which Excel understands, names the separator and is no record."""
+    first, _, rest = text.partition("\n")
+    named = first.rstrip("\r").removeprefix("sep=")
+    if first.startswith("sep=") and named in SEPARATORS:
+        return Sheet(named, 1, list(parsed(rest, named)))
+    separator = max(SEPARATORS, key=lambda one: evenness(text, one))
+    return Sheet(separator, 0, list(parsed(text, separator)))
+
+
+def parsed(text: str, separator: str):
+    csv.field_size_limit(2**31 - 1)
+    return (record for record in csv.reader(io.StringIO(text, newline=""), delimiter=separator) if record)
+
+
+def evenness(text: str, separator: str):
+    """How well a separator fits: whether it is in the header, how many records then have as many fields, and how many fields."""
+    widths = [len(record) for _, record in zip(range(LOOKED_AT), parsed(text, separator))]
+    wide = widths[0] if widths else 1
+    return wide > 1, widths.count(wide), wide
+
+
+def written(sheet: Sheet) -> str:
+    out = io.StringIO()
+    csv.writer(out, lineterminator="\r\n").writerows(sheet.records)
+    return out.getvalue()
+
+
+def ragged(sheet: Sheet) -> str:
+    """A sentence on records that have another number of fields than the header."""
+    wide = len(sheet.records[0]) if sheet.records else 0
+    found = [number for number, record in enumerate(sheet.records) if len(record) != wide]
+    said = f"record {found[0]}" if len(found) == 1 else f"records {listed(map(str, found), most=4)}"
+    return f"The header has {wide} fields, and {said} has another number.\n" if found else ""
+
+
+def laid(file: str, old: bytes, new: bytes, output: str, says: str, warning: str) -> int:
+    """Writes what came out. No file is written over: one that keeps its name is kept under another name first."""
+    folder, base = os.path.split(file)
+    target = output or os.path.join(folder, base.lower() if base.lower().endswith((".csv", ".sql")) else os.path.splitext(base)[0].lower() + ".csv")
+    kept = f"{file}.original" if os.path.exists(target) and os.path.samefile(file, target) else None
+    if target == "-":
+        program.write(1, new.decode())
+        return 0
+    if os.path.exists(target) and not kept:
+        raise Misused(f"{plain(target)} is there already, and nothing is written over: {OUTPUT.word} FILE names another file")
+    try:
+        if kept:
+            write_new(kept, old)
+        replace(target, new, os.stat(file).st_mode & 0o777)
+    except FileExistsError:
+        raise Misused(f"{plain(kept)} is there already, and nothing is written over: give that file another name") from None
+    except OSError as fault:
+        raise Misused(f"{plain(fault.filename or target)}: {fault.strerror}") from None
+    was = f"The file as it was is {plain(kept)}." if kept else f"{plain(file)} is as it was."
+    program.write(1, f"{plain(target)}: was {says}. {was}\n")
+    program.say(warning)
+    return 0
+
+
+def write_new(file: str, data: bytes) -> None:
+    with open(file, "xb") as f:
+        f.write(data)
+
+
+def replace(target: str, data: bytes, mode: int) -> None:
+    """Writes a file whole or not at all."""
+    number, name = tempfile.mkstemp(dir=os.path.dirname(target) or ".", prefix=".safebound-")
+    try:
+        with os.fdopen(number, "wb") as f:
+            f.write(data)
+        os.chmod(name, mode)
+        os.replace(name, target)
+    except OSError:
+        os.unlink(name)
+        raise
