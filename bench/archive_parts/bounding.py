@@ -40,10 +40,10 @@ class Bounder:
             return degrees.known_reduced(rows, flags.accuracy)
         return (degrees.known_by_keys if flags.source == "keys" else degrees.known)(self.statistics(flags.accuracy), query)
 
-    def of(self, query: reading.Query) -> dict[Flags, int | None]:
-        """The bound of all entries together; None where it is past 64 bits."""
+    def of(self, query: reading.Query) -> dict[Flags, int]:
+        """The bound of all entries together."""
         sql = asked.sql(query)
         if sql not in self.known:
-            rows, every = Rows(self.tables, query), {str(entry) for entry in range(len(query.entries))}
-            self.known[sql] = {flags: self.lists(query, flags, rows).asked().bounds()[every] for flags in ALL}
+            rows = Rows(self.tables, query)
+            self.known[sql] = {flags: self.lists(query, flags, rows).bound() for flags in ALL}
         return self.known[sql]

@@ -1,28 +1,26 @@
 """Degree lists and bounds of sets, after docs/DEFINITIONS.md, over columns of numbers: cases/reading.py for millions of rows.
 
-A list is an array of degrees, the greatest first. The bounds of sets over such lists are those of the library."""
+A list is an array of degrees, the greatest first; bounds take it as runs of equal degrees."""
 
 from __future__ import annotations
 
-import itertools
-import os
-import sys
 from functools import cached_property, lru_cache
+from math import prod
 
 import numpy as np
 
-from . import places
 from .asked import reading
 from .columns import Rows, Tables
 
-sys.path.insert(0, os.path.join(places.ROOT, "python"))
+# Degrees, each with how many keys have it.
+Runs = list[tuple[int, int]]
 
 
 def falling(keys: np.ndarray) -> np.ndarray:
     return np.sort(np.unique(keys, return_counts=True)[1])[::-1]
 
 
-def runs_of(degrees: np.ndarray) -> list[tuple[int, int]]:
+def runs_of(degrees: np.ndarray) -> Runs:
     if not len(degrees):
         return []
     starts = np.flatnonzero(np.diff(degrees, prepend=degrees[0] + 1))
@@ -193,6 +191,61 @@ class Filtered:
 
 # ---- bounds of sets
 
+# A function of ranks or of rows is kept as steps: a value, and how far it holds. Behind its last step it is 0.
+Steps = list[tuple[int, int]]
+
+
+def product(functions: list[Steps]) -> Steps:
+    """The product of step functions, as long as the shortest."""
+    found, places, at, length = [], [0] * len(functions), 0, min(function[-1][1] if function else 0 for function in functions)
+    while at < length:
+        end = min(function[place][1] for function, place in zip(functions, places))
+        found.append((prod(function[place][0] for function, place in zip(functions, places)), end))
+        places = [place + (function[place][1] == end) for function, place in zip(functions, places)]
+        at = end
+    return found
+
+
+def row_of(degrees: Runs, rank: int) -> int:
+    """The first row of a rank."""
+    row = 0
+    for degree, keys in degrees:
+        row += degree * min(keys, rank)
+        rank -= min(keys, rank)
+    return row
+
+
+def on_rows(degrees: Runs, by_rank: Steps) -> Steps:
+    """For each row the value of its rank."""
+    steps = [(value, row_of(degrees, end)) for value, end in by_rank]
+    rows = row_of(degrees, sum(keys for _, keys in degrees))
+    return [step for step, before in zip(steps, [0] + [end for _, end in steps]) if step[1] > before] + [(0, rows)] * (not steps or steps[-1][1] < rows)
+
+
+def on_ranks(degrees: Runs, by_row: Steps) -> Steps:
+    """For each rank the sum over its rows."""
+    found, row, rank, place = [], 0, 0, 0
+    for degree, keys in degrees:
+        last = rank + keys
+        while rank < last:
+            while by_row[place][1] <= row:
+                place += 1
+            within = min(last - rank, (by_row[place][1] - row) // degree)
+            value = by_row[place][0] * degree if within else over(by_row, place, row, row + degree)
+            rank, row = rank + max(within, 1), row + degree * max(within, 1)
+            found.append((value, rank))
+    return found
+
+
+def over(by_row: Steps, place: int, row: int, end: int) -> int:
+    """The sum over rows from one to another."""
+    total = 0
+    while row < end:
+        value, until = by_row[place]
+        total += value * (min(until, end) - row)
+        row, place = min(until, end), place + 1
+    return total
+
 
 class Known:
     """The lists of a query's joined columns; an entry's row bound is the sum of any of its lists."""
@@ -200,14 +253,30 @@ class Known:
     def __init__(self, query: reading.Query, lists: dict[tuple[int, int], np.ndarray]) -> None:
         self.query, self.lists = query, lists
 
-    def asked(self):
-        """The query as the library takes it; entries are called by their numbers."""
-        from safebound import Query
+    def bound(self) -> int:
+        """The bound of all entries together: the least of all turns."""
+        if any(not len(degrees) for degrees in self.lists.values()):
+            return 0
+        self.runs, equals = {side: runs_of(degrees) for side, degrees in self.lists.items()}, reading.equalities(self.query)
+        return min(self.of_turn(reading.kept(equals[turn:] + equals[:turn])) for turn in range(min(len(equals), 16)))
 
-        rows = {str(entry): int(degrees.sum()) for (entry, _), degrees in self.lists.items()}
-        lists = {(str(entry), column): runs_of(degrees) for (entry, column), degrees in self.lists.items()}
-        equals = [tuple((str(entry), column) for entry, column in equal) for equal in reading.equalities(self.query)]
-        return Query([str(entry) for entry in range(len(self.query.entries))], equals, rows, lists)
+    def of_turn(self, equals: list[tuple]) -> int:
+        classes: list[set] = []
+        for left, right in equals:
+            classes = reading.merged(classes, left, right)
+        weights = self.weights(0, None, classes)
+        return over(weights, 0, 0, weights[-1][1])
+
+    def weights(self, entry: int, above: set | None, classes: list[set]) -> Steps:
+        """The weight of each row of an entry, by the classes of its other columns."""
+        rows = next(row_of(runs, 2**62) for (of, _), runs in self.runs.items() if of == entry)
+        found = [[(1, rows)]]
+        for one in classes:
+            own = next((side for side in one if side[0] == entry), None)
+            if own and one is not above:
+                below = [on_ranks(self.runs[side], self.weights(side[0], one, classes)) for side in one if side != own]
+                found.append(on_rows(self.runs[own], product(below)))
+        return product(found)
 
 
 def joined_columns(query: reading.Query) -> set[tuple[int, int]]:
