@@ -303,8 +303,7 @@ ELSEWHERE = [
     missing("author.csv", ("looked for in", "--data DIR"), {"author.csv": None, "query.sql": b"SELECT ID FROM AUTHOR", "schema.sql": b"CREATE TABLE AUTHOR (ID INTEGER PRIMARY KEY)"}),
 ]
 NO_COMMAND = [
-    usage("", "The commands are", "safebound run", "safebound help"),
-    usage("runn schema.sql query.sql", "no command runn", "Did you mean run?", "safebound audit"),
+    usage("runn schema.sql query.sql", "no command runn", "Did you mean run?", "audit SCHEMA QUERY", "safebound help"),
     usage("select", "no command select"),
     usage("--budget 5 run schema.sql query.sql", "The command comes first"),
     usage("schema.sql query.sql", "no command schema.sql"),
