@@ -291,6 +291,8 @@ FILES = [
     missing("loan.csv", ("There is no file loan.csv", "looked for in", "lower case and .csv"), {"loan.csv": None}),
     missing("loan.csv", ("LOAN.CSV is there", "Rename it to loan.csv"), {"loan.csv": None, "LOAN.CSV": b"BOOK,READER,DAY\r\n"}),
     missing("loan.csv", ("loan.csv.gz is there", "unpack it"), {"loan.csv": None, "loan.csv.gz": gzip.compress(b"BOOK,READER,DAY\r\n")}),
+    missing("loan.csv", ("loan.tsv is there", "writes it as loan.csv: safebound convert loan.tsv"), {"loan.csv": None, "loan.tsv": b"BOOK\tREADER\tDAY\r\n"}),
+    missing("loan.csv", ("Loan.xlsx is there, a workbook", "CSV UTF-8"), {"loan.csv": None, "Loan.xlsx": b"PK\x03\x04"}),
     missing("loan.csv", ("loans.csv is there",), {"loan.csv": None, "loans.csv": b"BOOK,READER,DAY\r\n"}),
     missing("loan.csv", ("loan.csv is a folder",), {"loan.csv": None, "loan.csv/x": b""}),
     missing("shema.sql", ("There is no file shema.sql", "schema.sql is there"), words="run shema.sql query.sql"),
@@ -303,8 +305,7 @@ ELSEWHERE = [
     missing("author.csv", ("looked for in", "--data DIR"), {"author.csv": None, "query.sql": b"SELECT ID FROM AUTHOR", "schema.sql": b"CREATE TABLE AUTHOR (ID INTEGER PRIMARY KEY)"}),
 ]
 NO_COMMAND = [
-    usage("", "The commands are", "safebound run", "safebound help"),
-    usage("runn schema.sql query.sql", "no command runn", "Did you mean run?", "safebound audit"),
+    usage("runn schema.sql query.sql", "no command runn", "Did you mean run?", "audit SCHEMA QUERY", "safebound help"),
     usage("select", "no command select"),
     usage("--budget 5 run schema.sql query.sql", "The command comes first"),
     usage("schema.sql query.sql", "no command schema.sql"),

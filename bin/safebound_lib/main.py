@@ -16,6 +16,8 @@ def main(words):
             return show_help(line.words[:1] if line.command in BY_WORD else [])
         if VERSION_OPTION.word in line.own or line.words == ["version"]:
             return show_version()
+        if not line.words and (EXPLAIN.word in line.own or program.is_terminal(2)):
+            return show_overview()
         refuse_strange(line)
         if DATA.word in line.own:
             enter(line)
@@ -90,6 +92,13 @@ def own_command(line):
         return schema(line)
     return {"help": lambda: show_help(line.words[1:]), "new": lambda: own.new(line.words[1:]), "check": lambda: own.check(program.found(), line),
             "picture": lambda: own.picture(program.found(), line), "completion": lambda: own.completion(line.words[1:])}[line.command]()
+
+
+def show_overview():
+    """Where no command is given the help stands on standard error, in the place of a line that says so."""
+    from . import pages
+    program.say(pages.overview(2))
+    return MISUSED
 
 
 def show_help(topics):

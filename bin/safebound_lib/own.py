@@ -93,7 +93,7 @@ def picture(path, line):
         plan = read_plan(notes.decode())
         rows, budget = read_audit(out.decode(), plan), int(budget) if budget else None
     to = line.own.get(OUTPUT.word, "plan.svg")
-    return save(drawn(run, shown_of(run, plan, rows, budget), to), to) or status
+    return save(drawn(run, shown_of(run, plan, rows, budget), to), to, run) or status
 
 
 def refused(run, fault):
@@ -119,7 +119,7 @@ def lists_beside(run):
     return lists_of(run.query, run.schema, text.decode()) if status == 0 else {}
 
 
-def save(text, to):
+def save(text, to, run):
     if to == "-":
         program.write(1, text)
         return 0
@@ -128,7 +128,7 @@ def save(text, to):
             f.write(text)
     except OSError as fault:
         raise Misused(f"{to}: {fault.strerror}") from None
-    program.say(f"{to}: the picture of the plan; a browser shows it\n")
+    program.say(f"{run.path_of(to)}: the picture of the plan; a browser shows it\n")
     return 0
 
 

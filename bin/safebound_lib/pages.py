@@ -5,6 +5,7 @@ import textwrap
 from . import VERSION
 from .places import page
 from .table import BY_WORD, COMMANDS, HELP, SHELLS, VERSION as VERSION_OPTION, numbered
+from .terminal import columns
 
 SUMMARY = "joins tables with bounds that are proved"
 ABOUT = ("A schema text, a query text (select-project-join SQL-92) and one CSV file for each table: SafeBound bounds every scan and every "
@@ -19,11 +20,13 @@ def options_of(command):
     return [*command.options, HELP]
 
 
-def overview():
-    lines = [f"safebound {VERSION}: {SUMMARY}", "", *wrapped(ABOUT), "", "Commands:"]
-    lines += [entry(" ".join([c.word, *places_of(c)]), c.help) for c in COMMANDS]
-    lines += ["", *wrapped(OWN_OPTIONS), "", *wrapped("Limits: " + LIMITS), "", "Begin with:", "    safebound new trips", "    cd trips", "    safebound run schema.sql query.sql", "",
-              "`safebound help COMMAND` says more of one, with examples; `safebound help errors` lists the faults."]
+def overview(stream=1):
+    """The help, as wide as the terminal of a stream."""
+    wide = columns(stream)
+    lines = [f"safebound {VERSION}: {SUMMARY}", "", *wrapped(ABOUT, wide), "", "Commands:"]
+    lines += [entry(" ".join([c.word, *places_of(c)]), c.help, wide) for c in COMMANDS]
+    lines += ["", *wrapped(OWN_OPTIONS, wide), "", *wrapped("Limits: " + LIMITS, wide), "", "Begin with:", "    safebound new trips", "    cd trips", "    safebound run schema.sql query.sql", "",
+              *wrapped("`safebound help COMMAND` says more of one, with examples; `safebound help errors` lists the faults.", wide)]
     return "\n".join(lines) + "\n"
 
 
@@ -33,8 +36,9 @@ def places_of(command):
 
 
 def of_command(command):
-    lines = wrapped(f"safebound {command.spelled}", "    ") + [""] + wrapped(f"{command.help[0].upper()}{command.help[1:]}. {command.more}".strip())
-    lines += ["", "Options:", *(entry(o.spelled, described(o)) for o in options_of(command))]
+    wide = columns(1)
+    lines = wrapped(f"safebound {command.spelled}", wide, "    ") + [""] + wrapped(f"{command.help[0].upper()}{command.help[1:]}. {command.more}".strip(), wide)
+    lines += ["", "Options:", *(entry(o.spelled, described(o), wide) for o in options_of(command))]
     if command.examples:
         lines += ["", "Examples:", *(f"    {example}" for example in command.examples)]
     return "\n".join(lines) + "\n"
@@ -45,15 +49,15 @@ def described(option):
     return option.help + (f" ({option.least:,} to {option.most:,})" if option.least is not None else "")
 
 
-def wrapped(text, indent=""):
-    return textwrap.wrap(text, 79, subsequent_indent=indent, break_on_hyphens=False)
+def wrapped(text, wide, indent="", first=""):
+    return textwrap.wrap(text, wide, initial_indent=first, subsequent_indent=indent, break_on_hyphens=False)
 
 
-def entry(word, text):
+def entry(word, text, wide):
     """A word and what it says, the text in a column of its own; below a word that is too long for its column."""
     first = f"  {word:<22} " if len(word) <= 22 else f"  {word}\n{'':25}"
     above, _, indent = first.rpartition("\n")
-    return (above and above + "\n") + "\n".join(textwrap.wrap(text, 79, initial_indent=indent, subsequent_indent=" " * 25, break_on_hyphens=False))
+    return (above and above + "\n") + "\n".join(wrapped(text, wide, " " * 25, indent))
 
 
 def errors():
@@ -77,7 +81,7 @@ def plain(text):
 
 
 def indented(text):
-    return textwrap.wrap(text, 79, initial_indent="    ", subsequent_indent="    ", break_on_hyphens=False, break_long_words=False)
+    return textwrap.wrap(text, columns(1), initial_indent="    ", subsequent_indent="    ", break_on_hyphens=False, break_long_words=False)
 
 
 def man():

@@ -7,6 +7,7 @@ import sys
 
 from . import places
 
+TICK = 0.25
 NO_PROGRAM = """safebound: the proved program isn't here. In the repository, `make build` proves and builds it;
 `make run DATA=FOLDER` tries a folder of yours within a minute, with nothing proved.
 SAFEBOUND_PROGRAM names a program that lies elsewhere."""
@@ -79,6 +80,7 @@ def run_and_read(path, words):
 
     Where both streams are terminals, rows go by us too: else they could overtake the plan that was written before them.
     """
+    from .progress import Progress
     rows = subprocess.PIPE if is_terminal(1) else None
     for name in (signal.SIGINT, signal.SIGTERM, signal.SIGHUP):
         signal.signal(name, lambda *_: None)
@@ -90,8 +92,11 @@ def run_and_read(path, words):
         signal.signal(name, lambda number, _: child.send_signal(number))
     notes = Relay(child.stderr, 2)
     relays = [notes] + ([Relay(child.stdout, 1)] if rows else [])
+    progress = Progress(child.pid, words) if is_terminal(2) else None
     while any(relay.is_open for relay in relays):
-        ready, _, _ = select.select([r.stream for r in relays if r.is_open], [], [])
+        ready, _, _ = select.select([r.stream for r in relays if r.is_open], [], [], TICK if progress else None)
+        if progress:
+            progress.clear() if ready else progress.show(sum(map(len, notes.kept)), rows is not None)
         # Notes first: what was written on them before the rows that are ready is there by now.
         for relay in relays:
             if relay is notes or relay.stream in ready:

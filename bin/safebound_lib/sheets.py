@@ -8,6 +8,7 @@ from .convert import SEPARATORS, encoding_of
 from .near import listed
 from .records import left_open, records, same
 from .spot import plain
+from .terminal import saying
 from .tokens import LEAST_NUMBER, MOST_NUMBER, RESERVED
 
 MOST_BYTES, MOST_COLUMNS = 67_108_864, 64
@@ -76,7 +77,8 @@ def sheet_of(file: str) -> Sheet:
     line, header = next(found, (0, None))
     refuse_header(file, header)
     add_columns(sheet, header)
-    fill(sheet, found, len(header), data)
+    with saying(f"looking at {plain(file)} .."):
+        fill(sheet, found, len(header), data)
     for column in sheet.columns:
         if column.has_gaps:
             sheet.says.append(f"{column.name} has empty fields beside its numbers, and tables have no nulls: it is proposed as a text. To compare numbers, write one for none, as 0 or -1.")

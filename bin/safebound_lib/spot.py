@@ -1,7 +1,9 @@
 """A place of a file: its line and column, and the line with a mark below the place."""
 import unicodedata
 
-MOST_SHOWN, BEFORE = 100, 60
+from .terminal import columns
+
+INDENT, DOTS = 4, "..."
 
 
 def plain(text):
@@ -27,11 +29,21 @@ def spot(file, data, at, length=1):
     return f"{plain(file)}, line {number}, column {len(before) + 1}\n" + marked_line(before, marked, behind)
 
 
+def cut(text, most, at_front=False):
+    """Text as it may stand on a terminal, cut at its end or its front to what fits."""
+    text = plain(text.replace("\t", " "))
+    if width(text) <= most:
+        return text
+    kept = text[-most:] if at_front else text[:most]
+    while kept and width(kept) > most - len(DOTS):
+        kept = kept[1:] if at_front else kept[:-1]
+    return DOTS + kept if at_front else kept + DOTS
+
+
 def marked_line(before, marked, behind):
     """The line, cut to what fits, and the mark."""
-    cut = len(before) > BEFORE
-    before, marked = ("..." if cut else "") + plain(before.replace("\t", " ")[-BEFORE:]), plain(marked.replace("\t", " "))[:MOST_SHOWN]
-    behind = plain(behind.replace("\t", " "))
-    room = max(MOST_SHOWN - len(before) - len(marked), 0)
-    behind = behind if len(behind) <= room else behind[:room] + "..."
-    return f"    {before}{marked}{behind}\n    {' ' * width(before)}{'^' * max(width(marked), 1)}"
+    room = columns() - INDENT
+    before = cut(before, room * 3 // 5, at_front=True)
+    marked = cut(marked, room - width(before))
+    behind = cut(behind, room - width(before) - width(marked))
+    return f"{' ' * INDENT}{before}{marked}{behind}\n{' ' * (INDENT + width(before))}{'^' * max(width(marked), 1)}"

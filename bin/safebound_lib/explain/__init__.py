@@ -2,9 +2,9 @@
 import importlib
 import os
 import shlex
-import shutil
 import textwrap
 
+from .. import terminal
 from ..plans import option_of
 from ..table import STATS
 from ..words import places
@@ -63,10 +63,15 @@ def explained(fault, run):
 
 
 def laid_out(blocks):
-    """Sentences are wrapped; what has line ends of its own stays as it is."""
-    width = max(40, min(shutil.get_terminal_size((80, 24)).columns, 100)) - 1
-    fill = lambda block: block if "\n" in block else "\n".join(textwrap.wrap(block, width, break_long_words=False, break_on_hyphens=False))
-    return "".join(fill(block) + "\n" for block in blocks if block)
+    """Each line of each block, wrapped to the terminal's width below its own indentation; places of texts have their colours."""
+    return "".join(terminal.coloured("\n".join(map(wrapped, block.split("\n")))) + "\n" for block in blocks if block)
+
+
+def wrapped(line):
+    width, indent = terminal.columns(), " " * (len(line) - len(line.lstrip()))
+    if len(line) <= width:
+        return line
+    return "\n".join(textwrap.wrap(line.strip(), width, initial_indent=indent, subsequent_indent=indent and indent + "    ", break_long_words=False, break_on_hyphens=False))
 
 
 def not_connected(run):

@@ -6,6 +6,7 @@ from ..near import listed
 from ..plans import option_of, read_plan
 from ..program import answer
 from ..query import equality, groups
+from ..terminal import saying
 from ..table import ACCURACY, BUDGET, BUSHY, KEYS, MOST_BUDGET, MOST_BUDGET_OF_A_TREE, REDUCE, USUAL_BUDGET
 from ..faults import fault_of
 
@@ -23,7 +24,9 @@ def explain(fault, run):
     else:
         first = f"The best {shape} has a {step} whose bound is {least:,} rows, and the budget is {budget:,}. The least budget is --budget {least}."
     apart = not_connected(run)
-    return [first, at_fault(run, least, budget), apart, *several_equalities(run), *tried(run, budget, apart)]
+    several = several_equalities(run)
+    with saying("trying other options .."):
+        return [first, at_fault(run, least, budget), apart, *several, *tried(run, budget, apart)]
 
 
 def most_of(run):

@@ -1,8 +1,11 @@
 """`error read FILE`: why a file can't be read, and where it may be."""
 import os
 
+from .texts import convert_line
 from ..near import listed, nearest
 from ..spot import plain
+
+OF_TEXTS, OF_SHEETS = (".txt", ".tsv", ".tab", ".dat"), (".xlsx", ".xls", ".ods")
 
 
 def explain(fault, run):
@@ -31,7 +34,7 @@ def where(file, run):
     found = [f"It was looked for in {plain(os.path.abspath(folder)) if working() else 'a working folder that is gone'}."]
     if is_table:
         found.append("A table's file has the table's name in lower case and .csv, and lies in the folder where the command runs.")
-    elsewhere = folder_with(file, run, is_table) or near_file(file, folder)
+    elsewhere = folder_with(file, run, is_table) or near_file(file, folder, run)
     if elsewhere:
         return found + [elsewhere]
     if run.before:
@@ -73,7 +76,7 @@ def names_in(folder):
         return []
 
 
-def near_file(file, folder):
+def near_file(file, folder, run):
     """A sentence on a file there with a name near this one."""
     if not os.path.isdir(folder):
         return f"There is no folder {plain(folder)}."
@@ -83,6 +86,12 @@ def near_file(file, folder):
             return f"{plain(other)} is there: upper and lower case count. Rename it to {plain(name)}."
         if other.casefold().startswith(name.casefold() + "."):
             return f"{plain(other)} is there: unpack it, or rename it, to {plain(name)}."
+    for other in names:
+        stem, ending = os.path.splitext(other)
+        if stem.casefold() + ".csv" == name.casefold() and ending.casefold() in OF_TEXTS:
+            return f"{plain(other)} is there. This writes it as {plain(name)}: {convert_line(os.path.join(folder, other) if os.path.dirname(file) else other, run)}"
+        if stem.casefold() + ".csv" == name.casefold() and ending.casefold() in OF_SHEETS:
+            return f"{plain(other)} is there, a workbook: save its sheet as CSV (in Excel: CSV UTF-8), under the name {plain(name)}."
     other = nearest(name, names, 0.75)
     return f"{plain(other)} is there. Is it that one?" if other else ""
 

@@ -5,11 +5,12 @@ from . import read
 from .texts import convert_line, how_to_convert
 from ..near import listed, nearest
 from ..records import chosen, column_place, left_open, records, same
-from ..spot import plain, spot
+from ..spot import cut, plain, spot
+from ..terminal import columns
 from ..tokens import LEAST_NUMBER, MOST_NUMBER, number_of
 
 SEPARATORS = {";": "semicolons", "\t": "tabs", "|": "bars"}
-MOST_OF_VALUE = 60
+MOST_OF_VALUE, MOST_FIELDS = 60, 20
 
 
 def explain(fault, run):
@@ -44,7 +45,7 @@ def header(table, fault, data, run):
     count = sum(same(name) == same(column) for name in found)
     first = f"The header of {fault['file']} names {plain(column)} {count} times; each declared column stands there once." if count else \
         f"The header of {fault['file']}, its first line, has no column {plain(column)}."
-    shown = f"\n    found:    {plain(','.join(found)[:200])}\n    expected: {plain(','.join(wanted))}"
+    shown = f"\n    found:    {cut(','.join(found), columns() - 14)}\n    expected: {cut(','.join(wanted), columns() - 14)}"
     return [first + shown, "Columns may come in any order, and further ones are passed over.", why_no_header(found, wanted, column, count, convert_line(fault["file"], run))]
 
 
@@ -67,7 +68,7 @@ def why_no_header(found, wanted, column, count, convert):
 def width(table, fault, data, run):
     (_, head), (line, fields) = chosen(data, 0, fault["record"])
     first = f"{at_record(fault, line)}: this record has {fault['found']} field{'' if fault['found'] == '1' else 's'}, and the header has {len(head)}."
-    shown = f"\n    header: {plain(','.join(head)[:200])}\n    record: {' | '.join(plain(f[:MOST_OF_VALUE]) for f in fields[:20])}"
+    shown = f"\n    header: {cut(','.join(head), columns() - 12)}\n    record: {cut(' | '.join(f[:MOST_OF_VALUE] for f in fields[:MOST_FIELDS]), columns() - 12)}"
     opened = left_open(data, fault["record"])
     if opened is not None:
         return [first, spot(fault["file"], data, opened), 'The quote here isn\'t closed: a " is missing behind it, and the field goes on to the end of the file. A " within a field in quotes is written twice.']
@@ -122,7 +123,7 @@ def key(table, fault, data, run):
             names, values = listed(plain(t.name) for t in tokens), ", ".join(quoted(fields[i]) for i in at)
             break
     return [f"{at_record(fault, line)}: {values} stands in the key {names} already, on line {earlier} (record {fault['earlier']}).\n"
-            f"    line {earlier}: {plain(','.join(before)[:200])}\n    line {line}: {plain(','.join(fields)[:200])}",
+            f"    line {earlier}: {cut(','.join(before), columns() - 20)}\n    line {line}: {cut(','.join(fields), columns() - 20)}",
             f"No two records have the same values in a PRIMARY KEY or UNIQUE. Remove one of the two, or the key from the schema."]
 
 

@@ -3,8 +3,10 @@ import re
 import shlex
 
 from ..near import hint, listed
+from ..pages import entry, places_of
 from ..spot import plain
 from ..table import ACCURACY, BUDGET, BUSHY, BY_WORD, COMMANDS, KEYS, MOST_BUDGET_OF_A_TREE, MOST_SEED, REDUCE, STATS, TEXTS, program_options
+from ..terminal import columns
 from ..tokens import tokens_of
 
 OUTPUTS = ("--out", "--output", "--outfile", "--outpath", "-o")
@@ -13,8 +15,6 @@ DIGITS = re.compile(r"[0-9]+", re.ASCII)
 
 
 def explain(fault, run):
-    if not run.words:
-        return ["No command is given."] + overview()
     command = BY_WORD.get(run.command)
     if command is None or command.is_own:
         return wrong_command(run.command)
@@ -23,8 +23,8 @@ def explain(fault, run):
 
 
 def overview():
-    commands = "".join(f"\n    safebound {' '.join([c.word, *c.places]):<22} {c.help}" for c in COMMANDS)
-    return [f"The commands are:{commands}", "`safebound help COMMAND` says more, with examples."]
+    commands = "\n".join(entry(" ".join([c.word, *places_of(c)]), c.help, columns()) for c in COMMANDS)
+    return [f"The commands are:\n{commands}", "`safebound help COMMAND` says more, with examples."]
 
 
 def wrong_command(word):
