@@ -1,7 +1,5 @@
 """A plan as one page of HTML that needs no script and no other file: its picture, its tree, and a part for each step and entry, which a click shows."""
-from html import escape
-
-from .picture import draw
+from .picture import draw, safe
 
 MOST_RUNS = 12
 STYLE = """
@@ -27,7 +25,7 @@ def page(shown, lists, flags):
     """The page of what is shown. `lists` has for each entry `(column, what of, runs)`; of `flags` some say why lists are missing."""
     parts = [entry_part(shown, alias, lists, flags) for alias in shown.plan.entries] + [step_part(shown, at) for at in range(steps(shown))]
     return "\n".join([
-        "<!DOCTYPE html>", '<html lang="en">', "<head>", '<meta charset="utf-8">', f"<title>{escape(shown.title)}</title>", f"<style>{STYLE}</style>", "</head>", "<body>", "<main>",
+        "<!DOCTYPE html>", '<html lang="en">', "<head>", '<meta charset="utf-8">', f"<title>{safe(shown.title)}</title>", f"<style>{STYLE}</style>", "</head>", "<body>", "<main>",
         f'<div><div class="drawn">{draw(shown, is_linked=True)}</div>', f"<h2>The plan as a tree</h2><ul class=\"tree\">{tree(shown, steps(shown) - 1)}</ul></div>",
         '<aside><p>Click a bar or a line of the tree: here it says what is joined there, by what, and how many rows there are at most.</p>', *parts, "</aside>", "</main>", "</body>", "</html>", ""])
 
@@ -52,7 +50,7 @@ def tree(shown, at):
     past = ' class="past"' if shown.is_past(bound_of(shown, at)) else ""
     rows = None if shown.rows is None else shown.rows[at]
     below = "".join(item(shown, number) for number in below_of(shown, at))
-    return f'<li><a{past} href="#{shown.step_id(at)}">{escape(shown.step_name(at))}</a>: {counted(bound_of(shown, at), rows)}<ul>{below}</ul></li>'
+    return f'<li><a{past} href="#{shown.step_id(at)}">{safe(shown.step_name(at))}</a>: {counted(bound_of(shown, at), rows)}<ul>{below}</ul></li>'
 
 
 def below_of(shown, at):
@@ -73,21 +71,21 @@ def entry_item(shown, alias):
 
 def named(shown, alias):
     table = shown.table(alias)
-    return escape(f"scan {alias}" + (f" of {table}" if table != alias else ""))
+    return safe(f"scan {alias}" + (f" of {table}" if table != alias else ""))
 
 
 def step_part(shown, at):
     bound, rows = bound_of(shown, at), None if shown.rows is None else shown.rows[at]
     past = f'<p class="past">This is past the budget of {shown.budget:,} rows.</p>' if shown.is_past(bound) else ""
-    conditions = "".join(f"<li><code>{escape(words)}</code></li>" for words in shown.joined_by(at))
-    joined = ", ".join(f"<a href=\"#{shown.step_id(one)}\">{escape(shown.step_name(one))}</a>" if isinstance(one, int) else f'<a href="#{shown.entry_id(one)}">{named(shown, one)}</a>'
+    conditions = "".join(f"<li><code>{safe(words)}</code></li>" for words in shown.joined_by(at))
+    joined = ", ".join(f"<a href=\"#{shown.step_id(one)}\">{safe(shown.step_name(one))}</a>" if isinstance(one, int) else f'<a href="#{shown.entry_id(one)}">{named(shown, one)}</a>'
                        for one in below_of(shown, at))
-    return (f'<section id="{shown.step_id(at)}"><h2>{escape(shown.step_name(at))}</h2><p>{counted(bound, rows).capitalize()}.</p>{past}<p>Joins {joined}.</p>'
+    return (f'<section id="{shown.step_id(at)}"><h2>{safe(shown.step_name(at))}</h2><p>{counted(bound, rows).capitalize()}.</p>{past}<p>Joins {joined}.</p>'
             + (f"<h3>Conditions that hold from here on</h3><ul>{conditions}</ul>" if conditions else "") + "</section>")
 
 
 def entry_part(shown, alias, lists, flags):
-    conditions = "".join(f"<li><code>{escape(words)}</code></li>" for words in shown.own.get(alias, []))
+    conditions = "".join(f"<li><code>{safe(words)}</code></li>" for words in shown.own.get(alias, []))
     said = (f'<section id="{shown.entry_id(alias)}"><h2>{named(shown, alias)}</h2><p>At most {shown.plan.scans[alias]:,} rows pass the conditions on it alone.</p>'
             + (f"<h3>Its own conditions</h3><ul>{conditions}</ul>" if conditions else ""))
     missing = [words for flag, words in NO_LISTS.items() if flag in flags]
@@ -104,4 +102,4 @@ def one_list(alias, column, of, runs):
     head = "<tr><th>rows of a value</th>" + "".join(f"<td>{degree:,}</td>" for degree, _ in shown) + "</tr>"
     body = "<tr><th>values with so many</th>" + "".join(f"<td>{count:,}</td>" for _, count in shown) + "</tr>"
     table = f"<table>{head}{body}</table>" if runs else "<p>no rows</p>"
-    return f"<p><b>{escape(f'{alias}.{column}')}</b> of {escape(of)}</p>{table}{more}"
+    return f"<p><b>{safe(f'{alias}.{column}')}</b> of {safe(of)}</p>{table}{more}"

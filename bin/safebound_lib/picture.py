@@ -7,6 +7,8 @@ import math
 import textwrap
 from xml.sax.saxutils import escape, quoteattr
 
+from .spot import plain
+
 TOP, HEIGHT, LEFT, RIGHT = 92, 240, 100, 24
 COLUMN, BAR, GAP, NODE, STEP = 160, 56, 12, 84, 34
 SCAN, LEVEL, PAST, TRUE, BUDGET, INK, GRID = "#a8c8e8", "#3b7dbf", "#e08a7d", "#123a66", "#c0392b", "#222222", "#dddddd"
@@ -16,6 +18,11 @@ NAMES, WORDS = LEFT + 96, LEFT + 188
 
 def short(name, most):
     return name if len(name) <= most else name[:most - 1] + "…"
+
+
+def safe(text):
+    """A text as it may stand in a picture or a page: no mark of theirs, and no control character."""
+    return escape(plain(text))
 
 
 def width_of(words, size):
@@ -37,11 +44,11 @@ class Picture:
         return 0 if value == 0 else 8 + (HEIGHT - 8) * math.log10(value) / self.decades
 
     def text(self, x, y, words, size=12, anchor="middle", ink=INK, weight="normal"):
-        self.parts.append(f'<text x="{x:.1f}" y="{y:.1f}" font-size="{size}" text-anchor="{anchor}" fill="{ink}" font-weight="{weight}" stroke="white" stroke-width="3" paint-order="stroke">{escape(words)}</text>')
+        self.parts.append(f'<text x="{x:.1f}" y="{y:.1f}" font-size="{size}" text-anchor="{anchor}" fill="{ink}" font-weight="{weight}" stroke="white" stroke-width="3" paint-order="stroke">{safe(words)}</text>')
 
     def bar(self, x, width, value, ink, says, to):
         high = self.height(value)
-        drawn = f'<rect x="{x:.1f}" y="{self.foot - high:.1f}" width="{width}" height="{high:.1f}" fill="{ink}"><title>{escape(says)}</title></rect>'
+        drawn = f'<rect x="{x:.1f}" y="{self.foot - high:.1f}" width="{width}" height="{high:.1f}" fill="{ink}"><title>{safe(says)}</title></rect>'
         self.parts.append(f"<a href={quoteattr('#' + to)}>{drawn}</a>" if self.is_linked else drawn)
 
     def number(self, x, value):
@@ -98,7 +105,7 @@ class Picture:
         fits = f' style="width:100%;height:auto;max-width:{self.width}px;min-width:{self.width * 3 // 4}px"' if self.is_linked else ""
         return "\n".join([
             f'<svg xmlns="http://www.w3.org/2000/svg" width="{self.width}" height="{height}"{fits} viewBox="0 0 {self.width} {height}" font-family="DejaVu Sans, Verdana, sans-serif">',
-            f"<title>{escape(self.shown.title)}</title>", f'<rect width="{self.width}" height="{height}" fill="white"/>', *self.parts, "</svg>", ""])
+            f"<title>{safe(self.shown.title)}</title>", f'<rect width="{self.width}" height="{height}" fill="white"/>', *self.parts, "</svg>", ""])
 
 
 def draw(shown, is_linked=False):
