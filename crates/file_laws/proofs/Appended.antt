@@ -1,25 +1,23 @@
 -- The file that an append writes keeps the rules, and has sections of the same tables.
-use Rattle.std.proofs.Common.{◌≡◌, ℕ, ◌+◌, ◌<◌, ◌≤◌, ◌==◌, Bool, true, false, cond, List, [], ◌∷◌, length, map, find, Option, None, Some, Result, Ok, Err, inl, inr, refl, ap, sym, ◌∙◌, subst, arith}
-use Rattle.std.specs.Str.{IsUtf8, bytes_eq}
+use Rattle.std.proofs.Common.{◌≡◌, ℕ, ◌<◌, ◌==◌, false, cond, List, [], ◌∷◌, length, map, find, Option, None, Some, Ok, inl, inr, refl, ap, sym, ◌∙◌, subst, arith}
+use Rattle.std.specs.Str.{IsUtf8}
 use Rattle.std.specs.List.{IsDistinct}
-use Rattle.std.proofs.lemmas.Bool.{cases_Bool, eqb-true}
+use Rattle.std.proofs.lemmas.Bool.{cases_Bool}
 use Rattle.std.proofs.lemmas.List.Elements.{All-nil}
 use Rattle.std.proofs.lemmas.Map.Made.{AllPairs-from_IsDistinct}
 use Rattle.std.proofs.lemmas.Slice.Eq.{bytes_eq-Decides}
 use Rattle.appended_stats.specs.Appended.{file_after, section_after}
 use Rattle.appended_stats.specs.Cells.{one_by_cells}
-use Rattle.appended_stats.specs.Conditions.{HasRoom, MayAppend}
+use Rattle.appended_stats.specs.Conditions.{MayAppend}
 use Rattle.appended_stats.proofs.FileKept.{file_is, file_keeps}
 use Rattle.base_io.specs.Files.{Files, file_of}
 use Rattle.csv_tables.proofs.KeyFacts.{rows-length}
 use Rattle.csv_tables.specs.Files.{rows_of_file}
 use Rattle.csv_tables.specs.Rows.{Row}
-use Rattle.filed_stats.proofs.Finding.{found_in}
 use Rattle.level_bounds.proofs.CellKeys.{characters_differ}
-use Rattle.limits.specs.Profile.{most_file, most_rows}
+use Rattle.limits.specs.Profile.{most_file}
 use Rattle.outcomes.specs.Errors.{table_refusal}
 use Rattle.outcomes.specs.declared.names.FileId.TheVariants as file_id
-use Rattle.outcomes.specs.declared.refusal.Refusal.{Refusal}
 use Rattle.schema_types.specs.Validity.{IsValid}
 use Rattle.schema_types.specs.declared.types.Table.{Table}
 use Rattle.stats_answers.proofs.StatsAnswers.{written}

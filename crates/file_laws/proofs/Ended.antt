@@ -1,5 +1,5 @@
 -- What a call came to that ended with Done, and that two readings of one file's bytes are one.
-use Rattle.std.proofs.Common.{◌≡◌, ℕ, List, ◌++◌, Option, None, Some, Result, Ok, Err, refl, ap, sym, ◌∙◌, subst}
+use Rattle.std.proofs.Common.{◌≡◌, ℕ, List, ◌++◌, Option, Some, Result, Ok, Err, refl, ap, sym, ◌∙◌, subst}
 use Rattle.std.specs.Prelude.{IsOkAnd, IfOk}
 use Rattle.std.proofs.lemmas.List.{append_cancel_left}
 use Rattle.base_io.specs.Devices.{Growth}
@@ -10,7 +10,6 @@ use Rattle.outcomes.specs.Errors.{stats_refusal}
 use Rattle.outcomes.specs.Reads.{◌>>=◌}
 use Rattle.outcomes.specs.declared.names.FileId.TheVariants as file_id
 use Rattle.outcomes.specs.declared.refusal.Refusal.{Refusal}
-use Rattle.safebound_words.specs.Answer.{command_of}
 use Rattle.safebound_words.specs.InRange.{HasRanges}
 use Rattle.safebound_words.specs.declared.command.Command.{Command}
 use Rattle.safebound_words.proofs.Readings.{asked_computed}

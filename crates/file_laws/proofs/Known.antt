@@ -1,14 +1,10 @@
 -- What is known of the bytes of a statistics file: what `stats` wrote, and what each append made of it.
-use Rattle.std.proofs.Common.{◌≡◌, ℕ, ◌<◌, ◌≤◌, ◌==◌, ◌++◌, Bool, true, false, cond, List, [], ◌∷◌, length, find, Option, None, Some, option_map, Result, Ok, Err, inl, inr, refl, ap, sym, ◌∙◌, subst, arith, append_assoc, append-nil}
-use Rattle.std.specs.Prelude.{slice_get}
+use Rattle.std.proofs.Common.{◌≡◌, ℕ, ◌<◌, ◌≤◌, ◌==◌, ◌++◌, cond, List, [], ◌∷◌, length, Option, None, Some, option_map, Ok, inl, inr, refl, ap, sym, ◌∙◌, subst, append_assoc, append-nil}
 use Rattle.std.specs.List.{filter_map, flat_map, range_with_len}
-use Rattle.std.specs.Str.{str_eq_ignore_ascii_case}
 use Rattle.std.proofs.Math.Path.{fun_ext}
 use Rattle.std.proofs.lemmas.Bool.{cases_Bool, eqb-true}
 use Rattle.std.proofs.lemmas.Option.{slice_get-get_or}
-use Rattle.appended_stats.specs.Appended.{file_after}
 use Rattle.appended_stats.specs.Conditions.{HasNewRows}
-use Rattle.base_io.specs.Files.{Files}
 use Rattle.csv_tables.specs.Rows.{Row}
 use Rattle.csv_tables.specs.declared.types.Database.{Database}
 use Rattle.filed_stats.proofs.Finding.{found_in}
@@ -20,7 +16,6 @@ use Rattle.filed_stats.specs.Needs.{table_of}
 use Rattle.filed_stats.specs.Standing.{StandsFor, section_of}
 use Rattle.level_bounds.proofs.Lists.{from_filter_map}
 use Rattle.limits.specs.Profile.{most_accuracy}
-use Rattle.outcomes.specs.declared.refusal.Refusal.{Refusal}
 use Rattle.query_types.specs.Validity.{IsOf}
 use Rattle.query_types.specs.declared.types.Query.{Query}
 use Rattle.safebound_words.specs.Commands.{over_query, with_rows}
@@ -39,7 +34,7 @@ use Rattle.table_files.proofs.StagedFiles.{entries_are}
 use Rattle.prepared_runs.specs.Appending.{is_of_table}
 use Rattle.prepared_runs.specs.Filed.{stats_stage, tables_filed}
 use Rattle.prepared_runs.specs.Outcome.{Outcome}
-use Rattle.prepared_runs.specs.Verdict.{query_stage, schema_stage}
+use Rattle.prepared_runs.specs.Verdict.{query_stage}
 use Rattle.safebound_laws.specs.Appends.{Grows}
 use Rattle.safebound_laws.proofs.Alike.{FileMade, file_made}
 use Rattle.safebound_laws.proofs.AppendFacts.{append_stands, grows_so}

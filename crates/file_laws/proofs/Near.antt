@@ -1,5 +1,5 @@
 -- A plan from the file that `stats` wrote is the one that the tables themselves have.
-use Rattle.std.proofs.Common.{◌≡◌, ℕ, ◌<◌, false, List, length, Some, Result, Ok, ap, sym, ◌∙◌, subst}
+use Rattle.std.proofs.Common.{◌≡◌, ℕ, ◌<◌, false, List, length, Some, Ok, ap, sym, ◌∙◌, subst}
 use Rattle.appended_stats.specs.Appended.{alone}
 use Rattle.csv_tables.specs.Rows.{Row}
 use Rattle.filed_bounds.proofs.Telling.{IsThere, is_there, section_is}
@@ -17,7 +17,6 @@ use Rattle.filed_stats.specs.Standing.{StandsFor, section_of}
 use Rattle.gathered_stats.specs.Statistics.{statistics_of}
 use Rattle.join_graph.proofs.FromEntries.{names_its_entries}
 use Rattle.join_graph.specs.Conjuncts.{equalities_of}
-use Rattle.order_search.specs.declared.refusal.PlanError.{PlanError}
 use Rattle.plan_nearness.proofs.LevelsNear.{levels_near}
 use Rattle.plan_nearness.specs.Nearness.{FiltersNoEntry}
 use Rattle.planning.specs.Plans.{planned as planned_over, planned_from}

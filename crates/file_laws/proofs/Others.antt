@@ -1,5 +1,5 @@
 -- A file that stands for a query's tables stands for those of another query.
-use Rattle.std.proofs.Common.{◌≡◌, ℕ, ◌<◌, List, length, get_or, Some, ap, ◌∙◌, subst}
+use Rattle.std.proofs.Common.{ℕ, List, get_or, ap, ◌∙◌, subst}
 use Rattle.appended_stats.specs.Appended.{alone}
 use Rattle.csv_tables.specs.Rows.{Row}
 use Rattle.filed_stats.proofs.SameSections.{first_is}

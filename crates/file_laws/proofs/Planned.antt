@@ -1,7 +1,6 @@
 -- A plan from a statistics file of which it is known what it stands for.
-use Rattle.std.proofs.Common.{◌≡◌, ℕ, ◌<◌, ◌≤◌, ◌==◌, ◌++◌, Bool, true, false, List, [], ◌∷◌, length, get_or, Option, None, Some, Result, Ok, Err, inl, inr, refl, ap, sym, ◌∙◌, subst, arith}
+use Rattle.std.proofs.Common.{◌≡◌, ℕ, ◌<◌, ◌==◌, ◌++◌, true, false, List, [], length, get_or, Option, None, Some, Result, Ok, Err, refl, ap, sym, ◌∙◌, subst, arith}
 use Rattle.std.specs.Prelude.{unwrap_or}
-use Rattle.std.specs.List.{range_with_len}
 use Rattle.std.proofs.lemmas.Bool.{eq-eqb}
 use Rattle.std.proofs.lemmas.List.{get_or-map}
 use Rattle.std.proofs.lemmas.Option.{slice_get-get_or}
@@ -11,7 +10,6 @@ use Rattle.filed_bounds.proofs.Finding.{none_passes}
 use Rattle.filed_bounds.proofs.Telling.{IsThere, is_there}
 use Rattle.filed_bounds.specs.Found.{first_missing, is_missing}
 use Rattle.filed_bounds.specs.Plans.{filed_plan, planned_by_file, unless_missing}
-use Rattle.filed_bounds.specs.declared.errors.FiledPlanError.{FiledPlanError}
 use Rattle.filed_stats.proofs.SameSections.{first_is}
 use Rattle.filed_stats.proofs.Standing.{share_rows}
 use Rattle.filed_stats.specs.Files.{first_entry}
@@ -20,8 +18,7 @@ use Rattle.filed_stats.specs.Standing.{ShareRows, StandsFor, section_of}
 use Rattle.join_steps.specs.Lists.{scans_of}
 use Rattle.join_steps.specs.Plans.{IsPlanOf}
 use Rattle.order_search.specs.declared.refusal.PlanError.{PlanError}
-use Rattle.outcomes.specs.Errors.{plan_refusal}
-use Rattle.outcomes.specs.Reads.{◌>>=◌, told}
+use Rattle.outcomes.specs.Reads.{told}
 use Rattle.plans.specs.declared.left_deep.Plan.{Plan}
 use Rattle.query_types.specs.Validity.{IsOf}
 use Rattle.query_types.specs.declared.types.Query.{Query}
@@ -32,10 +29,8 @@ use Rattle.safebound_words.specs.declared.command.Aim.TheVariants as aims
 use Rattle.safebound_words.specs.declared.command.Command.{Command}
 use Rattle.safebound_words.specs.declared.command.Work.TheVariants as works
 use Rattle.schema_types.specs.declared.types.Schema.{Schema}
-use Rattle.schema_types.specs.declared.types.Table.{Table}
 use Rattle.sql_meaning.specs.Tables.{Tables, tables_of}
 use Rattle.stats_file.specs.declared.types.StatsFile.{StatsFile}
-use Rattle.stats_file.specs.declared.types.TableStats.{TableStats}
 use Rattle.table_files.specs.Stage.{no_table, table_at, table_rows}
 use Rattle.table_files.proofs.EntryLaws.{two_steps}
 use Rattle.table_files.proofs.StagedFiles.{table_ok, told_ok}
@@ -48,7 +43,7 @@ use Rattle.safebound_top.proofs.Promises.{asks, query_of_schema}
 use Rattle.safebound_top.specs.Call.{Grew}
 use Rattle.safebound_top.specs.Headline.{GrewWhole}
 use Rattle.safebound_top.specs.OutcomeTexts.{filed_plan_text, notes_text}
-use Rattle.safebound_top.specs.Promise.{AreInFile, AsksQuery, HoldsAlong, PrintsOrder}
+use Rattle.safebound_top.specs.Promise.{AreInFile, PrintsOrder}
 use Rattle.file_laws.specs.Calls.{AppendCall, AppendedEach, PlanCall, PlannedFrom, StatsCall, WroteStats, last_bytes}
 use Rattle.file_laws.specs.Others.{HaveSameRows}
 use Rattle.file_laws.specs.Plans.{Added, GrownPlanHolds, IsOver, PlanHolds, added_rows, with_added}
