@@ -21,6 +21,7 @@ use Rattle.predicate_bounds.specs.declared.steps.Step.{Step}
 use Rattle.predicate_bounds.specs.Steps.{steps_of}
 use Rattle.query_bounds.specs.Bounds.{entry_bounds, is_among, is_at, scan_bounds, scan_list, scan_rows, set_bounds}
 use Rattle.query_bounds.specs.Statistics.{Statistics}
+use Rattle.query_types.specs.Named.{NamesItsEntries}
 use Rattle.query_types.specs.declared.types.Query.{Query}
 use Rattle.schema_types.specs.declared.types.Schema.{Schema}
 use Rattle.set_bounds.specs.AllSets.{bounds_of_sets}
@@ -55,32 +56,23 @@ use Rattle.filed_exactness.proofs.Members.{any_passes}
 use Rattle.filed_exactness.proofs.Sections as sections
 use Rattle.filed_exactness.proofs.Sections.{IsSectionOf, all_there, found_is, section_there}
 
-module _ (schema : Schema) (query : Query) (db : Database) (over : IsOverSchema schema query db) (accuracy : ℕ) (least : 0 < accuracy) (most : accuracy ≤ 64) where
-  abbrev file : StatsFile
-  file = file_of_query schema query (tables_of db) accuracy
+-- ---- what a file has to know
 
-  abbrev tables : Tables
-  tables = tables_of db
+-- it has all that the query needs; of each entry it has the number of rows, and of two columns no other pair than that of the entry's table
+pub record KnowsTables (query : Query) (file : StatsFile) (tables : Tables) (accuracy : ℕ) : Type 0 where
+  pub is_file : IsFile file
+  pub names : NamesItsEntries query
+  pub there : (entry : ℕ) → entry < length query.from → is_missing query file entry ≡ false
+  pub rows : (entry : ℕ) → entry < length query.from → (section_for query file entry).rows ≡ row_counts tables entry
+  pub pairs : (entry : ℕ) → entry < length query.from → (filter_column joined : ℕ) (p : Pair) → pair_in (section_for query file entry) filter_column joined ≡ Some p
+      → p ≡ pair_in_table tables accuracy entry filter_column joined
 
-  is_file : IsFile file
-  is_file = record { schema = schema; keeps = file_keeps schema query db over accuracy least most }
-
-  -- ---- nothing is missing
-
-  there_not_missing : (entry : ℕ) → entry < length query.from → is_missing query file entry ≡ false
-  there_not_missing entry low =
-      let section = section_there schema query db over accuracy entry low in
-      let is = sections.section_is schema query db over accuracy entry section.0 section.1 in
-      rw (section.1, all_there schema query db over accuracy entry low section.0 is) refl
-
-  pub none_missing : first_missing query file ≡ None
-  none_missing = none_found (is_missing query file) 0 (length query.from) (λ k from to. there_not_missing k (omega (arith, to)))
-
+module _ (query : Query) (file : StatsFile) (tables : Tables) (accuracy : ℕ) (knows : KnowsTables query file tables accuracy) where
   -- ---- an entry
 
   module _ (entry : ℕ) (low : entry < length query.from) where
     there : IsThere query file entry
-    there = is_there query file entry (there_not_missing entry low)
+    there = is_there query file entry (knows.there entry low)
 
     abbrev section : TableStats
     section = section_for query file entry
@@ -89,22 +81,15 @@ module _ (schema : Schema) (query : Query) (db : Database) (over : IsOverSchema 
     needs = needs_of query entry
 
     filed : IsFiled section
-    filed = its_filed query file is_file entry there
+    filed = its_filed query file knows.is_file entry there
 
     all : list_all (has_pair section) (pairs_of needs) ≡ true
-    all = its_pairs query file is_file entry there
-
-    is_section : IsSectionOf schema query db over accuracy entry section
-    is_section =
-        subst (IsSectionOf schema query db over accuracy entry) (sym (section_is query file entry there)) (sections.section_is schema query db over accuracy entry there.section there.is)
-
-    rows_are : section.rows ≡ row_counts tables entry
-    rows_are = ap (λ (s : TableStats). s.rows) (section_is query file entry there) ∙ (file_stands schema query tables (share_rows schema query db over) accuracy entry there.section low there.is).rows
+    all = its_pairs query file knows.is_file entry there
 
     -- a pair that is found is that of the table
     found_pair : (filter_column joined : ℕ) → (p : Pair) × (pair_in section filter_column joined ≡ Some p) → pair_for section filter_column joined ≡ pair_in_table tables accuracy entry filter_column joined
     found_pair filter_column joined found =
-        its section filed needs all filter_column joined found.0 found.1 ∙ found_is schema query db over accuracy entry low section is_section filter_column joined found.0 found.1
+        its section filed needs all filter_column joined found.0 found.1 ∙ knows.pairs entry low filter_column joined found.0 found.1
 
     pair_is : (filter_column joined : ℕ) → Contains needs.filters filter_column → IsJoined needs joined
         → pair_for section filter_column (partner needs joined filter_column) ≡ pair_in_table tables accuracy entry filter_column (partner needs joined filter_column)
@@ -147,12 +132,12 @@ module _ (schema : Schema) (query : Query) (db : Database) (over : IsOverSchema 
 
     made_sums : SumTo (made lead) (entry_counts tables entry)
     made_sums = record {
-      whole = whole_sum section filed needs all lead (lead_joined needs) ∙ rows_are;
+      whole = whole_sum section filed needs all lead (lead_joined needs) ∙ knows.rows entry low;
       equal = λ column value. (lists_sum tables accuracy entry (partner needs lead column)).equal column value;
       range = λ range. (lists_sum tables accuracy entry (partner needs lead range.column)).range range;
     }
 
-    pub rows_same : scan_rows query (filed_statistics query file) entry ≡ scan_rows query (statistics_of tables accuracy) entry
+    rows_same : scan_rows query (filed_statistics query file) entry ≡ scan_rows query (statistics_of tables accuracy) entry
     rows_same =
         sym (sum-filtered (filed_lists section needs lead) (filed_counts section needs) entry query.conjuncts own_sums) ∙ ap (λ (s : List ℕ). sum s) (filed_alike lead (lead_joined needs))
         ∙ sum-filtered (made lead) (entry_counts tables entry) entry query.conjuncts made_sums
@@ -183,15 +168,15 @@ module _ (schema : Schema) (query : Query) (db : Database) (over : IsOverSchema 
         range = λ low high. ap (λ j. (column_lists tables accuracy entry j).range (record { column = column; low = low; high = high })) (partner_joined needs joined column has);
       }
 
-      pub list_same : scan_list query (filed_statistics query file) entry joined ≡ scan_list query (statistics_of tables accuracy) entry joined
+      list_same : scan_list query (filed_statistics query file) entry joined ≡ scan_list query (statistics_of tables accuracy) entry joined
       list_same =
           filed_alike joined (contained needs joined has)
           ∙ filtered_alike (made joined) (column_lists tables accuracy entry joined) whole_is entry query.conjuncts (λ s asked column is. made_alike column)
 
   -- ---- bounds
 
-  pub scans_same : scan_bounds query (filed_statistics query file) ≡ scan_bounds query (statistics_of tables accuracy)
-  scans_same =
+  pub scans_known : scan_bounds query (filed_statistics query file) ≡ scan_bounds query (statistics_of tables accuracy)
+  scans_known =
       map_alike (scan_rows query (filed_statistics query file)) (scan_rows query (statistics_of tables accuracy)) (range_with_len 0 (length query.from))
       (λ entry has. rows_same entry (omega (arith, (range_within 0 (length query.from) entry has).1)))
 
@@ -221,15 +206,58 @@ module _ (schema : Schema) (query : Query) (db : Database) (over : IsOverSchema 
           → scan_list query (filed_statistics query file) entry column ≡ scan_list query (statistics_of tables accuracy) entry column
       at_place (p, has, is) =
           let parts = and_parts (eqb p.entry entry) (eqb p.column column) is in
-          let low : p.entry < length query.from = place_low query (names_its_entries schema query over.of.query_is) p has in
+          let low : p.entry < length query.from = place_low query knows.names p has in
           subst (λ c. scan_list query (filed_statistics query file) entry c ≡ scan_list query (statistics_of tables accuracy) entry c) (eqb-true p.column column parts.1)
           (subst (λ e. scan_list query (filed_statistics query file) e p.column ≡ scan_list query (statistics_of tables accuracy) e p.column) (eqb-true p.entry entry parts.0)
           (list_same p.entry low p.column (joined_has (equalities_of query) p has)))
 
-  pub bounds_same : entry_bounds query (filed_statistics query file) ≡ entry_bounds query (statistics_of tables accuracy)
-  bounds_same =
+  pub bounds_known : entry_bounds query (filed_statistics query file) ≡ entry_bounds query (statistics_of tables accuracy)
+  bounds_known =
       same_bounds (rows_by (filed_statistics query file)) (rows_by (statistics_of tables accuracy)) (list_by (filed_statistics query file)) (list_by (statistics_of tables accuracy))
       (fun_ext each_rows) (fun_ext (λ entry. fun_ext (each_list entry)))
 
-  pub sets_same : set_bounds query (filed_statistics query file) ≡ set_bounds query (statistics_of tables accuracy)
-  sets_same = ap (λ (b : EntryBounds). bounds_of_sets b (equalities_of query) (length query.from)) bounds_same
+  pub sets_known : set_bounds query (filed_statistics query file) ≡ set_bounds query (statistics_of tables accuracy)
+  sets_known = ap (λ (b : EntryBounds). bounds_of_sets b (equalities_of query) (length query.from)) bounds_known
+
+-- ---- the file of the query
+
+module _ (schema : Schema) (query : Query) (db : Database) (over : IsOverSchema schema query db) (accuracy : ℕ) (least : 0 < accuracy) (most : accuracy ≤ 64) where
+  abbrev own_file : StatsFile
+  own_file = file_of_query schema query (tables_of db) accuracy
+
+  there_not_missing : (entry : ℕ) → entry < length query.from → is_missing query (file_of_query schema query (tables_of db) accuracy) entry ≡ false
+  there_not_missing entry low =
+      let section = section_there schema query db over accuracy entry low in
+      let is = sections.section_is schema query db over accuracy entry section.0 section.1 in
+      rw (section.1, all_there schema query db over accuracy entry low section.0 is) refl
+
+  pub none_missing : first_missing query (file_of_query schema query (tables_of db) accuracy) ≡ None
+  none_missing = none_found (is_missing query own_file) 0 (length query.from) (λ k from to. there_not_missing k (omega (arith, to)))
+
+  its_there : (entry : ℕ) → entry < length query.from → IsThere query (file_of_query schema query (tables_of db) accuracy) entry
+  its_there entry low = is_there query own_file entry (there_not_missing entry low)
+
+  its_section : (entry : ℕ) → entry < length query.from → IsSectionOf schema query db over accuracy entry (section_for query (file_of_query schema query (tables_of db) accuracy) entry)
+  its_section entry low =
+      let there = its_there entry low in
+      subst (IsSectionOf schema query db over accuracy entry) (sym (section_is query own_file entry there)) (sections.section_is schema query db over accuracy entry there.section there.is)
+
+  own_knows : KnowsTables query (file_of_query schema query (tables_of db) accuracy) (tables_of db) accuracy
+  own_knows = record {
+    is_file = record { schema = schema; keeps = file_keeps schema query db over accuracy least most };
+    names = names_its_entries schema query over.of.query_is;
+    there = there_not_missing;
+    rows = λ entry low. ap (λ (s : TableStats). s.rows) (section_is query own_file entry (its_there entry low))
+        ∙ (file_stands schema query (tables_of db) (share_rows schema query db over) accuracy entry (its_there entry low).section low (its_there entry low).is).rows;
+    pairs = λ entry low filter_column joined p found.
+        found_is schema query db over accuracy entry low (section_for query own_file entry) (its_section entry low) filter_column joined p found;
+  }
+
+  pub scans_same : scan_bounds query (filed_statistics query (file_of_query schema query (tables_of db) accuracy)) ≡ scan_bounds query (statistics_of (tables_of db) accuracy)
+  scans_same = scans_known query own_file (tables_of db) accuracy own_knows
+
+  pub bounds_same : entry_bounds query (filed_statistics query (file_of_query schema query (tables_of db) accuracy)) ≡ entry_bounds query (statistics_of (tables_of db) accuracy)
+  bounds_same = bounds_known query own_file (tables_of db) accuracy own_knows
+
+  pub sets_same : set_bounds query (filed_statistics query (file_of_query schema query (tables_of db) accuracy)) ≡ set_bounds query (statistics_of (tables_of db) accuracy)
+  sets_same = sets_known query own_file (tables_of db) accuracy own_knows

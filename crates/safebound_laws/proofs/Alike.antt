@@ -158,16 +158,16 @@ module _ (schema_file query_file : List ℕ) (files : Files) (schema : Schema) (
 -- ---- what `stats` writes
 
 -- the schema, the query and the rows that a file of statistics is made of
-record FileMade (schema_file query_file : List ℕ) (accuracy : ℕ) (files : Files) (written : Outcome) : Type 0 where
-  schema : Schema
-  schema_is : schema_stage schema_file files ≡ Ok schema
-  query : Query
-  query_is : query_stage query_file schema files ≡ Ok query
-  rows : List (List Row)
-  rows_are : tables_stage schema query.from files ≡ Ok rows
-  is : tables_filed schema query rows accuracy ≡ written
+pub record FileMade (schema_file query_file : List ℕ) (accuracy : ℕ) (files : Files) (written : Outcome) : Type 0 where
+  pub schema : Schema
+  pub schema_is : schema_stage schema_file files ≡ Ok schema
+  pub query : Query
+  pub query_is : query_stage query_file schema files ≡ Ok query
+  pub rows : List (List Row)
+  pub rows_are : tables_stage schema query.from files ≡ Ok rows
+  pub is : tables_filed schema query rows accuracy ≡ written
 
-file_made : (schema_file query_file : List ℕ) (accuracy : ℕ) (files : Files) (written : Outcome) → command_run (over_query None schema_file query_file (works.File accuracy)) files ≡ Ok written
+pub file_made : (schema_file query_file : List ℕ) (accuracy : ℕ) (files : Files) (written : Outcome) → command_run (over_query None schema_file query_file (works.File accuracy)) files ≡ Ok written
     → FileMade schema_file query_file accuracy files written
 unfolding command_run
 file_made schema_file query_file accuracy files written ran =

@@ -1,7 +1,8 @@
 -- The verdict of an append, stage by stage.
-use Rattle.std.proofs.Common.{◌≡◌, ℕ, ◌+◌, List, length, Some, Result, Ok, Err, inl, inr, refl, ap, sym, ◌∙◌, subst}
+use Rattle.std.proofs.Common.{◌≡◌, ℕ, ◌+◌, ◌≤◌, true, List, length, Some, Result, Ok, Err, inl, inr, refl, ap, sym, ◌∙◌, subst, arith}
 use Rattle.std.specs.Prelude.{IfOk, nat_le}
 use Rattle.std.proofs.lemmas.Bool.{cases_Bool}
+use Rattle.std.proofs.lemmas.Bool.Decides.{nat_tests}
 use Rattle.appended_stats.specs.Appended.{file_after}
 use Rattle.appended_stats.proofs.StillStands.{file_still}
 use Rattle.base_io.specs.Files.{Files}
@@ -34,26 +35,30 @@ use Rattle.safebound_laws.specs.Appends.{Grows, PlansAfter, StandsAfter}
 holds_of : {A : Type 0} (P : A → Type 0) (r : Result A Refusal) (x : A) → r ≡ Ok x → IfOk r P → P x
 holds_of P r x is holds = subst (λ (s : Result _ Refusal). IfOk s P) is holds
 
+few_if : (n most : ℕ) → nat_le n most ≡ true → n ≤ most
+few_if n most is = grind (arith, nat_tests)
+
 module _ (schema : Schema) (stats : StatsFile) (table before : ℕ) (rows : List Row) where
   abbrev made : Outcome
   made = Appended (record { schema = schema; table = table; rows = rows; file = file_after stats table rows })
 
-  -- where the rows are few enough, this is what comes of them
-  grown_so : (outcome : Outcome) → grown_stage schema stats table before rows ≡ Ok outcome → outcome ≡ made
+  -- only where the rows are few enough something comes of them, and this is it
+  grown_so : (outcome : Outcome) → grown_stage schema stats table before rows ≡ Ok outcome → (before + length rows ≤ most_rows) × (outcome ≡ made)
   unfolding grown_stage
   grown_so outcome is = elim (cases_Bool (nat_le (before + length rows) most_rows)) [
-    | inl few ↦ (let so : ◌≡◌ {A = Result Outcome Refusal} (Ok made) (Ok outcome) = rw few at is in cc)
+    | inl few ↦ (let so : ◌≡◌ {A = Result Outcome Refusal} (Ok made) (Ok outcome) = rw few at is in (few_if (before + length rows) most_rows few, cc))
     | inr many ↦ absurd (let no = rw many at is in cc)
   ]
 
 module _ (files : Files) (schema_file : List ℕ) (append : NewRows) (outcome : Outcome) where
-  grows_so : command_run (with_rows schema_file append) files ≡ Ok outcome → Grows files schema_file append.stats_file append.table append.rows_file outcome
+  pub grows_so : command_run (with_rows schema_file append) files ≡ Ok outcome → Grows files schema_file append.stats_file append.table append.rows_file outcome
   unfolding command_run append_run stats_run rows_run
   grows_so is =
       let first = two_steps (schema_stage schema_file files) (λ schema. aim_run (aims.Append append) schema files) outcome is in
       let second = two_steps (stats_stage append.stats_file first.0 files) (λ stats. stats_run append first.0 stats files) outcome first.2 in
       let third = two_steps (section_stage append.table first.0 second.0) (λ section. rows_run append.rows_file first.0 second.0 section.table section.rows files) outcome second.2 in
-      let last = two_steps (rows_in third.0.table (table_at first.0 third.0.table) append.rows_file files) (grown_stage first.0 second.0 third.0.table third.0.rows) outcome third.2 in
+      let read = two_steps (rows_in third.0.table (table_at first.0 third.0.table) append.rows_file files) (grown_stage first.0 second.0 third.0.table third.0.rows) outcome third.2 in
+      let last = grown_so first.0 second.0 third.0.table third.0.rows read.0 outcome read.2 in
       record {
         schema = first.0;
         schema_is = first.1;
@@ -61,11 +66,12 @@ module _ (files : Files) (schema_file : List ℕ) (append : NewRows) (outcome : 
         before_is = second.1;
         section = third.0;
         section_is = third.1;
-        rows = last.0;
-        rows_are = last.1;
-        after = file_after second.0 third.0.table last.0;
+        rows = read.0;
+        rows_are = read.1;
+        few = last.0;
+        after = file_after second.0 third.0.table read.0;
         after_is = refl;
-        written = grown_so first.0 second.0 third.0.table third.0.rows last.0 outcome last.2;
+        written = last.1;
       }
 
 pub append_grows : (words : List (List ℕ)) (files : Files) (schema stats name rows : List ℕ) (outcome : Outcome) → command_of words ≡ Some (with_rows schema (record { stats_file = stats; table = name; rows_file = rows }))
@@ -77,7 +83,7 @@ append_grows words files schema stats name rows outcome command is =
     grows_so files schema append outcome (sym (ap (λ (r : Result Command Refusal). r >>= (λ ask. command_run ask files)) asked) ∙ is)
 
 module _ (files : Files) (schema stats name rows : List ℕ) (outcome : Outcome) (grows : Grows files schema stats name rows outcome) where
-  keeps : KeepsRules grows.schema grows.before
+  pub keeps : KeepsRules grows.schema grows.before
   keeps =
       let valid : IsValid grows.schema = holds_of IsValid (schema_stage schema files) grows.schema grows.schema_is (schema_ok schema files) in
       holds_of (KeepsRules grows.schema) (stats_stage stats grows.schema files) grows.before grows.before_is (stats_keep stats grows.schema files valid)

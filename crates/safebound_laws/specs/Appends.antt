@@ -1,5 +1,5 @@
 -- What an append comes to, in the verdict's words: what was read, what is written, and what this stands for.
-use Rattle.std.specs.Prelude.{ℕ, ◌≡◌, List, Ok}
+use Rattle.std.specs.Prelude.{ℕ, ◌≡◌, ◌+◌, ◌≤◌, List, length, Ok}
 use Rattle.appended_stats.specs.Appended.{file_after}
 use Rattle.appended_stats.specs.Conditions.{HasNewRows}
 use Rattle.base_io.specs.Files.{Files}
@@ -7,6 +7,7 @@ use Rattle.csv_tables.specs.Rows.{Row}
 use Rattle.filed_stats.specs.Standing.{StandsFor}
 use Rattle.join_steps.specs.Lists.{scans_of}
 use Rattle.join_steps.specs.Plans.{IsPlanOf}
+use Rattle.limits.specs.Profile.{most_rows}
 use Rattle.query_types.specs.declared.types.Query.{Query}
 use Rattle.schema_types.specs.declared.types.Schema.{Schema}
 use Rattle.sql_meaning.specs.Tables.{Tables}
@@ -19,8 +20,8 @@ use Rattle.prepared_runs.specs.Filed.{stats_stage}
 use Rattle.prepared_runs.specs.Outcome.{Appended, FiledPlan, Outcome, PlannedByFile}
 use Rattle.prepared_runs.specs.Verdict.{schema_stage, verdict}
 
--- the schema, the statistics file, its section of the table and the new rows are those in the files that the command names, and what is
--- written is that file after these rows
+-- the schema, the statistics file, its section of the table and the new rows are those in the files that the command names, the table has no more
+-- rows with them than a table may have, and what is written is that file after these rows
 pub record Grows (files : Files) (schema_file stats_file name rows_file : List ℕ) (outcome : Outcome) : Type 0 where
   pub schema : Schema
   pub schema_is : schema_stage schema_file files ≡ Ok schema
@@ -30,6 +31,7 @@ pub record Grows (files : Files) (schema_file stats_file name rows_file : List �
   pub section_is : section_stage name schema before ≡ Ok section
   pub rows : List Row
   pub rows_are : rows_in section.table (table_at schema section.table) rows_file files ≡ Ok rows
+  pub few : section.rows + length rows ≤ most_rows
   pub after : StatsFile
   pub after_is : after ≡ file_after before section.table rows
   pub written : outcome ≡ Appended (record { schema = schema; table = section.table; rows = rows; file = after })

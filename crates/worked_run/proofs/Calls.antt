@@ -1,33 +1,34 @@
 -- What the headline makes of a verdict.
-use Rattle.std.proofs.Common.{◌≡◌, ◌⊎◌, inl, inr, ℕ, List, Option, None, Some, Ok, Err, refl, ap, ◌∙◌, subst}
+use Rattle.std.proofs.Common.{◌≡◌, ◌⊎◌, inl, inr, ℕ, List, Option, None, Some, Result, Ok, Err, refl, ap, ◌∙◌, subst}
 use Rattle.std.specs.Fmt.{digits}
 use Rattle.std.specs.Prelude.{codes, IsOkAnd}
+use Rattle.base_io.specs.Files.{Files}
+use Rattle.outcomes.specs.Reads.{seen}
 use Rattle.outcomes.specs.declared.refusal.Refusal.{Refusal}
 use Rattle.outcomes.specs.declared.refusal.Refusal.TheVariants as refusal
 use Rattle.outcomes.specs.declared.status.Status.TheVariants as status
 use Rattle.printed_texts.specs.Faults.{error_line}
-use Rattle.prepared_runs.specs.Accepted.{Accepted}
 use Rattle.safebound_top.specs.Call.{Call}
 use Rattle.safebound_top.specs.Faults.{fault_text}
 use Rattle.safebound_top.specs.Headline.{GrewWhole, Headline, status_of}
-use Rattle.prepared_runs.specs.Outcome.{Planned}
+use Rattle.prepared_runs.specs.Outcome.{Outcome}
 use Rattle.safebound_top.specs.OutcomeTexts.{notes_text, out_text}
-use Rattle.safebound_top.specs.Texts.{out_text_of, plan_text}
+use Rattle.safebound_laws.specs.Printed.{printed}
 use Rattle.prepared_runs.specs.Verdict.{verdict}
 use Rattle.worked_run.specs.Calls.{EachCallEnds, Ended, IsFaultless}
 use Rattle.worked_run.specs.TwoTables.{small_files}
 
-module _ (call : Call) (head : Headline call) (told : call.store.files ≡ Some small_files) (sound : IsFaultless call) where
+module _ (files : Files) (call : Call) (head : Headline call) (told : call.store.files ≡ Some files) (sound : IsFaultless call) where
   -- an accepted verdict ends in Done, with its texts
-  accepted : (run : Accepted) → verdict call.words small_files ≡ Ok (Planned run)
-      → Ended call status.Done (plan_text run) (out_text_of run) ⊎ (call.status ≡ status.NoMemory)
-  accepted run is = by (head.nothing_is_refused_without_cause.by_the_sinks sound.store sound.out sound.notes small_files told) where
-    grown : call.status ≡ status.Done → GrewWhole call.notes (Some (plan_text run)) × GrewWhole call.out (out_text_of run)
+  accepted : (outcome : Outcome) → verdict call.words files ≡ Ok outcome
+      → Ended call status.Done (notes_text outcome) (out_text outcome) ⊎ (call.status ≡ status.NoMemory)
+  accepted outcome is = by (head.nothing_is_refused_without_cause.by_the_sinks sound.store sound.out sound.notes files told) where
+    grown : call.status ≡ status.Done → GrewWhole call.notes (notes_text outcome) × GrewWhole call.out (out_text outcome)
     grown done =
-        subst (λ v. IsOkAnd v (λ o. GrewWhole call.notes (notes_text o) × GrewWhole call.out (out_text o))) is (head.done_is_exact done small_files told)
+        subst (λ v. IsOkAnd v (λ o. GrewWhole call.notes (notes_text o) × GrewWhole call.out (out_text o))) is (head.done_is_exact done files told)
 
-    by : (call.status ≡ status_of (verdict call.words small_files)) ⊎ (call.status ≡ status.NoMemory)
-        → Ended call status.Done (plan_text run) (out_text_of run) ⊎ (call.status ≡ status.NoMemory)
+    by : (call.status ≡ status_of (verdict call.words files)) ⊎ (call.status ≡ status.NoMemory)
+        → Ended call status.Done (notes_text outcome) (out_text outcome) ⊎ (call.status ≡ status.NoMemory)
     by (inl same) =
         let done : call.status ≡ status.Done = same ∙ ap status_of is in
         let texts = grown done in
@@ -35,29 +36,41 @@ module _ (call : Call) (head : Headline call) (told : call.store.files ≡ Some 
     by (inr memory) = inr memory
 
   -- a refusal is told in its line
-  turned_away : (r : Refusal) (line : List ℕ) → verdict call.words small_files ≡ Err r
-      → fault_text (status.Refused r) call.words small_files ≡ line → Ended call (status.Refused r) line None ⊎ (call.status ≡ status.NoMemory)
-  turned_away r line is text = by (head.nothing_is_refused_without_cause.by_the_sinks sound.store sound.out sound.notes small_files told) where
-    by : (call.status ≡ status_of (verdict call.words small_files)) ⊎ (call.status ≡ status.NoMemory)
-        → Ended call (status.Refused r) line None ⊎ (call.status ≡ status.NoMemory)
+  turned_away : (r : Refusal) (line : List ℕ) → verdict call.words files ≡ Err r
+      → fault_text (status.Refused r) call.words files ≡ line → Ended call (status.Refused r) (Some line) None ⊎ (call.status ≡ status.NoMemory)
+  turned_away r line is text = by (head.nothing_is_refused_without_cause.by_the_sinks sound.store sound.out sound.notes files told) where
+    by : (call.status ≡ status_of (verdict call.words files)) ⊎ (call.status ≡ status.NoMemory)
+        → Ended call (status.Refused r) (Some line) None ⊎ (call.status ≡ status.NoMemory)
     by (inl same) =
         let refusing : call.status ≡ status.Refused r = same ∙ ap status_of is in
         let says = head.refusals_are_the_verdict.told r refusing in
-        let grown = (says.1 small_files told).1.whole sound.notes in
+        let grown = (says.1 files told).1.whole sound.notes in
         inl (record {
           status = refusing;
-          notes = subst (λ (text : List ℕ). GrewWhole call.notes (Some text)) (ap (λ s. fault_text s call.words small_files) refusing ∙ text) grown;
+          notes = subst (λ (text : List ℕ). GrewWhole call.notes (Some text)) (ap (λ s. fault_text s call.words files) refusing ∙ text) grown;
           out = says.0;
         })
     by (inr memory) = inr memory
 
 -- each call with these words ends so where their verdict is accepted with these texts
-pub answers_done : (words : List (List ℕ)) (run : Accepted) (notes : List ℕ) (out : Option (List ℕ)) → verdict words small_files ≡ Ok (Planned run)
-    → plan_text run ≡ notes → out_text_of run ≡ out → EachCallEnds words status.Done notes out
-answers_done words run notes out is left right call head same told sound =
+pub answers_done : (files : Files) (words : List (List ℕ)) (outcome : Outcome) (notes out : Option (List ℕ)) → verdict words files ≡ Ok outcome
+    → notes_text outcome ≡ notes → out_text outcome ≡ out → EachCallEnds files words status.Done notes out
+answers_done files words outcome notes out is left right call head same told sound =
     subst (λ n. Ended call status.Done n out ⊎ (call.status ≡ status.NoMemory)) left
-    (subst (λ o. Ended call status.Done (plan_text run) o ⊎ (call.status ≡ status.NoMemory)) right
-    (accepted call head told sound run (ap (λ w. verdict w small_files) same ∙ is)))
+    (subst (λ o. Ended call status.Done (notes_text outcome) o ⊎ (call.status ≡ status.NoMemory)) right
+    (accepted files call head told sound outcome (ap (λ w. verdict w files) same ∙ is)))
+
+of_printed : (answer : Result Outcome Refusal) (texts : Option (List ℕ) × Option (List ℕ)) → seen printed answer ≡ Ok texts
+    → (outcome : Outcome) × (answer ≡ Ok outcome) × (printed outcome ≡ texts)
+of_printed (Ok outcome) texts is = (outcome, refl, cc)
+of_printed (Err r) texts is = absurd (cc)
+
+-- and where all that is known of their verdict is what it prints
+pub answers_printed : (files : Files) (words : List (List ℕ)) (notes out : Option (List ℕ)) → seen printed (verdict words files) ≡ Ok (notes, out)
+    → EachCallEnds files words status.Done notes out
+answers_printed files words notes out is =
+    let found = of_printed (verdict words files) (notes, out) is in
+    answers_done files words found.0 notes out found.1 (ap (λ (t : Option (List ℕ) × Option (List ℕ)). t.0) found.2) (ap (λ (t : Option (List ℕ) × Option (List ℕ)). t.1) found.2)
 
 budget_line : (words : List (List ℕ)) → fault_text (status.Refused (refusal.Budget 12)) words small_files ≡ codes "error budget 12\n"
 unfolding error_line digits
@@ -65,9 +78,9 @@ budget_line words = refl
 
 -- and where it is refused, since the plan costs 12
 pub answers_budget : (words : List (List ℕ)) → verdict words small_files ≡ Err (refusal.Budget 12)
-    → EachCallEnds words (status.Refused (refusal.Budget 12)) (codes "error budget 12\n") None
+    → EachCallEnds small_files words (status.Refused (refusal.Budget 12)) (Some (codes "error budget 12\n")) None
 answers_budget words is call head same told sound =
-    turned_away call head told sound (refusal.Budget 12) (codes "error budget 12\n")
+    turned_away small_files call head told sound (refusal.Budget 12) (codes "error budget 12\n")
     (ap (λ w. verdict w small_files) same ∙ is) (budget_line call.words)
 
 limit_line : (words : List (List ℕ)) → fault_text (status.Refused (refusal.MemoryLimit 556)) words small_files ≡ codes "error memory-limit 556\n"
@@ -76,7 +89,7 @@ limit_line words = refl
 
 -- and where it is refused for its bytes
 pub answers_limit : (words : List (List ℕ)) → verdict words small_files ≡ Err (refusal.MemoryLimit 556)
-    → EachCallEnds words (status.Refused (refusal.MemoryLimit 556)) (codes "error memory-limit 556\n") None
+    → EachCallEnds small_files words (status.Refused (refusal.MemoryLimit 556)) (Some (codes "error memory-limit 556\n")) None
 answers_limit words is call head same told sound =
-    turned_away call head told sound (refusal.MemoryLimit 556) (codes "error memory-limit 556\n")
+    turned_away small_files call head told sound (refusal.MemoryLimit 556) (codes "error memory-limit 556\n")
     (ap (λ w. verdict w small_files) same ∙ is) (limit_line call.words)

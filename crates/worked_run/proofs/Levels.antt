@@ -1,5 +1,5 @@
 -- The levels of the plan's order, the node of its tree and their texts, by computation.
-use Rattle.std.proofs.Common.{◌≡◌, ℕ, Bool, true, not, ◌&&◌, ◌||◌, List, [], ◌∷◌, None, Some, length, map, refl, ap, ◌∙◌}
+use Rattle.std.proofs.Common.{◌≡◌, ℕ, Bool, true, not, ◌&&◌, ◌||◌, List, [], ◌∷◌, Option, None, Some, length, map, refl, ap, ◌∙◌}
 use Rattle.std.specs.Fmt.{digits}
 use Rattle.std.specs.Prelude.{codes}
 use Rattle.std.proofs.lemmas.List.Elements.{filter_agree}
@@ -12,7 +12,7 @@ use Rattle.sql_meaning.specs.Conditions.{comparison_says}
 use Rattle.sql_meaning.specs.Levels.{all_hold, passes_own, row_in, scan}
 use Rattle.sql_meaning.specs.Tables.{Tables, row_counts}
 use Rattle.sql_meaning.proofs.ConditionFacts.{holds_compare}
-use Rattle.join_steps.specs.Lists.{list_at, list_levels}
+use Rattle.join_steps.specs.Lists.{list_at, list_levels, scans_of}
 use Rattle.bushy_join.specs.Trees.{chosen_rows}
 use Rattle.query_bounds.specs.Examples.{pair}
 use Rattle.printed_texts.specs.Texts.{rows_lines}
@@ -27,14 +27,14 @@ use Rattle.safebound_words.specs.declared.command.OutText.TheVariants as out_tex
 use Rattle.worked_run.specs.Meaning.{small_lists, small_rows, two_tables_run, two_tables_tree}
 use Rattle.query_types.proofs.CondFacts.{entries_compare}
 
-abbrev T : Tables
+abbrev pub T : Tables
 T = tables_in small_rows
 
 -- the one conjunct, where it is asked for
-abbrev says : List ℕ → (ℕ → ℕ) → Bool
+abbrev pub says : List ℕ → (ℕ → ℕ) → Bool
 says placed row_of = (not (are_within (0 ∷ 1 ∷ []) placed) || comparison_says T row_of op.Eq (column_operand 0 0) (column_operand 1 0)) && true
 
-said : (placed : List ℕ) (row_of : ℕ → ℕ) → all_hold (conjuncts_of pair T) placed row_of ≡ says placed row_of
+pub said : (placed : List ℕ) (row_of : ℕ → ℕ) → all_hold (conjuncts_of pair T) placed row_of ≡ says placed row_of
 said placed row_of =
     rw (entries_compare op.Eq (column_operand 0 0) (column_operand 1 0), holds_compare T row_of op.Eq (column_operand 0 0) (column_operand 1 0)) refl
 
@@ -47,10 +47,13 @@ second_scan : scan (conjuncts_of pair T) (row_counts T) 1 ≡ 0 ∷ 1 ∷ 2 ∷ 
 second_scan = filter_agree (passes_own (conjuncts_of pair T) 1) (λ row. true)
     (λ row. rw (entries_compare op.Eq (column_operand 0 0) (column_operand 1 0)) refl) (all_rows (row_counts T) 1)
 
+pub scans_found : scans_of pair T ≡ small_lists
+scans_found = ap (λ (rows : List ℕ). rows ∷ scan (conjuncts_of pair T) (row_counts T) 1 ∷ []) first_scan
+    ∙ ap (λ (rows : List ℕ). (0 ∷ 1 ∷ 2 ∷ 3 ∷ 4 ∷ 5 ∷ []) ∷ rows ∷ []) second_scan
+
 pub lists_found : lists_by sources.Columns pair T ≡ small_lists
 unfolding lists_by
-lists_found = ap (λ (rows : List ℕ). rows ∷ scan (conjuncts_of pair T) (row_counts T) 1 ∷ []) first_scan
-    ∙ ap (λ (rows : List ℕ). (0 ∷ 1 ∷ 2 ∷ 3 ∷ 4 ∷ 5 ∷ []) ∷ rows ∷ []) second_scan
+lists_found = scans_found
 
 first_level : list_levels pair T small_lists (1 ∷ 0 ∷ []) 1 ≡ (0 ∷ []) ∷ (1 ∷ []) ∷ (2 ∷ []) ∷ (3 ∷ []) ∷ (4 ∷ []) ∷ []
 first_level = filter_agree (λ choice. all_hold (conjuncts_of pair T) (1 ∷ []) (row_in (1 ∷ []) choice))
@@ -71,9 +74,9 @@ pub limited_notes : plan_text (two_tables_run out_text.Rows (Some 556)) ≡ code
 unfolding digits
 limited_notes = refl
 
-pub rows_printed : out_text_of (two_tables_run out_text.Rows None) ≡ Some (codes "X\r\n1\r\n1\r\n1\r\n1\r\n1\r\n1\r\n")
+pub rows_printed : (memory : Option ℕ) → out_text_of (two_tables_run out_text.Rows memory) ≡ Some (codes "X\r\n1\r\n1\r\n1\r\n1\r\n1\r\n1\r\n")
 unfolding digits
-rows_printed = ap (λ (choices : List (List ℕ)). Some (rows_lines pair.select (map (λ choice. selected pair T (row_in (1 ∷ 0 ∷ []) choice)) choices))) second_level
+rows_printed memory = ap (λ (choices : List (List ℕ)). Some (rows_lines pair.select (map (λ choice. selected pair T (row_in (1 ∷ 0 ∷ []) choice)) choices))) second_level
 
 counts : (out : OutText) → part_counts (two_tables_run out None) ≡ 5 ∷ 6 ∷ []
 counts out = ap (λ (choices : List (List ℕ)). length choices ∷ length (list_levels pair T small_lists (1 ∷ 0 ∷ []) 2) ∷ []) first_level

@@ -5,3 +5,6 @@ pub mod Plans
 pub mod Levels
 pub mod Verdicts
 pub mod Calls
+pub mod Reduced
+pub mod StatsFiles
+pub mod Keyed

@@ -1,5 +1,5 @@
--- The query text is read as the join, by computation.
-use Rattle.std.proofs.Common.{◌≡◌, [], ◌∷◌, ◌++◌, Some, None, Ok, refl, ap, ◌∙◌}
+-- The query texts are read as their joins, by computation.
+use Rattle.std.proofs.Common.{◌≡◌, List, [], ◌∷◌, ◌++◌, Some, None, Ok, refl, ap, ◌∙◌}
 use Rattle.std.specs.Str.{chars, is_utf8}
 use Rattle.std.specs.Str.Lossy.{utf8_valid_len}
 use Rattle.ll_grammars.specs.Reading.{read_many, read_tails}
@@ -17,20 +17,25 @@ use Rattle.sql_parse.specs.Bound.{long_lists, refusals, bound}
 use Rattle.text_answers.specs.Stages.{tokens_of}
 use Rattle.text_answers.specs.QueryTexts.{tree_of, nested_answer, query_answer}
 use Rattle.ll_grammars.specs.declared.terminal.Terminal.TheVariants as terminal
+use Rattle.query_grammar.specs.declared.tree.LiteralText.TheVariants as literal_text
 use Rattle.query_grammar.specs.declared.tree.OperandText.TheVariants as operand
 use Rattle.query_grammar.specs.declared.tree.Op.TheVariants as op
 use Rattle.query_grammar.specs.declared.tree.TestText.{TestText}
 use Rattle.query_grammar.specs.declared.tree.TestText.TheVariants as test
+use Rattle.query_grammar.specs.declared.tree.CondText.{CondText}
 use Rattle.query_grammar.specs.declared.tree.CondText.TheVariants as cond
 use Rattle.query_grammar.specs.declared.tree.OutText.TheVariants as out
 use Rattle.query_grammar.specs.declared.tree.OutsText.TheVariants as outs
 use Rattle.query_grammar.specs.declared.tree.QueryText.{QueryText}
 use Rattle.query_grammar.specs.Examples.{token}
-use Rattle.query_names.specs.Values.{Meaning}
-use Rattle.sql_parse.proofs.KindFacts.{means_test}
-use Rattle.query_names.proofs.TestFacts.{tests_test}
+use Rattle.query_names.specs.Values.{Meaning, all_of, meaning, test_meaning}
+use Rattle.sql_parse.proofs.KindFacts.{means_and, means_test}
+use Rattle.query_names.proofs.TestFacts.{tests_and, tests_test}
 use Rattle.table_files.specs.Examples.{two_tables}
 use Rattle.query_bounds.specs.Examples.{pair}
+use Rattle.key_bounds.specs.Examples.{by_manager, worker_schema}
+use Rattle.query_names.specs.declared.scope.Scope.{Scope}
+use Rattle.worked_run.specs.OneTable.{workers_query}
 use Rattle.worked_run.specs.TwoTables.{query_text}
 
 -- R.X = S.X, behind WHERE
@@ -61,3 +66,55 @@ meant = rw (tests_test is_joined, conjoined) refl
 
 pub query_read : query_answer two_tables query_text ≡ Ok pair
 query_read = spelled ∙ meant
+
+-- ---- a worker and the boss
+
+-- E.B = M.N, and M.R = 3
+abbrev is_boss : TestText
+is_boss = test.Compare (operand.Column (record { table = Some (token terminal.Name 37 38); column = token terminal.Name 39 40 }))
+    op.Eq (operand.Column (record { table = Some (token terminal.Name 43 44); column = token terminal.Name 45 46 }))
+
+abbrev is_of_region : TestText
+is_of_region = test.Compare (operand.Column (record { table = Some (token terminal.Name 51 52); column = token terminal.Name 53 54 }))
+    op.Eq (operand.Literal (literal_text.Number None (token terminal.Number 57 58)))
+
+abbrev both_tests : List CondText
+both_tests = cond.Test is_boss ∷ cond.Test is_of_region ∷ []
+
+abbrev workers_tree : QueryText
+workers_tree = record {
+  outs = outs.Listed (out.Column (record { table = Some (token terminal.Name 7 8); column = token terminal.Name 9 10 }) None ∷ []);
+  parts = record { first = record { table = token terminal.Name 16 17; alias = Some (token terminal.Name 21 22) }; joins = [] }
+      ∷ record { first = record { table = token terminal.Name 24 25; alias = Some (token terminal.Name 29 30) }; joins = [] } ∷ [];
+  filter = Some (cond.And both_tests);
+}
+
+workers_spelled : query_answer worker_schema workers_query ≡ bound worker_schema workers_query workers_tree
+unfolding query_answer nested_answer tree_of tokens_of chars is_utf8 utf8_valid_len lib.Utf8.encode closed identifier literal symbol piece tokens_at terminal_of name_of literal_of number_of read_many read_tails nesting read_name read_other_name read_new_name read_dotted_name read_column read_number read_literal read_operand read_operator read_negation read_next_literal read_literals read_value_list read_predicate read_flat read_factor read_next_factor read_factors read_term read_next_term read_terms read_cond read_inside read_test read_within read_condition read_source read_join read_joins read_part read_next_part read_parts read_dotted_out read_out read_next_out read_listed_outs read_outs read_condition_behind_where read_filter read_query number_offences workers_query
+workers_spelled = refl
+
+abbrev everywhere : Scope
+everywhere = record { first = 0; end = 2 }
+
+abbrev means : CondText → Meaning
+means = meaning worker_schema workers_query by_manager.from everywhere
+
+abbrev says : TestText → Meaning
+says = test_meaning worker_schema workers_query by_manager.from everywhere
+
+both_mean : means (cond.And both_tests) ≡ all_of (says is_boss ∷ says is_of_region ∷ [])
+both_mean =
+    means_and worker_schema workers_query by_manager.from everywhere both_tests
+    ∙ ap (λ (m : Meaning). all_of (m ∷ means (cond.Test is_of_region) ∷ [])) (means_test worker_schema workers_query by_manager.from everywhere is_boss)
+    ∙ ap (λ (m : Meaning). all_of (says is_boss ∷ m ∷ [])) (means_test worker_schema workers_query by_manager.from everywhere is_of_region)
+
+workers_conjoined : conjuncts worker_schema workers_query by_manager.from workers_tree ≡ by_manager.conjuncts
+unfolding query_answer nested_answer tree_of tokens_of chars is_utf8 utf8_valid_len lib.Utf8.encode closed identifier literal symbol piece tokens_at terminal_of name_of literal_of number_of read_many read_tails nesting read_name read_other_name read_new_name read_dotted_name read_column read_number read_literal read_operand read_operator read_negation read_next_literal read_literals read_value_list read_predicate read_flat read_factor read_next_factor read_factors read_term read_next_term read_terms read_cond read_inside read_test read_within read_condition read_source read_join read_joins read_part read_next_part read_parts read_dotted_out read_out read_next_out read_listed_outs read_outs read_condition_behind_where read_filter read_query place_of column_in entries from_offences in_scope entry_named column_alone resolve conditions name_offences all_kind_offences number_value number_offences conjuncts outs_of_entry query_of long_lists refusals bound workers_query
+workers_conjoined = ap (λ (m : Meaning). m.members ++ []) both_mean
+
+workers_meant : bound worker_schema workers_query workers_tree ≡ Ok by_manager
+unfolding query_answer nested_answer tree_of tokens_of chars is_utf8 utf8_valid_len lib.Utf8.encode closed identifier literal symbol piece tokens_at terminal_of name_of literal_of number_of read_many read_tails nesting read_name read_other_name read_new_name read_dotted_name read_column read_number read_literal read_operand read_operator read_negation read_next_literal read_literals read_value_list read_predicate read_flat read_factor read_next_factor read_factors read_term read_next_term read_terms read_cond read_inside read_test read_within read_condition read_source read_join read_joins read_part read_next_part read_parts read_dotted_out read_out read_next_out read_listed_outs read_outs read_condition_behind_where read_filter read_query place_of column_in entries from_offences in_scope entry_named column_alone resolve conditions name_offences all_kind_offences number_value number_offences outs_of_entry query_of long_lists refusals bound workers_query
+workers_meant = rw (tests_and both_tests, tests_test is_boss, tests_test is_of_region, workers_conjoined) refl
+
+pub workers_query_read : query_answer worker_schema workers_query ≡ Ok by_manager
+workers_query_read = workers_spelled ∙ workers_meant

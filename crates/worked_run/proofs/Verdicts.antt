@@ -1,5 +1,5 @@
 -- What the words and the small files give, stage by stage.
-use Rattle.std.proofs.Common.{◌≡◌, ℕ, List, [], ◌∷◌, Option, None, Some, Result, Ok, Err, refl, ap, ◌∙◌}
+use Rattle.std.proofs.Common.{◌≡◌, ℕ, List, Option, None, Some, Result, Ok, Err, refl, ap, ◌∙◌}
 use Rattle.std.specs.Prelude.{codes}
 use Rattle.csv_tables.specs.Rows.{Row}
 use Rattle.order_search.specs.declared.refusal.PlanError.{PlanError}
@@ -77,11 +77,11 @@ narrow_asked = refl
 
 -- ---- the files
 
-schema_found : schema_stage (codes "schema.sql") small_files ≡ Ok two_tables
+pub schema_found : schema_stage (codes "schema.sql") small_files ≡ Ok two_tables
 unfolding schema_stage schema_text
 schema_found = ap (told schema_refusal) schema_read
 
-query_found : query_stage (codes "query.sql") two_tables small_files ≡ Ok pair
+pub query_found : query_stage (codes "query.sql") two_tables small_files ≡ Ok pair
 unfolding query_stage query_text
 query_found = ap (told query_refusal) query_read
 
@@ -93,7 +93,7 @@ s_found : file_rows 1 (numbers_table (codes "S")) small_files ≡ Ok (rows_of s_
 unfolding file_rows s_text
 s_found = ap (told (table_refusal 1)) s_read
 
-tables_found : tables_stage two_tables pair.from small_files ≡ Ok small_rows
+pub tables_found : tables_stage two_tables pair.from small_files ≡ Ok small_rows
 unfolding tables_stage
 tables_found = rw (r_found, s_found) refl
 
@@ -149,33 +149,40 @@ plan_too_dear = ap (λ (plan : Result Shaped PlanError). told plan_refusal plan
 
 -- ---- one stage after the other
 
-of_files : (out : OutText) (shape : Shape) (budget : ℕ) (memory : Option ℕ) → command_run (ask out shape budget memory) small_files ≡ plan_stage (task out shape budget memory) two_tables pair small_rows
+of_files : (work : PlanWork) → command_run (over_query None (codes "schema.sql") (codes "query.sql") (works.Plan work)) small_files ≡ plan_stage work two_tables pair small_rows
 unfolding command_run
-of_files out shape budget memory =
-    ap (λ (schema : Result Schema Refusal). schema >>= λ s. aim_run (aims.Query (codes "query.sql") (works.Plan (task out shape budget memory))) s small_files) schema_found
-    ∙ ap (λ (query : Result Query Refusal). query >>= λ q. work_run (works.Plan (task out shape budget memory)) two_tables q small_files) query_found
-    ∙ ap (λ (rows : Result (List (List Row)) Refusal). rows >>= plan_stage (task out shape budget memory) two_tables pair) tables_found
+of_files work =
+    ap (λ (schema : Result Schema Refusal). schema >>= λ s. aim_run (aims.Query (codes "query.sql") (works.Plan work)) s small_files) schema_found
+    ∙ ap (λ (query : Result Query Refusal). query >>= λ q. work_run (works.Plan work) two_tables q small_files) query_found
+    ∙ ap (λ (rows : Result (List (List Row)) Refusal). rows >>= plan_stage work two_tables pair) tables_found
 
-of_words : (words : List (List ℕ)) (out : OutText) (shape : Shape) (budget : ℕ) (memory : Option ℕ) → command_stage words ≡ Ok (ask out shape budget memory)
-    → verdict words small_files ≡ plan_stage (task out shape budget memory) two_tables pair small_rows
+-- what any command comes to whose words ask for it
+pub asked_run : (words : List (List ℕ)) (command : Command) → command_stage words ≡ Ok command → verdict words small_files ≡ command_run command small_files
 unfolding verdict
-of_words words out shape budget memory asked =
-    ap (λ (a : Result Command Refusal). a >>= λ a. command_run a small_files) asked ∙ of_files out shape budget memory
+asked_run words command asked = ap (λ (a : Result Command Refusal). a >>= λ a. command_run a small_files) asked
+
+pub of_words : (words : List (List ℕ)) (work : PlanWork) → command_stage words ≡ Ok (over_query None (codes "schema.sql") (codes "query.sql") (works.Plan work))
+    → verdict words small_files ≡ plan_stage work two_tables pair small_rows
+of_words words work asked = asked_run words (over_query None (codes "schema.sql") (codes "query.sql") (works.Plan work)) asked ∙ of_files work
+
+-- the plan alone, which a plan from a statistics file is compared with
+pub plan_alone : command_run (ask out_text.Nothing shapes.Order 1000000 None) small_files ≡ Ok (Planned (two_tables_run out_text.Nothing None))
+plan_alone = of_files (task out_text.Nothing shapes.Order 1000000 None) ∙ plan_made out_text.Nothing
 
 pub run_verdict : verdict run_words small_files ≡ Ok (Planned (two_tables_run out_text.Rows None))
-run_verdict = of_words run_words out_text.Rows shapes.Order 1000000 None run_is_asked ∙ plan_made out_text.Rows
+run_verdict = of_words run_words (task out_text.Rows shapes.Order 1000000 None) run_is_asked ∙ plan_made out_text.Rows
 
 pub audit_verdict : verdict audit_words small_files ≡ Ok (Planned (two_tables_run out_text.Audit None))
-audit_verdict = of_words audit_words out_text.Audit shapes.Order 1000000 None audit_asked ∙ plan_made out_text.Audit
+audit_verdict = of_words audit_words (task out_text.Audit shapes.Order 1000000 None) audit_asked ∙ plan_made out_text.Audit
 
 pub tree_verdict : verdict tree_words small_files ≡ Ok (Planned (two_tables_tree out_text.Audit None))
-tree_verdict = of_words tree_words out_text.Audit shapes.Tree 1000000 None tree_asked ∙ tree_made out_text.Audit
+tree_verdict = of_words tree_words (task out_text.Audit shapes.Tree 1000000 None) tree_asked ∙ tree_made out_text.Audit
 
 pub thrifty_verdict : verdict thrifty_words small_files ≡ Err (refusal.Budget 12)
-thrifty_verdict = of_words thrifty_words out_text.Rows shapes.Order 11 None thrifty_asked ∙ plan_too_dear
+thrifty_verdict = of_words thrifty_words (task out_text.Rows shapes.Order 11 None) thrifty_asked ∙ plan_too_dear
 
 pub limited_verdict : verdict limited_words small_files ≡ Ok (Planned (two_tables_run out_text.Rows (Some 556)))
-limited_verdict = of_words limited_words out_text.Rows shapes.Order 1000000 (Some 556) limited_asked ∙ plan_within out_text.Rows (Some 556)
+limited_verdict = of_words limited_words (task out_text.Rows shapes.Order 1000000 (Some 556)) limited_asked ∙ plan_within out_text.Rows (Some 556)
 
 pub narrow_verdict : verdict narrow_words small_files ≡ Err (refusal.MemoryLimit 556)
-narrow_verdict = of_words narrow_words out_text.Rows shapes.Order 1000000 (Some 555) narrow_asked ∙ plan_within out_text.Rows (Some 555)
+narrow_verdict = of_words narrow_words (task out_text.Rows shapes.Order 1000000 (Some 555)) narrow_asked ∙ plan_within out_text.Rows (Some 555)

@@ -1,3 +1,4 @@
 pub mod TwoTables
+pub mod OneTable
 pub mod Meaning
 pub mod Calls

@@ -1,15 +1,23 @@
 -- What the two tables and their query mean.
-use Rattle.std.specs.Prelude.{ℕ, List, [], ◌∷◌, map, pos, Option}
+use Rattle.std.specs.Prelude.{ℕ, List, [], ◌∷◌, map, pos, Option, None}
+use Rattle.appended_stats.specs.Appended.{file_after}
 use Rattle.csv_tables.specs.Rows.{Row}
 use Rattle.csv_tables.specs.Values.{Int}
+use Rattle.filed_stats.specs.Pairs.{pair_in_table}
 use Rattle.plans.specs.Examples.{plan_of}
 use Rattle.tree_plans.specs.Examples.{join, plan_of as tree_of}
 use Rattle.query_bounds.specs.Examples.{pair}
 use Rattle.planning.specs.Examples.{r_column, s_column}
+use Rattle.stats_file.specs.declared.types.StatsFile.{StatsFile}
+use Rattle.stats_file.specs.declared.types.TableStats.{TableStats}
+use Rattle.table_files.specs.EntryTables.{tables_in}
+use Rattle.table_files.specs.Examples.{two_tables}
 use Rattle.prepared_runs.specs.Accepted.{Accepted}
+use Rattle.prepared_runs.specs.Outcome.{Appended, Filed, Outcome}
 use Rattle.prepared_runs.specs.declared.shapes.Shaped.TheVariants as shaped
 use Rattle.safebound_words.specs.declared.command.ListSource.TheVariants as sources
 use Rattle.safebound_words.specs.declared.command.OutText.{OutText}
+use Rattle.safebound_words.specs.declared.command.OutText.TheVariants as out_text
 
 -- the rows of a table of one column of numbers
 abbrev pub rows_of : List ℕ → List Row
@@ -46,3 +54,35 @@ two_tables_tree out memory = record {
   memory = memory;
   out = out;
 }
+
+-- what semi-joins leave: the rows of value 1
+abbrev pub reduced_lists : List (List ℕ)
+reduced_lists = (0 ∷ 1 ∷ 2 ∷ []) ∷ (0 ∷ 1 ∷ []) ∷ []
+
+-- the join of these in the order S, R, with bounds 3 and 2 of the scans and 2 and 6 of the levels
+abbrev pub two_tables_reduced : Accepted
+two_tables_reduced = record {
+  query = pair;
+  rows = small_rows;
+  plan = shaped.Along (plan_of (1 ∷ 0 ∷ []) (3 ∷ 2 ∷ []) (2 ∷ 6 ∷ []));
+  source = sources.Reduced;
+  lists = reduced_lists;
+  memory = None;
+  out = out_text.Rows;
+}
+
+-- ---- statistics
+
+-- of each table the number of its rows, and the statistics of its column with itself, at accuracy 1
+abbrev pub section : ℕ → ℕ → TableStats
+section table rows = record { table = table; rows = rows; pairs = pair_in_table (tables_in small_rows) 1 table 0 0 ∷ [] }
+
+abbrev pub small_stats : StatsFile
+small_stats = record { accuracy = 1; tables = section 0 6 ∷ section 1 5 ∷ [] }
+
+-- the file, and this file after 1 and 4 were appended to R
+abbrev pub small_filed : Outcome
+small_filed = Filed (record { schema = two_tables; query = pair; rows = small_rows; file = small_stats })
+
+abbrev pub small_appended : Outcome
+small_appended = Appended (record { schema = two_tables; table = 0; rows = rows_of (1 ∷ 4 ∷ []); file = file_after small_stats 0 (rows_of (1 ∷ 4 ∷ [])) })

@@ -1,5 +1,6 @@
--- Two tables that are joined by one column: the words of six commands, and the files.
-use Rattle.std.specs.Prelude.{ℕ, List, [], ◌∷◌, codes}
+-- Two tables that are joined by one column: the words of ten commands, and the files.
+use Rattle.std.specs.Prelude.{ℕ, List, [], ◌∷◌, ◌++◌, codes, replicate}
+use Rattle.std.specs.List.{concat}
 use Rattle.base_io.specs.Files.{Files}
 
 unfoldable pub schema_text : List ℕ
@@ -15,10 +16,60 @@ r_text = codes "X\r\n1\r\n1\r\n1\r\n2\r\n2\r\n3\r\n"
 unfoldable pub s_text : List ℕ
 s_text = codes "X\r\n1\r\n1\r\n4\r\n5\r\n6\r\n"
 
--- the files by their names
+-- two more rows of R
+unfoldable pub new_text : List ℕ
+new_text = codes "X\r\n1\r\n4\r\n"
+
+-- ---- a statistics file of both tables, as `stats` writes it at the usual accuracy
+
+-- lines that stand so often
+abbrev pub times : ℕ → List ℕ → List ℕ
+times count line = concat (replicate count line)
+
+-- of R and of S: the cuts, and the nodes by their leaves, from 1 to 32 leaves each
+unfoldable pub r_cuts : List ℕ
+r_cuts = times 16 (codes "cut 1\n") ++ times 11 (codes "cut 2\n") ++ times 5 (codes "cut 3\n")
+
+unfoldable pub r_stats : List ℕ
+r_stats = codes "table x52 6\npair x58 x58\nwhole 3*2\nfrequent 1 3*1\nfrequent 2 2*1\nfrequent 3 1*1\nrest -\n" ++ r_cuts
+    ++ times 15 (codes "node -\n") ++ codes "node 3*1\n" ++ times 10 (codes "node -\n") ++ codes "node 2*1\n"
+    ++ times 4 (codes "node -\n") ++ codes "node 1*1\n"
+    ++ times 7 (codes "node -\n") ++ codes "node 3*1\n" ++ times 5 (codes "node -\n") ++ codes "node 2*1\nnode -\nnode 1*1\n"
+    ++ times 3 (codes "node -\n") ++ codes "node 3*1\nnode -\nnode -\nnode 2*1\nnode 1*1\n"
+    ++ codes "node -\nnode 3*1\nnode -\nnode 2*1 1*1\n" ++ codes "node 3*1\nnode 2*1 1*1\n" ++ codes "node 3*2\n"
+
+unfoldable pub s_stats : List ℕ
+s_stats = codes "table x53 5\npair x58 x58\nwhole 2*2 1*1\nfrequent 1 2*1\nfrequent 4 1*1\nfrequent 5 1*1\nfrequent 6 1*1\nrest -\n"
+    ++ times 13 (codes "cut 1\n") ++ times 7 (codes "cut 4\n") ++ times 6 (codes "cut 5\n") ++ times 6 (codes "cut 6\n")
+    ++ times 12 (codes "node -\n") ++ codes "node 2*1\n" ++ times 6 (codes "node -\n") ++ codes "node 1*1\n"
+    ++ times 5 (codes "node -\n") ++ codes "node 1*1\n" ++ times 5 (codes "node -\n") ++ codes "node 1*1\n"
+    ++ times 6 (codes "node -\n") ++ codes "node 2*1\nnode -\nnode -\nnode 1*1\nnode -\nnode -\nnode 1*1\nnode -\nnode -\nnode 1*1\n"
+    ++ times 3 (codes "node -\n") ++ codes "node 2*1\nnode 1*1\nnode -\nnode 1*1\nnode 1*1\n"
+    ++ codes "node -\nnode 2*1\nnode 1*1\nnode 1*2\n" ++ codes "node 2*1\nnode 1*3\n" ++ codes "node 2*2 1*1\n"
+
+unfoldable pub stats_text : List ℕ
+stats_text = codes "safebound-stats 1 1\n" ++ r_stats ++ s_stats ++ codes "end\n"
+
+-- R with the two rows more: 1 is frequent, and 4 goes to the rest list and to the last leaf
+unfoldable pub grown_r_stats : List ℕ
+grown_r_stats = codes "table x52 8\npair x58 x58\nwhole 4*2\nfrequent 1 4*1\nfrequent 2 2*1\nfrequent 3 1*1\nrest 1*1\n" ++ r_cuts
+    ++ times 15 (codes "node -\n") ++ codes "node 4*1\n" ++ times 10 (codes "node -\n") ++ codes "node 2*1\n"
+    ++ times 4 (codes "node -\n") ++ codes "node 2*1\n"
+    ++ times 7 (codes "node -\n") ++ codes "node 4*1\n" ++ times 5 (codes "node -\n") ++ codes "node 2*1\nnode -\nnode 2*1\n"
+    ++ times 3 (codes "node -\n") ++ codes "node 4*1\nnode -\nnode -\nnode 2*1\nnode 2*1\n"
+    ++ codes "node -\nnode 4*1\nnode -\nnode 3*1 1*1\n" ++ codes "node 4*1\nnode 3*1 1*1\n" ++ codes "node 4*2\n"
+
+unfoldable pub grown_text : List ℕ
+grown_text = codes "safebound-stats 1 1\n" ++ grown_r_stats ++ s_stats ++ codes "end\n"
+
+-- ---- all files by their names
+
 abbrev pub small_files : Files
 small_files =
-    (codes "schema.sql", schema_text) ∷ (codes "query.sql", query_text) ∷ (codes "r.csv", r_text) ∷ (codes "s.csv", s_text) ∷ []
+    (codes "schema.sql", schema_text) ∷ (codes "query.sql", query_text) ∷ (codes "r.csv", r_text) ∷ (codes "s.csv", s_text)
+    ∷ (codes "rs.stats", stats_text) ∷ (codes "new.csv", new_text) ∷ []
+
+-- ---- words
 
 abbrev pub run_words : List (List ℕ)
 run_words = codes "run" ∷ codes "schema.sql" ∷ codes "query.sql" ∷ []
@@ -40,3 +91,17 @@ narrow_words = codes "run" ∷ codes "schema.sql" ∷ codes "query.sql" ∷ code
 -- with a budget that is one too small
 abbrev pub thrifty_words : List (List ℕ)
 thrifty_words = codes "run" ∷ codes "schema.sql" ∷ codes "query.sql" ∷ codes "--budget" ∷ codes "11" ∷ []
+
+-- over the rows that are left by semi-joins
+abbrev pub reduced_words : List (List ℕ)
+reduced_words = codes "run" ∷ codes "schema.sql" ∷ codes "query.sql" ∷ codes "--reduce" ∷ []
+
+-- the statistics file, a plan from it, and the file with two rows more
+abbrev pub stats_words : List (List ℕ)
+stats_words = codes "stats" ∷ codes "schema.sql" ∷ codes "query.sql" ∷ []
+
+abbrev pub from_file_words : List (List ℕ)
+from_file_words = codes "plan" ∷ codes "schema.sql" ∷ codes "query.sql" ∷ codes "--stats" ∷ codes "rs.stats" ∷ []
+
+abbrev pub append_words : List (List ℕ)
+append_words = codes "append" ∷ codes "schema.sql" ∷ codes "rs.stats" ∷ codes "R" ∷ codes "new.csv" ∷ []

@@ -1,4 +1,4 @@
-//! What the six calls answer. Each function is the law in its contract, and does nothing.
+//! What the calls of `run` and `audit` answer. Each function is the law in its contract, and does nothing.
 ghost use Rattle.std.specs.Prelude.{◌≡◌, Ok, Err, None, Some, codes};
 ghost use Rattle.outcomes.specs.declared.refusal.Refusal.TheVariants as refusal;
 ghost use Rattle.outcomes.specs.declared.status.Status.TheVariants as status;
@@ -7,8 +7,8 @@ ghost use Rattle.prepared_runs.specs.Outcome.{Planned};
 ghost use Rattle.safebound_top.specs.Texts.{out_text_of, plan_text};
 ghost use Rattle.prepared_runs.specs.Verdict.{verdict};
 ghost use Rattle.worked_run.specs.Calls.{EachCallEnds};
-ghost use Rattle.worked_run.specs.TwoTables.{audit_words, limited_words, narrow_words, run_words, small_files, thrifty_words, tree_words};
-ghost use Rattle.worked_run.specs.Meaning.{two_tables_run, two_tables_tree};
+ghost use Rattle.worked_run.specs.TwoTables.{audit_words, limited_words, narrow_words, reduced_words, run_words, small_files, thrifty_words, tree_words};
+ghost use Rattle.worked_run.specs.Meaning.{two_tables_reduced, two_tables_run, two_tables_tree};
 
 /// `run schema.sql query.sql`: of 30 pairs of rows six are joined. Both orders cost 12, the bound of both tables; S, R has the
 /// smaller sum.
@@ -16,7 +16,7 @@ pub fn joined()
     ensures verdict { verdict run_words small_files ≡ Ok (Planned (two_tables_run out_text.Rows None)) }
     ensures notes { plan_text (two_tables_run out_text.Rows None) ≡ codes "scan R 6\nscan S 5\nlevel 1 S 5\nlevel 2 R 12\n" }
     ensures out { out_text_of (two_tables_run out_text.Rows None) ≡ Some (codes "X\r\n1\r\n1\r\n1\r\n1\r\n1\r\n1\r\n") }
-    ensures call { EachCallEnds run_words status.Done (codes "scan R 6\nscan S 5\nlevel 1 S 5\nlevel 2 R 12\n")
+    ensures call { EachCallEnds small_files run_words status.Done (Some (codes "scan R 6\nscan S 5\nlevel 1 S 5\nlevel 2 R 12\n"))
         (Some (codes "X\r\n1\r\n1\r\n1\r\n1\r\n1\r\n1\r\n")) }
 {}
 
@@ -24,7 +24,7 @@ pub fn joined()
 pub fn audited()
     ensures verdict { verdict audit_words small_files ≡ Ok (Planned (two_tables_run out_text.Audit None)) }
     ensures out { out_text_of (two_tables_run out_text.Audit None) ≡ Some (codes "level 1 S 5 5\nlevel 2 R 12 6\n") }
-    ensures call { EachCallEnds audit_words status.Done (codes "scan R 6\nscan S 5\nlevel 1 S 5\nlevel 2 R 12\n")
+    ensures call { EachCallEnds small_files audit_words status.Done (Some (codes "scan R 6\nscan S 5\nlevel 1 S 5\nlevel 2 R 12\n"))
         (Some (codes "level 1 S 5 5\nlevel 2 R 12 6\n")) }
 {}
 
@@ -32,23 +32,35 @@ pub fn audited()
 pub fn joined_by_a_tree()
     ensures verdict { verdict tree_words small_files ≡ Ok (Planned (two_tables_tree out_text.Audit None)) }
     ensures out { out_text_of (two_tables_tree out_text.Audit None) ≡ Some (codes "node 2 0 1 12 6\n") }
-    ensures call { EachCallEnds tree_words status.Done (codes "scan R 6\nscan S 5\nnode 2 0 1 12\n") (Some (codes "node 2 0 1 12 6\n")) }
+    ensures call { EachCallEnds small_files tree_words status.Done (Some (codes "scan R 6\nscan S 5\nnode 2 0 1 12\n")) (Some (codes "node 2 0 1 12 6\n")) }
 {}
 
 /// `run schema.sql query.sql --budget 11`: no order costs less than 12.
 pub fn refused()
     ensures verdict { verdict thrifty_words small_files ≡ Err (refusal.Budget 12) }
-    ensures call { EachCallEnds thrifty_words (status.Refused (refusal.Budget 12)) (codes "error budget 12\n") None }
+    ensures call { EachCallEnds small_files thrifty_words (status.Refused (refusal.Budget 12)) (Some (codes "error budget 12\n")) None }
 {}
 
 /// `run schema.sql query.sql --memory 556`: the plan takes just so many bytes, and its text tells them.
 pub fn joined_within_a_limit()
     ensures verdict { verdict limited_words small_files ≡ Ok (Planned (two_tables_run out_text.Rows (Some 556))) }
     ensures notes { plan_text (two_tables_run out_text.Rows (Some 556)) ≡ codes "scan R 6\nscan S 5\nlevel 1 S 5\nlevel 2 R 12\nmemory 556\n" }
+    ensures call { EachCallEnds small_files limited_words status.Done (Some (codes "scan R 6\nscan S 5\nlevel 1 S 5\nlevel 2 R 12\nmemory 556\n"))
+        (Some (codes "X\r\n1\r\n1\r\n1\r\n1\r\n1\r\n1\r\n")) }
 {}
 
 /// `run schema.sql query.sql --memory 555`: the plan takes a byte more.
 pub fn above_its_limit()
     ensures verdict { verdict narrow_words small_files ≡ Err (refusal.MemoryLimit 556) }
-    ensures call { EachCallEnds narrow_words (status.Refused (refusal.MemoryLimit 556)) (codes "error memory-limit 556\n") None }
+    ensures call { EachCallEnds small_files narrow_words (status.Refused (refusal.MemoryLimit 556)) (Some (codes "error memory-limit 556\n")) None }
+{}
+
+/// `run schema.sql query.sql --reduce`: three rows of R and two of S have a partner. Both orders cost 6, and S, R has the smaller sum; both
+/// bounds are exact.
+pub fn joined_over_reduced_scans()
+    ensures verdict { verdict reduced_words small_files ≡ Ok (Planned two_tables_reduced) }
+    ensures notes { plan_text two_tables_reduced ≡ codes "scan R 3\nscan S 2\nlevel 1 S 2\nlevel 2 R 6\n" }
+    ensures out { out_text_of two_tables_reduced ≡ Some (codes "X\r\n1\r\n1\r\n1\r\n1\r\n1\r\n1\r\n") }
+    ensures call { EachCallEnds small_files reduced_words status.Done (Some (codes "scan R 3\nscan S 2\nlevel 1 S 2\nlevel 2 R 6\n"))
+        (Some (codes "X\r\n1\r\n1\r\n1\r\n1\r\n1\r\n1\r\n")) }
 {}

@@ -1,14 +1,17 @@
-//! Six calls over two small tables, from the words and the bytes of the files to the bytes of both streams, as theorems by
-//! computation: `run`, `audit`, `audit` with a join tree, `run` with a budget that is one too small, and `run` with a limit of memory
-//! that is just enough, and with one that is a byte too small.
+//! Eleven calls over small tables, from the words and the bytes of the files to the bytes of both streams, as theorems by
+//! computation. `examples` has those of `run` and `audit`: along an order, by a join tree, over reduced scans, with a budget that is one too
+//! small, and with a limit of memory that is just enough and with one that is a byte too small. `statistics` has `stats`, `plan --stats` and
+//! `append`, and `keys` has `plan --keys`.
 //!
-//! The files are
+//! The files of all but the last are
 //!
 //! ```text
 //! schema.sql   CREATE TABLE R (X INTEGER NOT NULL); CREATE TABLE S (X INTEGER NOT NULL);
 //! query.sql    SELECT R.X FROM R, S WHERE R.X = S.X
 //! r.csv        X, and the records 1, 1, 1, 2, 2, 3
 //! s.csv        X, and the records 1, 1, 4, 5, 6
+//! rs.stats     what `stats` writes of them
+//! new.csv      X, and the records 1, 4
 //! ```
 //!
 //! and `run schema.sql query.sql` leaves
@@ -26,7 +29,12 @@
 #![tactic(auto)]
 
 mod examples;
+mod keys;
+mod statistics;
 
 pub use examples::{
-    above_its_limit, audited, joined, joined_by_a_tree, joined_within_a_limit, refused,
+    above_its_limit, audited, joined, joined_by_a_tree, joined_over_reduced_scans,
+    joined_within_a_limit, refused,
 };
+pub use keys::planned_by_keys;
+pub use statistics::{appended, filed, planned_from_a_file};

@@ -1,0 +1,236 @@
+-- What is known of the bytes of a statistics file: what `stats` wrote, and what each append made of it.
+use Rattle.std.proofs.Common.{◌≡◌, ℕ, ◌<◌, ◌≤◌, ◌==◌, ◌++◌, cond, List, [], ◌∷◌, length, Option, None, Some, option_map, Ok, inl, inr, refl, ap, sym, ◌∙◌, subst, append_assoc, append-nil}
+use Rattle.std.specs.List.{filter_map, flat_map, range_with_len}
+use Rattle.std.proofs.Math.Path.{fun_ext}
+use Rattle.std.proofs.lemmas.Bool.{cases_Bool, eqb-true}
+use Rattle.std.proofs.lemmas.Option.{slice_get-get_or}
+use Rattle.appended_stats.specs.Conditions.{HasNewRows}
+use Rattle.csv_tables.specs.Rows.{Row}
+use Rattle.csv_tables.specs.declared.types.Database.{Database}
+use Rattle.filed_stats.proofs.Finding.{found_in}
+use Rattle.filed_stats.proofs.Rules.{file_keeps}
+use Rattle.filed_stats.proofs.Standing.{file_stands, share_rows}
+use Rattle.filed_stats.specs.Databases.{IsOverSchema}
+use Rattle.filed_stats.specs.Files.{file_of_query, first_entry, section_of_table}
+use Rattle.filed_stats.specs.Needs.{table_of}
+use Rattle.filed_stats.specs.Standing.{StandsFor, section_of}
+use Rattle.level_bounds.proofs.Lists.{from_filter_map}
+use Rattle.limits.specs.Profile.{most_accuracy}
+use Rattle.query_types.specs.Validity.{IsOf}
+use Rattle.query_types.specs.declared.types.Query.{Query}
+use Rattle.safebound_words.specs.Commands.{over_query, with_rows}
+use Rattle.safebound_words.specs.declared.command.Command.{Command}
+use Rattle.safebound_words.specs.declared.command.Work.TheVariants as works
+use Rattle.schema_types.specs.Validity.{IsValid}
+use Rattle.schema_types.specs.declared.types.Schema.{Schema}
+use Rattle.sql_meaning.specs.Tables.{Tables, tables_of}
+use Rattle.stats_file.specs.FileText.{file_text}
+use Rattle.stats_file.specs.Rules.{KeepsRules}
+use Rattle.stats_file.specs.declared.types.StatsFile.{StatsFile}
+use Rattle.stats_file.specs.declared.types.TableStats.{TableStats}
+use Rattle.table_files.specs.EntryTables.{tables_in}
+use Rattle.table_files.specs.Stage.{no_table, table_at, table_rows, tables_stage}
+use Rattle.table_files.proofs.StagedFiles.{entries_are}
+use Rattle.prepared_runs.specs.Appending.{is_of_table}
+use Rattle.prepared_runs.specs.Filed.{stats_stage, tables_filed}
+use Rattle.prepared_runs.specs.Outcome.{Outcome}
+use Rattle.prepared_runs.specs.Verdict.{query_stage}
+use Rattle.safebound_laws.specs.Appends.{Grows}
+use Rattle.safebound_laws.proofs.Alike.{FileMade, file_made}
+use Rattle.safebound_laws.proofs.AppendFacts.{append_stands, grows_so}
+use Rattle.safebound_laws.proofs.Databases.{DatabaseFound, database_found}
+use Rattle.safebound_top.proofs.Promises.{query_of_schema}
+use Rattle.safebound_top.specs.Headline.{GrewWhole}
+use Rattle.safebound_top.specs.OutcomeTexts.{out_text}
+use Rattle.file_laws.specs.Calls.{AppendCall, AppendedEach, AppendedTo, StatsCall, WroteStats, last_bytes}
+use Rattle.file_laws.specs.Others.{IsOfTables}
+use Rattle.file_laws.specs.Plans.{AddEach, Added, Adds, with_added}
+use Rattle.file_laws.proofs.Appended.{after_keeps, its_section, rows_read, section_before, table_there}
+use Rattle.file_laws.proofs.Ended.{byte_columns, ended, is_valid, ranges, same_schema, stats_are, took_text}
+
+-- they are the text of a file that keeps the rules, stands for these tables of a query, and has sections of the query's tables alone
+pub record Known (schema : Schema) (query : Query) (bytes : List ℕ) (tables : Tables) : Type 0 where
+  pub file : StatsFile
+  pub is : bytes ≡ file_text schema file
+  pub keeps : KeepsRules schema file
+  pub stands : StandsFor query file tables
+  pub of : IsOfTables query file
+
+-- ---- what `stats` wrote
+
+some_of : {A B : Type 0} (f : A → B) (o : Option A) (y : B) → option_map f o ≡ Some y → (x : A) × (o ≡ Some x) × (y ≡ f x)
+some_of f None y e = absurd (cc e)
+some_of f (Some x) y e = let same : f x ≡ y = cc in (x, refl, sym same)
+
+module _ (schema : Schema) (query : Query) (tables : Tables) (accuracy : ℕ) where
+  abbrev section_at : ℕ → Option TableStats
+  section_at table = option_map (section_of_table schema query tables accuracy table) (first_entry query table)
+
+  made_of_tables : IsOfTables query (file_of_query schema query tables accuracy)
+  made_of_tables table section found =
+      let there = found_in (λ (one : TableStats). one.table == table) (filter_map section_at (range_with_len 0 (length schema.tables))) section found in
+      let its = from_filter_map section_at (range_with_len 0 (length schema.tables)) section there.0 in
+      let made = some_of (section_of_table schema query tables accuracy its.0) (first_entry query its.0) section its.2 in
+      let same : its.0 ≡ table = ap (λ (one : TableStats). one.table) (sym made.2) ∙ eqb-true section.table table there.1 in
+      (made.0, subst (λ t. first_entry query t ≡ Some made.0) same made.1)
+
+-- the query that `stats` read, over the tables that it read, and what is known of the bytes
+pub record FromStats (made : StatsCall) (bytes : List ℕ) (schema : Schema) : Type 0 where
+  pub query : Query
+  pub database : Database
+  pub over : IsOverSchema schema query database
+  pub read : (entry : ℕ) → entry < length query.from → table_rows schema (table_of query entry) made.files ≡ Ok (tables_of database entry)
+  pub least : 0 < made.accuracy
+  pub most : made.accuracy ≤ most_accuracy
+  pub known : Known schema query bytes (tables_of database)
+  pub file_is : known.file ≡ file_of_query schema query (tables_of database) made.accuracy
+
+module _ (made : StatsCall) (schema : Schema) (bytes : List ℕ) (wrote : WroteStats made schema bytes) where
+  abbrev asked : Command
+  asked = over_query None made.schema_file made.query_file (works.File made.accuracy)
+
+  abbrev outcome : Outcome
+  outcome = (ended made.call asked made.files wrote.done).outcome
+
+  made_from : FileMade made.schema_file made.query_file made.accuracy made.files outcome
+  made_from = file_made made.schema_file made.query_file made.accuracy made.files outcome (ended made.call asked made.files wrote.done).ran
+
+  from_read : (read : Schema) (query : Query) (rows : List (List Row)) → IsValid read → query_stage made.query_file read made.files ≡ Ok query
+      → tables_stage read query.from made.files ≡ Ok rows → tables_filed read query rows made.accuracy ≡ outcome → FromStats made bytes read
+  from_read read query rows valid query_read staged is =
+      let within = ranges made.call asked made.files wrote.done in
+      let of : IsOf read query = query_of_schema made.query_file made.files read query query_read in
+      let found : DatabaseFound read query rows = database_found read query made.files rows valid of staged in
+      let tables : tables_in rows ≡ tables_of found.database = ap tables_in found.rows_are ∙ found.tables_are in
+      let file : StatsFile = file_of_query read query (tables_of found.database) made.accuracy in
+      let text : GrewWhole made.call.out (Some (file_text read (file_of_query read query (tables_in rows) made.accuracy))) =
+      subst (λ (o : Outcome). GrewWhole made.call.out (out_text o)) (sym is) (ended made.call asked made.files wrote.done).out in
+      record {
+        query = query;
+        database = found.database;
+        over = found.over;
+        read = λ entry low. entries_are read query.from made.files rows staged entry low ∙ ap (λ (t : Tables). Ok (t entry)) tables;
+        least = within.0;
+        most = within.1;
+        known = record {
+          file = file;
+          is = sym (took_text made.call.out (file_text read (file_of_query read query (tables_in rows) made.accuracy)) bytes text wrote.wrote)
+              ∙ ap (λ (t : Tables). file_text read (file_of_query read query t made.accuracy)) tables;
+          keeps = file_keeps read query found.database found.over made.accuracy within.0 within.1;
+          stands = file_stands read query (tables_of found.database) (share_rows read query found.database found.over) made.accuracy;
+          of = made_of_tables read query (tables_of found.database) made.accuracy;
+        };
+        file_is = refl;
+      }
+
+  pub from_stats : FromStats made bytes schema
+  from_stats =
+      let read : made_from.schema ≡ schema = same_schema made.files made.schema_file schema wrote.declares made_from.schema made_from.schema_is in
+      let valid : IsValid made_from.schema = subst IsValid (sym read) (is_valid made.files made.schema_file schema wrote.declares) in
+      subst (FromStats made bytes) read (from_read made_from.schema made_from.query made_from.rows valid made_from.query_is made_from.rows_are made_from.is)
+
+-- ---- what an append made of it
+
+-- the tables with the new rows of one append, as appended_stats says it
+has_added : (query : Query) (tables : Tables) (table : ℕ) (rows : List Row) → HasNewRows query table rows tables (with_added query tables (record { table = table; rows = rows } ∷ []))
+has_added query tables table rows entry low = elim (cases_Bool (table_of query entry == table)) [
+  | inl e ↦ rw e (ap (λ (s : List Row). tables entry ++ s) (append-nil rows))
+  | inr e ↦ rw e (append-nil (tables entry))
+]
+
+-- one addition behind others
+added_then : (query : Query) (tables : Tables) (one : Added) (more : List Added) → with_added query (with_added query tables (one ∷ [])) more ≡ with_added query tables (one ∷ more)
+added_then query tables one more = fun_ext (λ entry.
+    let first : List Row = cond (table_of query entry == one.table) one.rows [] in
+    let later : List Row = flat_map (λ (next : Added). cond (table_of query entry == next.table) next.rows []) more in
+    ap (λ (s : List Row). (tables entry ++ s) ++ later) (append-nil first) ∙ append_assoc (tables entry) first later)
+
+-- what an append added, and what is known of the bytes that it wrote
+pub record FromAppend (query : Query) (tables : Tables) (append : AppendCall) (schema : Schema) : Type 0 where
+  pub added : Added
+  pub adds : Adds schema append added
+  pub known : Known schema query append.bytes (with_added query tables (added ∷ []))
+
+module _ (schema : Schema) (query : Query) (before : List ℕ) (tables : Tables) (known : Known schema query before tables) (append : AppendCall) (did : AppendedTo schema before append) where
+  abbrev its_outcome : Outcome
+  its_outcome = (ended append.call (with_rows append.schema_file append.names) append.files did.done).outcome
+
+  abbrev GrowsSo : Type 0
+  GrowsSo = Grows append.files append.schema_file append.names.stats_file append.names.table append.names.rows_file its_outcome
+
+  grows : GrowsSo
+  grows = grows_so append.files append.schema_file append.names its_outcome (ended append.call (with_rows append.schema_file append.names) append.files did.done).ran
+
+  same : grows.schema ≡ schema
+  same = same_schema append.files append.schema_file schema did.declares grows.schema grows.schema_is
+
+  before_is : grows.before ≡ known.file
+  before_is =
+      stats_are append.names.stats_file schema append.files grows.before known.file (is_valid append.files append.schema_file schema did.declares)
+      (byte_columns append.files append.schema_file schema did.declares) known.keeps (did.there ∙ ap (λ (s : List ℕ). Some s) known.is)
+      (subst (λ (s : Schema). stats_stage append.names.stats_file s append.files ≡ Ok grows.before) same grows.before_is)
+
+  stands_before : StandsFor query grows.before tables
+  stands_before = subst (λ (f : StatsFile). StandsFor query f tables) (sym before_is) known.stands
+
+  its_added : Added
+  its_added = record { table = grows.section.table; rows = grows.rows }
+
+  it_adds : Adds grows.schema append its_added
+  unfolding its_added
+  it_adds =
+      let read = rows_read append.files append.schema_file append.names.stats_file append.names.table append.names.rows_file its_outcome grows in
+      record {
+        table = table_at grows.schema grows.section.table;
+        is_table = slice_get-get_or grows.schema.tables grows.section.table no_table
+            (table_there append.files append.schema_file append.names.stats_file append.names.table append.names.rows_file its_outcome grows);
+        named = (found_in (is_of_table grows.schema append.names.table) grows.before.tables grows.section
+            (its_section append.files append.schema_file append.names.stats_file append.names.table append.names.rows_file its_outcome grows)).1;
+        bytes = read.bytes;
+        there = read.there;
+        read = read.read;
+      }
+
+  of_tables : IsOfTables query grows.after
+  of_tables table section found =
+      let old = section_before grows.before grows.section.table grows.rows table section (ap (λ (f : StatsFile). section_of f table) (sym grows.after_is) ∙ found) in
+      known.of table old.0 (ap (λ (f : StatsFile). section_of f table) (sym before_is) ∙ old.1)
+
+  known_after : Known grows.schema query append.bytes (with_added query tables (its_added ∷ []))
+  unfolding its_added
+  known_after =
+      let end = ended append.call (with_rows append.schema_file append.names) append.files did.done in
+      record {
+        file = grows.after;
+        is = sym (took_text append.call.out (file_text grows.schema grows.after) append.bytes
+            (subst (λ (o : Outcome). GrewWhole append.call.out (out_text o)) grows.written end.out) did.wrote);
+        keeps = after_keeps append.files append.schema_file append.names.stats_file append.names.table append.names.rows_file its_outcome grows;
+        stands = append_stands append.files append.schema_file append.names.stats_file append.names.table append.names.rows_file its_outcome grows
+            query tables (with_added query tables (its_added ∷ [])) stands_before (has_added query tables grows.section.table grows.rows);
+        of = of_tables;
+      }
+
+  pub from_append : FromAppend query tables append schema
+  from_append = subst (FromAppend query tables append) same (record { added = its_added; adds = it_adds; known = known_after })
+
+-- ---- any number of appends
+
+pub record FromAppends (schema : Schema) (query : Query) (tables : Tables) (appends : List AppendCall) (last : List ℕ) : Type 0 where
+  pub added : List Added
+  pub adds : AddEach schema appends added
+  pub known : Known schema query last (with_added query tables added)
+
+none_added : (query : Query) (tables : Tables) → tables ≡ with_added query tables []
+none_added query tables = fun_ext (λ entry. sym (append-nil (tables entry)))
+
+pub from_appends : (schema : Schema) (query : Query) (before : List ℕ) (tables : Tables) (appends : List AppendCall) → Known schema query before tables
+    → AppendedEach schema before appends → FromAppends schema query tables appends (last_bytes before appends)
+from_appends schema query before tables [] known did = record { added = []; adds = tt; known = subst (Known schema query before) (none_added query tables) known }
+from_appends schema query before tables (append ∷ appends) known did =
+    let one = from_append schema query before tables known append did.0 in
+    let rest = from_appends schema query append.bytes (with_added query tables (one.added ∷ [])) appends one.known did.1 in
+    record {
+      added = one.added ∷ rest.added;
+      adds = (one.adds, rest.adds);
+      known = subst (Known schema query (last_bytes append.bytes appends)) (added_then query tables one.added rest.added) rest.known;
+    }

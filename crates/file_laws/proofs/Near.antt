@@ -1,0 +1,140 @@
+-- A plan from the file that `stats` wrote is the one that the tables themselves have.
+use Rattle.std.proofs.Common.{◌≡◌, ℕ, ◌<◌, false, List, length, Some, Ok, ap, sym, ◌∙◌, subst}
+use Rattle.appended_stats.specs.Appended.{alone}
+use Rattle.csv_tables.specs.Rows.{Row}
+use Rattle.filed_bounds.proofs.Telling.{IsThere, is_there, section_is}
+use Rattle.filed_bounds.specs.Filed.{filed_statistics}
+use Rattle.filed_bounds.specs.Found.{is_missing, pair_in, section_for}
+use Rattle.filed_bounds.specs.Plans.{planned_by_file}
+use Rattle.filed_exactness.proofs.Exactness.{KnowsTables, bounds_known, scans_known}
+use Rattle.filed_exactness.proofs.Sections as sections
+use Rattle.filed_exactness.proofs.Sections.{IsSectionOf, found_is}
+use Rattle.filed_stats.proofs.SameSections.{first_is}
+use Rattle.filed_stats.specs.Files.{file_of_query}
+use Rattle.filed_stats.specs.Needs.{table_of}
+use Rattle.filed_stats.specs.Pairs.{pair_in_table}
+use Rattle.filed_stats.specs.Standing.{StandsFor, section_of}
+use Rattle.gathered_stats.specs.Statistics.{statistics_of}
+use Rattle.join_graph.proofs.FromEntries.{names_its_entries}
+use Rattle.join_graph.specs.Conjuncts.{equalities_of}
+use Rattle.plan_nearness.proofs.LevelsNear.{levels_near}
+use Rattle.plan_nearness.specs.Nearness.{FiltersNoEntry}
+use Rattle.planning.specs.Plans.{planned as planned_over, planned_from}
+use Rattle.plans.specs.declared.left_deep.Plan.{Plan}
+use Rattle.query_bounds.specs.Bounds.{entry_bounds, scan_bounds}
+use Rattle.query_types.specs.declared.types.Query.{Query}
+use Rattle.schema_types.specs.declared.types.Schema.{Schema}
+use Rattle.set_bounds.specs.AllSets.{in_every_set}
+use Rattle.sql_meaning.specs.Tables.{Tables, row_counts, tables_of}
+use Rattle.stats_file.specs.Rules.{KeepsRules}
+use Rattle.stats_file.specs.declared.types.Pair.{Pair}
+use Rattle.stats_file.specs.declared.types.StatsFile.{StatsFile}
+use Rattle.stats_file.specs.declared.types.TableStats.{TableStats}
+use Rattle.safebound_top.specs.Promise.{AsksQuery}
+use Rattle.file_laws.specs.Calls.{PlanCall, PlannedFrom, StatsCall, WroteStats}
+use Rattle.file_laws.specs.Plans.{IsOver, PlanIsNear, PlanIsOfTables}
+use Rattle.file_laws.proofs.Known.{FromStats, from_stats}
+use Rattle.file_laws.proofs.Others.{stands_for_other}
+use Rattle.file_laws.proofs.Planned as planned_facts
+use Rattle.file_laws.proofs.Planned.{PlanMade, moved}
+
+module _ (schema : Schema) (bytes : List ℕ) (made : StatsCall) (planned : PlanCall) (wrote : WroteStats made schema bytes) (from : PlannedFrom schema bytes planned) where
+  start : FromStats made bytes schema
+  start = from_stats made schema bytes wrote
+
+  abbrev read : Tables
+  read = tables_of start.database
+
+  abbrev outcome_query : Query
+  outcome_query = (planned_facts.its made schema bytes start bytes (tables_of start.database) start.known planned from).query
+
+  abbrev plan : Plan
+  plan = (planned_facts.its made schema bytes start bytes (tables_of start.database) start.known planned from).plan
+
+  abbrev file : StatsFile
+  file = file_of_query schema start.query (tables_of start.database) made.accuracy
+
+  abbrev tables : Tables
+  tables = moved start.query (tables_of start.database) outcome_query
+
+  file_is : (planned_facts.its made schema bytes start bytes (tables_of start.database) start.known planned from).stats ≡ file
+  file_is = planned_facts.stats_same made schema bytes start bytes read start.known planned from ∙ start.file_is
+
+  there : (place : ℕ) → place < length outcome_query.from → is_missing outcome_query file place ≡ false
+  there place low =
+      ap (λ (f : StatsFile). is_missing outcome_query f place) (sym file_is) ∙ planned_facts.not_missing made schema bytes start bytes read start.known planned from place low
+
+  its_there : (place : ℕ) → place < length outcome_query.from → IsThere outcome_query file place
+  its_there place low = is_there outcome_query file place (there place low)
+
+  stands : StandsFor outcome_query file tables
+  stands =
+      subst (λ (f : StatsFile). StandsFor outcome_query f tables) start.file_is
+      (stands_for_other start.query outcome_query start.known.file read tables start.known.stands start.known.of
+      (planned_facts.same_old made schema bytes start bytes read start.known planned from))
+
+  rows_known : (place : ℕ) → place < length outcome_query.from → (section_for outcome_query file place).rows ≡ row_counts tables place
+  rows_known place low =
+      let t = its_there place low in
+      ap (λ (s : TableStats). s.rows) (section_is outcome_query file place t) ∙ (stands place t.section low t.is).rows
+
+  pairs_known : (place : ℕ) → place < length outcome_query.from → (filter_column joined : ℕ) (p : Pair)
+      → pair_in (section_for outcome_query file place) filter_column joined ≡ Some p → p ≡ pair_in_table tables made.accuracy place filter_column joined
+  pairs_known place low filter_column joined p found =
+      let t = its_there place low in
+      let first = planned_facts.found made schema bytes start bytes read start.known planned from place low in
+      let at = first_is start.query (table_of outcome_query place) first.0 first.1 in
+      let its : IsSectionOf schema start.query start.database start.over made.accuracy first.0 t.section =
+      sections.section_is schema start.query start.database start.over made.accuracy first.0 t.section (ap (section_of file) at.1 ∙ t.is) in
+      let of_first : p ≡ pair_in_table read made.accuracy first.0 filter_column joined =
+      found_is schema start.query start.database start.over made.accuracy first.0 at.0 t.section its filter_column joined p
+      (ap (λ (s : TableStats). pair_in s filter_column joined) (sym (section_is outcome_query file place t)) ∙ found) in
+      of_first
+      ∙ ap (λ (rows : List Row). pair_in_table (alone rows) made.accuracy 0 filter_column joined)
+      (planned_facts.same_old made schema bytes start bytes read start.known planned from first.0 place at.0 low at.1)
+
+  knows : KnowsTables outcome_query file tables made.accuracy
+  knows = record {
+    is_file = record { schema = schema; keeps = subst (KeepsRules schema) start.file_is start.known.keeps };
+    names = names_its_entries schema outcome_query (planned_facts.of_schema made schema bytes start bytes read start.known planned from);
+    there = there;
+    rows = rows_known;
+    pairs = pairs_known;
+  }
+
+  plans_same : planned_by_file outcome_query file planned.budget ≡ planned_over outcome_query tables made.accuracy planned.budget
+  unfolding planned_by_file planned_over
+  plans_same =
+      ap (λ bounds. planned_from (in_every_set bounds) (scan_bounds outcome_query (filed_statistics outcome_query file)) (equalities_of outcome_query) (length outcome_query.from) planned.budget)
+      (bounds_known outcome_query file tables made.accuracy knows)
+      ∙ ap (λ scans. planned_from (in_every_set (entry_bounds outcome_query (statistics_of tables made.accuracy))) scans (equalities_of outcome_query) (length outcome_query.from) planned.budget)
+      (scans_known outcome_query file tables made.accuracy knows)
+
+  of_tables : planned_over outcome_query tables made.accuracy planned.budget ≡ Ok plan
+  of_tables =
+      sym plans_same ∙ ap (λ (f : StatsFile). planned_by_file outcome_query f planned.budget) (sym file_is)
+      ∙ (planned_facts.made_so made schema bytes start bytes read start.known planned from).1
+
+  its_over : IsOver made planned schema outcome_query (moved start.query (tables_of start.database) outcome_query)
+  its_over = planned_facts.over made schema bytes start bytes read start.known planned from
+
+  pub plan_of_tables : PlanIsOfTables made planned schema
+  plan_of_tables = record {
+    query = outcome_query;
+    tables = tables;
+    over = its_over;
+    plan = plan;
+    same = of_tables;
+    written = planned_facts.written made schema bytes start bytes read start.known planned from;
+  }
+
+  pub plan_near : ((query : Query) → AsksQuery planned.files planned.query_file schema query → FiltersNoEntry query) → PlanIsNear made planned schema
+  plan_near none = record {
+    query = outcome_query;
+    tables = tables;
+    over = its_over;
+    plan = plan;
+    near = levels_near outcome_query tables made.accuracy planned.budget plan (none outcome_query its_over.asks)
+        (planned_facts.of_schema made schema bytes start bytes read start.known planned from).few of_tables;
+    written = planned_facts.written made schema bytes start bytes read start.known planned from;
+  }

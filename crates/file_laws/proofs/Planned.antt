@@ -1,0 +1,271 @@
+-- A plan from a statistics file of which it is known what it stands for.
+use Rattle.std.proofs.Common.{◌≡◌, ℕ, ◌<◌, ◌==◌, ◌++◌, true, false, List, [], length, get_or, Option, None, Some, Result, Ok, Err, refl, ap, sym, ◌∙◌, subst, arith}
+use Rattle.std.specs.Prelude.{unwrap_or}
+use Rattle.std.proofs.lemmas.Bool.{eq-eqb}
+use Rattle.std.proofs.lemmas.List.{get_or-map}
+use Rattle.std.proofs.lemmas.Option.{slice_get-get_or}
+use Rattle.base_io.specs.Files.{Files}
+use Rattle.csv_tables.specs.Rows.{Row}
+use Rattle.filed_bounds.proofs.Finding.{none_passes}
+use Rattle.filed_bounds.proofs.Telling.{IsThere, is_there}
+use Rattle.filed_bounds.specs.Found.{first_missing, is_missing}
+use Rattle.filed_bounds.specs.Plans.{filed_plan, planned_by_file, unless_missing}
+use Rattle.filed_stats.proofs.SameSections.{first_is}
+use Rattle.filed_stats.proofs.Standing.{share_rows}
+use Rattle.filed_stats.specs.Files.{first_entry}
+use Rattle.filed_stats.specs.Needs.{table_of}
+use Rattle.filed_stats.specs.Standing.{ShareRows, StandsFor, section_of}
+use Rattle.join_steps.specs.Lists.{scans_of}
+use Rattle.join_steps.specs.Plans.{IsPlanOf}
+use Rattle.order_search.specs.declared.refusal.PlanError.{PlanError}
+use Rattle.outcomes.specs.Reads.{told}
+use Rattle.plans.specs.declared.left_deep.Plan.{Plan}
+use Rattle.query_types.specs.Validity.{IsOf}
+use Rattle.query_types.specs.declared.types.Query.{Query}
+use Rattle.query_types.specs.declared.types.Source.{Source}
+use Rattle.reserve_plan.specs.Memory.{plan_bytes}
+use Rattle.safebound_words.specs.Commands.{over_query}
+use Rattle.safebound_words.specs.declared.command.Aim.TheVariants as aims
+use Rattle.safebound_words.specs.declared.command.Command.{Command}
+use Rattle.safebound_words.specs.declared.command.Work.TheVariants as works
+use Rattle.schema_types.specs.declared.types.Schema.{Schema}
+use Rattle.sql_meaning.specs.Tables.{Tables, tables_of}
+use Rattle.stats_file.specs.declared.types.StatsFile.{StatsFile}
+use Rattle.table_files.specs.Stage.{no_table, table_at, table_rows}
+use Rattle.table_files.proofs.EntryLaws.{two_steps}
+use Rattle.table_files.proofs.StagedFiles.{table_ok, told_ok}
+use Rattle.prepared_runs.proofs.LimitFacts.{within_ok}
+use Rattle.prepared_runs.specs.Filed.{filed_plan_stage, filed_refusal, filed_within, stats_stage}
+use Rattle.prepared_runs.specs.Limits.{AreWithin}
+use Rattle.prepared_runs.specs.Outcome.{FiledPlan, HoldsWhereItStands, NoBoundIsTooLow, Outcome, PlannedByFile}
+use Rattle.prepared_runs.specs.Verdict.{aim_run, command_run, query_stage, schema_stage, work_run}
+use Rattle.safebound_top.proofs.Promises.{asks, query_of_schema}
+use Rattle.safebound_top.specs.Call.{Grew}
+use Rattle.safebound_top.specs.Headline.{GrewWhole}
+use Rattle.safebound_top.specs.OutcomeTexts.{filed_plan_text, notes_text}
+use Rattle.safebound_top.specs.Promise.{AreInFile, PrintsOrder}
+use Rattle.file_laws.specs.Calls.{AppendCall, AppendedEach, PlanCall, PlannedFrom, StatsCall, WroteStats, last_bytes}
+use Rattle.file_laws.specs.Others.{HaveSameRows}
+use Rattle.file_laws.specs.Plans.{Added, GrownPlanHolds, IsOver, PlanHolds, added_rows, with_added}
+use Rattle.file_laws.proofs.Ended.{byte_columns, ended, is_valid, same_schema, stats_are}
+use Rattle.file_laws.proofs.Known.{FromAppends, FromStats, Known, from_appends, from_stats}
+use Rattle.file_laws.proofs.Others.{stands_for_other}
+
+-- ---- the stages of a plan from a file
+
+there_is : (o : Option ℕ) (r : Result Plan PlanError) (plan : Plan) → unless_missing o r ≡ Ok plan → (o ≡ None) × (r ≡ Ok plan)
+there_is None (Ok p) plan e = (refl, cc)
+there_is None (Err s) plan e = absurd (cc)
+there_is (Some from) r plan e = absurd (cc)
+
+pub record PlanMade (schema_file query_file stats_file : List ℕ) (budget : ℕ) (memory : Option ℕ) (files : Files) (outcome : Outcome) : Type 0 where
+  pub schema : Schema
+  pub schema_is : schema_stage schema_file files ≡ Ok schema
+  pub query : Query
+  pub query_is : query_stage query_file schema files ≡ Ok query
+  pub stats : StatsFile
+  pub stats_is : stats_stage stats_file schema files ≡ Ok stats
+  pub plan : Plan
+  pub planned : filed_plan query stats budget ≡ Ok plan
+  pub within : AreWithin memory (plan_bytes plan.order plan.scans plan.levels)
+  pub is : PlannedByFile (record { query = query; file = stats; plan = plan; memory = memory }) ≡ outcome
+
+plan_made : (schema_file query_file stats_file : List ℕ) (budget : ℕ) (memory : Option ℕ) (files : Files) (outcome : Outcome)
+    → command_run (over_query None schema_file query_file (works.PlanFrom stats_file budget memory)) files ≡ Ok outcome
+    → PlanMade schema_file query_file stats_file budget memory files outcome
+unfolding command_run filed_plan_stage
+plan_made schema_file query_file stats_file budget memory files outcome ran =
+    let work = works.PlanFrom stats_file budget memory in
+    let first = two_steps (schema_stage schema_file files) (λ s. aim_run (aims.Query query_file work) s files) outcome ran in
+    let second = two_steps (query_stage query_file first.0 files) (λ q. work_run work first.0 q files) outcome first.2 in
+    let third = two_steps (stats_stage stats_file first.0 files) (λ stats. filed_plan_stage second.0 stats budget memory) outcome second.2 in
+    let last = two_steps (told filed_refusal (filed_plan second.0 third.0 budget)) (λ plan. filed_within second.0 third.0 plan memory) outcome third.2 in
+    let kept = within_ok memory (plan_bytes last.0.order last.0.scans last.0.levels)
+    (PlannedByFile (record { query = second.0; file = third.0; plan = last.0; memory = memory })) outcome last.2 in
+    record {
+      schema = first.0;
+      schema_is = first.1;
+      query = second.0;
+      query_is = second.1;
+      stats = third.0;
+      stats_is = third.1;
+      plan = last.0;
+      planned = told_ok filed_refusal (filed_plan second.0 third.0 budget) last.0 last.1;
+      within = kept.1;
+      is = kept.0;
+    }
+
+-- ---- the tables of another query
+
+-- an entry of the other query has the rows of the first entry of its table
+abbrev pub moved : Query → Tables → Query → Tables
+moved query tables other place = tables (unwrap_or (first_entry query (table_of other place)) 0)
+
+module _ (query : Query) (tables : Tables) (share : ShareRows query tables) (other : Query) where
+  pub same_rows : HaveSameRows query tables other (moved query tables other)
+  same_rows entry place low also same = by (first_entry query (table_of other place)) refl
+    where
+      by : (found : Option ℕ) → first_entry query (table_of other place) ≡ found → tables entry ≡ tables (unwrap_or (first_entry query (table_of other place)) 0)
+      by None is =
+          let fails : (table_of query entry == table_of other place) ≡ false =
+          none_passes (λ e. table_of query e == table_of other place) 0 (length query.from) is entry (omega arith) (omega (arith, low)) in
+          let passes : (table_of query entry == table_of other place) ≡ true = eq-eqb (table_of query entry) (table_of other place) same in
+          absurd (let no : true ≡ false = sym passes ∙ fails in cc)
+      by (Some first) is =
+          let its = first_is query (table_of other place) first is in
+          share entry first low its.0 (same ∙ sym its.1) ∙ ap (λ (o : Option ℕ). tables (unwrap_or o 0)) (sym is)
+
+-- with rows added to both
+added_same : (query : Query) (tables : Tables) (other : Query) (also : Tables) (added : List Added) → HaveSameRows query tables other also
+    → HaveSameRows query (with_added query tables added) other (with_added other also added)
+added_same query tables other also added have entry place low within same =
+    ap (λ (rows : List Row). rows ++ added_rows (table_of query entry) added) (have entry place low within same) ∙ ap (λ (t : ℕ). also place ++ added_rows t added) same
+
+-- what is read of the table of an entry is in its file
+in_file : (files : Files) (schema : Schema) (query : Query) (entry : ℕ) (rows : List Row) → IsOf schema query → entry < length query.from
+    → table_rows schema (table_of query entry) files ≡ Ok rows → AreInFile files schema query entry rows
+in_file files schema query entry rows of low staged =
+    let none : Source = record { table = 0; alias = [] } in
+    let source : Source = get_or query.from entry none in
+    let number : table_of query entry ≡ source.table = get_or-map (λ (s : Source). s.table) query.from entry none 0 low in
+    let read = table_ok source.table (table_at schema source.table) files rows (ap (λ (n : ℕ). table_rows schema n files) (sym number) ∙ staged) in
+    record {
+      source = source;
+      is_source = slice_get-get_or query.from entry none low;
+      table = table_at schema source.table;
+      is_table = slice_get-get_or schema.tables source.table no_table (of.sources entry none low);
+      bytes = read.0;
+      there = read.1;
+      read = read.2;
+    }
+
+-- ---- the plan
+
+-- from a file of which it is known that it stands for tables of the query that `stats` read
+module _ (made : StatsCall) (schema : Schema) (first_bytes : List ℕ) (start : FromStats made first_bytes schema) (bytes : List ℕ) (tables : Tables)
+    (known : Known schema start.query bytes tables) (planned : PlanCall) (from : PlannedFrom schema bytes planned) where
+  abbrev command : Command
+  command = over_query None planned.schema_file planned.query_file (works.PlanFrom planned.stats_file planned.budget planned.memory)
+
+  pub its : PlanMade planned.schema_file planned.query_file planned.stats_file planned.budget planned.memory planned.files (ended planned.call command planned.files from.done).outcome
+  its =
+      plan_made planned.schema_file planned.query_file planned.stats_file planned.budget planned.memory planned.files (ended planned.call command planned.files from.done).outcome
+      (ended planned.call command planned.files from.done).ran
+
+  same : its.schema ≡ schema
+  same = same_schema planned.files planned.schema_file schema from.declares its.schema its.schema_is
+
+  pub stats_same : its.stats ≡ known.file
+  stats_same =
+      stats_are planned.stats_file schema planned.files its.stats known.file (is_valid planned.files planned.schema_file schema from.declares)
+      (byte_columns planned.files planned.schema_file schema from.declares) known.keeps (from.there ∙ ap (λ (s : List ℕ). Some s) known.is)
+      (subst (λ (s : Schema). stats_stage planned.stats_file s planned.files ≡ Ok its.stats) same its.stats_is)
+
+  query_there : query_stage planned.query_file schema planned.files ≡ Ok its.query
+  query_there = subst (λ (s : Schema). query_stage planned.query_file s planned.files ≡ Ok its.query) same its.query_is
+
+  pub of_schema : IsOf schema its.query
+  of_schema = query_of_schema planned.query_file planned.files schema its.query query_there
+
+  abbrev pub old : Tables
+  old = moved start.query (tables_of start.database) its.query
+
+  -- ---- the rows of its entries
+
+  pub made_so : (first_missing its.query its.stats ≡ None) × (planned_by_file its.query its.stats planned.budget ≡ Ok its.plan)
+  unfolding filed_plan
+  made_so = there_is (first_missing its.query its.stats) (planned_by_file its.query its.stats planned.budget) its.plan its.planned
+
+  pub not_missing : (place : ℕ) → place < length its.query.from → is_missing its.query its.stats place ≡ false
+  not_missing place low = none_passes (is_missing its.query its.stats) 0 (length its.query.from) made_so.0 place (omega arith) (omega (arith, low))
+
+  pub found : (place : ℕ) → place < length its.query.from → (first : ℕ) × (first_entry start.query (table_of its.query place) ≡ Some first)
+  found place low =
+      let there : IsThere its.query its.stats place = is_there its.query its.stats place (not_missing place low) in
+      known.of (table_of its.query place) there.section (ap (λ (f : StatsFile). section_of f (table_of its.query place)) (sym stats_same) ∙ there.is)
+
+  pub same_old : HaveSameRows start.query (tables_of start.database) its.query (moved start.query (tables_of start.database) its.query)
+  same_old = same_rows start.query (tables_of start.database) (share_rows schema start.query start.database start.over) its.query
+
+  rows_there : (place : ℕ) → place < length its.query.from → AreInFile made.files schema its.query place (moved start.query (tables_of start.database) its.query place)
+  rows_there place low =
+      let first = found place low in
+      let at = first_is start.query (table_of its.query place) first.0 first.1 in
+      in_file made.files schema its.query place (moved start.query (tables_of start.database) its.query place) of_schema low
+      (ap (λ (t : ℕ). table_rows schema t made.files) (sym at.1) ∙ start.read first.0 at.0 ∙ ap (λ (rows : List Row). Ok rows) (same_old first.0 place at.0 low at.1))
+
+  pub over : IsOver made planned schema its.query (moved start.query (tables_of start.database) its.query)
+  over = record { asks = asks planned.query_file planned.files schema its.query query_there; rows = rows_there }
+
+  -- ---- its text
+
+  abbrev pub its_plan : FiledPlan
+  its_plan = record { query = its.query; file = its.stats; plan = its.plan; memory = planned.memory }
+
+  pub holds_for : (grown : Tables) → StandsFor its.query known.file grown
+      → PrintsOrder planned.memory its.query grown (scans_of its.query grown) (filed_plan_text (record { query = its.query; file = its.stats; plan = its.plan; memory = planned.memory }))
+  holds_for grown stands =
+      let holds : HoldsWhereItStands its_plan = subst NoBoundIsTooLow (sym its.is) (ended planned.call command planned.files from.done).holds in
+      let plan : IsPlanOf its.query grown (scans_of its.query grown) its.plan = holds grown (subst (λ (f : StatsFile). StandsFor its.query f grown) (sym stats_same) stands) in
+      record {
+        plan = its.plan;
+        holds = record { each_entry = plan.for_each_entry; scans_fit = plan.scans; levels_fit = plan.levels };
+        within = its.within;
+        prints = refl;
+      }
+
+  pub written : Grew planned.call.notes (filed_plan_text (record { query = its.query; file = its.stats; plan = its.plan; memory = planned.memory }))
+  written = subst (λ (o : Outcome). GrewWhole planned.call.notes (notes_text o)) (sym its.is) (ended planned.call command planned.files from.done).notes
+
+-- ---- from what `stats` wrote
+
+module _ (schema : Schema) (bytes : List ℕ) (made : StatsCall) (planned : PlanCall) (wrote : WroteStats made schema bytes) (from : PlannedFrom schema bytes planned) where
+  start : FromStats made bytes schema
+  start = from_stats made schema bytes wrote
+
+  pub plan_holds : PlanHolds made planned schema
+  plan_holds =
+      let s : FromStats made bytes schema = start in
+      let plan = its made schema bytes s bytes (tables_of s.database) s.known planned from in
+      let tables : Tables = moved s.query (tables_of s.database) plan.query in
+      record {
+        query = plan.query;
+        tables = tables;
+        over = over made schema bytes s bytes (tables_of s.database) s.known planned from;
+        text = filed_plan_text (record { query = plan.query; file = plan.stats; plan = plan.plan; memory = planned.memory });
+        plan = holds_for made schema bytes s bytes (tables_of s.database) s.known planned from tables
+            (stands_for_other s.query plan.query s.known.file (tables_of s.database) tables s.known.stands s.known.of
+            (same_old made schema bytes s bytes (tables_of s.database) s.known planned from));
+        written = written made schema bytes s bytes (tables_of s.database) s.known planned from;
+      }
+
+-- ---- from what appends made of it
+
+module _ (schema : Schema) (bytes : List ℕ) (made : StatsCall) (appends : List AppendCall) (planned : PlanCall) (wrote : WroteStats made schema bytes)
+    (did : AppendedEach schema bytes appends) (from : PlannedFrom schema (last_bytes bytes appends) planned) where
+  begun : FromStats made bytes schema
+  begun = from_stats made schema bytes wrote
+
+  more : FromAppends schema begun.query (tables_of begun.database) appends (last_bytes bytes appends)
+  more = from_appends schema begun.query bytes (tables_of begun.database) appends begun.known did
+
+  pub grown_plan_holds : GrownPlanHolds made appends planned schema
+  grown_plan_holds =
+      let s : FromStats made bytes schema = begun in
+      let last : List ℕ = last_bytes bytes appends in
+      let read : Tables = tables_of s.database in
+      let grown : Tables = with_added s.query read more.added in
+      let plan = its made schema bytes s last grown more.known planned from in
+      let tables : Tables = moved s.query read plan.query in
+      record {
+        query = plan.query;
+        tables = tables;
+        over = over made schema bytes s last grown more.known planned from;
+        added = more.added;
+        adds = more.adds;
+        text = filed_plan_text (record { query = plan.query; file = plan.stats; plan = plan.plan; memory = planned.memory });
+        plan = holds_for made schema bytes s last grown more.known planned from (with_added plan.query tables more.added)
+            (stands_for_other s.query plan.query more.known.file grown (with_added plan.query tables more.added) more.known.stands more.known.of
+            (added_same s.query read plan.query tables more.added (same_old made schema bytes s last grown more.known planned from)));
+        written = written made schema bytes s last grown more.known planned from;
+      }

@@ -1,0 +1,87 @@
+-- Calls of `stats`, `append` and `plan --stats` that ended with Done. What connects them is the bytes of a statistics file: those that the one
+-- wrote and the other read.
+use Rattle.std.specs.Prelude.{ℕ, ◌≡◌, ◌++◌, List, [], ◌∷◌, Option, None, Some, ⊤}
+use Rattle.base_io.specs.Devices.{Growth}
+use Rattle.base_io.specs.Files.{Files, file_of}
+use Rattle.outcomes.specs.declared.status.Status.TheVariants as status
+use Rattle.safebound_words.specs.CommandLines.{AskFor}
+use Rattle.safebound_words.specs.Commands.{over_query, with_rows}
+use Rattle.safebound_words.specs.declared.command.Command.{Command}
+use Rattle.safebound_words.specs.declared.command.NewRows.{NewRows}
+use Rattle.safebound_words.specs.declared.command.Work.TheVariants as works
+use Rattle.schema_types.specs.declared.types.Schema.{Schema}
+use Rattle.safebound_top.specs.Call.{Call}
+use Rattle.safebound_top.specs.Headline.{Headline}
+use Rattle.safebound_top.specs.Promise.{DeclaresSchema}
+
+-- a sink that tells its bytes took exactly these
+abbrev pub Took : Growth → List ℕ → Type 0
+Took sink bytes = (before : List ℕ) × (sink.taken_before ≡ Some before) × (sink.taken_after ≡ Some (before ++ bytes))
+
+-- a call that keeps the headline was asked for this, and ended with Done over these files, which its store told
+pub record IsDone (call : Call) (command : Command) (files : Files) : Type 0 where
+  pub headline : Headline call
+  pub asked : AskFor call.words command
+  pub done : call.status ≡ status.Done
+  pub told : call.store.files ≡ Some files
+
+-- ---- stats
+
+-- a call with the files that it read, and what its words say
+pub record StatsCall : Type 0 where
+  pub call : Call
+  pub files : Files
+  pub schema_file : List ℕ
+  pub query_file : List ℕ
+  pub accuracy : ℕ
+
+-- over this schema `stats` wrote these bytes
+pub record WroteStats (made : StatsCall) (schema : Schema) (bytes : List ℕ) : Type 0 where
+  pub done : IsDone made.call (over_query None made.schema_file made.query_file (works.File made.accuracy)) made.files
+  pub declares : DeclaresSchema made.files made.schema_file schema
+  pub wrote : Took made.call.out bytes
+
+-- ---- append
+
+-- a call with the files that it read, what its words say, and the bytes that it wrote
+pub record AppendCall : Type 0 where
+  pub call : Call
+  pub files : Files
+  pub schema_file : List ℕ
+  pub names : NewRows
+  pub bytes : List ℕ
+
+-- over this schema `append` read these bytes as its statistics file
+pub record AppendedTo (schema : Schema) (before : List ℕ) (append : AppendCall) : Type 0 where
+  pub done : IsDone append.call (with_rows append.schema_file append.names) append.files
+  pub declares : DeclaresSchema append.files append.schema_file schema
+  pub there : file_of append.files append.names.stats_file ≡ Some before
+  pub wrote : Took append.call.out append.bytes
+
+-- each read the bytes that the one before it wrote, and the first one read these
+abbrev pub AppendedEach : Schema → List ℕ → List AppendCall → Type 0
+AppendedEach schema before [] = ⊤
+AppendedEach schema before (append ∷ appends) = AppendedTo schema before append × AppendedEach schema append.bytes appends
+
+-- the bytes that the last one wrote
+abbrev pub last_bytes : List ℕ → List AppendCall → List ℕ
+last_bytes before [] = before
+last_bytes before (append ∷ appends) = last_bytes append.bytes appends
+
+-- ---- plan --stats
+
+-- a call with the files that it read, and what its words say
+pub record PlanCall : Type 0 where
+  pub call : Call
+  pub files : Files
+  pub schema_file : List ℕ
+  pub query_file : List ℕ
+  pub stats_file : List ℕ
+  pub budget : ℕ
+  pub memory : Option ℕ
+
+-- over this schema `plan --stats` read these bytes as its statistics file
+pub record PlannedFrom (schema : Schema) (bytes : List ℕ) (planned : PlanCall) : Type 0 where
+  pub done : IsDone planned.call (over_query None planned.schema_file planned.query_file (works.PlanFrom planned.stats_file planned.budget planned.memory)) planned.files
+  pub declares : DeclaresSchema planned.files planned.schema_file schema
+  pub there : file_of planned.files planned.stats_file ≡ Some bytes

@@ -1,0 +1,18 @@
+-- One file of statistics, and two queries over the same tables.
+use Rattle.std.specs.Prelude.{ℕ, ◌≡◌, ◌<◌, length, Some}
+use Rattle.filed_stats.specs.Files.{first_entry}
+use Rattle.filed_stats.specs.Needs.{table_of}
+use Rattle.filed_stats.specs.Standing.{section_of}
+use Rattle.query_types.specs.declared.types.Query.{Query}
+use Rattle.sql_meaning.specs.Tables.{Tables}
+use Rattle.stats_file.specs.declared.types.StatsFile.{StatsFile}
+use Rattle.stats_file.specs.declared.types.TableStats.{TableStats}
+
+-- the file has sections of tables that the query names, and of no others
+abbrev pub IsOfTables : Query → StatsFile → Type 0
+IsOfTables query file = (table : ℕ) (section : TableStats) → section_of file table ≡ Some section → (first : ℕ) × (first_entry query table ≡ Some first)
+
+-- where both queries name a table, its entries have the same rows
+abbrev pub HaveSameRows : Query → Tables → Query → Tables → Type 0
+HaveSameRows query tables other also =
+    (entry place : ℕ) → entry < length query.from → place < length other.from → table_of query entry ≡ table_of other place → tables entry ≡ also place

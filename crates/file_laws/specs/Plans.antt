@@ -1,0 +1,98 @@
+-- What a plan from a statistics file says of the rows in the tables' files: those that `stats` read, and those that were appended.
+use Rattle.std.specs.Prelude.{ℕ, ◌≡◌, ◌<◌, ◌==◌, if◌then◌else◌, ◌++◌, List, [], ◌∷◌, length, slice_get, Some, Ok, true, ⊤}
+use Rattle.std.specs.List.{flat_map}
+use Rattle.std.specs.Str.{str_eq_ignore_ascii_case}
+use Rattle.base_io.specs.Files.{file_of}
+use Rattle.csv_tables.specs.Files.{rows_of_file}
+use Rattle.csv_tables.specs.Rows.{Row}
+use Rattle.filed_stats.specs.Needs.{table_of}
+use Rattle.join_steps.specs.Lists.{scans_of}
+use Rattle.plan_nearness.specs.Nearness.{LevelsAreNear}
+use Rattle.planning.specs.Plans.{planned as planned_over}
+use Rattle.plans.specs.declared.left_deep.Plan.{Plan}
+use Rattle.printed_texts.specs.Memory.{memory_text}
+use Rattle.printed_texts.specs.Plans.{plan_lines}
+use Rattle.query_types.specs.declared.types.Query.{Query}
+use Rattle.reserve_plan.specs.Memory.{plan_bytes}
+use Rattle.schema_types.specs.declared.types.Schema.{Schema}
+use Rattle.schema_types.specs.declared.types.Table.{Table}
+use Rattle.sql_meaning.specs.Tables.{Tables}
+use Rattle.safebound_top.specs.Call.{Grew}
+use Rattle.safebound_top.specs.Promise.{AreInFile, AsksQuery, PrintsOrder}
+use Rattle.file_laws.specs.Calls.{AppendCall, PlanCall, StatsCall}
+
+-- ---- the rows that `stats` read
+
+-- the query in the file of `plan --stats` has these rows in the files that `stats` read
+pub record IsOver (made : StatsCall) (planned : PlanCall) (schema : Schema) (query : Query) (tables : Tables) : Type 0 where
+  pub asks : AsksQuery planned.files planned.query_file schema query
+  pub rows : (entry : ℕ) → entry < length query.from → AreInFile made.files schema query entry (tables entry)
+
+-- notes took the text of a plan, and over these rows no scan and no level has more rows than this text says
+pub record PlanHolds (made : StatsCall) (planned : PlanCall) (schema : Schema) : Type 0 where
+  pub query : Query
+  pub tables : Tables
+  pub over : IsOver made planned schema query tables
+  pub text : List ℕ
+  pub plan : PrintsOrder planned.memory query tables (scans_of query tables) text
+  pub written : Grew planned.call.notes text
+
+-- notes took the text of the plan that `plan` makes of these rows at the file's accuracy, within the budget of `plan --stats`
+pub record PlanIsOfTables (made : StatsCall) (planned : PlanCall) (schema : Schema) : Type 0 where
+  pub query : Query
+  pub tables : Tables
+  pub over : IsOver made planned schema query tables
+  pub plan : Plan
+  pub same : planned_over query tables made.accuracy planned.budget ≡ Ok plan
+  pub written : Grew planned.call.notes (plan_lines query.from plan ++ memory_text planned.memory (plan_bytes plan.order plan.scans plan.levels))
+
+-- notes took the text of a plan, each of whose levels has a bound that is near the uncompressed one over these rows
+pub record PlanIsNear (made : StatsCall) (planned : PlanCall) (schema : Schema) : Type 0 where
+  pub query : Query
+  pub tables : Tables
+  pub over : IsOver made planned schema query tables
+  pub plan : Plan
+  pub near : LevelsAreNear query tables made.accuracy plan
+  pub written : Grew planned.call.notes (plan_lines query.from plan ++ memory_text planned.memory (plan_bytes plan.order plan.scans plan.levels))
+
+-- ---- and those that were appended
+
+-- rows for a table of the schema
+pub record Added : Type 0 where
+  pub table : ℕ
+  pub rows : List Row
+
+-- they are those in the file of new rows that the words name, of the table that the words name
+pub record Adds (schema : Schema) (append : AppendCall) (added : Added) : Type 0 where
+  pub table : Table
+  pub is_table : slice_get schema.tables added.table ≡ Some table
+  pub named : str_eq_ignore_ascii_case table.name append.names.table ≡ true
+  pub bytes : List ℕ
+  pub there : file_of append.files append.names.rows_file ≡ Some bytes
+  pub read : rows_of_file table bytes ≡ Ok added.rows
+
+-- each call adds its rows
+abbrev pub AddEach : Schema → List AppendCall → List Added → Type 0
+AddEach schema [] [] = ⊤
+AddEach schema [] (added ∷ more) = ⊥
+AddEach schema (append ∷ appends) [] = ⊥
+AddEach schema (append ∷ appends) (added ∷ more) = Adds schema append added × AddEach schema appends more
+
+-- what was added to a table, in the order of the calls
+abbrev pub added_rows : ℕ → List Added → List Row
+added_rows table added = flat_map (λ (one : Added). if table == one.table then one.rows else []) added
+
+-- the rows of each entry, and behind them those that were added to its table
+abbrev pub with_added : Query → Tables → List Added → Tables
+with_added query tables added entry = tables entry ++ added_rows (table_of query entry) added
+
+-- over the rows that `stats` read, with all added rows behind them, no scan and no level has more rows than the text says
+pub record GrownPlanHolds (made : StatsCall) (appends : List AppendCall) (planned : PlanCall) (schema : Schema) : Type 0 where
+  pub query : Query
+  pub tables : Tables
+  pub over : IsOver made planned schema query tables
+  pub added : List Added
+  pub adds : AddEach schema appends added
+  pub text : List ℕ
+  pub plan : PrintsOrder planned.memory query (with_added query tables added) (scans_of query (with_added query tables added)) text
+  pub written : Grew planned.call.notes text

@@ -1,0 +1,169 @@
+-- The plan with conditions that are carried through a key, by computation.
+use Rattle.std.proofs.Common.{◌≡◌, ℕ, zero, suc, List, [], ◌∷◌, Option, None, Some, Result, Ok, pos, true, refl, ap, ◌∙◌}
+use Rattle.std.specs.Fmt.{digits}
+use Rattle.std.specs.Prelude.{codes}
+use Rattle.std.specs.Str.{chars, is_utf8}
+use Rattle.std.proofs.Math.Path.{fun_ext}
+use Rattle.csv.specs.Reading.{strip_bom}
+use Rattle.csv.proofs.OnLiterals.{csv_on_literals}
+use Rattle.csv_tables.specs.Files.{rows_in_records, rows_of_file, rows_under_header}
+use Rattle.csv_tables.specs.Rows.{Row}
+use Rattle.filtered_lists.proofs.Parts.{of_compare}
+use Rattle.filtered_lists.specs.Lists.{count_answers}
+use Rattle.gathered_stats.specs.Statistics.{statistics_of}
+use Rattle.join_graph.specs.Conjuncts.{column_operand, equalities_of}
+use Rattle.key_bounds.proofs.SmallBounds.{manager_keyed}
+use Rattle.key_bounds.specs.Bounds.{bounds_by_keys}
+use Rattle.key_bounds.specs.Examples.{by_manager, worker_schema, worker_tables, workers}
+use Rattle.order_search.specs.declared.refusal.PlanError.{PlanError}
+use Rattle.outcomes.specs.Errors.{plan_refusal, query_refusal, schema_refusal, table_refusal}
+use Rattle.outcomes.specs.Reads.{◌>>=◌, seen, told}
+use Rattle.outcomes.specs.declared.refusal.Refusal.{Refusal}
+use Rattle.plan_answers.specs.BestOrder.{best_order}
+use Rattle.plan_answers.specs.PlanAnswer.{plan_answer}
+use Rattle.planning.specs.Bounds.{scan_bounds_of}
+use Rattle.plans.specs.Examples.{plan_of}
+use Rattle.plans.specs.declared.left_deep.Plan.{Plan}
+use Rattle.query_bounds.specs.Bounds.{scan_rows}
+use Rattle.query_grammar.specs.declared.tree.Op.TheVariants as op
+use Rattle.query_types.proofs.CondFacts.{entries_compare}
+use Rattle.query_types.specs.declared.types.Operand.TheVariants as operand
+use Rattle.query_types.specs.declared.types.Query.{Query}
+use Rattle.schema_types.specs.declared.types.Schema.{Schema}
+use Rattle.set_bounds.specs.AllSets.{bounds_in_sets}
+use Rattle.sql_meaning.specs.Tables.{Tables}
+use Rattle.table_files.specs.EntryTables.{tables_in}
+use Rattle.table_files.specs.Stage.{tables_stage}
+use Rattle.table_files.specs.TableFile.{file_rows}
+use Rattle.table_stats.specs.Statistics.{entry_counts}
+use Rattle.safebound_words.specs.Answer.{command_of, kind_of, parts_from, reading_of}
+use Rattle.safebound_words.specs.Commands.{over_query}
+use Rattle.safebound_words.specs.Numbers.{number_of}
+use Rattle.safebound_words.specs.Table.{over_files}
+use Rattle.safebound_words.specs.declared.command.Aim.TheVariants as aims
+use Rattle.safebound_words.specs.declared.command.Command.{Command}
+use Rattle.safebound_words.specs.declared.command.ListSource.TheVariants as sources
+use Rattle.safebound_words.specs.declared.command.OutText.TheVariants as out_text
+use Rattle.safebound_words.specs.declared.command.PlanWork.{PlanWork}
+use Rattle.safebound_words.specs.declared.command.Shape.TheVariants as shapes
+use Rattle.safebound_words.specs.declared.command.Work.TheVariants as works
+use Rattle.prepared_runs.specs.Accepted.{Accepted}
+use Rattle.prepared_runs.specs.Limits.{within_limit}
+use Rattle.prepared_runs.specs.Outcome.{Planned}
+use Rattle.prepared_runs.specs.Shapes.{answer_of, planned_by, shape_bytes}
+use Rattle.prepared_runs.specs.Sources.{known_by, scans_by, sourced}
+use Rattle.prepared_runs.specs.Verdict.{aim_run, command_run, command_stage, plan_stage, query_stage, run_asked, schema_stage, verdict, work_run}
+use Rattle.prepared_runs.specs.declared.shapes.Shaped.{Shaped}
+use Rattle.prepared_runs.specs.declared.shapes.Shaped.TheVariants as shaped
+use Rattle.safebound_laws.specs.Printed.{printed}
+use Rattle.worked_run.specs.OneTable.{keyed_words, workers_files, workers_query, workers_schema, workers_text}
+use Rattle.worked_run.proofs.Queries.{workers_query_read}
+use Rattle.worked_run.proofs.Schemas.{workers_read}
+
+abbrev task : PlanWork
+task = record { budget = 1000000; accuracy = 1; source = sources.Keyed; shape = shapes.Order; memory = None; out = out_text.Nothing }
+
+abbrev command : Command
+command = over_query None (codes "schema.sql") (codes "query.sql") (works.Plan task)
+
+-- ---- what is read
+
+asked : command_stage keyed_words ≡ Ok command
+unfolding command_of reading_of over_files parts_from kind_of number_of
+asked = refl
+
+schema_found : schema_stage (codes "schema.sql") workers_files ≡ Ok worker_schema
+unfolding schema_stage workers_schema
+schema_found = ap (told schema_refusal) workers_read
+
+query_found : query_stage (codes "query.sql") worker_schema workers_files ≡ Ok by_manager
+unfolding query_stage workers_query
+query_found = ap (told query_refusal) workers_query_read
+
+abbrev rows : List Row
+rows = worker_tables 0
+
+rows_read : rows_of_file workers workers_text ≡ Ok rows
+unfolding csv_on_literals strip_bom rows_of_file rows_in_records rows_under_header chars is_utf8 lib.Utf8.encode workers_text
+rows_read = refl
+
+rows_found : file_rows 0 workers workers_files ≡ Ok rows
+unfolding file_rows workers_text
+rows_found = ap (told (table_refusal 0)) rows_read
+
+tables_found : tables_stage worker_schema by_manager.from workers_files ≡ Ok (rows ∷ rows ∷ [])
+unfolding tables_stage
+tables_found = rw (rows_found) refl
+
+-- both entries have the rows of the one table
+one_table : (entry : ℕ) → tables_in (rows ∷ rows ∷ []) entry ≡ worker_tables entry
+one_table zero = refl
+one_table (suc zero) = refl
+one_table (suc (suc n)) = refl
+
+-- ---- the plan
+
+boss_scan : scan_rows by_manager (statistics_of worker_tables 1) 1 ≡ 1
+boss_scan = rw (
+  entries_compare op.Eq (column_operand 0 1) (column_operand 1 0),
+  entries_compare op.Eq (column_operand 1 2) (operand.Int (pos 3)),
+  of_compare (count_answers (entry_counts worker_tables 1)) op.Eq (column_operand 1 2) (operand.Int (pos 3)) true,
+) refl
+
+worker_scan : scan_rows by_manager (statistics_of worker_tables 1) 0 ≡ 5
+worker_scan = rw (
+  entries_compare op.Eq (column_operand 0 1) (column_operand 1 0),
+  entries_compare op.Eq (column_operand 1 2) (operand.Int (pos 3)),
+) refl
+
+scans : scan_bounds_of by_manager worker_tables 1 ≡ 5 ∷ 1 ∷ []
+scans = ap (λ (n : ℕ). n ∷ scan_rows by_manager (statistics_of worker_tables 1) 1 ∷ []) worker_scan ∙ ap (λ (n : ℕ). 5 ∷ n ∷ []) boss_scan
+
+chosen : plan_answer (1 ∷ 5 ∷ 1 ∷ 2 ∷ []) (5 ∷ 1 ∷ []) 1000000 ≡ Ok (plan_of (1 ∷ 0 ∷ []) (5 ∷ 1 ∷ []) (1 ∷ 2 ∷ []))
+unfolding plan_answer best_order
+chosen = refl
+
+abbrev along : Result Plan PlanError → Result Shaped PlanError
+along answer = seen (λ plan. shaped.Along plan) answer
+
+abbrev plan : Shaped
+plan = shaped.Along (plan_of (1 ∷ 0 ∷ []) (5 ∷ 1 ∷ []) (1 ∷ 2 ∷ []))
+
+plan_found : planned_by shapes.Order (sourced sources.Keyed worker_schema by_manager (tables_in (rows ∷ rows ∷ []))) by_manager 1 1000000 ≡ Ok plan
+unfolding planned_by known_by scans_by
+plan_found =
+    ap (λ (ts : Tables). answer_of shapes.Order (bounds_in_sets (bounds_by_keys worker_schema by_manager ts 1) (equalities_of by_manager) 2) (scan_bounds_of by_manager ts 1) 1000000)
+    (fun_ext one_table)
+    ∙ ap (λ (bounds : List ℕ). answer_of shapes.Order bounds (scan_bounds_of by_manager worker_tables 1) 1000000) manager_keyed
+    ∙ ap (λ (bounds : List ℕ). answer_of shapes.Order (1 ∷ 5 ∷ 1 ∷ 2 ∷ []) bounds 1000000) scans
+    ∙ ap along chosen
+
+abbrev run : Accepted
+run = run_asked task by_manager (rows ∷ rows ∷ []) plan
+
+plan_made : plan_stage task worker_schema by_manager (rows ∷ rows ∷ []) ≡ Ok (Planned run)
+unfolding plan_stage
+plan_made =
+    ap (λ (answer : Result Shaped PlanError). told plan_refusal answer
+    >>= λ plan. within_limit None (shape_bytes plan) (Planned (run_asked task by_manager (rows ∷ rows ∷ []) plan))) plan_found
+
+-- ---- the verdict
+
+of_files : command_run command workers_files ≡ Ok (Planned run)
+unfolding command_run
+of_files =
+    ap (λ (schema : Result Schema Refusal). schema >>= λ s. aim_run (aims.Query (codes "query.sql") (works.Plan task)) s workers_files) schema_found
+    ∙ ap (λ (query : Result Query Refusal). query >>= λ q. work_run (works.Plan task) worker_schema q workers_files) query_found
+    ∙ ap (λ (found : Result (List (List Row)) Refusal). found >>= plan_stage task worker_schema by_manager) tables_found
+    ∙ plan_made
+
+keyed_verdict : verdict keyed_words workers_files ≡ Ok (Planned run)
+unfolding verdict
+keyed_verdict = ap (λ (a : Result Command Refusal). a >>= λ a. command_run a workers_files) asked ∙ of_files
+
+texts : printed (Planned run) ≡ (Some (codes "scan E 5\nscan M 1\nlevel 1 M 1\nlevel 2 E 2\n"), None)
+unfolding digits
+texts = refl
+
+pub keyed_printed : seen printed (verdict keyed_words workers_files) ≡ Ok (Some (codes "scan E 5\nscan M 1\nlevel 1 M 1\nlevel 2 E 2\n"), None)
+keyed_printed = ap (seen printed) keyed_verdict ∙ ap (λ (t : Option (List ℕ) × Option (List ℕ)). Ok t) texts

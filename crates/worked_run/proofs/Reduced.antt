@@ -1,0 +1,130 @@
+-- The run over reduced scans, by computation.
+use Rattle.std.proofs.Common.{◌≡◌, ℕ, ◌+◌, List, [], ◌∷◌, None, Some, Result, Ok, map, refl, ap, ◌∙◌, arith}
+use Rattle.std.specs.Fmt.{digits}
+use Rattle.std.specs.Prelude.{codes}
+use Rattle.std.proofs.lemmas.List.Elements.{filter_agree}
+use Rattle.berge_tree.specs.Testing.{edge_of}
+use Rattle.berge_tree.specs.declared.edges.Edge.{Edge}
+use Rattle.entry_sets.specs.Sets.{entries_of_set}
+use Rattle.join_graph.specs.Conjuncts.{equalities_of}
+use Rattle.join_graph.proofs.Comparing.{equality_two}
+use Rattle.join_steps.specs.Lists.{list_at, list_levels, list_sizes}
+use Rattle.level_bounds.specs.Keys.{are_equal_at}
+use Rattle.order_search.specs.declared.refusal.PlanError.{PlanError}
+use Rattle.outcomes.specs.Errors.{plan_refusal}
+use Rattle.outcomes.specs.Reads.{◌>>=◌, seen, told}
+use Rattle.plan_answers.specs.BestOrder.{best_order}
+use Rattle.plan_answers.specs.PlanAnswer.{plan_answer}
+use Rattle.planning.specs.ListedBounds.{entry_bounds_over}
+use Rattle.plans.specs.Examples.{plan_of}
+use Rattle.plans.specs.declared.left_deep.Plan.{Plan}
+use Rattle.printed_texts.specs.Texts.{rows_lines}
+use Rattle.query_bounds.specs.Examples.{pair}
+use Rattle.reduced_scans.specs.Rounds.{after_rounds, reduced_of, rows_in_all}
+use Rattle.set_bounds.specs.AllSets.{bounds_in_sets, in_every_set}
+use Rattle.sql_meaning.specs.Answers.{conjuncts_of, selected}
+use Rattle.sql_meaning.specs.Choices.{choices}
+use Rattle.sql_meaning.specs.Levels.{all_hold, row_in}
+use Rattle.table_files.specs.Examples.{two_tables}
+use Rattle.safebound_words.specs.Answer.{command_of, kind_of, parts_from, reading_of}
+use Rattle.safebound_words.specs.Commands.{over_query}
+use Rattle.safebound_words.specs.Numbers.{number_of}
+use Rattle.safebound_words.specs.Table.{over_files}
+use Rattle.safebound_words.specs.declared.command.ListSource.TheVariants as sources
+use Rattle.safebound_words.specs.declared.command.OutText.TheVariants as out_text
+use Rattle.safebound_words.specs.declared.command.PlanWork.{PlanWork}
+use Rattle.safebound_words.specs.declared.command.Shape.TheVariants as shapes
+use Rattle.safebound_words.specs.declared.command.Work.TheVariants as works
+use Rattle.prepared_runs.specs.Limits.{within_limit}
+use Rattle.prepared_runs.specs.Outcome.{Planned}
+use Rattle.prepared_runs.specs.Shapes.{answer_of, planned_by, shape_bytes}
+use Rattle.prepared_runs.specs.Sources.{known_by, lists_by, scans_by, sourced}
+use Rattle.prepared_runs.specs.Verdict.{command_stage, plan_stage, run_asked, verdict}
+use Rattle.prepared_runs.specs.declared.shapes.Shaped.{Shaped}
+use Rattle.prepared_runs.specs.declared.shapes.Shaped.TheVariants as shaped
+use Rattle.safebound_top.specs.Texts.{out_text_of, plan_text}
+use Rattle.worked_run.specs.Meaning.{reduced_lists, small_lists, small_rows, two_tables_reduced}
+use Rattle.worked_run.specs.TwoTables.{reduced_words, small_files}
+use Rattle.worked_run.proofs.Levels.{T, said, says, scans_found}
+use Rattle.worked_run.proofs.Verdicts.{of_words}
+
+abbrev task : PlanWork
+task = record { budget = 1000000; accuracy = 1; source = sources.Reduced; shape = shapes.Order; memory = None; out = out_text.Rows }
+
+-- ---- what is left
+
+joins : equalities_of pair ≡ edge_of 0 0 1 0 ∷ []
+joins = rw (equality_two 0 0 1 0 (λ e. absurd (omega (arith, e)))) refl
+
+kept : reduced_of pair T ≡ reduced_lists
+unfolding reduced_of
+kept =
+    ap (λ (lists : List (List ℕ)). after_rounds (equalities_of pair) (are_equal_at T) (rows_in_all lists + 1) lists) scans_found
+    ∙ ap (λ (es : List Edge). after_rounds es (are_equal_at T) 12 small_lists) joins
+
+lists_kept : lists_by sources.Reduced pair T ≡ reduced_lists
+unfolding lists_by
+lists_kept = kept
+
+-- ---- the plan
+
+sets : bounds_in_sets (in_every_set (entry_bounds_over T reduced_lists 1)) (equalities_of pair) 2 ≡ 1 ∷ 3 ∷ 2 ∷ 6 ∷ []
+unfolding entries_of_set
+sets = rw joins refl
+
+chosen : plan_answer (1 ∷ 3 ∷ 2 ∷ 6 ∷ []) (3 ∷ 2 ∷ []) 1000000 ≡ Ok (plan_of (1 ∷ 0 ∷ []) (3 ∷ 2 ∷ []) (2 ∷ 6 ∷ []))
+unfolding plan_answer best_order
+chosen = refl
+
+abbrev along : Result Plan PlanError → Result Shaped PlanError
+along answer = seen (λ plan. shaped.Along plan) answer
+
+plan_found : planned_by shapes.Order (sourced sources.Reduced two_tables pair T) pair 1 1000000 ≡ Ok (shaped.Along (plan_of (1 ∷ 0 ∷ []) (3 ∷ 2 ∷ []) (2 ∷ 6 ∷ [])))
+unfolding planned_by known_by scans_by
+plan_found =
+    ap (λ (lists : List (List ℕ)). answer_of shapes.Order (bounds_in_sets (in_every_set (entry_bounds_over T lists 1)) (equalities_of pair) 2) (list_sizes pair lists) 1000000) kept
+    ∙ ap (λ (bounds : List ℕ). answer_of shapes.Order bounds (3 ∷ 2 ∷ []) 1000000) sets
+    ∙ ap along chosen
+
+with_lists : run_asked task pair small_rows two_tables_reduced.plan ≡ two_tables_reduced
+with_lists = ap (λ (lists : List (List ℕ)). record {
+  query = pair;
+  rows = small_rows;
+  plan = two_tables_reduced.plan;
+  source = sources.Reduced;
+  lists = lists;
+  memory = None;
+  out = out_text.Rows;
+}) lists_kept
+
+plan_made : plan_stage task two_tables pair small_rows ≡ Ok (Planned two_tables_reduced)
+unfolding plan_stage
+plan_made =
+    ap (λ (answer : Result Shaped PlanError). told plan_refusal answer
+    >>= λ plan. within_limit None (shape_bytes plan) (Planned (run_asked task pair small_rows plan))) plan_found
+    ∙ ap (λ run. Ok (Planned run)) with_lists
+
+-- ---- the verdict
+
+asked : command_stage reduced_words ≡ Ok (over_query None (codes "schema.sql") (codes "query.sql") (works.Plan task))
+unfolding command_of reading_of over_files parts_from kind_of number_of
+asked = refl
+
+pub reduced_verdict : verdict reduced_words small_files ≡ Ok (Planned two_tables_reduced)
+reduced_verdict = of_words reduced_words task asked ∙ plan_made
+
+-- ---- the texts
+
+pub reduced_notes : plan_text two_tables_reduced ≡ codes "scan R 3\nscan S 2\nlevel 1 S 2\nlevel 2 R 6\n"
+unfolding digits
+reduced_notes = refl
+
+second_level : list_levels pair T reduced_lists (1 ∷ 0 ∷ []) 2
+    ≡ (0 ∷ 0 ∷ []) ∷ (0 ∷ 1 ∷ []) ∷ (0 ∷ 2 ∷ []) ∷ (1 ∷ 0 ∷ []) ∷ (1 ∷ 1 ∷ []) ∷ (1 ∷ 2 ∷ []) ∷ []
+second_level = filter_agree (λ choice. all_hold (conjuncts_of pair T) (1 ∷ 0 ∷ []) (row_in (1 ∷ 0 ∷ []) choice))
+    (λ choice. says (1 ∷ 0 ∷ []) (row_in (1 ∷ 0 ∷ []) choice))
+    (λ choice. said (1 ∷ 0 ∷ []) (row_in (1 ∷ 0 ∷ []) choice)) (choices (map (list_at reduced_lists) (1 ∷ 0 ∷ [])))
+
+pub reduced_printed : out_text_of two_tables_reduced ≡ Some (codes "X\r\n1\r\n1\r\n1\r\n1\r\n1\r\n1\r\n")
+unfolding digits
+reduced_printed = ap (λ (choices : List (List ℕ)). Some (rows_lines pair.select (map (λ choice. selected pair T (row_in (1 ∷ 0 ∷ []) choice)) choices))) second_level

@@ -1,0 +1,20 @@
+-- A table that refers to its own key: the words of a command with `--keys`, and the files.
+use Rattle.std.specs.Prelude.{ℕ, List, [], ◌∷◌, codes}
+use Rattle.base_io.specs.Files.{Files}
+
+unfoldable pub workers_schema : List ℕ
+workers_schema = codes "CREATE TABLE W (N INTEGER PRIMARY KEY, B INTEGER NOT NULL REFERENCES W (N), R INTEGER NOT NULL)"
+
+-- the workers whose boss is in region 3
+unfoldable pub workers_query : List ℕ
+workers_query = codes "SELECT E.N FROM W AS E, W AS M WHERE E.B = M.N AND M.R = 3"
+
+-- 1 is the boss of 1 and 2, and 2 is the boss of 3, 4 and 5; 1 alone is in region 3
+unfoldable pub workers_text : List ℕ
+workers_text = codes "N,B,R\r\n1,1,3\r\n2,1,4\r\n3,2,4\r\n4,2,4\r\n5,2,4\r\n"
+
+abbrev pub workers_files : Files
+workers_files = (codes "schema.sql", workers_schema) ∷ (codes "query.sql", workers_query) ∷ (codes "w.csv", workers_text) ∷ []
+
+abbrev pub keyed_words : List (List ℕ)
+keyed_words = codes "plan" ∷ codes "schema.sql" ∷ codes "query.sql" ∷ codes "--keys" ∷ []

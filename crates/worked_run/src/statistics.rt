@@ -1,0 +1,31 @@
+//! What `stats`, `plan --stats` and `append` answer. Each function is the law in its contract, and does nothing.
+ghost use Rattle.std.specs.Prelude.{◌≡◌, Ok, None, Some, codes};
+ghost use Rattle.outcomes.specs.Reads.{seen};
+ghost use Rattle.outcomes.specs.declared.status.Status.TheVariants as status;
+ghost use Rattle.prepared_runs.specs.Verdict.{verdict};
+ghost use Rattle.safebound_laws.specs.Printed.{printed};
+ghost use Rattle.safebound_top.specs.OutcomeTexts.{out_text};
+ghost use Rattle.worked_run.specs.Calls.{EachCallEnds};
+ghost use Rattle.worked_run.specs.Meaning.{small_appended, small_filed};
+ghost use Rattle.worked_run.specs.TwoTables.{append_words, from_file_words, grown_text, small_files, stats_text, stats_words};
+
+/// `stats schema.sql query.sql`: the statistics file of both tables.
+pub fn filed()
+    ensures verdict { verdict stats_words small_files ≡ Ok small_filed }
+    ensures out { out_text small_filed ≡ Some stats_text }
+    ensures call { EachCallEnds small_files stats_words status.Done None (Some stats_text) }
+{}
+
+/// `plan schema.sql query.sql --stats rs.stats`, whose file has these bytes: the plan that the tables have.
+pub fn planned_from_a_file()
+    ensures printed { seen printed (verdict from_file_words small_files)
+        ≡ Ok (Some (codes "scan R 6\nscan S 5\nlevel 1 S 5\nlevel 2 R 12\n"), None) }
+    ensures call { EachCallEnds small_files from_file_words status.Done (Some (codes "scan R 6\nscan S 5\nlevel 1 S 5\nlevel 2 R 12\n")) None }
+{}
+
+/// `append schema.sql rs.stats R new.csv`: the same file with 1 and 4 behind the rows of R.
+pub fn appended()
+    ensures verdict { verdict append_words small_files ≡ Ok small_appended }
+    ensures out { out_text small_appended ≡ Some grown_text }
+    ensures call { EachCallEnds small_files append_words status.Done None (Some grown_text) }
+{}
