@@ -3,16 +3,18 @@
 from __future__ import annotations
 
 import argparse
+import contextlib
+import os
 import sys
 from typing import Sequence
 
-from . import output
+from . import block_plans, output, stops
 from .dialects import DIALECTS, Unreached
 from .engine import Engine
 from .export import exported
-from .faults import Fault, Unreadable, Usage
+from .faults import AboveBound, Fault, Refused, Unreadable, Usage
 from .kept import Kept
-from .levels import MOST_BUDGET
+from .levels import MOST_BUDGET, Plan
 from .planner import Planner
 from .postgres import Postgres
 from .sqlite import Sqlite
@@ -26,7 +28,7 @@ ABOUT = {
     "append": "add rows that came later to the kept counts of a table",
     "export": "the query's tables as files for safebound_cli",
 }
-INTERRUPTED = 130
+NO_ROOM_FOR_OUTPUT = 10
 
 
 class Words(argparse.ArgumentParser):
@@ -80,6 +82,8 @@ def _plan_words(command: argparse.ArgumentParser, name: str) -> None:
         "--budget", type=number(0, MOST_BUDGET), required=name == "run", default=MOST_BUDGET, metavar="N",
         help="the most rows that a bound of the plan may say",
     )
+    if name == "run":
+        command.add_argument("--null", default="", metavar="TEXT", help="what stands for NULL in the CSV, never in quotes (nothing)")
     if name in ("plan", "audit"):
         command.add_argument("--json", action="store_true", help="for programs")
     if name in ("plan", "sql", "audit"):
@@ -114,11 +118,12 @@ def opened(db: str, timeout: int | None) -> Engine:
 
 
 def text_of(file: str) -> str:
+    """A file's characters as they are: a line's end may stand within a text."""
     try:
         if file == "-":
-            return sys.stdin.read()
-        with open(file, encoding="utf-8-sig") as text:
-            return text.read()
+            return sys.stdin.buffer.read().decode("utf-8-sig")
+        with open(file, "rb") as text:
+            return text.read().decode("utf-8-sig")
     except (OSError, UnicodeDecodeError) as error:
         raise Unreadable(f"{file}: {error}") from None
 
@@ -130,6 +135,7 @@ def _planned(given: argparse.Namespace, planner: Planner) -> None:
         plan = planner.plan_by_kept(given.accuracy, given.budget, given.tree, Kept(kept))
     else:
         plan = planner.plan(given.accuracy, given.budget, given.tree, getattr(given, "counts", None))
+    planner.check(plan)
     if given.command == "sql":
         sys.stdout.write(planner.script(plan))
         return
@@ -137,13 +143,20 @@ def _planned(given: argparse.Namespace, planner: Planner) -> None:
     true_rows = planner.true_rows(plan) if given.command == "audit" else None
     if getattr(given, "json", False):
         sys.stdout.write(output.document(plan, planner.engine, planner.sql(plan), true_rows))
-        return
+    else:
+        _show(given, planner, plan, true_rows)
+    for number, (level, rows) in enumerate(zip(plan.levels, true_rows or ()), 1):
+        if rows > level.bound:
+            raise AboveBound(number, rows, level.bound)
+
+
+def _show(given: argparse.Namespace, planner: Planner, plan: Plan, true_rows: list[int] | None) -> None:
     shown = output.table(plan, planner.engine, true_rows)
     if given.command == "plan" and given.dialect:
         shown = "".join(f"-- {line}\n" for line in shown.splitlines()) + planner.script(plan)
     (sys.stderr if given.command == "run" else sys.stdout).write(shown)
     if given.command == "run":
-        planner.run(plan, sys.stdout)
+        planner.run(plan, sys.stdout, given.null)
 
 
 def _kept(given: argparse.Namespace, planner: Planner) -> None:
@@ -162,6 +175,40 @@ def _appended(given: argparse.Namespace, engine: Engine) -> None:
     print(f"{table.name}: {table.rows} rows, {new} of them new")
 
 
+def _in_blocks(given: argparse.Namespace, engine: Engine, text: str) -> None:
+    """The commands that know queries of several blocks."""
+    for option in ("tree", "kept", "counts"):
+        if getattr(given, option, None):
+            raise Refused(f"--{option} is for queries of one block, whose joins are inner ones")
+    if given.command not in ("plan", "sql", "run", "audit"):
+        raise Refused(f"{given.command} is for queries of one block, whose joins are inner ones")
+    planner = block_plans.Planner(engine, text, given.accuracy, given.budget)
+    planner.check()
+    unbounded = planner.unbounded
+    if given.command == "run" and unbounded:
+        raise Refused(f"not all blocks are bounded: {unbounded[0]}")
+    if given.command == "sql":
+        sys.stdout.write(planner.script())
+        return
+    if given.command == "audit":
+        planner.true_rows()
+    plans = list(planner.plans.values())
+    if getattr(given, "json", False):
+        sys.stdout.write(output.blocks_document(plans, unbounded, engine, planner.sql()))
+    else:
+        (sys.stderr if given.command == "run" else sys.stdout).write(output.blocks_table(plans, unbounded))
+    if given.command == "run":
+        engine.keep_order()
+        with planner.progress.doing("joining") as end:
+            for part in engine.csv(planner.sql(), given.null):
+                end()
+                sys.stdout.write(part)
+    for plan in plans:
+        for number, level in enumerate(plan.levels, 1):
+            if level.rows is not None and level.rows > level.bound:
+                raise AboveBound(number, level.rows, level.bound)
+
+
 def done(given: argparse.Namespace) -> None:
     text = text_of(given.query) if given.command != "append" else ""
     if getattr(given, "kept", None) and getattr(given, "counts", None):
@@ -170,11 +217,16 @@ def done(given: argparse.Namespace) -> None:
     try:
         if given.command == "append":
             return _appended(given, engine)
+        if engine.knows_blocks and block_plans.several(text, engine):
+            _in_blocks(given, engine, text)
+            return sys.stdout.flush()
         planner = Planner(engine, text, not (getattr(given, "no_reduce", False) or getattr(given, "kept", None)))
         if given.command == "counts" and given.keep:
             _kept(given, planner)
         elif given.command == "counts":
             sys.stdout.write(planner.counting + ";\n")
+            if planner.note:
+                print(f"safebound-sql: note: {planner.note}", file=sys.stderr)
         elif given.command == "export":
             exported(planner.meaning, engine, given.folder, planner.progress)
         else:
@@ -187,14 +239,20 @@ def done(given: argparse.Namespace) -> None:
 def main(arguments: Sequence[str] | None = None) -> int:
     """Runs a command. Answers the exit status."""
     sys.stdout.reconfigure(encoding="utf-8", errors="surrogateescape")
+    stops.heed()
     try:
         done(words().parse_args(arguments))
     except Fault as fault:
         print(f"safebound-sql: {fault.line()}", file=sys.stderr)
         return fault.status
-    except BrokenPipeError:
-        sys.stderr.close()
-        return 10
+    except OSError as error:  # files of other names are faults
+        with contextlib.suppress(OSError):
+            print(f"safebound-sql: file: standard output: {error.strerror}", file=sys.stderr)
+        os.dup2(os.open(os.devnull, os.O_WRONLY), 1)
+        return NO_ROOM_FOR_OUTPUT
     except KeyboardInterrupt:
-        return INTERRUPTED
+        return 128 + (stops.came() or 2)
+    except RecursionError:
+        print("safebound-sql: refused: the query is nested too deeply", file=sys.stderr)
+        return 5
     return 0

@@ -6,14 +6,12 @@ answer alike at each call. What isn't known for sure is refused.
 
 from __future__ import annotations
 
+import logging
 import re
 from typing import Iterator, NamedTuple
 
-import sqlglot
-from sqlglot import exp
-
 from .engine import Engine
-from .faults import EngineFault, Refused
+from .faults import EngineFault, Missing, Refused
 from .known import CALLED, PLAIN, TIMES
 from .query import Column, Table
 from .reading import Statement, Tokens, read
@@ -67,6 +65,8 @@ class Unreached(Engine):
     outputs_in_conditions = True
     reserved = frozenset(word.lower() for word in (*TIMES, "NULL", "TRUE", "FALSE"))
     join_word = "JOIN"
+    schemas_in_names = False
+    knows_blocks = False
     takes_rows_in = False
     star_over_using = False
     why_fickle = "it isn't known here to answer alike at each call"
@@ -80,6 +80,7 @@ class Unreached(Engine):
         self.keeps_trees = not self.makes_tables
         # A part that isn't kept is read again wherever it is named, and so the parts that it names in turn.
         self.most_parts_of_a_part = None if self.makes_tables or own.keeps_parts != "AS" else 200
+        self.most_scans = None if self.makes_tables or own.keeps_parts != "AS" else 100
         self.reserved = frozenset(self.key(word, False) for word in self.reserved)
         self.tables = declared(schema, self)
 
@@ -109,12 +110,12 @@ class Unreached(Engine):
     def table(self, name: list[Token]) -> Table | None:
         return self.tables.get(self.table_key(name))
 
-    def fickle(self, names: set[str]) -> list[str]:
+    def fickle(self, names: set[str]) -> dict[str, str]:
         """All that isn't known to answer alike at each call."""
         called = [name for name in names if re.match(r"\.?\w", name)]
-        return sorted(name for name in called if name.lower() not in CALLED)
+        return {name: self.why_fickle for name in sorted(called) if name.lower() not in CALLED}
 
-    def asks_for_now(self, pieces: list[Token], at: int) -> bool:
+    def asks_for_now(self, pieces: list[Token], at: int, below: bool = False) -> bool:
         """A text such as 'now' that is made a date or a time."""
         token = pieces[at]
         if token.kind != "text" or token.text[1:-1].split(" ")[0].lower() not in ("now", "today", "tomorrow", "yesterday"):
@@ -122,8 +123,8 @@ class Unreached(Engine):
         before = pieces[at - 1].text.upper() if at else ""
         return before.startswith(("DATE", "TIME")) or (at + 1 < len(pieces) and pieces[at + 1].says("AS", "::"))
 
-    def view_texts(self, names: set[str]) -> dict[str, str]:
-        return {}
+    def view_texts(self, names: set[str]) -> list[tuple[str, str, str]]:
+        return []
 
     def takes(self, sql: str) -> None:
         """Refuses what would be read here in another way than by the engine."""
@@ -134,13 +135,19 @@ class Unreached(Engine):
         for source in read(sql, list(pieces), True).sources:
             if self.name_key(source.alias).lower() in schemas:
                 raise statement.refuse(source.alias, "it is the name of a schema too, and engines differ in which is meant")
+        # It takes a while to load, and the engines that are reached don't need it.
+        try:
+            import sqlglot
+        except ImportError:
+            raise Missing("sqlglot reads the SQL of engines that aren't reached: run engines/setup, or install python3-sqlglot") from None
+        logging.getLogger("sqlglot").setLevel(logging.CRITICAL)
         try:
             trees = sqlglot.parse(written(pieces), read=self.dialect)
         except (sqlglot.errors.SqlglotError, RecursionError):
             raise Refused(f"the query isn't read as {self.title}'s SQL by sqlglot {sqlglot.__version__}") from None
         tree = trees[0]
         odd = {name for name, part in tree.args.items() if part} - PARTS_OF_SELECT
-        if not isinstance(tree, exp.Select) or odd:
+        if not isinstance(tree, sqlglot.exp.Select) or odd:
             raise Refused(f"the query has a part that isn't bounded: {', '.join(sorted(odd)) or 'it is no SELECT'}")
 
     def stands_alone(self, inner: list[Token]) -> str | None:
@@ -172,6 +179,9 @@ class Unreached(Engine):
             return True
         return self.name_key(token) in columns or (token.kind == "word" and token.text.upper() in PLAIN)
 
+    def merged_side(self, left: Column, right: Column) -> int | None:
+        return 0 if left.type.upper() == right.type.upper() else None
+
     def complaint(self, sql: str) -> str | None:
         return None
 
@@ -190,7 +200,7 @@ class Unreached(Engine):
     def stream(self, sql: str) -> Iterator[tuple]:
         raise self._not_here()
 
-    def csv(self, sql: str) -> Iterator[str]:
+    def csv(self, sql: str, null: str = "") -> Iterator[str]:
         raise self._not_here()
 
     def exports(self, column: Column) -> bool:

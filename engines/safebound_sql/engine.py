@@ -6,8 +6,6 @@ import re
 from abc import ABC, abstractmethod
 from typing import Iterable, Iterator
 
-from sqlglot import exp
-
 from .query import Column, Table
 from .tokens import Token, unquoted, written
 
@@ -23,8 +21,16 @@ class Engine(ABC):
     equals: tuple[str, ...] = ("=",)
     calls_without_parentheses: tuple[str, ...] = ()
     outputs_in_conditions: bool = False
+    plain_words: tuple[str, ...] = ()
+    schemas_in_names: bool = True
+    knows_blocks: bool = True
+    keeps_using: bool = False
+    takes_bare_columns: bool = False
+    columns_may_be_calls: bool = False
+    row_number: str = "ROW_NUMBER() OVER ()"
     reserved: frozenset[str] = frozenset()
     most_parts_of_a_part: int | None = None
+    most_scans: int | None = None
     keeps_order: str
     join_word: str
     keeps_trees: bool = True
@@ -33,10 +39,11 @@ class Engine(ABC):
     star_over_using: bool = True
     makes_tables: bool = False
     why_fickle: str = "it may answer anew at each call"
+    why_now: str = "the time may be another one at each statement"
 
     def quote(self, name: str) -> str:
         """The name as SQL, in quotes."""
-        return exp.to_identifier(name.replace('"', '""'), quoted=True).sql(self.dialect)
+        return '"' + name.replace('"', '""') + '"'
 
     def with_parts(self, parts: list[tuple[str, str]], select: str) -> str:
         """The statement with named parts before it, each of which may name those before it."""
@@ -51,8 +58,35 @@ class Engine(ABC):
         """A function's or an operator's name as the engine looks it up."""
         return self.key(unquoted(token), True) if token.kind == "quoted" else self.key(token.text, False)
 
-    def asks_for_now(self, pieces: list[Token], at: int) -> bool:
-        """Whether there a function begins that asks for the time, which may be another one at each statement."""
+    def asks_for_now(self, pieces: list[Token], at: int, below: bool = False) -> bool:
+        """Whether there a function begins that asks for the time, which may be another one at each statement.
+
+        `below` says that the tokens are of a view or the like, so that whose columns they name isn't known.
+        """
+        return False
+
+    def columns_asked_for_now(self, pieces: list[Token]) -> Iterator[tuple[Token, list[Token]]]:
+        """Functions that would ask for the time if the column that they get said so, and the tokens of that column."""
+        return iter(())
+
+    def says_now(self, table: str, column: str) -> bool:
+        """Whether a value of the column does."""
+        return False
+
+    def merged_side(self, left: Column, right: Column) -> int | None:
+        """Which of two columns is the one into which USING merges both, 0 for the left one; None where it is neither."""
+        return 0
+
+    def output_names(self, sql: str) -> list[str] | None:
+        """The names of a query's outputs, where the engine can be asked."""
+        return None
+
+    def described(self, sql: str) -> list[Column]:
+        """The columns of a query's answer. Those of which it isn't sure how they are compared have no kind."""
+        raise NotImplementedError(f"{self.title} isn't asked for the columns of a query")
+
+    def makes_rows(self, pieces: list[Token]) -> bool:
+        """Whether a function that is called there may make several rows of one."""
         return False
 
     def sent(self, value: str, column: Column, rows: str) -> str:
@@ -64,12 +98,16 @@ class Engine(ABC):
         """The table or view of this name, or None."""
 
     @abstractmethod
-    def fickle(self, names: set[str]) -> list[str]:
-        """Those of the functions and operators that may answer anew at each call."""
+    def fickle(self, names: set[str]) -> dict[str, str]:
+        """Those of the functions and operators that may answer anew at each call, and why."""
 
     @abstractmethod
-    def view_texts(self, names: set[str]) -> dict[str, str]:
-        """The definitions of those of the names, as SQL writes them, that are views."""
+    def view_texts(self, names: set[str]) -> list[tuple[str, str, str]]:
+        """What stands behind names of tables, as SQL writes them: the name, what it is, and a definition."""
+
+    def without_snapshot(self, names: set[str]) -> dict[str, str]:
+        """Those of the names that are tables whose rows may be others in each statement, and why."""
+        return {}
 
     @abstractmethod
     def keep_order(self) -> None:
@@ -100,8 +138,8 @@ class Engine(ABC):
         """The rows of an answer of any length, one by one. The first one is the names of its columns."""
 
     @abstractmethod
-    def csv(self, sql: str) -> Iterator[str]:
-        """The answer as CSV with a header, part by part."""
+    def csv(self, sql: str, null: str = "") -> Iterator[str]:
+        """The answer as CSV with a header, part by part. NULL is that text without quotes, and no other value is."""
 
     @abstractmethod
     def exports(self, column: Column) -> bool:

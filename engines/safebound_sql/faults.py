@@ -61,6 +61,24 @@ class EngineFault(Fault):
 
     status, word = 12, "engine"
 
+    def __init__(self, message: str, of_data: bool = False) -> None:
+        """`of_data` says that a value of some row was to blame, as in a division by zero."""
+        super().__init__(message)
+        self.of_data = of_data
+
+
+class AboveBound(Fault):
+    """A level has more rows than its bound: something that bounds rest on doesn't hold."""
+
+    status, word = 17, "audit"
+
+    def __init__(self, level: int, rows: int, bound: int) -> None:
+        super().__init__(
+            f"level {level} has {rows} rows, and its bound is {bound}. The engine has answered two statements over one snapshot in"
+            " two ways: a function isn't as STABLE or IMMUTABLE as it is declared, or a table isn't of this snapshot. This plan"
+            " admits nothing"
+        )
+
 
 class Missing(Fault):
     """Something that this program stands on isn't installed."""

@@ -5,33 +5,37 @@ from __future__ import annotations
 from typing import Iterator
 
 from .engine import Engine
-from .names import Names, choosing
+from .choosing import choosing
+from .names import Names, alias_of, subqueries
 from .query import MOST_EQUALITIES, Condition, Equality, Named, Query, Reference, Text
-from .reading import Statement, Tokens, read
-from .tokens import Token, tokens
+from .reading import Statement, Tokens, at_commas, read
+from .tokens import Token, closing, part_of_name, tokens, written
 
 
-def _refuse_fickle(statement: Statement, pieces: Tokens, engine: Engine) -> None:
+def refuse_fickle(statement: Statement, pieces: Tokens, engine: Engine) -> None:
     """Refuses what may answer anew at each call: functions, operators, and views that use them."""
     asked = _calls(pieces, engine)
-    for name in engine.fickle(set(asked)):
-        raise statement.refuse(asked[name], engine.why_fickle)
+    for name, why in engine.fickle(set(asked)).items():
+        raise statement.refuse(asked[name], why)
     for at, token in enumerate(pieces):
         if engine.asks_for_now(pieces, at):
-            raise statement.refuse(token, "the time may be another one at each statement")
+            raise statement.refuse(token, engine.why_now)
     tables = _tables(pieces)
-    for name, what in _fickle_views(set(tables), engine):
-        raise statement.refuse(tables[name], f"the view has {what}, which may answer anew at each call", name)
+    for name, why in _fickle_views(set(tables), engine):
+        raise statement.refuse(tables[name], why, name)
 
 
 def _calls(pieces: Tokens, engine: Engine) -> dict[str, Token]:
-    """The functions and operators, as the engine looks them up; a function of a named schema has a dot before it."""
+    """The functions and operators, as the engine looks them up. One of a named schema has a dot before it; two dots are
+    before what may be a function of a row, since it is written as a column."""
     found: dict[str, Token] = {}
     for at, token in enumerate(pieces):
+        dot = "." if at and pieces[at - 1].says(".") else ""
         called = token.names and at + 1 < len(pieces) and pieces[at + 1].says("(")
         if called or token.kind == "operator" or token.says(*engine.calls_without_parentheses):
-            dot = "." if at and pieces[at - 1].says(".") else ""
             found.setdefault(dot + engine.spelled(token), token)
+        elif engine.columns_may_be_calls and dot and token.names:
+            found.setdefault(".." + engine.spelled(token), token)
     return found
 
 
@@ -49,19 +53,29 @@ def _tables(pieces: Tokens) -> dict[str, Token]:
 
 
 def _fickle_views(names: set[str], engine: Engine) -> Iterator[tuple[str, str]]:
-    """Views that use, themselves or by views below them, what may answer anew; and what it is."""
+    """Tables and views that have, themselves or by what is below them, what may answer anew; and what it is."""
     above = {name: name for name in names}
     todo = set(names)
     while todo:
         below: set[str] = set()
-        for view, text in engine.view_texts(todo).items():
+        yield from ((above[name], why) for name, why in engine.without_snapshot(todo).items())
+        for name, what, text in engine.view_texts(todo):
             pieces = tokens(text, engine.rules)
-            fickle = engine.fickle(set(_calls(pieces, engine))) + [token.text for token in choosing(pieces)]
-            fickle += [token.text for at, token in enumerate(pieces) if engine.asks_for_now(pieces, at)]
-            yield from ((above[view], what) for what in fickle)
-            below |= set(_tables(pieces)) - set(above)
-            above.update((name, above[view]) for name in below)
+            yield from ((above[name], f"{what} has {why}") for why in _fickle_parts(pieces, engine))
+            new = set(_tables(pieces)) - set(above)
+            above.update((other, above[name]) for other in new)
+            below |= new
         todo = below
+
+
+def _fickle_parts(pieces: Tokens, engine: Engine) -> Iterator[str]:
+    for what, why in engine.fickle(set(_calls(pieces, engine))).items():
+        yield f"{what.lstrip('.')}: {why}"
+    for token, what in choosing(pieces, engine.plain_words, engine.takes_bare_columns):
+        yield f"{what}, so its rows may be others at each call; make a table of it, and name that"
+    for at, token in enumerate(pieces):
+        if engine.asks_for_now(pieces, at, below=True):
+            yield f"{token.text}: {engine.why_now}"
 
 
 class Meaning:
@@ -75,35 +89,114 @@ class Meaning:
     def __init__(self, text: str, engine: Engine) -> None:
         pieces = tokens(text, engine.rules)
         self.engine = engine
-        self.statement = read(text, list(pieces), engine.comma_binds_less)
-        _refuse_fickle(self.statement, pieces, engine)
+        self.statement = read(text, list(pieces), engine.comma_binds_less, engine.plain_words)
+        refuse_fickle(self.statement, pieces, engine)
         self.names = Names(self.statement, engine)
-        engine.takes(text.rstrip().rstrip(";"))
+        alone = text.rstrip().rstrip(";")
+        engine.takes(alone)
+        self.outputs_names = self._names_of_outputs(alone)
         self.query = Query(self.names.entries)
-        self._understand()
+        self._understand(pieces)
 
-    def _understand(self) -> None:
+    def _understand(self, pieces: Tokens) -> None:
         for one, other in self.names.usings:
             self._equality(one, other, Text((self._reference(one), " = ", self._reference(other))))
         for piece in self.statement.conditions:
             self._condition(piece)
-        self.query.outputs = [text for piece in self.statement.outputs for text in self._output(piece)]
-        self.query.distinct = self._part(self.statement.distinct, "SELECT", "1")
-        self.query.above = self._part(self.statement.above, "SELECT 1 FROM t", "")
+        self.query.outputs = [output for piece in self.statement.outputs for output in self._output(piece)]
+        self.query.distinct = self._above(self.statement.distinct)
+        self.statement.above = self._with_columns_of_keys(self.statement.above)
+        self.query.above = self._above(self.statement.above)
+        self._keep_using()
+        self.query.needed |= self.query.named_above
+        self._look_for_now(pieces)
+
+    def _look_for_now(self, pieces: Tokens) -> None:
+        """Refuses a date function of a column in which 'now' stands, or of what isn't known to be a column of the query."""
+        statement = self.statement
+        for piece in (*statement.outputs, *statement.conditions, statement.distinct, statement.above):
+            for start, end in subqueries(piece):
+                for token, _ in self.engine.columns_asked_for_now(piece[start:end]):
+                    raise statement.refuse(token, self.engine.why_now)
+            for token, column in self.engine.columns_asked_for_now(piece):
+                named = self.names.side(column)
+                if named is None or self.engine.says_now(self.query.entries[named.entry].table, named.column.name):
+                    raise statement.refuse(token, self.engine.why_now)
+
+    def _names_of_outputs(self, text: str) -> set[str]:
+        """The names by which SQLite may take an output in a condition."""
+        if not self.engine.outputs_in_conditions:
+            return set()
+        told = self.engine.output_names(text)
+        if told is not None:
+            return {self.engine.key(name, True) for name in told}
+        return {self.names.key(alias) for output in self.statement.outputs if (alias := alias_of(output))}
+
+    def _with_columns_of_keys(self, above: Tokens) -> Tokens:
+        """Where a primary key is grouped by, its table's other columns that are named are too: a part has no keys to tell so."""
+        groups = _groups(above)
+        if groups is None or not any(entry.about.key for entry in self.query.entries):
+            return above
+        outputs = {self.names.key(alias): piece for piece in self.statement.outputs if (alias := alias_of(piece))}
+        grouped = {named for piece in at_commas(above[groups.start : groups.stop]) if (named := self._grouped(piece, outputs))}
+        named = set().union(*(self.names.named(piece) for piece in (*self.statement.outputs, above) if self.names.star(piece) is None))
+        for piece in self.statement.outputs:
+            named |= set(self.names.star(piece) or ())
+        more: Tokens = []
+        for other in sorted(named - grouped):
+            about = self.query.entries[other.entry].about
+            if about.key and {Named(other.entry, about.by_key[name]) for name in about.key if name in about.by_key} <= grouped:
+                more += tokens(f", {self.names.qualified(other)}", self.engine.rules)
+        return above[: groups.stop] + more + above[groups.stop :]
+
+    def _grouped(self, piece: Tokens, outputs: dict[str, Tokens]) -> Named | None:
+        """The column that a part of GROUP BY is: by its name, by an output's name or by its number."""
+        named = self.names.side(piece)
+        if named or len(piece) != 1:
+            return named
+        output = outputs.get(self.names.key(piece[0])) if piece[0].names else None
+        if piece[0].kind == "number" and piece[0].text.isdigit() and 0 < int(piece[0].text) <= len(self.statement.outputs):
+            output = self.statement.outputs[int(piece[0].text) - 1]
+        if output is None:
+            return None
+        alias = alias_of(output)
+        end = len(output) if alias is None else len(output) - (2 if output[-2].says("AS") else 1)
+        return self.names.side(output[:end])
+
+    def _keep_using(self) -> None:
+        """A name that USING merged is one column's, wherever it stands above the join."""
+        names, query = self.names, self.query
+        if not names.usings:
+            return
+        if self.engine.keeps_using:
+            frame = self.statement.frame
+            query.frame = list(_frame(frame))
+            query.named_above |= {side for equality in names.usings for side in equality}
+            return
+        outputs = [piece for piece in self.statement.outputs if names.star(piece) is None]
+        above = [*outputs, self.statement.distinct, self.statement.above]
+        bare = names.named_bare(above)
+        query.renamed = {named for named in names.merged_away if self.engine.key(named.column.name, True) in bare}
+        for token, named in names.with_tables(above):
+            if named in query.renamed:
+                why = "the column that USING merged is named without a table too; name it in one way, or write the equality with ON"
+                raise self.statement.refuse(token, why, f"{token.text}.{named.column.name}")
 
     def _condition(self, piece: Tokens) -> None:
         self.names.check_subqueries(piece)
-        self.names.check_outputs_names(piece)
-        sides = self._sides(piece)
+        self.names.check_outputs_names(piece, self.outputs_names)
+        sides, text = self._sides(piece), self.names.spelled(piece)
         if sides:
-            return self._equality(*sides, self.names.spelled(piece, set(sides)))
+            return self._equality(*sides, text)
         named = self.names.named(piece)
-        text = self.names.spelled(piece, named)
         entries = frozenset(column.entry for column in named)
         if len(entries) == 1:
             return self.query.entries[min(entries)].own.append(text)
         self.query.conditions.append(Condition(text, entries))
         self.query.needed |= named
+        if entries:
+            names = ", ".join(self.query.entries[number].name for number in sorted(entries))
+            self.query.no_edges.append((text, f"it may name columns of {names}, and is tested when these are joined"))
 
     def _sides(self, piece: Tokens) -> tuple[Named, Named] | None:
         """The two columns, where the condition is an equality of columns of two entries and nothing else."""
@@ -130,17 +223,34 @@ class Meaning:
     def _reference(self, named: Named) -> Reference:
         return Reference(named, self.names.qualified(named))
 
-    def _output(self, piece: Tokens) -> list[Text]:
+    def _output(self, piece: Tokens) -> list[str | Named]:
         columns = self.names.star(piece)
         if columns is None:
-            return [self._part(piece, "SELECT", "")]
-        self.query.needed |= set(columns)
-        return [Text((self._reference(named),)) for named in columns]
+            return [self._above(piece)]
+        self.query.named_above |= set(columns)
+        return list(columns)
 
-    def _part(self, piece: Tokens, before: str, behind: str) -> Text:
-        if not piece:
-            return Text(())
+    def _above(self, piece: Tokens) -> str:
+        """What stands above the join, as it was written."""
         self.names.check_subqueries(piece)
-        named = self.names.named(piece, before, behind)
-        self.query.needed |= named
-        return self.names.spelled(piece, named)
+        self.query.named_above |= self.names.named(piece)
+        return written(piece)
+
+
+def _groups(above: Tokens) -> range | None:
+    """From where to where in it the parts of GROUP BY stand."""
+    if len(above) < 3 or not above[0].says("GROUP"):
+        return None
+    at = 2
+    while at < len(above) and (part_of_name(above, at) or not above[at].says("HAVING", "WINDOW", "ORDER", "LIMIT", "OFFSET", "FETCH")):
+        at = closing(above, at) + 1 if above[at].says("(", "[") else at + 1
+    return range(2, at)
+
+
+def _frame(frame: list[Token | int | None]) -> Iterator[str | int]:
+    """FROM with the entries' numbers in their places. Conditions of ON are tested below."""
+    for part in frame:
+        if isinstance(part, int):
+            yield part
+        else:
+            yield " TRUE " if part is None else f" {part.text} "

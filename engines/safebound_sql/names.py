@@ -1,31 +1,33 @@
 """Whose columns the parts of a query name.
 
-sqlglot reads each part, over a text in which what it might take for something else is masked: texts, quoted names,
-operators, subqueries. Where it can't read a part even so, the part may name every column.
+A column is named by a token with its name, so the tokens tell which columns a part may name. It may name fewer: a word that
+isn't clearly something else is taken for every column that it could be.
 """
 
 from __future__ import annotations
 
-import logging
-from typing import Iterator
+from typing import Iterator, NamedTuple
 
-import sqlglot
-from sqlglot import exp
-
+from .choosing import choosing
 from .engine import Engine
-from .query import MOST_ENTRIES, Entry, Named, Reference, Text
-from .reading import Statement, Tokens
+from .query import MOST_ENTRIES, Entry, Named, Reference, Table, Text
+from .reading import Source, Statement, Tokens
 from .tokens import Token, closing, gap_between, part_of_name, unquoted, written
 
-logging.getLogger("sqlglot").setLevel(logging.CRITICAL)
+# Behind these words, and before those, no word is an alias of an output.
+NO_OPERAND = (
+    "IS", "NOT", "AND", "OR", "LIKE", "ILIKE", "IN", "BETWEEN", "THEN", "ELSE", "WHEN", "CASE", "DISTINCT", "FROM", "ESCAPE", "COLLATE",
+    "GLOB", "REGEXP", "MATCH", "SIMILAR", "TO", "ZONE", "OVER", "SYMMETRIC",
+)
+ENDS_OF_OUTPUTS = ("NULL", "END", "ISNULL", "NOTNULL")
 
-PLAIN_OPERATORS = {"=", "<>", "!=", "<", ">", "<=", ">=", "+", "-", "*", "/", "%", "||"}
-# Words that sqlglot doesn't know where they stand, and others that say as much of the structure.
-OTHER_WORDS = {
-    "ISNULL": "IS NULL", "NOTNULL": "IS NOT NULL", "UNKNOWN": "NULL", "SYMMETRIC": "",
-    "GLOB": "LIKE", "MATCH": "LIKE", "REGEXP": "LIKE",
-}
-CHOOSING = ("LIMIT", "OFFSET", "FETCH", "TABLESAMPLE")
+
+class Place(NamedTuple):
+    """Where tokens may name a column: from which token, how many, and which columns it may be."""
+
+    at: int
+    size: int
+    columns: frozenset[Named]
 
 
 def subqueries(piece: Tokens) -> Iterator[tuple[int, int]]:
@@ -39,40 +41,78 @@ def subqueries(piece: Tokens) -> Iterator[tuple[int, int]]:
         at += 1
 
 
-def choosing(piece: Tokens) -> list[Token]:
-    """The words by which a query chooses some of its rows, so that they may be others at each call."""
-    return [token for at, token in enumerate(piece) if token.says(*CHOOSING) and not part_of_name(piece, at)]
+def alias_of(output: Tokens) -> Token | None:
+    """The name that an output is given, or None."""
+    if len(output) < 2 or not (output[-1].names or output[-1].kind == "text"):
+        return None
+    before, last = output[-2], output[-1]
+    if before.says("AS"):
+        return last
+    ends = before.kind in ("number", "text", "quoted") or before.says(")", "]") or (before.kind == "word" and not before.says(*NO_OPERAND))
+    return last if ends and not last.says(*ENDS_OF_OUTPUTS) else None
 
 
 class Names:
     """The names of a statement's entries and columns, as the engine finds them."""
+
+    looks_into_subqueries = False
 
     def __init__(self, statement: Statement, engine: Engine) -> None:
         self.statement = statement
         self.engine = engine
         self.entries: list[Entry] = []
         self.merged: dict[str, Named] = {}
+        self.merged_away: set[Named] = set()
         self.usings: list[tuple[Named, Named]] = []
         for source in statement.sources:
             self._enter(source)
         self.by_alias = {entry.name: entry.number for entry in self.entries}
+        statement.outputs = [self._without_schemas(piece) for piece in statement.outputs]
+        statement.conditions = [self._without_schemas(piece) for piece in statement.conditions]
+        statement.distinct, statement.above = map(self._without_schemas, (statement.distinct, statement.above))
         self.columns = self._merge()
 
     def key(self, token: Token) -> str:
-        return self.engine.key(unquoted(token) if token.kind == "quoted" else token.text, token.kind == "quoted")
+        quoted = token.kind in ("quoted", "text")
+        return self.engine.key(unquoted(token) if quoted else token.text, quoted)
 
-    def _enter(self, source) -> None:
+    def _enter(self, source: Source) -> None:
         number = len(self.entries)
         if number == MOST_ENTRIES:
             raise self.statement.refuse(source.alias, f"a query has at most {MOST_ENTRIES} entries")
         name = self.key(source.alias)
         if any(name == entry.name for entry in self.entries):
             raise self.statement.refuse(source.alias, "two entries have this alias")
-        table = written(source.table)
-        about = self.engine.table(source.table)
+        table = self._text_of(source)
+        about = self._about(source)
         if about is None:
             raise self.statement.refuse(source.table[0], "there is no such table or view", table)
-        self.entries.append(Entry(number, name, source.alias.text, table, about))
+        alias = self.engine.quote(unquoted(source.alias)) if source.alias.kind == "text" else source.alias.text
+        self.entries.append(Entry(number, name, alias, table, about))
+
+    def _text_of(self, source: Source) -> str:
+        return written(source.table)
+
+    def _about(self, source: Source) -> Table | None:
+        return self.engine.table(source.table)
+
+    def _without_schemas(self, piece: Tokens) -> Tokens:
+        """The tokens with schema.entry.column as entry.column: the entry may be a part, which is of no schema."""
+        inside, kept, at = self._inside(piece), [], 0
+        while at < len(piece):
+            end = at
+            while piece[end].names and end + 2 < len(piece) and piece[end + 1].says(".") and piece[end + 2].names:
+                end += 2
+            if end - at >= 4 and at not in inside and self.engine.schemas_in_names and self.key(piece[end - 2]) in self.by_alias:
+                first, at = piece[at], end - 2
+                kept.append(piece[at]._replace(gap=first.gap))
+                at += 1
+            kept += piece[at : end + 1]
+            at = end + 1
+        return kept
+
+    def _inside(self, piece: Tokens) -> set[int]:
+        return {at for start, end in subqueries(piece) for at in range(start, end)}
 
     def _merge(self) -> list[Named]:
         """Writes USING out as equalities. Answers the columns that a star stands for."""
@@ -83,33 +123,36 @@ class Names:
             if using is None:
                 columns += own
                 continue
-            left = [self._merged(token, using.left, entry.number) for token in using.names]
-            own = [named for named in own if named not in self._hidden]
+            merged = [self._merged(token, using.left, entry.number) for token in using.names]
+            gone = self.merged_away.union(merged if self.engine.merged_columns_first else ())
+            own = [named for named in own if named not in gone]
             if self.engine.merged_columns_first:
                 before = [named for named in columns if named.entry not in using.left]
-                block = [named for named in columns if named.entry in using.left and named not in left]
-                columns = before + left + block + own
+                block = [named for named in columns if named.entry in using.left and named not in gone]
+                columns = before + merged + block + own
             else:
                 columns += own
         return columns
 
-    @property
-    def _hidden(self) -> set[Named]:
-        """The columns that USING merged into one of the left side."""
-        return {other for _, other in self.usings}
-
     def _merged(self, token: Token, left: range, right: int) -> Named:
         """One name of USING: an equality of the only column of that name on the left with the one on the right."""
-        key, hidden = self.key(token), self._hidden
+        key = self.key(token)
         sides = [
-            [named for number in numbers if (named := self._at(number, key)) and named not in hidden]
+            [named for number in numbers if (named := self._at(number, key)) and named not in self.merged_away]
             for numbers in (left, [right])
         ]
         if any(len(side) != 1 for side in sides):
             raise self.statement.refuse(token, "USING needs one such column on each side")
-        self.merged[key] = sides[0][0]
-        self.usings.append((sides[0][0], sides[1][0]))
-        return sides[0][0]
+        one, other = sides[0][0], sides[1][0]
+        side = self.engine.merged_side(one.column, other.column)
+        if side is None:
+            why = f"it merges {one.column.type} and {other.column.type} into one; write the equality with ON"
+            raise self.statement.refuse(token, why)
+        kept, away = (one, other) if side == 0 else (other, one)
+        self.merged[key] = kept
+        self.merged_away.add(away)
+        self.usings.append((one, other))
+        return kept
 
     def _at(self, number: int, key: str) -> Named | None:
         """The column of this key of an entry."""
@@ -129,150 +172,136 @@ class Names:
             raise self.statement.refuse(piece[0], "no entry of FROM is called so")
         return [Named(number, column) for column in self.entries[number].about.columns]
 
-    def named(self, piece: Tokens, before: str = "SELECT", behind: str = "") -> set[Named]:
-        """The columns that the tokens name, outside subqueries. They are a part of a query between the two texts."""
-        try:
-            tree = sqlglot.parse_one(f"{before} {self._masked(piece)} {behind}", read=self.engine.dialect)
-            found = {self._column(node, piece) for node in tree.find_all(exp.Column)} - {None}
-        except (sqlglot.errors.SqlglotError, RecursionError):
-            found = None
-        if found is None or not found >= self._certain(piece):
-            return {Named(entry.number, column) for entry in self.entries for column in entry.about.by_key.values()}
-        return found
+    def named(self, piece: Tokens) -> set[Named]:
+        """The columns that the tokens may name, outside subqueries."""
+        return set().union(*(place.columns for place in self.places(piece)))
 
-    def _places(self, piece: Tokens) -> Iterator[tuple[int, int, Named]]:
-        """Where the tokens may name a column: from which token, how many, and which. They do with an entry or in quotes."""
-        inside = {at for start, end in subqueries(piece) for at in range(start, end)}
+    def places(self, piece: Tokens) -> Iterator[Place]:
+        inside = self._inside(piece)
         for at, token in enumerate(piece):
-            if at in inside or not token.names or (at and piece[at - 1].says("AS", ".", "::")):
+            if at and piece[at - 1].says("AS", ".", "::", "COLLATE"):
+                continue
+            if at in inside:
+                if self.looks_into_subqueries:
+                    yield from self._place_inside(piece, at)
                 continue
             behind = piece[at + 1 : at + 3]
-            if len(behind) == 2 and behind[0].says(".") and behind[1].names:
+            if len(behind) == 2 and behind[0].says(".") and (token.names or token.kind == "text"):
+                self._no_star(piece, at)
                 if self.key(token) in self.by_alias:
-                    yield at, 3, self._qualified(token, behind[1], piece)
-            elif self._only(token) and not (behind and (behind[0].says("(") or behind[0].kind == "text")):
-                yield at, 1, self._only(token)
+                    yield Place(at, 3, frozenset([self._qualified(token, behind[1])]))
+            elif token.names and not self._is_a_word(piece, at):
+                found = self._bare(token, piece, at)
+                if found:
+                    yield Place(at, 1, found)
 
-    def _certain(self, piece: Tokens) -> set[Named]:
-        """The columns that sqlglot has to find too."""
-        return {named for at, size, named in self._places(piece) if size == 3 or piece[at].kind == "quoted"}
+    def _place_inside(self, piece: Tokens, at: int) -> Iterator[Place]:
+        """What a token of a subquery may name of this query. It may as well be of an entry of its own."""
+        token, behind = piece[at], piece[at + 1 : at + 3]
+        if len(behind) == 2 and behind[0].says("."):
+            number = self.by_alias.get(self.key(token)) if token.names else None
+            if number is None:
+                return
+            if behind[1].says("*"):
+                yield Place(at, 3, frozenset(Named(number, column) for column in self.entries[number].about.columns))
+            elif behind[1].names and self._at(number, self.key(behind[1])):
+                yield Place(at, 3, frozenset([self._at(number, self.key(behind[1]))]))
+        elif token.names and not self._is_a_word(piece, at) and self._columns_called(token):
+            yield Place(at, 1, self._columns_called(token))
 
-    def _masked(self, piece: Tokens) -> str:
-        """The tokens for sqlglot: what isn't structure is replaced, and a quoted name is the number of its token."""
-        parts, at = [], 0
-        ends = dict(subqueries(piece))
-        while at < len(piece):
-            if at in ends:
-                parts.append("(SELECT 1)")
-                at = ends[at]
-                continue
-            parts.append(self.engine.quote(f"#{at}") if piece[at].kind == "quoted" else _mask(piece, at))
-            at += 1
-        return " ".join(parts)
+    def _is_a_word(self, piece: Tokens, at: int) -> bool:
+        """Whether it is clearly something else than a column: a function, a type before a text, a part of a date."""
+        token, behind, before = piece[at], piece[at + 1 : at + 2], piece[max(at - 2, 0) : at]
+        if behind and behind[0].says("("):
+            return True
+        if token.kind == "word" and ((behind and behind[0].kind == "text") or self.key(token) in self.engine.reserved):
+            return True
+        part = len(before) == 2 and before[0].says("EXTRACT") and behind and behind[0].says("FROM")
+        return bool(part or (len(before) == 2 and before[0].says("INTERVAL") and before[1].kind in ("text", "number")))
 
-    def _column(self, node: exp.Column, piece: Tokens) -> Named | None:
-        token, qualifier = _token(node.this, piece), _token(node.args.get("table"), piece)
-        if token is None:
-            raise self.statement.refuse(piece[0], "a star stands alone, as a whole output", written(piece))
-        if qualifier is not None:
-            return self._qualified(qualifier, token, piece)
-        return self._bare(token, piece)
+    def _no_star(self, piece: Tokens, at: int) -> None:
+        if piece[at + 2].says("*"):
+            raise self.statement.refuse(piece[at], "a star stands alone, as a whole output", written(piece))
 
-    def _qualified(self, qualifier: Token, token: Token, piece: Tokens) -> Named:
+    def _qualified(self, qualifier: Token, token: Token) -> Named:
         number = self.by_alias.get(self.key(qualifier))
-        where = piece[0] if qualifier.at < 0 else qualifier
         if number is None:
-            raise self.statement.refuse(where, f"no entry of FROM is called {qualifier.text}", f"{qualifier.text}.{token.text}")
-        named = self._at(number, self.key(token))
+            raise self.statement.refuse(qualifier, f"no entry of FROM is called {qualifier.text}", f"{qualifier.text}.{token.text}")
+        named = self._at(number, self.key(token)) if token.names or token.kind == "text" else None
         if named is None:
-            raise self.statement.refuse(where, "the table has no such column", f"{qualifier.text}.{token.text}")
+            raise self.statement.refuse(qualifier, "the table has no such column", f"{qualifier.text}.{token.text}")
         return named
 
-    def _only(self, token: Token) -> Named | None:
-        """The only column of this name, or the one into which USING merged all."""
+    def _columns_called(self, token: Token) -> frozenset[Named]:
+        """The columns that a name without a table may be: the one into which USING merged all, or one of each entry."""
         key = self.key(token)
-        if token.kind == "word" and key in self.engine.reserved:
-            return None
         if key in self.merged:
-            return self.merged[key]
-        found = [named for entry in self.entries if (named := self._at(entry.number, key))]
-        return found[0] if len(found) == 1 else None
+            return frozenset([self.merged[key]])
+        found = (self._at(entry.number, key) for entry in self.entries)
+        return frozenset(named for named in found if named)
 
-    def _bare(self, token: Token, piece: Tokens) -> Named | None:
-        """What a name without a table is. One that no entry has, or several have, is a word of the engine or an output's name."""
-        key = self.key(token)
-        if key in self.by_alias and not any(key in entry.about.by_key for entry in self.entries):
-            why = "a whole row isn't a value here; name its columns"
-            raise self.statement.refuse(piece[0] if token.at < 0 else token, why, token.text)
-        return self._only(token)
+    def _bare(self, token: Token, piece: Tokens, at: int) -> frozenset[Named]:
+        found = self._columns_called(token)
+        if not found and self.key(token) in self.by_alias and alias_of(piece[: at + 1]) is not token:
+            raise self.statement.refuse(token, "a whole row isn't a value here; name its columns")
+        return found
 
     def side(self, piece: Tokens) -> Named | None:
         """The column that these tokens are, and nothing else but parentheses."""
         while len(piece) > 2 and piece[0].says("(") and piece[-1].says(")"):
             piece = piece[1:-1]
-        if len(piece) == 3 and piece[0].names and piece[1].says(".") and piece[2].names:
-            return self._qualified(piece[0], piece[2], piece)
-        return self._bare(piece[0], piece) if len(piece) == 1 and piece[0].names else None
+        place = next(self.places(piece), None) if len(piece) in (1, 3) else None
+        return min(place.columns) if place and place.size == len(piece) and len(place.columns) == 1 else None
 
-    def spelled(self, piece: Tokens, found: set[Named]) -> Text:
-        """The tokens as text that knows where it names the columns found. What USING merged is named with its entry."""
-        places = {at: (size, named) for at, size, named in self._places(piece) if named in found}
+    def spelled(self, piece: Tokens) -> Text:
+        """The tokens as text that knows where it names columns. What USING merged is named with its entry."""
+        places = {place.at: place for place in self.places(piece) if len(place.columns) == 1}
         parts: list[str | Reference] = []
         at = 0
         while at < len(piece):
-            size, named = places.get(at, (1, None))
+            place = places.get(at)
+            size = place.size if place else 1
             text = written(piece[at : at + size])
             if at:
                 parts.append(gap_between(piece[at - 1], piece[at]))
-            merged = named and size == 1 and self.key(piece[at]) in self.merged
-            parts.append(Reference(named, self.qualified(named) if merged else text) if named else text)
+            if place:
+                [named] = place.columns
+                merged = size == 1 and self.key(piece[at]) in self.merged
+                parts.append(Reference(named, self.qualified(named) if merged else text))
+            else:
+                parts.append(text)
             at += size
         return Text(tuple(parts))
 
     def qualified(self, named: Named) -> str:
         return f"{self.entries[named.entry].alias}.{self.engine.quote(named.column.name)}"
 
-    def check_outputs_names(self, piece: Tokens) -> None:
+    def named_bare(self, pieces: list[Tokens]) -> set[str]:
+        """The keys of the merged columns that the tokens name without a table, and those that they name with one."""
+        return {self.key(piece[place.at]) for piece in pieces for place in self.places(piece) if place.size == 1} & set(self.merged)
+
+    def with_tables(self, pieces: list[Tokens]) -> Iterator[tuple[Token, Named]]:
+        """The columns that the tokens name with their entry, and where."""
+        for piece in pieces:
+            for place in self.places(piece):
+                if place.size == 3:
+                    yield piece[place.at], min(place.columns)
+
+    def check_outputs_names(self, piece: Tokens, outputs: set[str]) -> None:
         """Refuses an output's name in a condition, which SQLite would take."""
-        if not self.engine.outputs_in_conditions:
-            return
-        outputs = {self.key(output[-1]) for output in self.statement.outputs if len(output) > 1 and output[-1].names}
-        inside = {at for start, end in subqueries(piece) for at in range(start, end)}
+        inside = self._inside(piece)
         for at, token in enumerate(piece):
             bare = token.names and at not in inside and not part_of_name(piece, at)
-            if bare and self.key(token) in outputs and not any(self.key(token) in entry.about.by_key for entry in self.entries):
+            if bare and self.key(token) in outputs and not self._is_a_word(piece, at) and not self._columns_called(token):
                 raise self.statement.refuse(token, "it is the name of an output; write what it stands for")
 
     def check_subqueries(self, piece: Tokens) -> None:
         """Refuses a subquery that names an entry of the query, or that may choose other rows at each call."""
         for start, end in subqueries(piece):
             inner = piece[start + 1 : end - 1]
-            for token in choosing(inner):
-                why = "which rows a subquery takes may change from call to call"
-                raise self.statement.refuse(token, why, f"{token.text.upper()} of a subquery")
+            for token, what in choosing(inner, self.engine.plain_words, self.engine.takes_bare_columns):
+                why = "which rows a subquery takes may change from call to call; make a table of it"
+                raise self.statement.refuse(token, why, f"{what} of a subquery")
             why = self.engine.stands_alone(inner)
             if why:
                 raise self.statement.refuse(piece[start], f"only subqueries that stand alone are read ({why})", "the subquery")
-
-
-def _mask(piece: Tokens, at: int) -> str:
-    token = piece[at]
-    if token.kind == "text":
-        return "'x'"
-    if token.kind == "number":
-        return "1"
-    if token.kind == "operator" and token.text not in PLAIN_OPERATORS:
-        return "<"
-    if token.kind == "word" and not part_of_name(piece, at):
-        return OTHER_WORDS.get(token.text.upper(), token.text)
-    return token.text
-
-
-def _token(identifier, piece: Tokens) -> Token | None:
-    """The token of a name that sqlglot found; one without a place where the name isn't quoted."""
-    if not isinstance(identifier, exp.Identifier):
-        return None
-    text = identifier.name
-    if identifier.args.get("quoted") and text.startswith("#"):
-        return piece[int(text[1:])]
-    return next((token for token in piece if token.kind == "word" and token.text == text), Token("word", text, -1, ""))

@@ -3,7 +3,9 @@
 from __future__ import annotations
 
 import json
+from typing import Iterable
 
+from .block_plans import BlockPlan
 from .engine import Engine
 from .levels import Level, Plan, Shape, entries_of
 from .query import Named, Query
@@ -25,6 +27,47 @@ def table(plan: Plan, engine: Engine, true_rows: list[int] | None = None) -> str
     lines += _of_kept(plan)
     lines += [f"not used for bounds: {text} ({why})" for text, why in plan.query.no_edges]
     return "\n".join(lines) + "\n"
+
+
+def blocks_table(plans: Iterable[BlockPlan], unbounded: list[str]) -> str:
+    """The plans of all blocks, and what isn't bounded."""
+    lines: list[str] = []
+    cost = 0
+    for plan in plans:
+        if not plan.levels:
+            continue
+        audited = any(level.rows is not None for level in plan.levels)
+        heads = ["level", "joined", "of", "scan", "bound"] + ["rows", "bound / rows"] * audited
+        rows = [[str(n), level.joined, level.of, str(level.scan), str(level.bound)] for n, level in enumerate(plan.levels, 1)]
+        if audited:
+            for row, level in zip(rows, plan.levels):
+                row += [str(level.rows), _times(level.bound / max(level.rows, 1))]
+        most = "" if plan.rows is None else f": at most {plan.rows} rows"
+        lines += [f"{plan.core.called}{most}", *_aligned([heads] + rows), *plan.notes, ""]
+        cost = max(cost, plan.cost)
+    lines += [f"not bounded: {why}" for why in unbounded]
+    return "\n".join(lines + [f"budget {cost} would do"]) + "\n"
+
+
+def blocks_document(plans: Iterable[BlockPlan], unbounded: list[str], engine: Engine, sql: str) -> str:
+    """The same as JSON."""
+    told = {
+        "blocks": [
+            {
+                "name": plan.core.called, "rows": plan.rows, "not used for bounds": plan.notes,
+                "levels": [
+                    {"joined": level.joined, "of": level.of, "scan": level.scan, "bound": level.bound, "rows": level.rows}
+                    for level in plan.levels
+                ],
+            }
+            for plan in plans if plan.levels
+        ],
+        "not bounded": unbounded,
+        "least budget": max((plan.cost for plan in plans), default=0),
+        "setting": engine.keeps_order,
+        "sql": sql,
+    }
+    return json.dumps(told, indent=2, ensure_ascii=False) + "\n"
 
 
 def _of_kept(plan: Plan) -> list[str]:

@@ -2,15 +2,43 @@
 
 from __future__ import annotations
 
-from typing import Collection, TextIO
+import contextlib
+import re
+from collections import Counter
+from typing import Collection, Iterator, TextIO
 
 from .counting import Counts, counting, counts_of, counts_of_file, prefix_for
 from .engine import Engine
+from .faults import EngineFault
 from .kept import Kept
 from .levels import Plan, planned
 from .meaning import Meaning
 from .progress import Progress
 from .writing import Writer
+
+
+def scans(statement: str, prefix: str) -> Counter[str]:
+    """How often each table is read where a part is computed again wherever it is named."""
+    read: dict[str, Counter[str]] = {}
+    last: Counter[str] = Counter()
+    for name, text in re.findall(rf"(?:^  ({re.escape(prefix)}\d+) AS |^SELECT )(.*)$", statement, re.MULTILINE):
+        found: Counter[str] = Counter()
+        for table in re.findall(r"\b(?:FROM|JOIN) ([^\s()]+)", text):
+            found += read.get(table, Counter([table]))
+        if name:
+            read[name] = found
+        else:
+            last += found
+    return last
+
+
+@contextlib.contextmanager
+def _explained(why: str) -> Iterator[None]:
+    """Says of a value that is to blame where it was met."""
+    try:
+        yield
+    except EngineFault as fault:
+        raise EngineFault(f"{fault} ({why})" if fault.of_data else str(fault)) from None
 
 
 class Planner:
@@ -22,7 +50,19 @@ class Planner:
         self.meaning = Meaning(text, engine)
         self.query = self.meaning.query
         self.prefix = prefix_for([text])
-        self.writer = Writer(self.query, engine, self.prefix, reduce)
+        self.note = self._fits()
+        self.reduce = self.reduce and not self.note
+        self.writer = Writer(self.query, engine, self.prefix, self.reduce)
+
+    def _fits(self) -> str | None:
+        """Why semi-joins are left out: where parts aren't kept, the statement would read a table too often."""
+        if not self.reduce or self.engine.most_scans is None:
+            return None
+        table, times = scans(self.counting, self.prefix).most_common(1)[0]
+        if times <= self.engine.most_scans:
+            return None
+        why = f"{self.engine.title} computes a part again wherever it is named, and would read {table} {times} times"
+        return f"{why}; so this counts under own conditions alone, as with --no-reduce, and so do plan and sql"
 
     @property
     def counting(self) -> str:
@@ -56,11 +96,19 @@ class Planner:
         return plan
 
     def _counted(self, known: Collection[int]) -> list[tuple]:
-        with self.progress.doing(f"counting the rows of {len(self.query.entries) - len(known)} entries"):
+        told = "each condition is tested on all rows of its table, and the query itself may never come to this one"
+        with self.progress.doing(f"counting the rows of {len(self.query.entries) - len(known)} entries"), _explained(f"while counting, {told}"):
             return self.engine.rows(counting(self.query, self.engine, self.prefix, self.reduce, known))
 
     def planned(self, counts: Counts, accuracy: int, budget: int, tree: bool) -> Plan:
         return planned(self.query, counts, accuracy, budget, tree)
+
+    def check(self, plan: Plan) -> None:
+        """Has the engine look at the planned query before anybody is told that it is admitted."""
+        why = self.engine.complaint(self.sql(plan))
+        if why:
+            hint = "try --no-reduce, by which the tables themselves are joined" if self.reduce else "write it in another way"
+            raise EngineFault(f"{why}. The query is taken as it is, but not in the planned order: {hint}")
 
     def expect(self, plan: Plan) -> None:
         """Asks the engine what it expects of each level."""
@@ -81,10 +129,12 @@ class Planner:
             found = dict(self.engine.rows(self.writer.true_rows(plan.levels)))
         return [found[number] for number in range(1, len(plan.levels) + 1)]
 
-    def run(self, plan: Plan, out: TextIO) -> None:
+    def run(self, plan: Plan, out: TextIO, null: str = "") -> None:
         """Writes the rows. From the first one on nothing else is written."""
         self.engine.keep_order()
-        with self.progress.doing("joining") as end:
-            for part in self.engine.csv(self.sql(plan)):
+        told = "in the planned order, which may come to rows that the query itself never reaches"
+        told += "; --no-reduce tests conditions later" if self.reduce else ""
+        with self.progress.doing("joining") as end, _explained(told):
+            for part in self.engine.csv(self.sql(plan), null):
                 end()
                 out.write(part)

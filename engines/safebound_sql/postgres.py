@@ -9,7 +9,7 @@ import json
 from typing import Iterator
 
 from .engine import Engine, one_line, with_names
-from .faults import EngineFault, Missing
+from .faults import EngineFault, Missing, Refused
 from .query import Column, Spread, Table
 from .tokens import POSTGRES, Token, written
 
@@ -18,30 +18,69 @@ try:
 except ImportError:
     psycopg = None
 
-# Columns of one base type and collation meet as they are grouped: a type of PostgreSQL's own that can be sorted, or an enum.
+# Columns of one base type and collation meet as they are grouped: a type of PostgreSQL's own that can be sorted, or an enum,
+# with no = of a user's own for it. A column that may not be read is named by no query that may be run.
 COLUMNS = """
 SELECT a.attname, format_type(a.atttypid, a.atttypmod),
-       CASE WHEN (t.typnamespace = 'pg_catalog'::regnamespace AND EXISTS (
+       CASE WHEN ((t.typnamespace = 'pg_catalog'::regnamespace AND EXISTS (
                 SELECT FROM pg_opclass o JOIN pg_am m ON m.oid = o.opcmethod AND m.amname = 'btree'
                 WHERE o.opcdefault AND (o.opcintype = t.oid OR EXISTS (
                     SELECT FROM pg_cast c WHERE c.castsource = t.oid AND c.casttarget = o.opcintype
                     AND c.castmethod = 'b' AND c.castcontext = 'i'))))
-            OR t.typtype = 'e'
+            OR t.typtype = 'e') AND NOT EXISTS (
+                SELECT FROM pg_operator o WHERE o.oprname = '=' AND o.oprnamespace <> 'pg_catalog'::regnamespace
+                AND pg_operator_is_visible(o.oid) AND EXISTS (
+                    SELECT FROM pg_type p WHERE p.oid IN (o.oprleft, o.oprright) AND (p.oid IN (t.oid, d.oid) OR p.typtype = 'p')))
             THEN t.oid::text || ' ' || a.attcollation::text END
 FROM pg_attribute a JOIN pg_type d ON d.oid = a.atttypid
 JOIN pg_type t ON t.oid = CASE d.typtype WHEN 'd' THEN d.typbasetype ELSE d.oid END
-WHERE a.attrelid = %s AND a.attnum > 0 AND NOT a.attisdropped ORDER BY a.attnum
+WHERE a.attrelid = %s AND a.attnum > 0 AND NOT a.attisdropped AND has_column_privilege(a.attrelid, a.attnum, 'SELECT')
+ORDER BY a.attnum
 """
 
+# Functions and operators by their names: bare ones that are visible, those of a schema, and those of a row, which are written as
+# columns. Some call themselves STABLE and tell of the session or of what goes on now.
 FICKLE = """
-SELECT proname FROM pg_proc
-WHERE provolatile = 'v' AND (proname = ANY(%(bare)s) AND pg_function_is_visible(oid) OR proname = ANY(%(qualified)s))
-UNION SELECT oprname FROM pg_operator o JOIN pg_proc p ON p.oid = o.oprcode
-WHERE provolatile = 'v' AND oprname = ANY(%(bare)s) AND pg_operator_is_visible(o.oid)
+WITH named AS (
+    SELECT proname AS name, p.* FROM pg_proc p
+    WHERE proname = ANY(%(bare)s) AND pg_function_is_visible(oid) OR proname = ANY(%(qualified)s)
+        OR (proname = ANY(%(attributes)s) AND pronargs = 1 AND EXISTS (SELECT FROM pg_type t WHERE t.oid = proargtypes[0] AND typtype = 'c'))
+    UNION ALL SELECT oprname, p.* FROM pg_operator o JOIN pg_proc p ON p.oid = o.oprcode
+    WHERE oprname = ANY(%(bare)s) AND pg_operator_is_visible(o.oid) OR oprname = ANY(%(qualified)s))
+SELECT name, provolatile = 'v',
+    proname IN ('current_setting', 'pg_show_all_settings') AND pronamespace = 'pg_catalog'::regnamespace
+        OR pronamespace <> 'pg_catalog'::regnamespace AND prosrc ~* 'current_setting|pg_settings|pg_show_all_settings'
+FROM named WHERE provolatile = 'v'
+    OR pronamespace = 'pg_catalog'::regnamespace
+        AND proname ~ '^(pg_stat_|pg_show_|pg_cursor$|pg_prepared_|pg_ls_|pg_read_|current_setting$|pg_get_.*memory)'
+    OR pronamespace <> 'pg_catalog'::regnamespace AND prosrc ~* 'current_setting|pg_settings|pg_show_all_settings'
 """
 
+# Row policies are a part of what a table is to a query.
 VIEWS = """
-SELECT name, pg_get_viewdef(oid) FROM unnest(%s::text[]) AS name JOIN pg_class ON oid = to_regclass(name) WHERE relkind = 'v'
+SELECT name, 'the view', pg_get_viewdef(oid) FROM unnest(%(names)s::text[]) AS name JOIN pg_class ON oid = to_regclass(name)
+WHERE relkind = 'v'
+UNION ALL SELECT name, 'a row policy', pg_get_expr(polqual, polrelid)
+FROM unnest(%(names)s::text[]) AS name JOIN pg_policy ON polrelid = to_regclass(name) JOIN pg_class c ON c.oid = polrelid
+WHERE relrowsecurity AND polqual IS NOT NULL AND polcmd IN ('r', '*')
+"""
+
+WITHOUT_SNAPSHOT = """
+WITH RECURSIVE below AS (
+    SELECT name, to_regclass(name)::oid AS oid FROM unnest(%s::text[]) AS name WHERE to_regclass(name) IS NOT NULL
+    UNION SELECT name, inhrelid FROM below JOIN pg_inherits ON inhparent = below.oid)
+SELECT DISTINCT name, fdwname FROM below JOIN pg_foreign_table ON ftrelid = below.oid JOIN pg_foreign_server s ON s.oid = ftserver
+JOIN pg_foreign_data_wrapper w ON w.oid = srvfdw LEFT JOIN pg_proc h ON h.oid = fdwhandler
+WHERE h.proname IS DISTINCT FROM 'postgres_fdw_handler'
+"""
+
+# A schema whose functions and operators are found before PostgreSQL's own ones of the same names.
+BEFORE_CATALOG = """
+WITH path AS (SELECT schema, at, quote_ident(schema)::regnamespace AS oid FROM unnest(current_schemas(true)) WITH ORDINALITY AS p(schema, at))
+SELECT schema FROM path WHERE at < (SELECT at FROM path WHERE schema = 'pg_catalog') AND schema !~ '^pg_temp_' AND (
+    EXISTS (SELECT FROM pg_operator o JOIN pg_operator c USING (oprname) WHERE o.oprnamespace = path.oid AND c.oprnamespace = 'pg_catalog'::regnamespace)
+    OR EXISTS (SELECT FROM pg_proc o JOIN pg_proc c USING (proname) WHERE o.pronamespace = path.oid AND c.pronamespace = 'pg_catalog'::regnamespace))
+ORDER BY at
 """
 
 # The leaves of a partitioned table of which at least one is a foreign table, or a foreign table alone. A leaf is asked as the table
@@ -60,8 +99,23 @@ HAVING bool_or(relkind = 'f') AND bool_and(has_table_privilege(relid, 'SELECT'))
     AND NOT (SELECT relrowsecurity FROM pg_class WHERE oid = %(table)s)
 """
 
+KINDS = """
+SELECT t.oid, t.oid::text || ' 0' FROM pg_type t JOIN pg_opclass o ON o.opcintype = t.oid AND opcdefault
+JOIN pg_am m ON m.oid = opcmethod AND amname = 'btree'
+WHERE t.oid = ANY(%s::oid[]) AND typnamespace = 'pg_catalog'::regnamespace AND typcollation = 0 AND typtype = 'b'
+"""
+
+# The planned query runs with a setting of its own, and is counted without it.
+WHY_SETTINGS = "it tells the session's settings, which aren't the same while the query is counted and while it is joined"
+
+COMMON = """
+SELECT pg_typeof(coalesce(CAST(NULL AS {0}), CAST(NULL AS {1}))), pg_typeof(CAST(NULL AS {0})), pg_typeof(CAST(NULL AS {1}))
+"""
+
 TABLE = """
-SELECT c.oid, format('%%I %%I.%%I#%%s', current_database(), nspname, relname, c.oid)
+SELECT c.oid, format('%%I %%I.%%I#%%s', current_database(), nspname, relname, c.oid),
+    ARRAY(SELECT attname::text FROM pg_index i JOIN pg_attribute a ON a.attrelid = indrelid AND a.attnum = ANY(indkey)
+          WHERE indrelid = c.oid AND indisprimary AND indimmediate)
 FROM pg_class c JOIN pg_namespace n ON n.oid = relnamespace WHERE c.oid = to_regclass(%s) AND relkind = ANY('{r,p,m,f,v}')
 """
 
@@ -74,23 +128,31 @@ class Postgres(Engine):
     merged_columns_first = True
     keeps_order = "SET join_collapse_limit = 1"
     join_word = "JOIN"
+    keeps_using = True
+    columns_may_be_calls = True
 
     def __init__(self, url: str, timeout: int | None) -> None:
         if psycopg is None:
             raise Missing("PostgreSQL is asked through psycopg 3: run engines/setup, or install python3-psycopg")
         try:
-            self.connection = psycopg.connect(url)
+            self.connection = psycopg.connect(url, client_encoding="utf8")
             self.connection.isolation_level = psycopg.IsolationLevel.REPEATABLE_READ
             self.connection.read_only = True
             if timeout:
                 self.connection.execute(f"SET LOCAL statement_timeout = {timeout * 1000}")
             plain = self.connection.execute("SHOW standard_conforming_strings").fetchone()[0]
+            encoding = self.connection.execute("SHOW server_encoding").fetchone()[0]
             words = self.connection.execute("SELECT word FROM pg_get_keywords() WHERE catcode IN ('R', 'T')").fetchall()
+            before = self.connection.execute(BEFORE_CATALOG).fetchall()
         except psycopg.Error as error:
             raise EngineFault(one_line(error)) from None
         if plain != "on":
             raise EngineFault("standard_conforming_strings is off, so texts are read in another way than here")
-
+        if encoding == "SQL_ASCII":
+            raise Refused("the database's encoding is SQL_ASCII, in which texts are bytes of no known characters")
+        if before:
+            why = "has functions or operators that are found before PostgreSQL's own; set search_path with pg_catalog first"
+            raise Refused(f"the schema {before[0][0]} {why}")
         self.reserved = frozenset(word for (word,) in words)
 
     @contextlib.contextmanager
@@ -98,9 +160,9 @@ class Postgres(Engine):
         try:
             yield
         except psycopg.Error as error:
-            raise EngineFault(one_line(error)) from None
+            raise EngineFault(one_line(error), isinstance(error, psycopg.DataError)) from None
 
-    def asks_for_now(self, pieces: list[Token], at: int) -> bool:
+    def asks_for_now(self, pieces: list[Token], at: int, below: bool = False) -> bool:
         """now() is one time for the whole transaction, and this function calls itself STABLE too."""
         return pieces[at].names and self.spelled(pieces[at]) == "statement_timestamp"
 
@@ -111,7 +173,7 @@ class Postgres(Engine):
                 return None
             columns = tuple(Column(*row) for row in self.connection.execute(COLUMNS, found[:1]))
             spread = self._spread(found[0])
-        return Table(columns, {column.name: column for column in columns}, f"{self.cluster} {found[1]}", spread)
+        return Table(columns, {column.name: column for column in columns}, f"{self.cluster} {found[1]}", spread, tuple(found[2]))
 
     def _spread(self, table: int) -> Spread | None:
         """PostgreSQL takes the values that go along for ten, and would join by nested loops what it takes for few rows.
@@ -124,6 +186,31 @@ class Postgres(Engine):
         self.connection.execute("SET LOCAL enable_nestloop = off; SET LOCAL jit = off")
         self.keeps_order = f"{Postgres.keeps_order}; SET enable_nestloop = off; SET jit = off"
         return Spread(tuple(found[0]), found[1])
+
+    def described(self, sql: str) -> list[Column]:
+        """Nothing is run for it. A text's collation isn't told, so that texts have no kind."""
+        with self._told(), self.connection.transaction():
+            answer = self.connection.execute(f"SELECT q.* FROM (SELECT 1) AS one LEFT JOIN ({sql}\n) AS q ON false")
+            columns = [(column.name, column.type_code) for column in answer.description]
+            kinds = dict(self.connection.execute(KINDS, [[code for _, code in columns]]).fetchall())
+            types = dict(self.connection.execute("SELECT t, format_type(t, NULL) FROM unnest(%s::oid[]) AS t", [[code for _, code in columns]]))
+        return [Column(name, types[code], kinds.get(code)) for name, code in columns]
+
+    def makes_rows(self, pieces: list[Token]) -> bool:
+        called = [self.spelled(token) for token, behind in zip(pieces, pieces[1:]) if token.names and behind.says("(")]
+        return bool(self.rows_given("SELECT FROM pg_proc WHERE proretset AND proname = ANY(%s) LIMIT 1", [called]))
+
+    def rows_given(self, sql: str, given: list) -> list[tuple]:
+        with self._told():
+            return self.connection.execute(sql, given).fetchall()
+
+    def merged_side(self, left: Column, right: Column) -> int | None:
+        """The column that isn't converted to the type of both is taken, the left one where neither is."""
+        if left.type == right.type:
+            return 0
+        common, *own = self.rows(COMMON.format(left.type, right.type))[0]
+        plain = [common == mine and "(" not in column.type for mine, column in zip(own, (left, right))]
+        return 0 if plain[0] else 1 if plain[1] else 0 if common == own[0] else None
 
     def sent(self, value: str, column: Column, rows: str) -> str:
         """postgres_fdw sends no conversion of an array, and texts of any length are compared as texts without a length."""
@@ -138,15 +225,29 @@ class Postgres(Engine):
         ask = "SELECT system_identifier::text FROM pg_control_system()"
         return self.connection.execute(ask).fetchone()[0] if self.connection.execute(may).fetchone()[0] else "a server"
 
-    def fickle(self, names: set[str]) -> list[str]:
-        given = {"bare": [n for n in names if n[0] != "."], "qualified": [n[1:] for n in names if n[0] == "."]}
+    def fickle(self, names: set[str]) -> dict[str, str]:
+        dots = {name: len(name) - len(name.lstrip(".")) for name in names}
+        given = {
+            kind: [name[count:] for name in names if dots[name] == count]
+            for count, kind in enumerate(("bare", "qualified", "attributes"))
+        }
         with self._told():
-            found = {row[0] for row in self.connection.execute(FICKLE, given)}
-        return sorted(name for name in names if name.lstrip(".") in found)
+            found = self.connection.execute(FICKLE, given).fetchall()
+        why = {}
+        for name, volatile, settings in found:
+            now = "it tells of what goes on now, and not of the snapshot"
+            why[name] = self.why_fickle if volatile else WHY_SETTINGS if settings else now
+        return {name: why[name.lstrip(".")] for name in sorted(names) if name.lstrip(".") in why}
 
-    def view_texts(self, names: set[str]) -> dict[str, str]:
+    def view_texts(self, names: set[str]) -> list[tuple[str, str, str]]:
         with self._told():
-            return dict(self.connection.execute(VIEWS, [sorted(names)]).fetchall())
+            return self.connection.execute(VIEWS, {"names": sorted(names)}).fetchall()
+
+    def without_snapshot(self, names: set[str]) -> dict[str, str]:
+        with self._told():
+            found = self.connection.execute(WITHOUT_SNAPSHOT, [sorted(names)]).fetchall()
+        why = "whose rows may be others in each statement; make a table of it, and name that"
+        return {name: f"it has rows of {wrapper}, {why}" for name, wrapper in found}
 
     def takes(self, sql: str) -> None:
         self._explain(sql)
@@ -179,10 +280,11 @@ class Postgres(Engine):
             cursor.execute(sql)
             yield from with_names(cursor, [column.name for column in cursor.description])
 
-    def csv(self, sql: str) -> Iterator[str]:
+    def csv(self, sql: str, null: str = "") -> Iterator[str]:
+        told = "'" + null.replace("'", "''") + "'"
         decoder = codecs.getincrementaldecoder(self.connection.info.encoding)()
         with self._told(), self.connection.cursor() as cursor:
-            with cursor.copy(f"COPY ({sql}) TO STDOUT (FORMAT csv, HEADER)") as answer:
+            with cursor.copy(f"COPY ({sql}) TO STDOUT (FORMAT csv, HEADER, NULL {told})") as answer:
                 for block in answer:
                     yield decoder.decode(bytes(block))
 

@@ -28,7 +28,7 @@ class Spread(NamedTuple):
 class Table(NamedTuple):
     """A table or view: its columns in declared order, and by the key that the engine finds them by.
 
-    `columns` are those that a star stands for. `identity` tells it from all other tables, where that is known:
+    `columns` are those that a star stands for, `key` are those of the primary key. `identity` tells it from all other tables, where that is known:
     what it is called where, # and what is another number when it was made anew. `spread` says where its rows are, if they
     lie on other servers.
     """
@@ -37,6 +37,7 @@ class Table(NamedTuple):
     by_key: dict[str, Column]
     identity: str | None = None
     spread: Spread | None = None
+    key: tuple[str, ...] = ()
 
 
 class Named(NamedTuple):
@@ -94,12 +95,20 @@ class Condition(NamedTuple):
 
 @dataclass
 class Query:
-    """A query. `conditions` are those of several entries or none, equalities among them, in the order of the text."""
+    """A query. `conditions` are those of several entries or none, equalities among them, in the order of the text.
+
+    What stands above the join is as it was written; only a star is the columns that it stands for. `named_above` are the
+    columns that may be named there. Where USING merged columns, `frame` is FROM as it was written with the entries' numbers
+    in their places, or `renamed` has the columns that have to go by other names, since one of them alone is called so.
+    """
 
     entries: list[Entry]
-    distinct: Text = Text(())
-    outputs: list[Text] = field(default_factory=list)
-    above: Text = Text(())
+    distinct: str = ""
+    outputs: list[str | Named] = field(default_factory=list)
+    above: str = ""
+    named_above: set[Named] = field(default_factory=set)
+    frame: list[str | int] = field(default_factory=list)
+    renamed: set[Named] = field(default_factory=set)
     conditions: list[Condition] = field(default_factory=list)
     equalities: list[Equality] = field(default_factory=list)
     no_edges: list[tuple[Text, str]] = field(default_factory=list)

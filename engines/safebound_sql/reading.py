@@ -7,6 +7,7 @@ by its name and place.
 from __future__ import annotations
 
 from dataclasses import dataclass, field
+from typing import Iterator
 
 from .faults import Refused
 from .tokens import Token, closing, part_of_name, place
@@ -24,10 +25,30 @@ NO_ALIAS = (*IN_FROM, *BEHIND_FROM, "TABLESAMPLE", "INDEXED", "NOT", "INTO")
 
 @dataclass
 class Source:
-    """An entry as FROM has it: the table's name as tokens, and the alias, which is the table's where none is written."""
+    """An entry as FROM has it: the table's name as tokens, and the alias, which is the table's where none is written.
+
+    Of a query in FROM `table` has its tokens with their parentheses, and `columns` may have its columns' names.
+    """
 
     table: Tokens
     alias: Token
+    columns: Tokens = field(default_factory=list)
+
+    @property
+    def is_query(self) -> bool:
+        return self.table[0].says("(")
+
+
+@dataclass
+class Step:
+    """How a source comes to those before it: INNER, LEFT, RIGHT or FULL, and the conditions of its ON.
+
+    Those of inner joins are with the statement's, unless an outer join stands before them.
+    """
+
+    kind: str
+    source: int
+    conditions: list[Tokens] = field(default_factory=list)
 
 
 @dataclass
@@ -41,7 +62,10 @@ class Using:
 
 @dataclass
 class Statement:
-    """A query's parts. A condition is a conjunct of WHERE or of an ON."""
+    """A query's parts. A condition is a conjunct of WHERE or of an ON.
+
+    `frame` is FROM as it was written, with a source's number in its place, and None in that of an ON's condition.
+    """
 
     text: str
     distinct: Tokens = field(default_factory=list)
@@ -50,6 +74,8 @@ class Statement:
     usings: list[Using] = field(default_factory=list)
     conditions: list[Tokens] = field(default_factory=list)
     above: Tokens = field(default_factory=list)
+    frame: list[Token | int | None] = field(default_factory=list)
+    steps: list[Step] = field(default_factory=list)
 
     def refuse(self, token: Token, why: str, name: str | None = None) -> Refused:
         return Refused(f"{name or token.text} at {place(self.text, token.at)}: {why}")
@@ -106,11 +132,14 @@ def _end_of_case(pieces: Tokens, start: int) -> int:
 class Reader:
     """Reads one statement from its first token to its last."""
 
-    def __init__(self, text: str, pieces: Tokens, comma_binds_less: bool) -> None:
+    def __init__(self, text: str, pieces: Tokens, comma_binds_less: bool, plain_words: tuple[str, ...], in_blocks: bool = False) -> None:
         self.statement = Statement(text)
         self.pieces = pieces
         self.at = 0
         self.comma_binds_less = comma_binds_less
+        self.plain_words = plain_words
+        self.in_blocks = in_blocks
+        self.holes: list[tuple[int, int, int | None]] = []
 
     def read(self) -> Statement:
         while self.pieces and self.pieces[-1].says(";"):
@@ -149,7 +178,13 @@ class Reader:
         return self.pieces[start : self.at]
 
     def _keyword(self, words: tuple[str, ...]) -> bool:
-        if not self._peek(*words) or part_of_name(self.pieces, self.at):
+        if not self._peek(*words) or self._peek(*self.plain_words) or part_of_name(self.pieces, self.at):
+            return False
+        if self.at and self.pieces[self.at - 1].says("AS"):
+            return False
+        if self._peek("GROUP", "ORDER") and not self._peek("BY", ahead=1):
+            return False
+        if self._peek("WINDOW") and not self._peek("AS", ahead=2):
             return False
         if self._peek("FROM") and self.at and self.pieces[self.at - 1].says("DISTINCT"):
             return False
@@ -169,22 +204,32 @@ class Reader:
         outputs = self._until(("FROM", "INTO", *BEHIND_FROM))
         if not self._take("FROM"):
             raise self._refuse("a query has FROM")
-        self.statement.outputs = list(_at_commas(outputs))
+        self.statement.outputs = list(at_commas(outputs))
 
     def _from_list(self) -> None:
-        first = 0
+        first, start = 0, self.at
         while True:
             self._joined(first)
             if not self._take(","):
                 break
             if self.comma_binds_less:
                 first = len(self.statement.sources)
+        self.statement.frame = list(self._frame(start, self.at))
+
+    def _frame(self, start: int, end: int) -> Iterator[Token | int | None]:
+        for hole_start, hole_end, what in self.holes:
+            yield from self.pieces[start:hole_start]
+            yield what
+            start = hole_end
+        yield from self.pieces[start:end]
 
     def _joined(self, first: int) -> None:
         """One part of FROM: a source and what is joined to it. Its left side begins with the source numbered `first`."""
         self._source()
         while True:
-            cross = self._peek("CROSS")
+            cross, kind = self._peek("CROSS"), "INNER"
+            if self.in_blocks and self._keyword(("LEFT", "RIGHT", "FULL")):
+                kind = self._outer(first)
             if self._keyword(OUTER):
                 why = "write out its columns with USING" if self._peek("NATURAL") else "only inner joins are bounded"
                 raise self._refuse(why, f"{self.pieces[self.at].text.upper()} JOIN")
@@ -192,12 +237,33 @@ class Reader:
                 return
             right = len(self.statement.sources)
             self._source()
-            if self._take("ON"):
-                self._conditions(self._until((*IN_FROM, *BEHIND_FROM, ",", ")")))
+            if kind != "INNER":
+                self._outer_conditions(kind, right)
+            elif self._take("ON"):
+                start = self.at
+                parts = self._parts(self._until((*IN_FROM, *BEHIND_FROM, ",", ")")))
+                behind_outer = any(step.kind != "INNER" for step in self.statement.steps)
+                (self.statement.steps[-1] if behind_outer else self.statement).conditions += parts
+                self.holes.append((start, self.at, None))
             elif self._take("USING"):
                 self._using(first, right)
             elif self.comma_binds_less and not cross:
                 raise self._refuse("each JOIN has its ON or USING right behind its table")
+
+    def _outer(self, first: int) -> str:
+        kind = self.pieces[self.at].text.upper()
+        if first and kind != "LEFT":
+            raise self._refuse("behind a comma it isn't bounded; write the comma as CROSS JOIN", f"{kind} JOIN")
+        self.at += 1
+        self._take("OUTER")
+        return kind
+
+    def _outer_conditions(self, kind: str, right: int) -> None:
+        if len(self.statement.sources) != right + 1:
+            raise self._refuse("joined tables in parentheses aren't bounded on this side", f"{kind} JOIN")
+        if not self._take("ON"):
+            raise self._refuse("write out its columns with ON", f"{kind} JOIN")
+        self.statement.steps[right] = Step(kind, right, self._parts(self._until((*IN_FROM, *BEHIND_FROM, ",", ")"))))
 
     def _using(self, first: int, right: int) -> None:
         end = closing(self.pieces, self.at)
@@ -216,16 +282,37 @@ class Reader:
             if self._peek("AS") or (self.at < len(self.pieces) and self._alias_here()):
                 raise self._refuse("an alias of joined tables isn't read")
             return
+        if self._peek("(") and self.in_blocks:
+            return self._query_in_from()
         if self._peek("("):
             raise self._refuse("a query within FROM isn't bounded; make it a view", "a subquery")
         if self._peek(*NO_TABLE):
             raise self._refuse("FROM has tables and views by their names")
+        start = self.at
         table = self._table()
         alias = self._alias() or table[-1]
         if self._peek("(", "*", "TABLESAMPLE", "INDEXED", "NOT"):
             name = f"{alias.text}(" if self._peek("(") else None
             raise self._refuse("FROM has tables and views by their names, and an alias for each", name)
-        self.statement.sources.append(Source(table, alias))
+        self.holes.append((start, self.at, len(self.statement.sources)))
+        self._enter(Source(table, alias))
+
+    def _enter(self, source: Source) -> None:
+        self.statement.steps.append(Step("INNER", len(self.statement.sources)))
+        self.statement.sources.append(source)
+
+    def _query_in_from(self) -> None:
+        end = closing(self.pieces, self.at)
+        table = self.pieces[self.at : end + 1]
+        self.at = end + 1
+        alias, columns = self._alias(), []
+        if alias is None:
+            raise self._refuse("a query in FROM needs an alias")
+        if self._peek("("):
+            end = closing(self.pieces, self.at)
+            columns = self.pieces[self.at : end + 1]
+            self.at = end + 1
+        self._enter(Source(table, alias, columns))
 
     def _table(self) -> Tokens:
         start = self.at
@@ -238,22 +325,25 @@ class Reader:
 
     def _alias_here(self) -> bool:
         token = self.pieces[self.at]
-        return token.kind == "quoted" or (token.kind == "word" and not token.says(*NO_ALIAS))
+        return token.kind in ("quoted", "text") or (token.kind == "word" and not token.says(*NO_ALIAS))
 
     def _alias(self) -> Token | None:
         explicit = self._take("AS")
         if self.at >= len(self.pieces) or not (explicit or self._alias_here()):
             return None
-        if not self.pieces[self.at].names:
+        if not (self.pieces[self.at].names or self.pieces[self.at].kind == "text"):
             raise self._refuse("an alias is needed")
         self.at += 1
         return self.pieces[self.at - 1]
 
-    def _conditions(self, condition: Tokens) -> None:
+    def _parts(self, condition: Tokens) -> list[Tokens]:
         parts = conjuncts(condition)
         if not all(parts):
             raise self._refuse("a condition is missing before this")
-        self.statement.conditions += parts
+        return parts
+
+    def _conditions(self, condition: Tokens) -> None:
+        self.statement.conditions += self._parts(condition)
 
     def _above(self) -> None:
         if self._peek(*TOGETHER):
@@ -267,7 +357,7 @@ class Reader:
             self._above()
 
 
-def _at_commas(pieces: Tokens):
+def at_commas(pieces: Tokens):
     part: Tokens = []
     for token, run in _outside_parentheses(pieces):
         if token.says(","):
@@ -278,6 +368,9 @@ def _at_commas(pieces: Tokens):
     yield part
 
 
-def read(text: str, pieces: Tokens, comma_binds_less: bool) -> Statement:
-    """The parts of the query. In PostgreSQL a comma binds less than JOIN; in SQLite both bind alike."""
-    return Reader(text, pieces, comma_binds_less).read()
+def read(text: str, pieces: Tokens, comma_binds_less: bool, plain_words: tuple[str, ...] = (), in_blocks: bool = False) -> Statement:
+    """The parts of the query. In PostgreSQL a comma binds less than JOIN; in SQLite both bind alike.
+
+    `plain_words` are names to the engine, where others have keywords. `in_blocks` it may have outer joins and queries in FROM.
+    """
+    return Reader(text, pieces, comma_binds_less, plain_words, in_blocks).read()

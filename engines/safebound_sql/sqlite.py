@@ -3,20 +3,23 @@
 from __future__ import annotations
 
 import contextlib
-import csv
-import io
+import os
+import re
 import sqlite3
 import time
 from pathlib import Path
 from typing import Iterator
 
+from . import stops
 from .engine import Engine, one_line, with_names
 from .faults import EngineFault
 from .query import Column, Table
-from .tokens import SQLITE, Token, unquoted
+from .reading import at_commas
+from .tokens import SQLITE, Token, closing, unquoted
 
 DETERMINISTIC = 0x800
-TIMES = ("date", "time", "datetime", "julianday", "unixepoch", "strftime")
+TIMES = ("date", "time", "datetime", "julianday", "unixepoch", "strftime", "timediff")
+A_DATE = re.compile(r"'(\d{4}-\d\d-\d\d)?[T ]*(\d\d:\d\d(:\d\d(\.\d+)?)?)? *(Z|[+-]\d\d:\d\d)?'")
 ROW_NUMBERS = ("rowid", "oid", "_rowid_")
 
 
@@ -34,20 +37,41 @@ class Sqlite(Engine):
     join_word = "CROSS JOIN"
     keeps_trees = False
     outputs_in_conditions = True
+    plain_words = ("OFFSET", "WINDOW", "FETCH")
+    takes_bare_columns = True
+    why_now = "SQLite's date functions may ask for the time, unless they get a date as it is, or a column that never says 'now'"
     reserved = frozenset(("null", "current_date", "current_time", "current_timestamp"))
 
     def __init__(self, file: str, timeout: int | None) -> None:
         path = self.path = Path(file).resolve()
         if not path.is_file():
             raise EngineFault(f"there is no file {file}")
+        self.unwritten = None
         with self._told():
-            self.connection = sqlite3.connect(f"{path.as_uri()}?mode=ro", uri=True, isolation_level=None)
-            self.connection.text_factory = lambda raw: raw.decode("utf-8", "surrogateescape")
-            self.connection.execute("BEGIN")
-            self.connection.execute("SELECT count(*) FROM sqlite_master").fetchone()
+            try:
+                self._open("mode=ro")
+            except sqlite3.OperationalError:
+                if os.access(path.parent, os.W_OK) or self._state() is None:
+                    raise
+                # A log can't be made beside the file, so nobody has one. Should that change, the statement fails.
+                self.unwritten = self._state()
+                self._open("mode=ro&immutable=1")
         self.timeout = timeout
         self.ends = None
         self.connection.set_progress_handler(self._is_late, 10_000)
+
+    def _open(self, how: str) -> None:
+        self.connection = sqlite3.connect(f"{self.path.as_uri()}?{how}", uri=True, isolation_level=None)
+        self.connection.text_factory = lambda raw: raw.decode("utf-8", "surrogateescape")
+        self.connection.execute("BEGIN")
+        self.connection.execute("SELECT count(*) FROM sqlite_master").fetchone()
+
+    def _state(self) -> tuple | None:
+        """By what the file is known to be as it was; None where it has a log beside it."""
+        if os.path.exists(f"{self.path}-wal"):
+            return None
+        about = os.stat(self.path)
+        return about.st_ino, about.st_size, about.st_mtime_ns, about.st_ctime_ns
 
     def _is_late(self) -> bool:
         return self.ends is not None and time.monotonic() > self.ends
@@ -58,8 +82,12 @@ class Sqlite(Engine):
         try:
             yield
         except sqlite3.Error as error:
+            if stops.came():
+                raise KeyboardInterrupt from None
             late = self.ends is not None and time.monotonic() > self.ends
-            raise EngineFault("canceled, since the time is over" if late else one_line(error)) from None
+            raise EngineFault("canceled, since the time is over" if late else one_line(error), not late) from None
+        if self.unwritten and self._state() != self.unwritten:
+            raise EngineFault("the file was written to while it was read, in a folder in which SQLite can't make its log")
 
     def key(self, name: str, quoted: bool) -> str:
         return super().key(name, False)
@@ -67,20 +95,30 @@ class Sqlite(Engine):
     def spelled(self, token: Token) -> str:
         return self.key(unquoted(token) if token.kind == "quoted" else token.text, False)
 
-    def asks_for_now(self, pieces: list[Token], at: int) -> bool:
-        """date() and its like, without a time or with the text 'now'."""
-        if not (pieces[at].names and self.spelled(pieces[at]) in TIMES and at + 1 < len(pieces) and pieces[at + 1].says("(")):
+    def asks_for_now(self, pieces: list[Token], at: int, below: bool = False) -> bool:
+        """date() and its like, of anything but a literal date. What a column says is looked at where it is known whose it is."""
+        dates = self._dates(pieces, at)
+        if dates is None:
             return False
-        depth, given = 0, []
-        for token in pieces[at + 1 :]:
-            depth += token.says("(") - token.says(")")
-            if depth == 0:
-                break
-            given.append(token)
-        needed = 2 if self.spelled(pieces[at]) == "strftime" else 1
-        values = 0 if len(given) == 1 else 1 + sum(token.says(",") for token in given)
-        now = any(token.kind == "text" and token.text[1:-1].strip().lower() == "now" for token in given)
-        return now or values < needed
+        return not dates or not all(_is_date(date) or (not below and _may_be_column(date)) for date in dates)
+
+    def _dates(self, pieces: list[Token], at: int) -> list[list[Token]] | None:
+        """What a date function that is called there gets as dates; None where none is."""
+        called = pieces[at].names and at + 1 < len(pieces) and pieces[at + 1].says("(")
+        function = self.spelled(pieces[at]) if called else ""
+        if function not in TIMES:
+            return None
+        given = [part for part in at_commas(pieces[at + 2 : closing(pieces, at + 1)]) if part]
+        return given[1:2] if function == "strftime" else given[:2] if function == "timediff" else given[:1]
+
+    def columns_asked_for_now(self, pieces: list[Token]) -> Iterator[tuple[Token, list[Token]]]:
+        for at, token in enumerate(pieces):
+            yield from ((token, date) for date in self._dates(pieces, at) or () if not _is_date(date))
+
+    def says_now(self, table: str, column: str) -> bool:
+        name = self.quote(column)
+        sql = f"SELECT EXISTS (SELECT 1 FROM {table} WHERE CAST({name} AS TEXT) = 'now' COLLATE NOCASE)"
+        return bool(self.rows(sql)[0][0])
 
     def table(self, name: list[Token]) -> Table | None:
         parts = [unquoted(token) if token.kind == "quoted" else token.text for token in name if token.names]
@@ -122,12 +160,15 @@ class Sqlite(Engine):
         """A column's collation, found by whether 'a' equals 'A' or 'a ' by it: UNION compares by its first part's."""
         with self._told():
             values = f"SELECT {self.quote(name)} FROM {table} WHERE 0 UNION SELECT 'a' UNION SELECT ?"
-            alike = tuple(
-                self.connection.execute(f"SELECT count(*) FROM ({values})", (other,)).fetchone()[0] for other in ("A", "a ")
-            )
+            try:
+                alike = tuple(
+                    self.connection.execute(f"SELECT count(*) FROM ({values})", (other,)).fetchone()[0] for other in ("A", "a ")
+                )
+            except sqlite3.OperationalError:  # a collation that this program doesn't have
+                return None
         return {(2, 2): "BINARY", (1, 2): "NOCASE", (2, 1): "RTRIM"}.get(alike)
 
-    def fickle(self, names: set[str]) -> list[str]:
+    def fickle(self, names: set[str]) -> dict[str, str]:
         with self._told():
             found = {
                 row[0].lower()
@@ -135,12 +176,12 @@ class Sqlite(Engine):
                     f"SELECT name FROM pragma_function_list WHERE type = 's' AND NOT flags & {DETERMINISTIC}"
                 )
             }
-        return sorted(name for name in names if name.lstrip(".") in found)
+        return {name: self.why_fickle for name in sorted(names) if name.lstrip(".") in found}
 
-    def view_texts(self, names: set[str]) -> dict[str, str]:
+    def view_texts(self, names: set[str]) -> list[tuple[str, str, str]]:
         with self._told():
             views = self.connection.execute("SELECT name, sql FROM sqlite_master WHERE type = 'view'").fetchall()
-        return {name: text for name in names for view, text in views if self._last(name) == self.key(view, True)}
+        return [(name, "the view", text) for name in names for view, text in views if self._last(name) == self.key(view, True)]
 
     def _last(self, name: str) -> str:
         return self.key(name.split(".")[-1].strip('"`[] '), True)
@@ -151,8 +192,15 @@ class Sqlite(Engine):
 
     def stands_alone(self, inner: list[Token]) -> str | None:
         """A name in double quotes that isn't found would be a text, so the quotes are others here."""
-        in_quotes = {token: f"[{unquoted(token)}]" for token in inner if token.text[0] == '"' and "]" not in token.text}
+        in_quotes = {token: "`" + unquoted(token).replace("`", "``") + "`" for token in inner if token.text[0] == '"'}
         return super().stands_alone([token._replace(text=in_quotes.get(token, token.text)) for token in inner])
+
+    def described(self, sql: str) -> list[Column]:
+        return [Column(name, "no type", None) for name in self.output_names(sql)]
+
+    def output_names(self, sql: str) -> list[str]:
+        with self._told():
+            return [column[0] for column in self.connection.execute(f"SELECT * FROM ({sql}\n) LIMIT 0").description]
 
     def complaint(self, sql: str) -> str | None:
         try:
@@ -176,14 +224,9 @@ class Sqlite(Engine):
             cursor = self.connection.execute(sql)
             yield from with_names(cursor, [column[0] for column in cursor.description])
 
-    def csv(self, sql: str) -> Iterator[str]:
-        line = io.StringIO()
-        writer = csv.writer(line, lineterminator="\n")
+    def csv(self, sql: str, null: str = "") -> Iterator[str]:
         for row in self.stream(sql):
-            writer.writerow([f"x'{value.hex()}'" if isinstance(value, bytes) else value for value in row])
-            yield line.getvalue()
-            line.seek(0)
-            line.truncate()
+            yield ",".join(null if value is None else _field(value, null) for value in row) + "\n"
 
     def exports(self, column: Column) -> bool:
         return column.kind in (("INTEGER", "BINARY"), ("TEXT", "BINARY"))
@@ -208,3 +251,17 @@ def affinity(declared: str, strict: bool) -> str:
     if not name or "BLOB" in name or (strict and name == "ANY"):
         return "BLOB"
     return "REAL" if any(part in name for part in ("REAL", "FLOA", "DOUB")) else "NUMERIC"
+
+
+def _field(value: object, null: str) -> str:
+    """A value of CSV, in quotes where it would be read as another one, or as NULL."""
+    text = f"x'{value.hex()}'" if isinstance(value, bytes) else str(value)
+    return '"' + text.replace('"', '""') + '"' if text == null or any(mark in text for mark in ',"\n\r') else text
+
+
+def _is_date(tokens: list[Token]) -> bool:
+    return len(tokens) == 1 and (tokens[0].kind == "number" or bool(A_DATE.fullmatch(tokens[0].text) and len(tokens[0].text) > 2))
+
+
+def _may_be_column(tokens: list[Token]) -> bool:
+    return tokens[0].names and (len(tokens) == 1 or (len(tokens) == 3 and tokens[1].says(".") and tokens[2].names))

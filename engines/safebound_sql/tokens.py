@@ -37,6 +37,7 @@ POSTGRES = re.compile("|".join([
     SPACE,
     r"(?P<comment>/\*)",
     r"(?P<text>[eE]'(?:[^'\\]|\\.|'')*'|[uU]&'(?:[^']|'')*'|[bBxXnN]?'(?:[^']|'')*'|\$(?P<tag>(?:[^\W\d]\w*)?)\$.*?\$(?P=tag)\$)",
+    r'(?P<escaped>[uU]&"(?:[^"]|"")+")',
     r'(?P<quoted>"(?:[^"]|"")+")',
     NUMBER, WORD,
     r"(?P<mark>::|:=|[(),.;:\[\]])",
@@ -73,6 +74,8 @@ def dialect_rules(quoted: str, texts: str = "'", comments: str | None = None, su
     ]), re.DOTALL)
 
 
+MOST_PARENTHESES = 200
+
 _COMMENT_ENDS = re.compile(r"/\*|\*/")
 
 
@@ -84,12 +87,14 @@ def place(text: str, at: int) -> str:
 
 def tokens(text: str, rules: re.Pattern) -> list[Token]:
     """All tokens of the text. Comments and blanks are left out."""
-    found, at, gap = [], 0, ""
+    found, at, gap, depth = [], 0, "", 0
     while at < len(text):
         match = rules.match(text, at)
         if not match:
             raise Refused(f"{text[at]!r} at {place(text, at)} begins nothing that is known, or never ends")
         kind, end = match.lastgroup, match.end()
+        if kind == "escaped":
+            raise Refused(f"{match.group()} at {place(text, at)}: a name with escapes; write its characters in double quotes")
         if kind == "comment":
             end = _end_of_comment(text, at)
         if kind == "operator":
@@ -99,6 +104,9 @@ def tokens(text: str, rules: re.Pattern) -> list[Token]:
         else:
             found.append(Token(kind, text[at:end], at, gap))
             gap = ""
+            depth += found[-1].says("(") - found[-1].says(")")
+            if depth > MOST_PARENTHESES:
+                raise Refused(f"( at {place(text, at)}: more than {MOST_PARENTHESES} parentheses are open there")
         at = end
     return found
 

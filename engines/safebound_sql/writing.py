@@ -19,11 +19,10 @@ class Writer:
 
     def query_in_order(self, plan: Plan) -> str:
         """The query with its joins written in the planned order."""
-        writing = Writing(self)
-        joined = writing.joined(plan.shape)
-        outputs = ", ".join(map(writing.output, self.query.outputs))
-        distinct, above = writing.text(self.query.distinct), writing.text(self.query.above)
-        lines = [f"SELECT {distinct and distinct + ' '}{outputs}", joined, *filter(None, [above])]
+        writing, query = Writing(self), self.query
+        joined = writing.below_the_outputs(plan.shape)
+        outputs = ", ".join(output if isinstance(output, str) else writing.column(output) for output in query.outputs)
+        lines = [f"SELECT {query.distinct and query.distinct + ' '}{outputs}", joined, *filter(None, [query.above])]
         return writing.before("\n".join(lines))
 
     def true_rows(self, levels: list[Level]) -> str:
@@ -58,37 +57,86 @@ class Writing:
     def text(self, text: Text) -> str:
         return text.naming(self._elsewhere)
 
-    def output(self, text: Text) -> str:
-        """An output; a column alone keeps its name."""
-        alone = len(text.parts) == 1 and not isinstance(text.parts[0], str) and self._elsewhere(text.parts[0].named)
-        return f"{self.text(text)} AS {self.engine.quote(text.parts[0].named.column.name)}" if alone else self.text(text)
+    def column(self, named: Named) -> str:
+        """A column of a star as an output, by its own name."""
+        name = self.engine.quote(named.column.name)
+        visible = self._visible(named)
+        return f"{self.query.entries[named.entry].alias}.{visible}{'' if visible == name else f' AS {name}'}"
+
+    def _visible(self, named: Named) -> str:
+        """What the column is called beside its entry's alias."""
+        return self._name_within(named) if named in self.query.renamed else self.engine.quote(named.column.name)
 
     def _elsewhere(self, named: Named) -> str | None:
-        """The column's name where it is one of a part with several entries."""
+        """The column's name where it is one of a part with several entries, or goes by another name."""
         part = self.within.get(named.entry)
-        return f"{part}.{self._name_within(named)}" if part else None
+        if part:
+            return f"{part}.{self._name_within(named)}"
+        return f"{self.query.entries[named.entry].alias}.{self._visible(named)}" if named in self.query.renamed else None
 
     def _name_within(self, named: Named) -> str:
-        return self.engine.quote(f"_{named.entry}_{named.column.name}")
+        return self.engine.quote(f"{self.prefix}{named.entry}_{named.column.name}")
+
+    def below_the_outputs(self, shape: Shape) -> str:
+        """FROM and WHERE for what stands above the join: each entry is there under its own alias, with its columns' own names."""
+        if self.query.frame:
+            return self._in_frame(self.joined(shape))
+        self.within = {}
+        joins = self._from(shape)
+        again = self._entries_of_parts()
+        return f"FROM {joins}{again}{where(self._left_over(shape))}"
+
+    def _in_frame(self, joined: str) -> str:
+        """FROM as it was written, with the joined rows' columns in place of each table, so that USING merges as it did."""
+        columns = {number: self._named_above(number) for number in range(len(self.query.entries))}
+        outputs = [f"{self._source(named)} AS {self._name_within(named)}" for some in columns.values() for named in some]
+        rows = f"{self.prefix}joined"
+        parts = [part if isinstance(part, str) else self._row_of(part, columns[part], rows) for part in self.query.frame]
+        return f"FROM (SELECT {', '.join(outputs)} {joined}) AS {rows}, {''.join(parts)}"
+
+    def _row_of(self, number: int, columns: list[Named], rows: str) -> str:
+        outputs = ", ".join(f"{rows}.{self._name_within(named)} AS {self._visible(named)}" for named in columns)
+        return f"LATERAL (SELECT {outputs}) AS {self.query.entries[number].alias}"
+
+    def _named_above(self, number: int) -> list[Named]:
+        return [named for column in self.columns[number] if (named := Named(number, column)) in self.query.named_above]
+
+    def _entries_of_parts(self) -> str:
+        """The entries whose columns are those of a part, each again by itself: a part's row by its number."""
+        again, numbered = "", f"{self.prefix}row"
+        for number, part in sorted(self.within.items()):
+            columns, alias = self._named_above(number), self.query.entries[number].alias
+            if not columns:
+                continue
+            outputs = ", ".join([numbered, *(f"{self._name_within(named)} AS {self._visible(named)}" for named in columns)])
+            again += f"\n  {self.engine.join_word} (SELECT {outputs} FROM {part}) AS {alias} ON {alias}.{numbered} = {part}.{numbered}"
+        if again:
+            rows = f"SELECT {self.engine.row_number} AS {numbered}, "
+            parts = set(self.within.values())
+            self.texts = [(name, text.replace("SELECT ", rows, 1) if name in parts else text) for name, text in self.texts]
+        return again
 
     def joined(self, shape: Shape) -> str:
         """FROM with the joins of this shape, and WHERE with what is left."""
         self.within = {}
         joins = self._from(shape)
-        return f"FROM {joins}{where(self._alone(shape) + list(map(self._condition, self.query.constants)))}"
+        return f"FROM {joins}{where(self._left_over(shape))}"
+
+    def _left_over(self, shape: Shape) -> list[str]:
+        return self._alone(shape) + list(map(self._condition, self.query.constants))
 
     def _condition(self, text: Text) -> str:
         return bracketed(self.text(text))
 
     def _alone(self, shape: Shape) -> list[str]:
         """The own conditions of entries that are no parts yet, neither alone nor with others."""
-        numbers = [number for number in entries_of(shape) if number not in self.rows and number not in self.within]
+        within = {*self.rows, *self.within, *(named.entry for named in self.query.renamed)}
+        numbers = [number for number in entries_of(shape) if number not in within]
         return [text for number in numbers for text in own_conditions(self.query.entries[number])]
 
     def _from(self, shape: Shape) -> str:
         if isinstance(shape, int):
-            entry = self.query.entries[shape]
-            return f"{self.rows.get(shape, entry.table)} AS {entry.alias}"
+            return self._entry(shape)
         left, right = shape
         sides = frozenset(entries_of(left)), frozenset(entries_of(right))
         joins = (self._side if self.engine.makes_tables else self._from)(left), self._side(right)
@@ -96,6 +144,16 @@ class Writing:
         if conditions:
             return f"{joins[0]}\n  {self.engine.join_word} {joins[1]} ON {conditions}"
         return f"{joins[0]}\n  CROSS JOIN {joins[1]}"
+
+    def _entry(self, number: int) -> str:
+        entry = self.query.entries[number]
+        rows = f"{self.rows.get(number, entry.table)} AS {entry.alias}"
+        if not any(named.entry == number for named in self.query.renamed):
+            return rows
+        columns = [Named(number, column) for column in self.columns[number]]
+        outputs = ", ".join(f"{entry.alias}.{self.engine.quote(named.column.name)} AS {self._visible(named)}" for named in columns)
+        conditions = [] if number in self.rows else own_conditions(entry)
+        return f"(SELECT {outputs} FROM {rows}{where(conditions)}) AS {entry.alias}"
 
     def _side(self, shape: Shape) -> str:
         """The right side of a join."""

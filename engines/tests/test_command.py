@@ -93,8 +93,8 @@ class Commands(OnEachEngine, Process):
         told = self.done("run", "--budget", "2", status=8)
         why = "2 rows are too few: the best plan has a part of at most 3 rows, so 3 would do"
         self.assertEqual(told, f"safebound-sql: budget: {why}\n")
-        self.assertEqual(self.done("plan", text=self.text.replace("JOIN", "LEFT JOIN"), status=5),
-                         "safebound-sql: refused: LEFT JOIN at line 1, column 62: only inner joins are bounded\n")
+        self.assertEqual(self.done("plan", text=self.text.replace("JOIN", "NATURAL JOIN"), status=5),
+                         "safebound-sql: refused: NATURAL JOIN at line 1, column 62: write out its columns with USING\n")
         self.assertIn("budget", self.done("run", status=2))
         self.assertIn("--accuracy", self.done("plan", "--accuracy", "65", status=2))
         self.assertIn("engine", self.done("plan", text=self.text.replace("price", "prize"), status=12))

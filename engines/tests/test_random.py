@@ -5,7 +5,9 @@ from __future__ import annotations
 import os
 import unittest
 
+import random_names
 from bases import OnEachEngine, on_postgres
+from random_names import RandomNames
 from random_queries import TABLES, Randomly
 from safebound_sql.levels import entries_of
 
@@ -53,7 +55,34 @@ class RandomQueries(OnEachEngine):
         return bool(planner.query.equalities)
 
 
-RandomQueriesOnPostgres = on_postgres(RandomQueries)
+class RandomOutputs(OnEachEngine):
+    """Outputs with names of columns, over USING, in order: half as many."""
+
+    def test_random_queries(self) -> None:
+        done = 0
+        for number in range(SEED, SEED + max(QUERIES // 2, 1)):
+            randomly = RandomNames(number, self.base.engine)
+            if (number - SEED) % QUERIES_OF_A_DATABASE == 0:
+                self.doCleanups()
+                self.base.script(randomly.schema())
+                for table in range(random_names.TABLES):
+                    self.base.fill(f"u{table}", randomly.rows())
+            text = randomly.query()
+            with self.subTest(number=number, query=text):
+                self.check(randomly, text)
+                done += 1
+        self.assertEqual(done, max(QUERIES // 2, 1))
+
+    def check(self, randomly: RandomNames, text: str) -> None:
+        choose = randomly.random.choice
+        planner, plan = self.planned(text, choose((True, True, False)), choose((1, 8)), choose((False, False, True)))
+        self.never_under(planner, plan, text)
+        planner.engine.keep_order()
+        self.assertEqual(list(map(repr, planner.engine.rows(planner.sql(plan)))), list(map(repr, self.base.rows(text))), planner.sql(plan))
+        planner.engine.close()
+
+
+RandomQueriesOnPostgres, RandomOutputsOnPostgres = on_postgres(RandomQueries), on_postgres(RandomOutputs)
 
 if __name__ == "__main__":
     unittest.main()

@@ -102,7 +102,7 @@ class RefusalsOfPostgres(OnEachEngine):
         self.refused("SELECT x INTO c FROM a", "INTO at line 1, column 10")
         self.refused("SELECT count(a) FROM a", "a at line 1, column 14", "a whole row")
         self.refused("SELECT count(a.*) FROM a", "a star stands alone")
-        self.refused("SELECT public.a.x FROM a", "public")
+        self.opened("SELECT public.a.x FROM a WHERE public.a.y = 1 ORDER BY public.a.x")
 
 
 class RefusalsOfSqlite(OnEachEngine):

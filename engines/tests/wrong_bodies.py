@@ -7,6 +7,7 @@ import shutil
 import subprocess
 import sys
 import tempfile
+from concurrent.futures import ThreadPoolExecutor
 from dataclasses import dataclass
 from pathlib import Path
 
@@ -52,15 +53,15 @@ EDITS = [
     Edit("OR binds more than AND", "reading.py",
          '        if word.says("OR"):\n            return [condition]\n', "", "test_meaning.Edges.test_or_over_two_entries"),
     Edit("an ON condition of an entry is lost", "reading.py",
-         "        self.statement.conditions += parts\n", "        self.statement.conditions += parts[:1]\n",
+         "self.statement).conditions += parts\n", "self.statement).conditions += parts[:1]\n",
          "test_meaning.Counted.test_a_condition_of_on_counts"),
     Edit("a self-join's aliases are mixed", "names.py",
          "{entry.name: entry.number for entry in self.entries}",
          "{entry.name: max(other.number for other in self.entries if other.table == entry.table) for entry in self.entries}",
          "test_meaning.Counted.test_a_table_joined_with_itself"),
     Edit("the order of the SQL isn't the planned one", "writing.py",
-         "joined = writing.joined(plan.shape)",
-         "joined = writing.joined(__import__('functools').reduce(lambda a, b: (a, b), range(len(self.query.entries))))",
+         "joined = writing.below_the_outputs(plan.shape)",
+         "joined = writing.below_the_outputs(__import__('functools').reduce(lambda a, b: (a, b), range(len(self.query.entries))))",
          "test_meaning.Orders.test_the_sql_has_the_planned_order"),
     Edit("SQLite chooses the order", "sqlite.py", 'join_word = "CROSS JOIN"', 'join_word = "JOIN"',
          "test_meaning.Orders.test_the_sql_has_the_planned_order"),
@@ -73,21 +74,80 @@ EDITS = [
     Edit("a budget isn't compared with the levels", "levels.py",
          "_levels(query, known.best_order(budget))", "_levels(query, known.best_order(MOST_BUDGET))",
          "test_meaning.Orders.test_a_budget_is_for_every_level"),
-    Edit("counts of two snapshots, in SQLite", "sqlite.py", '            self.connection.execute("BEGIN")\n', "",
+    Edit("counts of two snapshots, in SQLite", "sqlite.py", '        self.connection.execute("BEGIN")\n', "",
          "test_meaning.Snapshots.test_rows_that_come_between"),
     Edit("counts of two snapshots, in PostgreSQL", "postgres.py", "IsolationLevel.REPEATABLE_READ", "IsolationLevel.READ_COMMITTED",
          "test_meaning.SnapshotsOnPostgres.test_rows_that_come_between"),
     Edit("rows are joined that weren't counted", "writing.py", "if reduce else Parts()", "if False else Parts()",
          "test_meaning.Reduced.test_the_counted_rows_are_joined"),
-    Edit("functions that answer anew are taken", "meaning.py", "for name in engine.fickle(set(asked)):", "for name in ():",
+    Edit("functions that answer anew are taken", "meaning.py", "for name, why in engine.fickle(set(asked)).items():", "for name, why in ():",
          "test_refusals.Refusals.test_random"),
-    Edit("views aren't looked into", "meaning.py", "for name, what in _fickle_views(set(tables), engine):", "for name, what in ():",
+    Edit("views aren't looked into", "meaning.py", "for name, why in _fickle_views(set(tables), engine):", "for name, why in ():",
          "test_refusals.Refusals.test_views"),
     Edit("subqueries may name entries", "names.py", "            if why:\n", "            if False:\n",
          "test_refusals.Refusals.test_subqueries"),
     Edit("a word of the language is a column", "names.py",
-         '        if token.kind == "word" and key in self.engine.reserved:\n            return None\n', "",
+         " or self.key(token) in self.engine.reserved", "",
          "test_meaning.EdgesOfPostgres.test_a_word_of_the_language_is_no_column"),
+    Edit("a merged name is any entry's, above the join", "meaning.py", "query.frame = list(_frame(frame))", "query.frame = []",
+         "test_corners.NamesOnPostgres.test_aliases_like_columns_over_using"),
+    Edit("USING always takes the left column", "postgres.py", "        return 0 if plain[0] else 1 if plain[1] else 0 if common == own[0] else None",
+         "        return 0", "test_corners.CornersOfPostgres.test_using_across_types"),
+    Edit("a merged column goes by its name twice, in SQLite", "meaning.py",
+         "query.renamed = {named for named in names.merged_away if self.engine.key(named.column.name, True) in bare}", "query.renamed = set()",
+         "test_corners.Names.test_aliases_like_columns_over_using"),
+    Edit("rows of two parts are mixed", "writing.py", " ON {alias}.{numbered} = {part}.{numbered}", "",
+         "test_corners.Names.test_aliases_like_columns_in_trees"),
+    Edit("views may number rows that tie", "choosing.py", "if frames or not (function and function.says(*WINDOWS_WITH_TIES)):", "if False:",
+         "test_corners.ViewsThatChoose.test_they_are_refused"),
+    Edit("DISTINCT ON chooses nothing", "choosing.py", 'token.says("DISTINCT") and behind.says("ON")', "False",
+         "test_corners.ViewsThatChooseOnPostgres.test_they_are_refused"),
+    Edit("arrays have an order of their own", "choosing.py", "not _in_whole_order(pieces, at + 1)", "False",
+         "test_corners.ViewsThatChooseOnPostgres.test_they_are_refused"),
+    Edit("columns beside GROUP BY choose nothing", "sqlite.py", "takes_bare_columns = True", "takes_bare_columns = False",
+         "test_corners.ViewsThatChoose.test_they_are_refused"),
+    Edit("line ends are those of the file", "command.py", 'return sys.stdin.buffer.read().decode("utf-8-sig")', "return sys.stdin.read()",
+         "test_corners.Texts.test_line_ends_stay"),
+    Edit("settings may be asked for", "postgres.py", "|current_setting$", "", "test_corners.CornersOfPostgres.test_the_sessions_settings"),
+    Edit("row policies aren't looked at", "postgres.py", "WHERE relrowsecurity AND polqual IS NOT NULL", "WHERE false",
+         "test_corners.CornersOfPostgres.test_row_policies"),
+    Edit("a name with escapes is a text", "tokens.py", '        if kind == "escaped":\n', "        if False:\n",
+         "test_corners.CornersOfPostgres.test_functions_that_hide"),
+    Edit("an operator of a schema isn't looked at", "postgres.py", " OR oprname = ANY(%(qualified)s))", ")",
+         "test_corners.CornersOfPostgres.test_functions_that_hide"),
+    Edit("a user's own = joins as PostgreSQL's", "postgres.py", "AND pg_operator_is_visible(o.oid) AND EXISTS (", "AND false AND EXISTS (",
+         "test_corners.CornersOfPostgres.test_operators_of_the_users_own"),
+    Edit("files are tables like others", "postgres.py", "h.proname IS DISTINCT FROM 'postgres_fdw_handler'", "false",
+         "test_corners.CornersOfPostgres.test_tables_without_snapshots"),
+    Edit("a date is what is in parentheses", "sqlite.py", "return not dates or not all(", "return False and not all(",
+         "test_corners.CornersOfSqlite.test_dates"),
+    Edit("a stored 'now' isn't looked for", "meaning.py", "if named is None or self.engine.says_now(", "if named is None or False and self.engine.says_now(",
+         "test_corners.CornersOfSqlite.test_dates"),
+    Edit("a text is no alias", "sqlite.py", 'return [column[0] for column in self.connection.execute(f"SELECT * FROM ({sql}\\n) LIMIT 0").description]',
+         "return []", "test_corners.CornersOfSqlite.test_aliases_as_texts"),
+    Edit("a name with a bracket is a text", "sqlite.py", """if token.text[0] == '"'}""", """if token.text[0] == '"' and "]" not in token.text}""",
+         "test_corners.CornersOfSqlite.test_brackets_in_names"),
+    Edit("a primary key groups nothing else", "meaning.py", "return above[: groups.stop] + more + above[groups.stop :]", "return above",
+         "test_corners.CornersOfPostgres.test_groups_by_a_primary_key"),
+    Edit("the planned query isn't looked at before it is admitted", "command.py", "    planner.check(plan)\n", "",
+         "test_ends.EndsOfPostgres.test_what_the_engine_refuses_is_told_first"),
+    Edit("columns that may not be read are carried", "postgres.py", " AND has_column_privilege(a.attrelid, a.attnum, 'SELECT')", "",
+         "test_ends.EndsOfPostgres.test_rights_on_columns"),
+    Edit("rows above a bound are nothing to speak of", "command.py",
+         "        if rows > level.bound:\n            raise AboveBound(number, rows, level.bound)\n", "        pass\n",
+         "test_ends.EndsOfPostgres.test_rows_above_a_bound"),
+    Edit("rows without a partner aren't counted", "block_plans.py", '"LEFT": matched + kinds', '"LEFT": matched',
+         "test_blocks.Blocks.test_outer_joins"),
+    Edit("the right side's rows are those with a partner", "block_plans.py", '"RIGHT": matched + alone', '"RIGHT": matched',
+         "test_blocks.Blocks.test_outer_joins"),
+    Edit("a condition on a missing entry is its own", "block_plans.py", "settled = entries <= set(self.island) and", "settled =",
+         "test_blocks.Blocks.test_outer_joins"),
+    Edit("a value of a query in FROM stands there once", "block_plans.py", "[(1, rows) if once else (rows, 1)]", "[(1, rows)]",
+         "test_blocks.BlocksOnPostgres.test_queries_in_from_and_with"),
+    Edit("UNION has the rows of one side", "block_plans.py", 'total = sum(rows) if first == "UNION"', 'total = rows[0] if first == "UNION"',
+         "test_blocks.BlocksOnPostgres.test_queries_in_from_and_with"),
+    Edit("an entry of a block outside is no other's", "block_plans.py", "        outer = self._names_outside(piece)\n", "        outer = False\n",
+         "test_blocks.Blocks.test_subqueries"),
     Edit("an anti-join is an inner join", "dialects.py", "for token in _no_inner_joins(pieces):", "for token in ():",
          "test_dialects.RefusedByDialects.test_joins_that_arent_inner"),
     Edit("an array of an entry is a table of a schema", "dialects.py", "if self.name_key(source.alias).lower() in schemas:", "if False:",
@@ -196,15 +256,21 @@ def tried(edit: Edit) -> str:
     return "caught" if ran.returncode else "not caught"
 
 
+def result_of(edit: Edit) -> str:
+    if any(word in edit.test for word in WANTS_SERVERS) and not os.environ.get("SAFEBOUND_SQL_POSTGRES"):
+        return "passed over"
+    result = tried(edit)
+    print(f"{result:<12} {edit.name}", flush=True)
+    return result
+
+
 def main() -> int:
-    wrong = 0
-    for edit in EDITS:
-        if any(word in edit.test for word in WANTS_SERVERS) and not os.environ.get("SAFEBOUND_SQL_POSTGRES"):
-            print(f"passed over  {edit.name}")
-            continue
-        result = tried(edit)
-        wrong += result != "caught"
-        print(f"{result:<12} {edit.name}", flush=True)
+    """Those on SQLite are tried beside those on the servers, which share their tables and so follow each other."""
+    on_servers = [edit for edit in EDITS if any(word in edit.test for word in WANTS_SERVERS)]
+    others = [edit for edit in EDITS if edit not in on_servers]
+    with ThreadPoolExecutor(1) as servers, ThreadPoolExecutor(max(1, (os.cpu_count() or 2) - 1)) as files:
+        results = [*servers.map(result_of, on_servers), *files.map(result_of, others)]
+    wrong = sum(result not in ("caught", "passed over") for result in results)
     print(f"{len(EDITS)} wrong bodies, {wrong} of them not caught")
     return 1 if wrong else 0
 

@@ -1,0 +1,153 @@
+"""The blocks of a query: each SELECT of it with its FROM, by itself, in WITH, in FROM, in a condition or beside UNION and its kin."""
+
+from __future__ import annotations
+
+from dataclasses import dataclass, field
+from typing import Iterator, Union
+
+from .faults import Refused
+from .reading import TOGETHER, Tokens
+from .tokens import Token, closing, part_of_name, place
+
+BEGIN = ("SELECT", "WITH", "VALUES")
+
+
+@dataclass
+class Core:
+    """A SELECT: its tokens from which to which, what it is called, and the queries within it."""
+
+    start: int
+    end: int
+    called: str
+    outside: Core | None
+    inner: list[Query] = field(default_factory=list)
+
+
+@dataclass
+class Part:
+    """A part of WITH: its name, its column names and its query."""
+
+    name: Token
+    columns: Tokens
+    query: Query
+
+
+@dataclass
+class Query:
+    """A query with its WITH, of one SELECT or of several together; `operators` stand between them."""
+
+    start: int
+    end: int
+    parts: list[Part] = field(default_factory=list)
+    operators: list[str] = field(default_factory=list)
+    members: list[Union[Core, Query]] = field(default_factory=list)
+    visible: list[Part] = field(default_factory=list)
+    refused: str | None = None
+
+    def cores(self) -> Iterator[Core]:
+        """All SELECTs of it, the inner ones first."""
+        for part in self.parts:
+            yield from part.query.cores()
+        for member in self.members:
+            if isinstance(member, Query):
+                yield from member.cores()
+                continue
+            for inner in member.inner:
+                yield from inner.cores()
+            yield member
+
+
+class Finder:
+    """Finds the blocks among the tokens of a text."""
+
+    def __init__(self, text: str, pieces: Tokens) -> None:
+        self.text, self.pieces = text, pieces
+
+    def found(self) -> Query:
+        end = len(self.pieces)
+        while end and self.pieces[end - 1].says(";"):
+            end -= 1
+        return self._query(0, end, "the query", None, [])
+
+    def _query(self, start: int, end: int, called: str, outside: Core | None, visible: list[Part]) -> Query:
+        query = Query(start, end)
+        at = start
+        if at < end and self.pieces[at].says("WITH"):
+            at = self._with(query, at + 1, end, outside, visible)
+        query.visible = visible + query.parts
+        while at < end:
+            at = self._member(query, at, end, called, outside)
+            if at >= end or not self.pieces[at].says(*TOGETHER):
+                break
+            operator = self.pieces[at].text.upper()
+            at += 1
+            if at < end and self.pieces[at].says("ALL", "DISTINCT"):
+                operator += f" {self.pieces[at].text.upper()}"
+                at += 1
+            query.operators.append(operator)
+        return query
+
+    def _with(self, query: Query, at: int, end: int, outside: Core | None, visible: list[Part]) -> int:
+        """Reads the parts of WITH. Answers where the query itself begins."""
+        if self.pieces[at].says("RECURSIVE"):
+            query.refused = f"WITH RECURSIVE at {self._place(at)}: how often it goes on isn't known"
+            at += 1
+        while at < end:
+            name, columns = self.pieces[at], []
+            at += 1
+            if self.pieces[at].says("("):
+                last = closing(self.pieces, at)
+                columns, at = self.pieces[at : last + 1], last + 1
+            while at < end and not self.pieces[at].says("("):
+                at += 1
+            last = closing(self.pieces, at)
+            called = f"WITH {name.text} at {self._place(at)}"
+            query.parts.append(Part(name, columns, self._query(at + 1, last, called, outside, visible + query.parts)))
+            query.parts[-1].query.refused = query.parts[-1].query.refused or query.refused
+            at = last + 1
+            if not (at < end and self.pieces[at].says(",")):
+                break
+            at += 1
+        return at
+
+    def _member(self, query: Query, at: int, end: int, called: str, outside: Core | None) -> int:
+        """Reads one SELECT, or a query in parentheses. Answers what is behind it."""
+        called = f"{called}, {query.operators[-1]}" if query.operators else called
+        if self.pieces[at].says("("):
+            last = closing(self.pieces, at)
+            query.members.append(self._query(at + 1, last, called, outside, query.visible))
+            return last + 1
+        if not self.pieces[at].says("SELECT"):
+            raise Refused(f"{self.pieces[at].text} at {self._place(at)}: a query begins with SELECT")
+        core = Core(at, end, called, outside)
+        query.members.append(core)
+        stop = self._end_of_core(at, end, bool(query.operators))
+        core.end = stop
+        self._inner(core, query.visible)
+        return stop
+
+    def _end_of_core(self, at: int, end: int, together: bool) -> int:
+        """Where a SELECT ends. ORDER BY and LIMIT behind several belong to all of them."""
+        stop = at
+        while stop < end:
+            token = self.pieces[stop]
+            if token.says(*TOGETHER) and not part_of_name(self.pieces, stop):
+                return stop
+            if together and token.says("ORDER", "LIMIT", "OFFSET", "FETCH") and not part_of_name(self.pieces, stop):
+                return stop
+            stop = closing(self.pieces, stop) + 1 if token.says("(", "[") else stop + 1
+        return end
+
+    def _inner(self, core: Core, visible: list[Part]) -> None:
+        at = core.start + 1
+        while at < core.end:
+            if self.pieces[at].says("(") and at + 1 < core.end and self.pieces[at + 1].says(*BEGIN):
+                last = closing(self.pieces, at)
+                if not self.pieces[at + 1].says("VALUES"):
+                    called = f"the subquery at {self._place(at)}"
+                    core.inner.append(self._query(at + 1, last, called, core, visible))
+                at = last
+            at += 1
+
+    def _place(self, at: int) -> str:
+        return place(self.text, self.pieces[at].at)

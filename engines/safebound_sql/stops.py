@@ -1,0 +1,23 @@
+"""Ctrl-C and SIGTERM: both end a statement on the engine, and then the command."""
+
+from __future__ import annotations
+
+import signal
+
+_came: list[int] = []
+
+
+def heed() -> None:
+    """From now on both signals are an interruption, which `came` tells from others."""
+    for number in (signal.SIGINT, signal.SIGTERM):
+        signal.signal(number, _come)
+
+
+def _come(number: int, _frame) -> None:
+    _came.append(number)
+    raise KeyboardInterrupt
+
+
+def came() -> int | None:
+    """The signal that came first, also where an engine's library took the interruption for an error of its own."""
+    return _came[0] if _came else None

@@ -1,0 +1,209 @@
+"""Queries of several blocks and outer joins: each block's levels have no more rows than their bounds, and the rows are the query's."""
+
+from __future__ import annotations
+
+import random
+import unittest
+
+import tpch
+from bases import POSTGRES, ROOT, OnEachEngine, PostgresBase, counted, on_postgres
+from process import Process
+from safebound_sql import block_plans
+from safebound_sql.command import opened
+from safebound_sql.faults import PastBudget
+from safebound_sql.levels import MOST_BUDGET
+
+QUERIES_OF_THE_ARCHIVE = ROOT / "bench" / "archive_queries"
+
+
+class InBlocks(OnEachEngine, Process):
+    def tried_in_blocks(self, text: str, budget: int = MOST_BUDGET) -> block_plans.Planner:
+        """The plan of a query, after its rows and the rows of its levels were looked at."""
+        engine = opened(self.base.url, None)
+        try:
+            self.assertTrue(block_plans.several(text, engine))
+            planner = block_plans.Planner(engine, text, 1, budget)
+            planner.check()
+            planner.true_rows()
+            for plan in planner.plans.values():
+                for level in plan.levels:
+                    if level.rows is not None:
+                        self.assertLessEqual(level.rows, level.bound, f"{level.joined} of {plan.core.called}\n{text}")
+            engine.keep_order()
+            rows, true = engine.rows(planner.sql()), self.base.rows(text)
+            self.assertEqual(counted(rows), counted(true), planner.sql())
+            [top] = [plan for plan in planner.plans.values() if plan.core.called == "the query"]
+            if not planner.query.operators and top.rows is not None:
+                self.assertLessEqual(len(true), top.rows)
+            return planner
+        finally:
+            engine.close()
+
+
+class Blocks(InBlocks):
+    schema = """
+    CREATE TABLE a (x INTEGER, p INTEGER, t TEXT);
+    CREATE TABLE b (x INTEGER, y INTEGER, z INTEGER);
+    CREATE TABLE c (y INTEGER, w INTEGER);
+    CREATE TABLE k (x INTEGER PRIMARY KEY);
+    """
+
+    @classmethod
+    def fill(cls) -> None:
+        cls.base.fill("a", [(n % 6 if n % 7 else None, n, f"t{n % 4}") for n in range(20)])
+        cls.base.fill("b", [(n % 5, n % 4, n) for n in range(20)])
+        cls.base.fill("c", [(n % 3, n) for n in range(12)])
+        cls.base.fill("k", [(n,) for n in range(3)])
+
+    def bounds(self, text: str, *bounds: list[int]) -> None:
+        """The bounds of the blocks' levels, the inner blocks first, as they are counted by hand."""
+        with self.subTest(text):
+            planner = self.tried_in_blocks(text)
+            self.assertEqual(planner.unbounded, [])
+            if bounds:
+                self.assertEqual([[level.bound for level in plan.levels] for plan in planner.plans.values()], list(bounds))
+
+    def test_outer_joins(self) -> None:
+        # k joins at most 12 rows of b, since three values stand in four rows each; beside them are the 3 of k.
+        self.bounds("SELECT k.x, b.z FROM k LEFT JOIN b ON k.x = b.x", [3, 15])
+        self.bounds("SELECT k.x, b.z FROM k LEFT JOIN b ON k.x = b.x AND b.z < 5", [3, 6])
+        self.bounds("SELECT k.x, b.z FROM b RIGHT JOIN k ON k.x = b.x", [20, 15])
+        self.bounds("SELECT k.x, b.z FROM k FULL JOIN b ON k.x = b.x", [3, 35])
+        for text in (
+            "SELECT a.p, b.z, c.w FROM a LEFT JOIN b ON a.x = b.x AND b.z > 4 LEFT JOIN c ON c.y = b.y WHERE a.p > 3 AND b.z IS NULL OR c.w = 1",
+            "SELECT a.p, b.z FROM a LEFT JOIN b ON a.x = b.x WHERE b.z IS NULL AND a.t = 't1'",
+            "SELECT a.p, b.z FROM a FULL JOIN b ON a.x = b.x AND a.p > 4 WHERE b.z IS NULL OR b.z > 3",
+            "SELECT a.p, b.z, c.w FROM a RIGHT JOIN b ON a.x = b.x JOIN c ON c.y = b.y",
+            "SELECT a.p, b.z, c.w FROM a LEFT JOIN b ON a.x = b.x JOIN c ON c.y = b.y AND c.w > 1 WHERE a.p < 12",
+            "SELECT a.p, b.z, c.w FROM a LEFT JOIN b ON a.x = b.x, c WHERE c.w = a.p",
+            "SELECT count(*) FROM a LEFT JOIN b ON a.x = b.x LEFT JOIN c ON c.w = a.p FULL JOIN k ON k.x = c.y",
+            "SELECT a.p FROM a LEFT JOIN b ON a.x = b.x OR a.p = b.z",
+        ):
+            self.bounds(text)
+
+    def test_queries_in_from_and_with(self) -> None:
+        for text in (
+            "WITH q AS (SELECT x, count(*) AS n FROM b, c WHERE b.y = c.y GROUP BY x) SELECT a.p, q.n FROM a, q WHERE a.x = q.x",
+            "WITH q (u, v) AS (SELECT x, y FROM b), r AS (SELECT u FROM q WHERE v > 1) SELECT a.p FROM a JOIN r ON r.u = a.x",
+            "SELECT s.m, a.t FROM (SELECT b.x, max(z) AS m FROM b GROUP BY b.x) AS s JOIN a ON a.x = s.x ORDER BY 1, 2",
+            "SELECT s.p FROM (SELECT a.p, b.z FROM a LEFT JOIN b ON a.x = b.x) AS s, (SELECT max(w) AS w FROM c) AS m WHERE s.z < m.w",
+            "SELECT s.x FROM (SELECT x FROM a UNION SELECT y FROM b LIMIT 100) AS s LEFT JOIN k ON k.x = s.x",
+            "SELECT count(*) FROM (SELECT DISTINCT x FROM b) AS s, k WHERE s.x = k.x",
+        ):
+            self.bounds(text)
+        self.bounds("SELECT s.n, k.x FROM (SELECT count(*) AS n FROM b, c WHERE b.y = c.y) AS s, k", [20, 60], [1, 3])
+
+    def test_together(self) -> None:
+        self.bounds("SELECT x FROM k UNION ALL SELECT y FROM c ORDER BY 1", [3], [12])
+        for text in (
+            "SELECT a.p FROM a, b WHERE a.x = b.x UNION SELECT w FROM c EXCEPT SELECT z FROM b",
+            "SELECT x FROM a INTERSECT SELECT x FROM b ORDER BY x",
+        ):
+            self.bounds(text)
+
+    def test_subqueries(self) -> None:
+        for text in (
+            "SELECT a.p FROM a WHERE EXISTS (SELECT 1 FROM b, c WHERE b.y = c.y AND b.x = a.x)",
+            "SELECT a.p FROM a, k WHERE a.x = k.x AND NOT EXISTS (SELECT * FROM b WHERE b.x = a.x AND z > p)",
+            "SELECT a.p FROM a WHERE p > (SELECT avg(z) FROM b WHERE b.x = a.x)",
+            "SELECT a.p FROM a WHERE a.x IN (SELECT b.x FROM b WHERE b.y IN (SELECT c.y FROM c WHERE c.w = a.p))",
+            "SELECT a.p, (SELECT count(*) FROM b WHERE b.x = a.x) AS n FROM a JOIN k ON k.x = a.x",
+            "SELECT a.p FROM a WHERE a.x IN (SELECT b.x FROM b, c WHERE b.y = c.y)",
+        ):
+            self.bounds(text)
+
+    def test_what_isnt_bounded_is_named(self) -> None:
+        text = "WITH RECURSIVE r (n) AS (SELECT 1 UNION SELECT n + 1 FROM r WHERE n < 5) SELECT r.n FROM r, k WHERE k.x = r.n"
+        planner = self.tried_in_blocks(text)
+        self.assertIn("WITH RECURSIVE at line 1, column 6", planner.unbounded[0])
+        done = self.tried("plan", text=text + " UNION SELECT a.p FROM a, k WHERE a.x = k.x")
+        self.assertEqual(done.returncode, 0, done.stderr)
+        self.assertIn("not bounded: WITH RECURSIVE at line 1, column 6", done.stdout)
+        self.assertIn("the query, UNION: at most", done.stdout)
+        done = self.tried("run", "--budget", "1000", text=text)
+        self.assertEqual((done.returncode, done.stdout), (5, ""), done.stderr)
+
+    def test_a_budget_is_for_every_block(self) -> None:
+        text = "SELECT k.x FROM k WHERE k.x IN (SELECT b.y FROM b, c WHERE b.y = c.y)"
+        self.tried_in_blocks(text, 60)
+        with self.assertRaises(PastBudget) as refused:
+            self.tried_in_blocks(text, 59)
+        self.assertEqual(refused.exception.least, 60)
+        done = self.tried("run", "--budget", "60", text=text + " ORDER BY 1")
+        self.assertEqual((done.returncode, done.stdout), (0, "x\n0\n1\n2\n"), done.stderr)
+
+
+class Tpch(InBlocks):
+    """The 22 queries of TPC-H: in each of them each join is bounded."""
+
+    base_class = PostgresBase
+    schema = tpch.SCHEMA
+
+    @classmethod
+    def fill(cls) -> None:
+        for table, rows in tpch.rows().items():
+            cls.base.fill(table, rows)
+
+    def test_all_queries(self) -> None:
+        found = 0
+        for number, text in tpch.QUERIES.items():
+            with self.subTest(number):
+                found += self.bounded(text)
+        self.assertEqual(found, 22)
+
+    def bounded(self, text: str) -> bool:
+        """Whether each join of the query is."""
+        engine = opened(self.base.url, None)
+        several = block_plans.several(text, engine)
+        engine.close()
+        if several:
+            return not self.tried_in_blocks(text).unbounded
+        planner, plan = self.planned(text)
+        self.never_under(planner, plan, text)
+        self.same_rows(planner, plan, text)
+        planner.engine.close()
+        return True
+
+
+@unittest.skipUnless(QUERIES_OF_THE_ARCHIVE.is_dir(), "no queries of the archive")
+class Archive(InBlocks):
+    """Queries over packages of which the program itself takes fewer: outer joins, WITH, UNION, subqueries."""
+
+    bounded = Tpch.bounded
+
+    @classmethod
+    def fill(cls) -> None:
+        cls.base.script((QUERIES_OF_THE_ARCHIVE / "schema.sql").read_text())
+        pick = random.Random(3)
+        sections = ("games", "libs", "admin", "editors", "mail", "shells", "xfce", "python", "database", "sound", "fonts")
+        names = ["mutt", "python3-a", "python3-b", "libx", "liby", "x-doc"] + [f"p{n}" for n in range(54)]
+        teams = ("Debian Games Team", "Debian GNOME Maintainers", "Debian Python Team", "Ada", "Ben")
+        paths = ("/", "/usr/bin", "/usr/sbin", "/lib/systemd/system", "/usr/include/a", "/etc/cron.daily")
+        some = lambda: pick.randrange(1, 61)  # noqa: E731
+        cls.base.fill("maintainer", list(enumerate(teams, 1)))
+        cls.base.fill("package", [
+            (n, name, f"s{n % 9}", pick.randrange(1, 6), pick.choice(sections), "optional", pick.choice((1000, 200_000, 200_000_000)), pick.randrange(5000))
+            for n, name in enumerate(names, 1)
+        ])
+        cls.base.fill("dependency", [(some(), pick.choice(("Depends", "Recommends", "Breaks")), some()) for _ in range(240)])
+        tags = ("interface::graphical", "interface::x11", "works-with::audio")
+        cls.base.fill("tag", [(some(), pick.choice(("protocol", "interface")), pick.choice(tags)) for _ in range(120)])
+        cls.base.fill("directory", [(n, path, 1) for n, path in enumerate(paths, 1)])
+        ends = (".h", ".service", ".timer", "")
+        cls.base.fill("file", [(some(), pick.randrange(1, 7), pick.choice("abc") + pick.choice(ends)) for _ in range(200)])
+
+    def test_all_queries(self) -> None:
+        unbounded = []
+        for file in sorted((QUERIES_OF_THE_ARCHIVE / "beyond").glob("*.sql")):
+            with self.subTest(file.name):
+                if not self.bounded(file.read_text()):
+                    unbounded.append(file.stem)
+        self.assertEqual(unbounded, ["all-that-mutt-needs"])
+
+
+BlocksOnPostgres, ArchiveOnPostgres = on_postgres(Blocks), on_postgres(Archive)
+Tpch = unittest.skipUnless(POSTGRES, "no PostgreSQL")(Tpch)
+del InBlocks
+
+if __name__ == "__main__":
+    unittest.main()
