@@ -18,14 +18,15 @@ class Flags(NamedTuple):
 
     @property
     def words(self) -> list[str]:
-        return ([] if self.source == "statistics" else ["--" + self.source]) + ([] if self.accuracy == 1 else ["--accuracy", str(self.accuracy)])
+        source = [] if self.source == "statistics" else ["--" + self.source]
+        return source + ([] if self.accuracy == 1 else ["--accuracy", str(self.accuracy)])
 
     @property
     def name(self) -> str:
         return "`" + " ".join(self.words) + "`" if self.words else "no flag"
 
 
-ALL = (Flags("statistics", 1), Flags("statistics", 8), Flags("keys", 1), Flags("keys", 8), Flags("reduce", 1), Flags("reduce", 8), Flags("reduce", 64))
+ALL = (Flags("statistics", 1), Flags("statistics", 8), Flags("keys", 8), Flags("reduce", 1), Flags("reduce", 64))
 
 
 class Bounder:

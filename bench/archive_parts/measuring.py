@@ -11,13 +11,13 @@ from typing import Iterator
 
 from . import asked, places, running, server
 from .bounding import ALL, Bounder
-from .columns import Tables
+from .columns import kept
 from .truth import Counter
 
 SETS = os.path.join(places.MADE, "sets.csv")
 RUNS = os.path.join(places.MADE, "runs.csv")
 SET_COLUMNS = ["question", "entries", "size", "whole", "cyclic", "rows", "by", "expected", *(flags.name for flags in ALL)]
-RUN_COLUMNS = ["question", "flags", "cost", "plan_seconds", "plan_peak", "status", "seconds", "peak", "rows", "same", "postgres_rows", "postgres_seconds"]
+RUN_COLUMNS = ["question", "flags", "cost", "status", "seconds", "peak", "rows", "same", "postgres_rows", "postgres_seconds"]
 # How long PostgreSQL may take to count a set, and for a query.
 COUNTING, ASKING = 60, 60
 
@@ -37,7 +37,7 @@ def written(path: str, columns: list[str], rows: Iterator[list]) -> None:
 
 
 def sets(url: str) -> Iterator[list]:
-    tables = Tables(places.TABLES, asked.schema())
+    tables = kept(places.TABLES, asked.schema())
     bounder = Bounder(tables)
     with server.connected(url) as connection:
         counter = Counter(connection, tables, COUNTING)
@@ -63,12 +63,7 @@ def runs(url: str) -> Iterator[list]:
 
 
 def one_run(question: asked.Question, words: list[str], out: str, true: running.Rows | None) -> list:
-    """The plan, and where the budget admits it the run, with its rows beside PostgreSQL's."""
-    name = os.path.basename(question.path)
-    plan = running.by_program("plan", name, words, out)
-    planned = [plan.cost, plan.seconds, plan.peak]
-    if plan.status:
-        return planned + [plan.status, None, None, None, None]
-    run = running.by_program("run", name, words, out)
-    rows = running.rows_of(out, True)
-    return planned + [run.status, run.seconds, run.peak, rows.number, None if true is None else int(rows == true)]
+    """The run, or its refusal, with its rows beside PostgreSQL's."""
+    run = running.by_program("run", os.path.basename(question.path), words, out)
+    rows = running.rows_of(out, True) if run.status == 0 else None
+    return [run.cost, run.status, run.seconds, run.peak, rows and rows.number, None if None in (rows, true) else int(rows == true)]

@@ -98,11 +98,11 @@ def times(runs: list[dict[str, str]]) -> None:
         own = [one for one in runs if one["flags"] == flags.name]
         ran = [one for one in own if one["status"] == "0"]
         seconds, beside = sum(float(one["seconds"]) for one in ran), sum(float(one["postgres_seconds"]) for one in ran)
-        late = sum(not one["postgres_rows"] for one in ran)
-        plans, peaks = [float(one["plan_seconds"]) for one in own], [float(one["peak"]) for one in ran]
-        rows.append([flags.name, f"{np.median(plans):.2f} s, {max(plans):.2f} s", str(len(ran)), f"{seconds:.1f} s", f"{beside:.1f} s, {late}",
-                     f"{np.median(peaks):.0f} MiB, {max(peaks):.0f} MiB"])
-    table(["", "`plan`, median and longest", "`run`: admitted", "all of these together", "PostgreSQL, the same ones, and how many hadn't ended", "peak, median and greatest"], rows)
+        late, refusals = sum(not one["postgres_rows"] for one in ran), [float(one["seconds"]) for one in own if one["status"] != "0"]
+        peaks = [float(one["peak"]) for one in ran]
+        rows.append([flags.name, str(len(ran)), f"{seconds:.1f} s", f"{beside:.1f} s", str(late), f"{np.median(peaks):.0f} MiB, {max(peaks):.0f} MiB",
+                     f"{max(refusals, default=0):.1f} s"])
+    table(["", "admitted", "`run` of all of these", "PostgreSQL of the same", "of these not ended after 60 s", "peak, median and greatest", "longest refusal"], rows)
 
 
 def worst(sets: list[dict[str, str]], number: int = 10) -> None:
