@@ -12,10 +12,12 @@ EXAMPLE := trips
 DATA := examples/$(EXAMPLE)
 WORDS := run schema.sql query.sql
 
-.PHONY: help run build install uninstall deb release library command engines test edits bench memory limits clean
+.PHONY: help run archive build install uninstall deb release library command engines test edits bench memory limits clean
 
 ## make run       runs a query over examples/trips, or over a folder of yours: make run DATA=FOLDER
 ##                (2 seconds with the built program, or where the kit isn't here with the release's; else a minute, and nothing is proved)
+## make archive   fetches what Debian's archive says of itself by apt (55 MB), makes tables of 2,400,000 rows of it, and answers one
+##                question, with bounds, rows and a picture (about two minutes; Debian only)
 ## make build     proves and builds the program (about 20 minutes the first time; it says how long is left)
 ## make library   proves and builds the library for C, Python and Rust (docs/EMBEDDING.md; under ten minutes the first time)
 ## make command   proves and builds the whole program as a library over files in memory (a minute, once make build has been)
@@ -37,6 +39,10 @@ help:
 # The proved program where `make build` left it, else one that is compiled now.
 run:
 	@tools/run "$(DATA)" $(WORDS)
+
+# One question over real rows: the packages of Debian's archive.
+archive:
+	@bench/archive ask
 
 # The program, proved.
 build:

@@ -24,7 +24,7 @@ def ask() -> int:
         print(f.read(), file=sys.stderr, flush=True)
     words = ["schema.sql", NAME + ".sql", "--reduce"]
     status = subprocess.run([os.path.join(places.ROOT, "tools", "run"), places.TABLES, "run", *words]).returncode
-    if status == 0 and os.path.exists(places.PROGRAM):
+    if status == 0:
         command = [os.path.join(places.ROOT, "bin", "safebound"), "picture", *words, "--data", places.TABLES, "--output", PICTURE]
         return subprocess.run(command).returncode
     return status
