@@ -8,3 +8,4 @@ pub mod Calls
 pub mod Reduced
 pub mod StatsFiles
 pub mod Keyed
+pub mod TwoCalls

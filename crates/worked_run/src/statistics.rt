@@ -1,13 +1,20 @@
 //! What `stats`, `plan --stats` and `append` answer. Each function is the law in its contract, and does nothing.
 ghost use Rattle.std.specs.Prelude.{◌≡◌, Ok, None, Some, codes};
+ghost use Rattle.base_io.specs.Files.{Files, file_of};
+ghost use Rattle.file_laws.specs.Calls.{Took};
+ghost use Rattle.file_laws.specs.Plans.{PlanHolds};
 ghost use Rattle.outcomes.specs.Reads.{seen};
 ghost use Rattle.outcomes.specs.declared.status.Status.TheVariants as status;
 ghost use Rattle.prepared_runs.specs.Verdict.{verdict};
 ghost use Rattle.safebound_laws.specs.Printed.{printed};
+ghost use Rattle.safebound_top.specs.Call.{Call};
+ghost use Rattle.safebound_top.specs.Headline.{Headline};
 ghost use Rattle.safebound_top.specs.OutcomeTexts.{out_text};
+ghost use Rattle.table_files.specs.Examples.{two_tables};
 ghost use Rattle.worked_run.specs.Calls.{EachCallEnds};
 ghost use Rattle.worked_run.specs.Meaning.{small_appended, small_filed};
-ghost use Rattle.worked_run.specs.TwoTables.{append_words, from_file_words, grown_text, small_files, stats_text, stats_words};
+ghost use Rattle.worked_run.specs.TwoCalls.{plan_call, stats_call};
+ghost use Rattle.worked_run.specs.TwoTables.{append_words, from_file_words, grown_text, schema_text, small_files, stats_text, stats_words};
 
 /// `stats schema.sql query.sql`: the statistics file of both tables.
 pub fn filed()
@@ -28,4 +35,15 @@ pub fn appended()
     ensures verdict { verdict append_words small_files ≡ Ok small_appended }
     ensures out { out_text small_appended ≡ Some grown_text }
     ensures call { EachCallEnds small_files append_words status.Done None (Some grown_text) }
+{}
+
+/// The bytes alone connect two calls: where a call of `stats` over the small tables is done, whose out took them, and a call of `plan --stats` is
+/// done over any files of which the schema is this one and the statistics file has these bytes, then the plan of whatever query stands in its
+/// file holds over the small tables.
+pub fn plans_from_these_bytes_hold()
+    ensures { (made planned : Call) (files : Files) → Headline made → made.words ≡ stats_words → made.status ≡ status.Done
+        → made.store.files ≡ Some small_files → Took made.out stats_text
+        → Headline planned → planned.words ≡ from_file_words → planned.status ≡ status.Done → planned.store.files ≡ Some files
+        → file_of files (codes "schema.sql") ≡ Some schema_text → file_of files (codes "rs.stats") ≡ Some stats_text
+        → PlanHolds (stats_call made) (plan_call planned files) two_tables }
 {}

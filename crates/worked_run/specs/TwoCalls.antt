@@ -1,0 +1,20 @@
+-- A call of `stats` over the small tables, and one of `plan --stats` over other files.
+use Rattle.std.specs.Prelude.{codes, None}
+use Rattle.base_io.specs.Files.{Files}
+use Rattle.safebound_top.specs.Call.{Call}
+use Rattle.file_laws.specs.Calls.{PlanCall, StatsCall}
+use Rattle.worked_run.specs.TwoTables.{small_files}
+
+abbrev pub stats_call : Call → StatsCall
+stats_call call = record { call = call; files = small_files; schema_file = codes "schema.sql"; query_file = codes "query.sql"; accuracy = 1 }
+
+abbrev pub plan_call : Call → Files → PlanCall
+plan_call call files = record {
+  call = call;
+  files = files;
+  schema_file = codes "schema.sql";
+  query_file = codes "query.sql";
+  stats_file = codes "rs.stats";
+  budget = 1000000;
+  memory = None;
+}
