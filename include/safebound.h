@@ -18,6 +18,7 @@
      SAFEBOUND_NO_MEMORY    Memory was wanting. `detail` is as it was.
      SAFEBOUND_BUDGET       The best plan passes the budget. `detail` is the least budget that would do.
      SAFEBOUND_PAST_BITS    Each plan has a part without a bound, or 64 bits don't tell the number. `detail` is as it was.
+     SAFEBOUND_WORK         The work passes the limit. `detail` is the limit that would do.
      the others             A value is wrong. `detail` says where: which element, from 0, of the array that is named
                             with the status below, or the number itself.
 
@@ -37,6 +38,13 @@
 extern "C" {
 #endif
 
+/* The version of this header; safebound_version tells that of the library. The number rises with each version. */
+#define SAFEBOUND_VERSION_MAJOR 0
+#define SAFEBOUND_VERSION_MINOR 1
+#define SAFEBOUND_VERSION_PATCH 0
+#define SAFEBOUND_VERSION_NUMBER \
+    (SAFEBOUND_VERSION_MAJOR * 1000000 + SAFEBOUND_VERSION_MINOR * 1000 + SAFEBOUND_VERSION_PATCH)
+
 #define SAFEBOUND_MOST_ENTRIES 12
 #define SAFEBOUND_MOST_EQUALITIES 256
 #define SAFEBOUND_MOST_ACCURACY 64
@@ -46,6 +54,9 @@ extern "C" {
 /* A bound that stands for itself and for all that 64 bits don't tell: no bound is known. */
 #define SAFEBOUND_NO_BOUND UINT64_MAX
 
+/* What stands in `first` of the list of a column in which no row has a value; `length` is 0 there. */
+#define SAFEBOUND_NO_VALUES UINT64_MAX
+
 typedef uint32_t safebound_status;
 
 enum {
@@ -54,6 +65,7 @@ enum {
     SAFEBOUND_NO_MEMORY = 2,
     SAFEBOUND_BUDGET = 3,
     SAFEBOUND_PAST_BITS = 4,
+    SAFEBOUND_WORK = 5,
 
     SAFEBOUND_BAD_KEYS = 16,       /* the number of keys */
     SAFEBOUND_BAD_ACCURACY = 17,   /* the accuracy */
@@ -71,7 +83,8 @@ enum {
     SAFEBOUND_BAD_LEVELS = 29,     /* the number of levels */
     SAFEBOUND_BAD_LEVEL = 30,      /* an element of `levels` */
     SAFEBOUND_BAD_JOINS = 31,      /* the number of joins */
-    SAFEBOUND_BAD_JOIN = 32        /* an element of `joins` */
+    SAFEBOUND_BAD_JOIN = 32,       /* an element of `joins` */
+    SAFEBOUND_BAD_SET = 33         /* the set */
 };
 
 /* So many keys stand in `degree` rows each.
@@ -79,7 +92,7 @@ enum {
    A list of runs says how often the values of a column repeat, the most frequent first: (5, 1), (2, 3) is one value in
    five rows and three values in two rows each. A list is right where each degree and each number of keys is at least 1,
    no degree is above the one before it, and all degrees sum to at most 2^48; the first run that breaks this is the one
-   that is told. A list without runs is right, but for safebound_bounds, which takes it for a list that was forgotten. */
+   that is told. A list without runs is right. As the list of a column it has to be marked (safebound_list). */
 typedef struct safebound_run {
     uint64_t degree;
     uint64_t keys;
@@ -95,7 +108,10 @@ typedef struct safebound_equality {
 } safebound_equality;
 
 /* The list of an entry's column: so many elements of `runs` of the call, at least one, from the element `first` on. Two
-   lists may share runs, as those of a table that is joined with itself. */
+   lists may share runs, as those of a table that is joined with itself.
+
+   Of a column in which no row has a value the list has no runs: `first` is SAFEBOUND_NO_VALUES and `length` 0. Any other
+   list without runs is refused, since it looks like one that was forgotten. */
 typedef struct safebound_list {
     uint32_t entry;
     uint32_t column;
@@ -175,10 +191,12 @@ safebound_status safebound_append(const safebound_run *runs, size_t runs_length,
    `rows` has for each entry a number that it has at most of rows. `lists` has for each column that an equality names a
    list that dominates its values: however different values are picked, they stand in no more rows than as many first
    degrees sum to. What safebound_degrees gives dominates, and so does what safebound_compress and safebound_append make
-   of it. Where a list sums to less than the entry's row bound, the other rows are taken for rows without a value, which
-   join with nothing. Where it sums to more, it is cut at the row bound: the list of a whole table serves for some of its
-   rows. Of a column in which no row has a value the list is (1, 1). A list of a column that no equality names is checked
-   and not used. Runs that no list has aren't looked at.
+   of it. Where it sums to more than the row bound, it is cut there: the list of a whole table serves for some of its rows.
+   Where it sums to less, the other rows are taken for rows without a value (NULL), which join with nothing: in a set in
+   which an equality names the column, the entry has at most as many rows as the list sums to. So an entry counts there
+   with the least of these sums and of its row bound, and alone, or where no equality of the set names one of its columns,
+   with its row bound. A list of a column that no equality names is checked and not used. Runs that no list has aren't
+   looked at.
 
    Then the choices of one row of each entry of a set that satisfy all equalities between these entries are at most as
    many as its bound says, or the bound is SAFEBOUND_NO_BOUND.
@@ -187,8 +205,8 @@ safebound_status safebound_append(const safebound_run *runs, size_t runs_length,
    SAFEBOUND_BAD_ROWS          more than 2^48; `detail` is the element of `rows`
    SAFEBOUND_BAD_EQUALITIES    more than 256; `detail` is their number
    SAFEBOUND_BAD_EQUALITY      an entry that isn't there, or one entry on both sides; `detail` is the element
-   SAFEBOUND_BAD_LIST          an entry that isn't there, no runs, runs that aren't there, or a column that an earlier list
-                               is of; `detail` is the element of `lists`
+   SAFEBOUND_BAD_LIST          an entry that isn't there, no runs and no mark, runs that aren't there, or a column that an
+                               earlier list is of; `detail` is the element of `lists`
    SAFEBOUND_BAD_RUN           `detail` is the element of `runs`, of the first list that has a wrong one
    SAFEBOUND_MISSING_LIST      a column without a list; `detail` is the element of `equalities`
    SAFEBOUND_ROOM              2^n
@@ -203,11 +221,52 @@ safebound_status safebound_append(const safebound_run *runs, size_t runs_length,
        safebound_list lists[] = {{0, 0, 0, 1}, {1, 0, 1, 2}};
        safebound_status status =
            safebound_bounds(rows, 2, equalities, 1, lists, 2, runs, 3, bounds, 4, &detail);
-       // SAFEBOUND_OK, and bounds are 1, 6, 5, 12 */
+       // SAFEBOUND_OK, and bounds are 1, 6, 5, 12
+
+   With the rows 6 and 100 it is 1, 6, 100, 12: of the 100 rows at most 5 have a value that may be equal to another. */
 safebound_status safebound_bounds(const uint64_t *rows, size_t entries, const safebound_equality *equalities,
                                   size_t equalities_length, const safebound_list *lists, size_t lists_length,
                                   const safebound_run *runs, size_t runs_length, uint64_t *into, size_t room,
                                   uint64_t *detail);
+
+/* The same, if its work is within a limit. The work is counted before the first set is bounded, so that a call whose work
+   passes the limit ends at once.
+
+   A set is looked at in as many turns as it has equalities, but in one at least and in 16 at most. The work of a turn is 1,
+   and 1 more for each run of both lists of each equality of the set; that of a call is the work of all turns of all sets.
+   It is no less than what is done: turns of a set that come to the same are bounded once, and where the equalities close
+   no cycle all of them do.
+
+   The statuses are those of safebound_bounds, and between SAFEBOUND_ROOM and SAFEBOUND_NO_MEMORY
+
+   SAFEBOUND_WORK              the work passes `limit`; `detail` is the work, or 2^64 - 1 where it is more
+
+   Example: the first query above has a work of 7.
+
+       safebound_status status =
+           safebound_bounds_within(rows, 2, equalities, 1, lists, 2, runs, 3, 6, bounds, 4, &detail);
+       // SAFEBOUND_WORK, and detail is 7 */
+safebound_status safebound_bounds_within(const uint64_t *rows, size_t entries, const safebound_equality *equalities,
+                                         size_t equalities_length, const safebound_list *lists, size_t lists_length,
+                                         const safebound_run *runs, size_t runs_length, uint64_t limit, uint64_t *into,
+                                         size_t room, uint64_t *detail);
+
+/* The bound of one set of entries alone: what safebound_bounds writes at that set, in the time of that set. It is for a
+   planner that comes to sets one by one, and for one number for a whole query, whose set is 2^n - 1. At SAFEBOUND_OK
+   `detail` is the bound.
+
+   The statuses are those of safebound_bounds but SAFEBOUND_ROOM, and before SAFEBOUND_NO_MEMORY
+
+   SAFEBOUND_BAD_SET           an entry that isn't there; `detail` is the set
+
+   Example: in the first query above the bound of both entries is 12.
+
+       safebound_status status =
+           safebound_set_bound(rows, 2, equalities, 1, lists, 2, runs, 3, 3, &detail);
+       // SAFEBOUND_OK, and detail is 12 */
+safebound_status safebound_set_bound(const uint64_t *rows, size_t entries, const safebound_equality *equalities,
+                                     size_t equalities_length, const safebound_list *lists, size_t lists_length,
+                                     const safebound_run *runs, size_t runs_length, uint64_t set, uint64_t *detail);
 
 /* The best left-deep order over bounds of all sets, as safebound_bounds gives them: 2^n numbers, of which the first, that
    of no entry, isn't looked at.
@@ -298,6 +357,10 @@ safebound_status safebound_tree_memory(const uint64_t *rows, size_t entries, con
    SAFEBOUND_ROOM
    SAFEBOUND_OK */
 safebound_status safebound_version(char *into, size_t room, uint64_t *detail);
+
+/* The text of a status, in English and without an end of line, such as "the room is too small". Of a number that is no
+   status it is "no status of this library". It is never NULL, and stays where it is. */
+const char *safebound_status_text(safebound_status status);
 
 #ifdef __cplusplus
 }

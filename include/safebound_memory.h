@@ -5,7 +5,11 @@
    libsafebound.so they are bound to malloc.
 
    All three are of one allocator. It may be asked by each thread that calls the library at the same time. A call of the
-   library gives back all that it was given before it returns. */
+   library gives back all that it was given before it returns.
+
+   Each function has to return to its caller: no longjmp, no exception of C++, no end of the thread. Where memory is wanting
+   it says so, and the call ends with SAFEBOUND_NO_MEMORY; a program that wants to jump does so then, when the call has
+   given everything back. A function may take locks of its own, and ask others for memory. */
 
 #ifndef SAFEBOUND_MEMORY_H
 #define SAFEBOUND_MEMORY_H

@@ -2,7 +2,8 @@
 
      degrees ROOM N KEY..             append ROOM N (DEGREE KEYS).. M (DEGREE KEYS)..
      compress ACCURACY ROOM N (DEGREE KEYS)..
-     bounds ROOM N ROWS.. N (4 NUMBERS).. N (4 NUMBERS).. N (DEGREE KEYS)..
+     bounds ROOM QUERY                bounds_within LIMIT ROOM QUERY         set_bound SET ROOM QUERY
+       with a QUERY of N ROWS.. N (4 NUMBERS).. N (4 NUMBERS).. N (DEGREE KEYS)..
      order BUDGET ROOM N BOUND..      tree BUDGET ROOM N BOUND..      version ROOM
 
    Before a call `refuse N` lets its Nth request for memory fail. Each array ends where its page ends, and the next page
@@ -142,16 +143,50 @@ static void append(uint64_t *detail) {
     tell(safebound_append(runs, n, others, m, (safebound_run *)into.bytes, room, detail), detail, &into, sizeof(safebound_run));
 }
 
+typedef struct {
+    const uint64_t *rows;
+    const safebound_equality *equalities;
+    const safebound_list *lists;
+    const safebound_run *runs;
+    size_t entries, equalities_length, lists_length, runs_length;
+} query;
+
+static query read_query(void) {
+    query read;
+    read.rows = elements(&read.entries, 1, 0);
+    read.equalities = elements(&read.equalities_length, 0, 4);
+    read.lists = elements(&read.lists_length, 2, 2);
+    read.runs = elements(&read.runs_length, 2, 0);
+    return read;
+}
+
 static void bounds(uint64_t *detail) {
-    size_t room = number(), entries, equalities_length, lists_length, runs_length;
+    size_t room = number();
     array into = array_of(room * 8);
-    const uint64_t *rows = elements(&entries, 1, 0);
-    const safebound_equality *equalities = elements(&equalities_length, 0, 4);
-    const safebound_list *lists = elements(&lists_length, 2, 2);
-    const safebound_run *runs = elements(&runs_length, 2, 0);
-    safebound_status status = safebound_bounds(rows, entries, equalities, equalities_length, lists, lists_length, runs,
-                                               runs_length, (uint64_t *)into.bytes, room, detail);
+    query q = read_query();
+    safebound_status status = safebound_bounds(q.rows, q.entries, q.equalities, q.equalities_length, q.lists, q.lists_length,
+                                               q.runs, q.runs_length, (uint64_t *)into.bytes, room, detail);
     tell(status, detail, &into, 8);
+}
+
+static void bounds_within(uint64_t *detail) {
+    uint64_t limit = number();
+    size_t room = number();
+    array into = array_of(room * 8);
+    query q = read_query();
+    safebound_status status =
+        safebound_bounds_within(q.rows, q.entries, q.equalities, q.equalities_length, q.lists, q.lists_length, q.runs,
+                                q.runs_length, limit, (uint64_t *)into.bytes, room, detail);
+    tell(status, detail, &into, 8);
+}
+
+static void set_bound(uint64_t *detail) {
+    uint64_t set = number();
+    array into = array_of(number() * 8);
+    query q = read_query();
+    safebound_status status = safebound_set_bound(q.rows, q.entries, q.equalities, q.equalities_length, q.lists,
+                                                  q.lists_length, q.runs, q.runs_length, set, detail);
+    tell(status, detail, &into, 0);
 }
 
 static void order(uint64_t *detail) {
@@ -186,8 +221,9 @@ static bool begins_with(const char *word) {
 static const struct {
     const char *name;
     void (*call)(uint64_t *detail);
-} CALLS[] = {{"degrees", degrees}, {"compress", compress}, {"append", append}, {"bounds", bounds},
-             {"order", order},     {"tree", tree},         {"version", version}};
+} CALLS[] = {{"degrees", degrees}, {"compress", compress},           {"append", append},
+             {"bounds", bounds},   {"bounds_within", bounds_within}, {"set_bound", set_bound},
+             {"order", order},     {"tree", tree},                   {"version", version}};
 
 static void make_call(void) {
     requests = 0;

@@ -16,17 +16,19 @@ sys.path[:0] = [os.path.join(ROOT, "python"), os.path.join(ROOT, "cases")]
 os.environ.setdefault("PYTHONPATH", sys.path[0])
 
 from safebound import _library  # noqa: E402
-from safebound._library import NO_BOUND, Status  # noqa: E402,F401
+from safebound._library import NO_BOUND, NO_VALUES, Status  # noqa: E402,F401
 
 PROGRAM = os.environ.get("SAFEBOUND_CALLS", os.path.join(ROOT, "library", "out", "calls"))
 MOST_ROWS, MOST_BUDGET = 2**48, 2**59
 UNTOUCHED = 0xA5A5A5A5A5A5A5A5
 
 NUMBER, BYTE = ctypes.c_uint64, ctypes.c_char
-ELEMENTS = {"degrees": _library.Run, "compress": _library.Run, "append": _library.Run, "bounds": NUMBER, "order": _library.Level,
-            "tree": _library.Join, "version": BYTE}
-ARRAYS = {"degrees": [NUMBER], "compress": [_library.Run], "append": [_library.Run] * 2,
-          "bounds": [NUMBER, _library.Equality, _library.List, _library.Run], "order": [NUMBER], "tree": [NUMBER], "version": []}
+QUERY = [NUMBER, _library.Equality, _library.List, _library.Run]
+ELEMENTS = {"degrees": _library.Run, "compress": _library.Run, "append": _library.Run, "bounds": NUMBER, "bounds_within": NUMBER,
+            "set_bound": NUMBER, "order": _library.Level, "tree": _library.Join, "version": BYTE}
+ARRAYS = {"degrees": [NUMBER], "compress": [_library.Run], "append": [_library.Run] * 2, "bounds": QUERY, "bounds_within": QUERY,
+          "set_bound": QUERY, "order": [NUMBER], "tree": [NUMBER], "version": []}
+WITHOUT_ROOM = {"set_bound"}
 
 
 class Answer(NamedTuple):
@@ -36,7 +38,7 @@ class Answer(NamedTuple):
 
 
 class Call(NamedTuple):
-    """A call's name, its arrays, the room for its answer, and the accuracy or the budget."""
+    """A call's name, its arrays, the room for its answer, and the accuracy, the budget, the limit or the set."""
 
     name: str
     arrays: list
@@ -72,8 +74,9 @@ def by_ctypes(call):
         given += [(kind * len(array))(*array), len(array)]
     given += [] if call.number is None else [call.number]
     into, detail = (ELEMENTS[call.name] * call.room)(), NUMBER(UNTOUCHED)
-    status = getattr(_library._library(), "safebound_" + call.name)(*given, into, call.room, ctypes.byref(detail))
-    written = detail.value if status == Status.OK else 0
+    given += [] if call.name in WITHOUT_ROOM else [into, call.room]
+    status = getattr(_library._library(), "safebound_" + call.name)(*given, ctypes.byref(detail))
+    written = detail.value if status == Status.OK and call.name not in WITHOUT_ROOM else 0
     return Answer(status, None if detail.value == UNTOUCHED else detail.value,
                   shaped(call.name, [n for element in into[:written] for n in fields(element)]))
 

@@ -60,6 +60,45 @@ static void bounds_of_two_entries(void) {
     CHECK(detail == 4);
     uint64_t expected[] = {1, 6, 5, 12};
     CHECK(memcmp(bounds, expected, sizeof expected) == 0);
+    rows[1] = expected[2] = 100;
+    CHECK(safebound_bounds(rows, 2, equalities, 1, lists, 2, runs, 3, bounds, 4, &detail) == SAFEBOUND_OK);
+    CHECK(memcmp(bounds, expected, sizeof expected) == 0);
+}
+
+static void bounds_within_a_limit(void) {
+    uint64_t rows[] = {6, 5}, bounds[4], detail;
+    safebound_equality equalities[] = {{0, 0, 1, 0}};
+    safebound_run runs[] = {{3, 2}, {2, 2}, {1, 1}};
+    safebound_list lists[] = {{0, 0, 0, 1}, {1, 0, 1, 2}};
+    CHECK(safebound_bounds_within(rows, 2, equalities, 1, lists, 2, runs, 3, 6, bounds, 4, &detail) == SAFEBOUND_WORK);
+    CHECK(detail == 7);
+    CHECK(safebound_bounds_within(rows, 2, equalities, 1, lists, 2, runs, 3, 7, bounds, 4, &detail) == SAFEBOUND_OK);
+    CHECK(detail == 4);
+    CHECK(bounds[3] == 12);
+}
+
+static void bound_of_one_set(void) {
+    uint64_t rows[] = {6, 5}, detail;
+    safebound_equality equalities[] = {{0, 0, 1, 0}};
+    safebound_run runs[] = {{3, 2}, {2, 2}, {1, 1}};
+    safebound_list lists[] = {{0, 0, 0, 1}, {1, 0, 1, 2}};
+    CHECK(safebound_set_bound(rows, 2, equalities, 1, lists, 2, runs, 3, 3, &detail) == SAFEBOUND_OK);
+    CHECK(detail == 12);
+    CHECK(safebound_set_bound(rows, 2, equalities, 1, lists, 2, runs, 3, 4, &detail) == SAFEBOUND_BAD_SET);
+    CHECK(detail == 4);
+}
+
+/* Each status has a text of its own, and nothing else has one. */
+static void texts_of_statuses(void) {
+    const char *none = safebound_status_text(SAFEBOUND_BAD_SET + 1);
+    for (safebound_status status = SAFEBOUND_OK; status <= SAFEBOUND_BAD_SET; status++) {
+        int is_status = status <= SAFEBOUND_WORK || status >= SAFEBOUND_BAD_KEYS;
+        CHECK(is_status == (strcmp(safebound_status_text(status), none) != 0));
+        for (safebound_status other = SAFEBOUND_OK; is_status && other < status; other++)
+            CHECK(strcmp(safebound_status_text(status), safebound_status_text(other)) != 0);
+    }
+    CHECK(strcmp(safebound_status_text(SAFEBOUND_ROOM), "the room is too small") == 0);
+    CHECK(strcmp(safebound_status_text(UINT32_MAX), "no status of this library") == 0);
 }
 
 static void best_order(void) {
@@ -98,10 +137,13 @@ static void bytes_of_plans(void) {
 }
 
 static void version(void) {
-    char text[64];
+    char text[64], header[64];
     uint64_t detail;
     CHECK(safebound_version(text, 64, &detail) == SAFEBOUND_OK);
     CHECK(detail == strlen(text) + 1);
+    sprintf(header, "%d.%d.%d", SAFEBOUND_VERSION_MAJOR, SAFEBOUND_VERSION_MINOR, SAFEBOUND_VERSION_PATCH);
+    CHECK(strcmp(text, header) == 0);
+    CHECK(SAFEBOUND_VERSION_NUMBER >= 1000);
     CHECK(safebound_version(text, 1, &detail) == SAFEBOUND_ROOM);
 }
 
@@ -111,6 +153,9 @@ static void *all(void *times) {
         few_runs();
         rows_that_came_later();
         bounds_of_two_entries();
+        bounds_within_a_limit();
+        bound_of_one_set();
+        texts_of_statuses();
         best_order();
         best_tree();
         bytes_of_plans();

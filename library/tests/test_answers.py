@@ -2,10 +2,11 @@
 
 import itertools
 import random
+import time
 import unittest
 from collections import Counter
 
-from calls import NO_BOUND, Call, Status, answers
+from calls import NO_BOUND, NO_VALUES, Call, Status, answers
 import reading
 
 RUNS = 150
@@ -88,10 +89,12 @@ class GivenLists(reading.ListBounds):
         self.all, self.rows, self.lists = equalities, rows, lists
 
 
-def fitted(degrees, rows):
-    """Rows without a value are keys of their own, and what passes the row bound is cut."""
-    cut = reading.cut(degrees, rows)
-    return cut + [1] * (rows - sum(cut))
+def with_values(rows, lists, equalities):
+    """Row bounds and lists where these equalities hold: a row without a value in one of their columns is equal to none."""
+    rows = list(rows)
+    for entry, column in itertools.chain(*equalities):
+        rows[entry] = min(rows[entry], sum(lists[entry, column]))
+    return rows, {(entry, column): reading.cut(degrees, rows[entry]) for (entry, column), degrees in lists.items()}
 
 
 class RandomQuery:
@@ -126,25 +129,35 @@ class RandomQuery:
         return degrees
 
     def call(self):
-        """The call, with the lists in any order, and names of columns that are any numbers. No value at all is (1, 1)."""
+        """The call, with the lists in any order, and names of columns that are any numbers."""
         name = lambda column: (column * 2_147_483_647 + 5) % 2**32  # noqa: E731
         equalities = [(a, name(x), b, name(y)) for (a, x), (b, y) in self.equalities]
         sides, runs, lists = list(self.lists), [(7, 1)], []
         self.pick.shuffle(sides)
         for entry, column in sides:
-            own = runs_of(self.lists[entry, column]) or [(1, 1)]
-            lists.append((entry, name(column), len(runs), len(own)))
+            own = runs_of(self.lists[entry, column])
+            lists.append((entry, name(column), len(runs) if own else NO_VALUES, len(own)))
             runs += own + [(1, 1)]
         return Call("bounds", [self.rows, equalities, lists, runs], 2**self.entries)
 
     def read(self, entries):
         """The bound of a set by the definitions."""
-        lists = {(e, c): fitted(degrees, self.rows[e]) for (e, c), degrees in self.lists.items()}
-        return GivenLists(self.equalities, self.rows, lists).of_set(entries)
+        rows, lists = with_values(self.rows, self.lists, self.within(entries))
+        return GivenLists(self.equalities, rows, lists).of_set(entries)
+
+    def within(self, entries):
+        """The equalities between these entries."""
+        return [e for e in self.equalities if e[0][0] in entries and e[1][0] in entries]
+
+    def work(self):
+        """What is to be done at most: in each turn of each set one, and the runs of its equalities."""
+        length = {side: len(runs_of(degrees)) for side, degrees in self.lists.items()}
+        sets = [[e for e in range(self.entries) if number >> e & 1] for number in range(2**self.entries)]
+        return sum(min(max(len(own), 1), 16) * (1 + sum(length[side] for e in own for side in e)) for own in map(self.within, sets))
 
     def counted(self, entries):
         """How many choices of one row of each entry of a set satisfy the equalities between them, by nested loops."""
-        inner = [e for e in self.equalities if e[0][0] in entries and e[1][0] in entries]
+        inner = self.within(entries)
         found = 0
         for rows in itertools.product(*(self.tables[entry] for entry in entries)):
             row = dict(zip(entries, rows))
@@ -167,6 +180,54 @@ class Bounds(unittest.TestCase):
                 joined, equal = joined + (count > 0 and len(entries) > 1), equal + (count == bound and len(entries) > 1)
         self.assertGreater(joined, 100)
         self.assertGreater(equal, 100)
+
+    def test_rows_without_values(self):
+        """Two tables of a million rows, of which ten and all have a value, all different: at most ten can join. Alone each has its rows."""
+        million = 10**6
+        lists, runs = [(0, 0, 0, 1), (1, 0, 1, 1)], [(1, 10), (1, million)]
+        none = [(0, 0, NO_VALUES, 0), (1, 0, 1, 1)]
+        some, nothing, apart = answers([
+            Call("bounds", [[million, million], [(0, 0, 1, 0)], lists, runs], 4),
+            Call("bounds", [[million, million], [(0, 0, 1, 0)], none, runs], 4),
+            Call("bounds", [[million, million], [], lists, runs], 4),
+        ])
+        self.assertEqual(some.elements, [1, million, million, 10])
+        self.assertEqual(nothing.elements, [1, million, million, 0])
+        self.assertEqual(apart.elements, [1, million, million, million**2])
+
+    def test_sets_alone(self):
+        """The bound of a set alone is that of the set among all."""
+        queries = [RandomQuery(seed) for seed in range(RUNS)]
+        calls = [query.call() for query in queries]
+        for call, answer in zip(calls, answers(calls)):
+            alone = answers([Call("set_bound", call.arrays, 0, number) for number in range(call.room)])
+            self.assertEqual([(one.status, one.detail) for one in alone], [(Status.OK, bound) for bound in answer.elements], call)
+
+    def test_limits_of_work(self):
+        """With a limit that does the bounds are the same; with one less they are refused, and the limit that does is told."""
+        queries = [RandomQuery(seed) for seed in range(RUNS)]
+        calls = [query.call() for query in queries]
+        for query, call, answer in zip(queries, calls, answers(calls)):
+            work = query.work()
+            enough, less = answers([call._replace(name="bounds_within", number=limit) for limit in (work, work - 1)])
+            self.assertEqual(enough, answer, call)
+            self.assertEqual(less, (Status.WORK, work, []), call)
+
+    def test_a_limit_ends_at_once(self):
+        """All pairs of twelve entries, each by columns of its own: the bounds take more than a second, and the refusal next to nothing."""
+        equalities = [(a, b, b, a) for a, b in itertools.combinations(range(12), 2)]
+        lists = [(entry, column, 0, 12) for entry in range(12) for column in range(12) if column != entry]
+        runs = [(12 - at, 1000) for at in range(12)]
+        arrays = [[78000] * 12, equalities, lists, runs]
+        began = time.monotonic()
+        (refused,) = answers([Call("bounds_within", arrays, 4096, 10**6)])
+        taken = time.monotonic() - began
+        self.assertEqual((refused.status, refused.elements), (Status.WORK, []))
+        self.assertLess(taken, 0.3)
+        began = time.monotonic()
+        (whole,) = answers([Call("bounds_within", arrays, 4096, refused.detail)])
+        self.assertEqual(whole.status, Status.OK)
+        self.assertGreater(time.monotonic() - began, 5 * taken)
 
     def test_saturated_bounds(self):
         """Two columns of one value each have the product of their rows; twelve of 2**48 rows are past every number."""

@@ -132,11 +132,11 @@ class Answers(unittest.TestCase):
         self.assertEqual((tree.joins, tree.shape), (((1, 2, 5), (0, 3, 9)), ("r", ("s", "t"))))
 
     def test_no_rows_and_no_values(self):
-        """An empty table has empty lists; a column in which no row has a value has (1, 1), and each row is a key of its own."""
+        """An empty table has empty lists; of a column with the list (1, 1) one row has a value, and at most that one is joined."""
         empty = pair(row_bounds={"r": 0, "s": 5}, lists={("r", "x"): safebound.degree_sequence([]), ("s", "x"): [(2, 2), (1, 1)]})
         self.assertEqual((empty.bounds()[{"r"}], empty.bounds()[{"r", "s"}]), (0, 0))
         without = pair(lists={("r", "x"): [(1, 1)], ("s", "x"): [(2, 2), (1, 1)]})
-        self.assertEqual(without.bounds()[{"r", "s"}], 5)
+        self.assertEqual((without.bounds()[{"r"}], without.bounds()[{"r", "s"}]), (6, 2))
 
     def test_one_entry(self):
         alone = safebound.Query(["r"], [], {"r": 7}, {})

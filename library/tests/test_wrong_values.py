@@ -7,7 +7,7 @@ import subprocess
 import sys
 import unittest
 
-from calls import MOST_BUDGET, MOST_ROWS, Answer, Call, Status, answer, answers, by_c
+from calls import MOST_BUDGET, MOST_ROWS, NO_VALUES, Answer, Call, Status, answer, answers, by_c
 
 WRONG_LISTS = [
     ([(0, 1)], 0),
@@ -82,9 +82,20 @@ class WrongValues(unittest.TestCase):
 
     def test_lists(self):
         for wrong in [(3, 9, 0, 1), (256, 0, 0, 1), (2**32 - 1, 0, 0, 1), (0, 0, 0, 7), (0, 0, 6, 1), (0, 0, 7, 0), (0, 0, 0, 0), (0, 0, 6, 0), (0, 0, 2**64 - 1, 1),
-                      (0, 0, 1, 2**64 - 1), (0, 0, 2**63, 2**63)]:
+                      (0, 0, 1, 2**64 - 1), (0, 0, 2**63, 2**63), (0, 0, NO_VALUES - 1, 0), (0, 0, NO_VALUES, 1), (3, 0, NO_VALUES, 0)]:
             self.check([(bounds_of(lists=replaced(LISTS, place, wrong)), Status.BAD_LIST, place) for place in range(4)])
         self.check([(bounds_of(lists=LISTS + [again]), Status.BAD_LIST, 4) for again in LISTS])
+        self.check([(bounds_of(lists=LISTS + [(0, 0, NO_VALUES, 0)]), Status.BAD_LIST, 4)])
+
+    def test_sets(self):
+        query = bounds_of().arrays
+        self.check([(Call("set_bound", query, 0, set), Status.BAD_SET, set) for set in (8, 9, 2**16, 2**32, 2**63, 2**64 - 1)])
+
+    def test_work(self):
+        query = bounds_of().arrays
+        (refused,) = answers([Call("bounds_within", query, 8, 0)])
+        self.assertEqual((refused.status, refused.elements), (Status.WORK, []))
+        self.check([(Call("bounds_within", query, 8, limit), Status.WORK, refused.detail) for limit in (1, refused.detail - 1)])
 
     def test_runs(self):
         self.check([(bounds_of(runs=replaced(RUNS, place, (0, 1))), Status.BAD_RUN, place) for place in range(6)])
@@ -128,6 +139,9 @@ class WrongValues(unittest.TestCase):
             ("room", 8, Status.ROOM, 8),
         ]:
             self.check([(bounds_of(**wrong), status, detail)])
+            self.check([(bounds_of(**wrong)._replace(name="bounds_within", number=0), status, detail)])
+            if status != Status.ROOM:
+                self.check([(bounds_of(**wrong)._replace(name="set_bound", room=0, number=2**64 - 1), status, detail)])
             wrong[name] = right
         self.assertEqual(answer(bounds_of(**wrong)).status, Status.OK)
         self.check([
@@ -154,6 +168,8 @@ CALLS = [
     bounds_of(),
     bounds_of(equalities=EQUALITIES + [(2, 0, 0, 0)]),
     bounds_of(rows=[0, 9, 1]),
+    bounds_of(lists=replaced(LISTS, 0, (0, 0, NO_VALUES, 0))),
+    bounds_of()._replace(name="bounds_within", number=10**6),
     Call("order", [BOUNDS], 3, 6),
     Call("tree", [BOUNDS], 2, 9),
     Call("version", [], 6),
@@ -196,7 +212,7 @@ class Memory(unittest.TestCase):
         """Whichever request is refused, want of memory is told, or less memory does and the answer is whole. The same call then has its answer."""
         wanting = Answer(Status.NO_MEMORY, None, [])
         told = 0
-        for call in CALLS:
+        for call in CALLS + [bounds_of()._replace(name="set_bound", room=0, number=7)]:
             ((whole, requests),) = by_c([call.line()])
             lines = [f"refuse {n} {call.line()}" for n in range(1, requests + 1)]
             *refused, (again, _) = by_c(lines + [call.line()])

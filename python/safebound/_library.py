@@ -14,7 +14,7 @@ from . import errors
 from ._version import VERSION
 
 NAME, VARIABLE = "libsafebound.so", "SAFEBOUND_LIBRARY"
-NO_BOUND = 2**64 - 1
+NO_BOUND = NO_VALUES = 2**64 - 1
 MOST = 2**64 - 1
 
 _Number = ctypes.c_uint64
@@ -43,9 +43,9 @@ class Join(ctypes.Structure):
 class Status:
     """The numbers of safebound.h."""
 
-    OK, ROOM, NO_MEMORY, BUDGET, PAST_BITS = range(5)
+    OK, ROOM, NO_MEMORY, BUDGET, PAST_BITS, WORK = range(6)
     (BAD_KEYS, BAD_ACCURACY, BAD_RUN, BAD_OTHER_RUN, BAD_SUM, BAD_ENTRIES, BAD_ROWS, BAD_EQUALITIES, BAD_EQUALITY, BAD_LIST,
-     MISSING_LIST, BAD_BOUNDS, BAD_BUDGET, BAD_LEVELS, BAD_LEVEL, BAD_JOINS, BAD_JOIN) = range(16, 33)
+     MISSING_LIST, BAD_BOUNDS, BAD_BUDGET, BAD_LEVELS, BAD_LEVEL, BAD_JOINS, BAD_JOIN, BAD_SET) = range(16, 34)
 
 
 WRONG = {
@@ -110,11 +110,14 @@ def _library() -> ctypes.CDLL:
     found = ctypes.CDLL(str(path()))
     numbers, size, detail = ctypes.POINTER(_Number), ctypes.c_size_t, ctypes.POINTER(_Number)
     runs = ctypes.POINTER(Run)
+    query = [numbers, size, ctypes.POINTER(Equality), size, ctypes.POINTER(List), size, runs, size]
     forms = {
         "degrees": [numbers, size, runs, size, detail],
         "compress": [runs, size, _Number, runs, size, detail],
         "append": [runs, size, runs, size, runs, size, detail],
-        "bounds": [numbers, size, ctypes.POINTER(Equality), size, ctypes.POINTER(List), size, runs, size, numbers, size, detail],
+        "bounds": [*query, numbers, size, detail],
+        "bounds_within": [*query, _Number, numbers, size, detail],
+        "set_bound": [*query, _Number, detail],
         "order": [numbers, size, _Number, ctypes.POINTER(Level), size, detail],
         "tree": [numbers, size, _Number, ctypes.POINTER(Join), size, detail],
         "memory": [numbers, size, ctypes.POINTER(Level), size, detail],

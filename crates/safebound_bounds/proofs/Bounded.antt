@@ -1,25 +1,24 @@
 -- What right values make of a query: each set has what its bound needs, the bounds are those that are meant, and they are never under.
-use Rattle.std.proofs.Common.{◌≡◌, ◌⊎◌, inl, inr, ℕ, zero, suc, ◌+◌, ◌-◌, ◌<◌, ◌≤◌, ◌^◌, Bool, true, false, cond, List, [], ◌∷◌, ◌++◌, map, length, drop, get_or, Option, Some, None, option_map, find, refl, ap, sym, ◌∙◌, subst, arith}
-use Rattle.std.specs.Prelude.{IsSome, IfOk, Result, Ok, Err, unwrap_or}
+use Rattle.std.proofs.Common.{◌≡◌, ◌⊎◌, inl, inr, ℕ, zero, suc, ◌+◌, ◌-◌, ◌<◌, ◌≤◌, ◌^◌, Bool, true, false, cond, eqb, List, [], ◌∷◌, ◌++◌, map, length, drop, get_or, Option, Some, None, option_map, find, refl, ap, sym, ◌∙◌, subst, sum, arith}
+use Rattle.std.specs.Prelude.{IsSome, IfOk, OnOk, Result, Ok, Err, unwrap_or}
 use Rattle.std.specs.List.{AllByRecursion, list_any, range_with_len}
-use Rattle.std.proofs.lemmas.Bool.{and_parts, cases_lt}
+use Rattle.std.proofs.lemmas.Bool.{and_parts, cases_lt, eqb-true}
 use Rattle.std.proofs.lemmas.List.{length-map}
-use Rattle.std.proofs.lemmas.List.FromFn.{get_or-map-range_with_len, length-range_with_len}
+use Rattle.std.proofs.lemmas.List.FromFn.{get_or-map-range_with_len, length-map-range_with_len}
+use Rattle.std.proofs.Math.Path.{fun_ext}
 use Rattle.std.proofs.lemmas.Nat.{pow_pos}
-use Rattle.entry_sets.specs.Sets.{entries_of_set, has_entry}
-use Rattle.degree_sequences.specs.Domination.{DominatesKeys}
+use Rattle.entry_sets.specs.Sets.{entries_of_set}
 use Rattle.degree_sequences.specs.Saturation.{saturated}
 use Rattle.berge_tree.specs.declared.edges.Edge.{Edge}
 use Rattle.join_graph.specs.Kept.{equalities_within}
 use Rattle.tree_bounds.specs.SetBounds.{SetHasLists, bound_of_set}
-use Rattle.tree_bounds.specs.Tables.{KeyedTables, AreDifferent, Dominates, RowsFit, Satisfies, SetDominates}
+use Rattle.tree_bounds.specs.Tables.{AreDifferent}
 use Rattle.tree_bounds.specs.TreeBounds.{EntryBounds, HasList}
-use Rattle.tree_bounds.proofs.Turns.{within_set}
 use Rattle.bound_fold.specs.declared.lists.EntryLists.{EntryLists}
 use Rattle.bound_fold.specs.Lists.{list_of as list_held, rows_of}
 use Rattle.bound_fold.specs.Sets.{SetIsListed}
-use Rattle.bound_fold.proofs.TestedSets.{each_in_set, each_named, entry_at, named_at}
-use Rattle.set_bounds.specs.AllSets.{bounds_of_sets}
+use Rattle.bound_fold.proofs.TestedSets.{each_in_set, each_named}
+use Rattle.set_bounds.specs.AllSets.{bound_told, bounds_in_sets, bounds_of_sets}
 use Rattle.safebound_lists.specs.declared.runs.Run.{Run}
 use Rattle.safebound_lists.specs.Runs.{AreRight, list_of}
 use Rattle.safebound_lists.specs.Written.{IsFilled}
@@ -29,18 +28,20 @@ use Rattle.safebound_bounds.specs.declared.arguments.Equality.{Equality}
 use Rattle.safebound_bounds.specs.Arguments.{equality_at, is_of, list_at, runs_of}
 use Rattle.safebound_bounds.specs.Causes.{IsRight}
 use Rattle.safebound_bounds.specs.Listed.{Holds}
-use Rattle.safebound_bounds.specs.Meaning.{all_bounds, edge_of, edges_of, fitted, fitted_if, given, known, list_if, narrowed, no_bound}
-use Rattle.safebound_bounds.specs.Values.{FitsColumn, Match, SatisfiesValues, ValuedTables, ValuesFit, keys_from, keys_of, present, value_of}
+use Rattle.safebound_bounds.specs.InSets.{IsFull}
+use Rattle.safebound_bounds.specs.Meaning.{all_bounds, bound_in, edge_of, edges_of, fitted, fitted_if, given, known, known_in, list_if, narrowed, no_bound, rows_in_set, rows_met, rows_with_value}
+use Rattle.safebound_bounds.specs.Values.{SatisfiesValues, ValuedTables, ValuesFit}
 use Rattle.safebound_bounds.proofs.Fitting.{fitted_falls, fitted_sum, right_falls}
 use Rattle.safebound_bounds.proofs.Holding.{found, rows_there}
-use Rattle.safebound_bounds.proofs.WithoutValues.{dominates_all, one_key_each}
+use Rattle.safebound_bounds.proofs.Joined.{joined_within}
+use Rattle.safebound_bounds.proofs.MetRows.{HasAtLeast, all_rows, met_at_least, met_at_most, right_in_set}
 
 some_of : {X : Type 0} (o : Option X) (x : X) → o ≡ Some x → IsSome o
 some_of o x e = rw e refl
 
 -- ---- a list that is found
 
-found_at : (entry column : ℕ) (lists : List ColumnList) (P : ColumnList → Type 0) → ((i : ℕ) → i < length lists → P (list_at lists i)) → (l : ColumnList)
+pub found_at : (entry column : ℕ) (lists : List ColumnList) (P : ColumnList → Type 0) → ((i : ℕ) → i < length lists → P (list_at lists i)) → (l : ColumnList)
     → find (is_of entry column) lists ≡ Some l → P l × (is_of entry column l ≡ true)
 found_at entry column [] P each l e = absurd (cc e)
 found_at entry column (x ∷ lists) P each l e = by (is_of entry column x) refl e (λ h. found_at entry column lists P (λ i low. each (suc i) (omega arith)) l h)
@@ -102,8 +103,6 @@ module _ (rows : List ℕ) (equalities : List Equality) (lists : List ColumnList
           some_of (list_held held entry column) (fitted (get_or rows entry 0) (list_of (runs_of runs l.0)))
           (h.columns entry column ∙ ap (λ (o : Option ColumnList). option_map (fitted (get_or rows entry 0)) (list_if runs o)) l.1)
 
-  -- ---- never under
-
   -- the list of a column as it is known
   known_list : (entry column : ℕ) (l : ColumnList) → find (is_of entry column) lists ≡ Some l → (known rows lists runs).list entry column ≡ fitted (get_or rows entry 0) (list_of (runs_of runs l))
   known_list entry column l is = ap (λ (o : Option ColumnList). fitted_if (get_or rows entry 0) (list_if runs o)) is
@@ -120,80 +119,16 @@ module _ (rows : List ℕ) (equalities : List Equality) (lists : List ColumnList
   set_has_lists subset =
       each_named (HasList (known rows lists runs)) subset (edges_of equalities) (λ k d low joins. both_listed (HasList (known rows lists runs)) has_list k d low)
 
-  abbrev keyed : ValuedTables → KeyedTables
-  keyed tables = record { rows = tables.rows; keys = λ entry column. keys_of (tables.values entry column) }
+-- ---- never under
 
-  dominated : (tables : ValuedTables) (entry column : ℕ) → tables.rows entry ≤ get_or rows entry 0 → FitsColumn (given lists runs) tables entry column
-      → entry < length rows → list_any (is_of entry column) lists ≡ true → Dominates (known rows lists runs) (keyed tables) entry column
-  dominated tables entry column within fits low any =
-      let l = given_right entry column any in
-      let list : List ℕ = list_of (runs_of runs l.0) in
-      let values : DominatesKeys (list_of (runs_of runs l.0)) (present (tables.values entry column)) =
-      subst (λ (o : Option ColumnList). DominatesKeys (unwrap_or (list_if runs o) []) (present (tables.values entry column))) l.1 fits.values in
-      record {
-        keys = rw (known_list entry column l.0 l.1) (dominates_all (list_of (runs_of runs l.0)) (get_or rows entry 0) (tables.values entry column) (right_falls (runs_of runs l.0) l.2)
-            (omega (arith, fits.one_each, within)) (right.rows_right.each entry low) values);
-        key_per_row = one_key_each 0 (tables.values entry column) ∙ fits.one_each;
-      }
-
-  set_dominates : (tables : ValuedTables) (subset : ℕ) → ValuesFit rows (given lists runs) tables (edges_of equalities) subset
-      → SetDominates (known rows lists runs) (keyed tables) (edges_of equalities) subset
-  set_dominates tables subset fit = record {
-    rows = fit.entries;
-    columns = each_named (Dominates (known rows lists runs) (keyed tables)) subset (edges_of equalities) (λ k d low joins.
-        let e : Edge = get_or (edges_of equalities) k d in
-        let has = and_parts (has_entry subset (get_or (edges_of equalities) k d).left.entry) (has_entry subset (get_or (edges_of equalities) k d).right.entry) joins in
-        let at = named_at (FitsColumn (given lists runs) tables) subset (edges_of equalities) fit.columns k d low joins in
-        let listed = both_listed (λ entry column. (entry < length rows) × (list_any (is_of entry column) lists ≡ true)) (λ entry column low any. (low, any)) k d low in (
-          dominated tables (get_or (edges_of equalities) k d).left.entry (get_or (edges_of equalities) k d).left.column
-              (entry_at (RowsFit (known rows lists runs) (keyed tables)) subset fit.entries (get_or (edges_of equalities) k d).left.entry has.0) at.0 listed.0.0 listed.0.1,
-          dominated tables (get_or (edges_of equalities) k d).right.entry (get_or (edges_of equalities) k d).right.column
-              (entry_at (RowsFit (known rows lists runs) (keyed tables)) subset fit.entries (get_or (edges_of equalities) k d).right.entry has.1) at.1 listed.1.0 listed.1.1,
-        ));
-  }
-
-  -- the key of a row with a value
-  key_at : (values : List (Option ℕ)) (i k v : ℕ) → get_or values k None ≡ Some v → get_or (keys_from i values) k 0 ≡ v + 2 ^ 48
-  key_at [] i k v is = absurd (cc is)
-  key_at (None ∷ values) i zero v is = absurd (cc is)
-  key_at (Some w ∷ values) i zero v is = ap (λ n. n + 2 ^ 48) (same w v is)
-    where
-      same : (a b : ℕ) → Some a ≡ Some b → a ≡ b
-      same a b h = cc h
-  key_at (None ∷ values) i (suc k) v is = key_at values (i + 1) k v is
-  key_at (Some w ∷ values) i (suc k) v is = key_at values (i + 1) k v is
-
-  same_value : (o p : Option ℕ) → Match o p → (v : ℕ) × (o ≡ Some v) × (p ≡ Some v)
-  same_value None p m = absurd m
-  same_value (Some x) None m = absurd m
-  same_value (Some x) (Some y) m = (x, refl, ap Some (sym m))
-
-  keys_match : (tables : ValuedTables) (choice : ℕ → ℕ) (es : List Edge)
-      → AllByRecursion (λ e. Match (value_of tables choice e.left.entry e.left.column) (value_of tables choice e.right.entry e.right.column)) es
-      → AllByRecursion (λ e. get_or (keys_of (tables.values e.left.entry e.left.column)) (choice e.left.entry) 0
-      ≡ get_or (keys_of (tables.values e.right.entry e.right.column)) (choice e.right.entry) 0) es
-  keys_match tables choice [] all = tt
-  keys_match tables choice (e ∷ es) all =
-      let both = same_value (value_of tables choice e.left.entry e.left.column) (value_of tables choice e.right.entry e.right.column) all.0 in (
-        key_at (tables.values e.left.entry e.left.column) 0 (choice e.left.entry) both.0 both.1
-            ∙ sym (key_at (tables.values e.right.entry e.right.column) 0 (choice e.right.entry) both.0 both.2),
-        keys_match tables choice es all.1,
-      )
-
-  keys_satisfy : (tables : ValuedTables) (entries : List ℕ) (es : List Edge) (choices : List (ℕ → ℕ)) → AllByRecursion (SatisfiesValues tables entries es) choices
-      → AllByRecursion (Satisfies (keyed tables) entries es) choices
-  keys_satisfy tables entries es [] all = tt
-  keys_satisfy tables entries es (choice ∷ choices) all = (
-    record { rows = all.0.rows; equal = keys_match tables choice es all.0.equal },
-    keys_satisfy tables entries es choices all.1,
-  )
-
+module _ (rows : List ℕ) (equalities : List Equality) (lists : List ColumnList) (runs : List Run) (right : IsRight rows equalities lists runs) where
   pub set_within : (subset : ℕ) (tables : ValuedTables) → ValuesFit rows (given lists runs) tables (edges_of equalities) subset → (choices : List (ℕ → ℕ))
       → AllByRecursion (SatisfiesValues tables (entries_of_set subset) (equalities_within subset (edges_of equalities))) choices
-      → AreDifferent (entries_of_set subset) choices → length choices ≤ bound_of_set (known rows lists runs) (edges_of equalities) subset
+      → AreDifferent (entries_of_set subset) choices → length choices ≤ bound_of_set (known_in rows lists runs (edges_of equalities) subset) (edges_of equalities) subset
   set_within subset tables fit choices satisfy differ =
-      within_set (known rows lists runs) (keyed tables) (edges_of equalities) subset (set_has_lists subset) (set_dominates tables subset fit) choices
-      (keys_satisfy tables (entries_of_set subset) (equalities_within subset (edges_of equalities)) choices satisfy) differ
+      joined_within tables rows lists runs (edges_of equalities) subset fit
+      (set_has_lists (rows_in_set rows lists runs (edges_of equalities) subset) equalities lists runs
+      (right_in_set rows lists runs (edges_of equalities) subset equalities right) subset) choices satisfy differ
 
 -- ---- in 64 bits
 
@@ -204,57 +139,103 @@ narrowed_again (x ∷ xs) f =
     ap (λ y. y ∷ map narrowed (map (λ x. saturated (f x)) xs)) same ∙ ap (λ (ys : List ℕ). narrowed (f x) ∷ ys) (narrowed_again xs f)
 
 -- the bounds that are told, in 64 bits, are those that are meant
-pub told_narrowed : (b c : EntryBounds) (es fs : List Edge) (n : ℕ) (bounds : List ℕ) → b ≡ c → es ≡ fs → bounds ≡ bounds_of_sets b es n → map narrowed bounds ≡ all_bounds c fs n
-told_narrowed b c es fs n bounds same like is =
+pub told_narrowed : (b : ℕ → EntryBounds) (es fs : List Edge) (n : ℕ) (bounds : List ℕ) → es ≡ fs → bounds ≡ bounds_in_sets b es n → map narrowed bounds ≡ all_bounds b fs n
+told_narrowed b es fs n bounds like is =
     ap (map narrowed) is
-    ∙ narrowed_again (range_with_len 0 (2 ^ n)) (bound_of_set b es)
-    ∙ ap (λ (x : EntryBounds). all_bounds x es n) same
-    ∙ ap (λ (x : List Edge). all_bounds c x n) like
-
-pub told_if : {E : Type 0} (b c : EntryBounds) (es fs : List Edge) (n : ℕ) → b ≡ c → es ≡ fs → (r : Result (List ℕ) E) → IfOk r (λ bounds. bounds ≡ bounds_of_sets b es n)
-    → IfOk r (λ bounds. map narrowed bounds ≡ all_bounds c fs n)
-told_if b c es fs n same like (Ok bounds) h = told_narrowed b c es fs n bounds same like h
-told_if b c es fs n same like (Err e) h = tt
+    ∙ narrowed_again (range_with_len 0 (2 ^ n)) (λ subset. bound_of_set (b subset) es subset)
+    ∙ ap (λ (x : List Edge). all_bounds b x n) like
 
 -- how many they are
-pub how_many : (b : EntryBounds) (es : List Edge) (n : ℕ) (bounds : List ℕ) → map narrowed bounds ≡ all_bounds b es n → length bounds ≡ 2 ^ n
-how_many b es n bounds is =
-    sym (length-map bounds narrowed) ∙ ap length is
-    ∙ length-map (range_with_len 0 (2 ^ n)) (λ (s : ℕ). narrowed (bound_of_set b es s)) ∙ length-range_with_len 0 (2 ^ n)
+pub how_many : (b : ℕ → EntryBounds) (es : List Edge) (n : ℕ) (bounds : List ℕ) → bounds ≡ bounds_in_sets b es n → length bounds ≡ 2 ^ n
+how_many b es n bounds is = ap length is ∙ length-map-range_with_len (λ (subset : ℕ). bound_told (b subset) es subset) 0 (2 ^ n)
 
 -- the whole room
-pub whole_filled : (b : EntryBounds) (es : List Edge) (n : ℕ) (wide bounds old new : List ℕ) (count : ℕ) → map narrowed wide ≡ all_bounds b es n → bounds ≡ wide → count ≡ 2 ^ n
-    → IsFilled (map narrowed bounds) old new (length bounds) → IsFilled (all_bounds b es n) old new count
-whole_filled b es n wide bounds old new count is same sets filled =
-    let whole : map narrowed bounds ≡ all_bounds b es n = ap (map narrowed) same ∙ is in
-    subst (λ (s : List ℕ). IsFilled s old new count) whole
-    (subst (IsFilled (map narrowed bounds) old new) (how_many b es n bounds whole ∙ sym sets) filled)
+pub whole_filled : (b : ℕ → EntryBounds) (es fs : List Edge) (n : ℕ) (told bounds old new : List ℕ) (count : ℕ) → es ≡ fs → told ≡ bounds_in_sets b es n → bounds ≡ told
+    → count ≡ length told → IsFilled (map narrowed bounds) old new (length bounds) → IsFilled (all_bounds b fs n) old new count
+whole_filled b es fs n told bounds old new count like is same counted filled =
+    subst (λ (s : List ℕ). IsFilled s old new count) (ap (map narrowed) same ∙ told_narrowed b es fs n told like is)
+    (subst (IsFilled (map narrowed bounds) old new) (ap length same ∙ sym counted) filled)
 
-either_told : (n bound told : ℕ) → n ≤ bound → told ≡ narrowed bound → (n ≤ told) ⊎ (told ≡ no_bound)
+-- one bound, in 64 bits
+pub one_narrowed : (b : ℕ → EntryBounds) (es fs : List Edge) (subset bound result : ℕ) → es ≡ fs → bound ≡ bound_told (b subset) es subset → result ≡ narrowed bound
+    → result ≡ bound_in b fs subset
+one_narrowed b es fs subset bound result like is told =
+    let same : narrowed (saturated (bound_of_set (b subset) es subset)) ≡ narrowed (bound_of_set (b subset) es subset) = omega arith in
+    told ∙ ap narrowed is ∙ same ∙ ap (λ (x : List Edge). bound_in b x subset) like
+
+pub either_told : (n bound told : ℕ) → n ≤ bound → told ≡ narrowed bound → (n ≤ told) ⊎ (told ≡ no_bound)
 either_told n bound told low is = elim (cases_lt bound (2 ^ 64 - 1)) [
   | inl small ↦ inl (omega (arith, low, is, small))
   | inr large ↦ inr (omega (arith, is, large))
 ]
 
 -- what stands in the room
-pub told_in_room : (b : EntryBounds) (es : List Edge) (n : ℕ) (old new : List ℕ) (count : ℕ) → IsFilled (all_bounds b es n) old new count → (subset : ℕ) → subset < 2 ^ n
-    → get_or new subset 0 ≡ narrowed (bound_of_set b es subset)
+pub told_in_room : (b : ℕ → EntryBounds) (es : List Edge) (n : ℕ) (old new : List ℕ) (count : ℕ) → IsFilled (all_bounds b es n) old new count → (subset : ℕ) → subset < 2 ^ n
+    → get_or new subset 0 ≡ bound_in b es subset
 told_in_room b es n old new count filled subset fits =
     ap (λ (s : List ℕ). get_or s subset 0) filled.filled
-    ∙ front (all_bounds b es n) (drop count old) subset (omega (arith, fits, length-map (range_with_len 0 (2 ^ n)) (λ (s : ℕ). narrowed (bound_of_set b es s)), length-range_with_len 0 (2 ^ n)))
-    ∙ get_or-map-range_with_len (λ (s : ℕ). narrowed (bound_of_set b es s)) 0 (2 ^ n) subset subset 0 fits (omega arith)
+    ∙ front (all_bounds b es n) (drop count old) subset (omega (arith, fits, length-map-range_with_len (bound_in b es) 0 (2 ^ n)))
+    ∙ get_or-map-range_with_len (bound_in b es) 0 (2 ^ n) subset subset 0 fits (omega arith)
   where
     front : (xs ys : List ℕ) (k : ℕ) → k < length xs → get_or (xs ++ ys) k 0 ≡ get_or xs k 0
     front [] ys k low = absurd (omega arith)
     front (x ∷ xs) ys zero low = refl
     front (x ∷ xs) ys (suc k) low = front xs ys k (omega arith)
 
-pub room_never_under : (rows : List ℕ) (equalities : List Equality) (lists : List ColumnList) (runs : List Run) → IsRight rows equalities lists runs
-    → (old new : List ℕ) (count : ℕ) → IsFilled (all_bounds (known rows lists runs) (edges_of equalities) (length rows)) old new count
-    → (subset : ℕ) → subset < 2 ^ length rows → (tables : ValuedTables) → ValuesFit rows (given lists runs) tables (edges_of equalities) subset → (choices : List (ℕ → ℕ))
-    → AllByRecursion (SatisfiesValues tables (entries_of_set subset) (equalities_within subset (edges_of equalities))) choices
-    → AreDifferent (entries_of_set subset) choices → (length choices ≤ get_or new subset 0) ⊎ (get_or new subset 0 ≡ no_bound)
-room_never_under rows equalities lists runs right old new count filled subset fits tables fit choices satisfy differ =
-    either_told (length choices) (bound_of_set (known rows lists runs) (edges_of equalities) subset) (get_or new subset 0)
-    (set_within rows equalities lists runs right subset tables fit choices satisfy differ)
-    (told_in_room (known rows lists runs) (edges_of equalities) (length rows) old new count filled subset fits)
+module _ (rows : List ℕ) (equalities : List Equality) (lists : List ColumnList) (runs : List Run) (right : IsRight rows equalities lists runs) where
+  pub room_never_under : (old new : List ℕ) (count : ℕ)
+      → IsFilled (all_bounds (known_in rows lists runs (edges_of equalities)) (edges_of equalities) (length rows)) old new count
+      → (subset : ℕ) → subset < 2 ^ length rows → (tables : ValuedTables) → ValuesFit rows (given lists runs) tables (edges_of equalities) subset → (choices : List (ℕ → ℕ))
+      → AllByRecursion (SatisfiesValues tables (entries_of_set subset) (equalities_within subset (edges_of equalities))) choices
+      → AreDifferent (entries_of_set subset) choices → (length choices ≤ get_or new subset 0) ⊎ (get_or new subset 0 ≡ no_bound)
+  room_never_under old new count filled subset fits tables fit choices satisfy differ =
+      either_told (length choices) (bound_of_set (known_in rows lists runs (edges_of equalities) subset) (edges_of equalities) subset) (get_or new subset 0)
+      (set_within rows equalities lists runs right subset tables fit choices satisfy differ)
+      (told_in_room (known_in rows lists runs (edges_of equalities)) (edges_of equalities) (length rows) old new count filled subset fits)
+
+  pub room_told : {E : Type 0} (old new : List ℕ) (r : Result ℕ E)
+      → IfOk r (IsFilled (all_bounds (known_in rows lists runs (edges_of equalities)) (edges_of equalities) (length rows)) old new)
+      → OnOk r ((subset : ℕ) → subset < 2 ^ length rows → (tables : ValuedTables) → ValuesFit rows (given lists runs) tables (edges_of equalities) subset → (choices : List (ℕ → ℕ))
+      → AllByRecursion (SatisfiesValues tables (entries_of_set subset) (equalities_within subset (edges_of equalities))) choices
+      → AreDifferent (entries_of_set subset) choices → (length choices ≤ get_or new subset 0) ⊎ (get_or new subset 0 ≡ no_bound))
+  room_told old new (Ok count) filled = room_never_under old new count filled
+  room_told old new (Err e) filled = tt
+
+  pub bound_never_under : (subset bound : ℕ) → bound ≡ bound_in (known_in rows lists runs (edges_of equalities)) (edges_of equalities) subset
+      → (tables : ValuedTables) → ValuesFit rows (given lists runs) tables (edges_of equalities) subset → (choices : List (ℕ → ℕ))
+      → AllByRecursion (SatisfiesValues tables (entries_of_set subset) (equalities_within subset (edges_of equalities))) choices
+      → AreDifferent (entries_of_set subset) choices → (length choices ≤ bound) ⊎ (bound ≡ no_bound)
+  bound_never_under subset bound is tables fit choices satisfy differ =
+      either_told (length choices) (bound_of_set (known_in rows lists runs (edges_of equalities) subset) (edges_of equalities) subset) bound
+      (set_within rows equalities lists runs right subset tables fit choices satisfy differ) is
+
+-- ---- where no list leaves rows without a value
+
+module _ (rows : List ℕ) (equalities : List Equality) (lists : List ColumnList) (runs : List Run) (right : IsRight rows equalities lists runs)
+    (full : (i : ℕ) → i < length lists → IsFull rows runs (list_at lists i)) where
+  -- of a column with a list, each row has a value
+  column_full : (entry column : ℕ) → list_any (is_of entry column) lists ≡ true → get_or rows entry 0 ≤ rows_with_value lists runs (record { entry = entry; column = column })
+  column_full entry column any =
+      let l = given_right rows equalities lists runs right entry column any in
+      let found : IsFull rows runs l.0 × (is_of entry column l.0 ≡ true) = found_at entry column lists (IsFull rows runs) full l.0 l.1 in
+      let same : l.0.entry ≡ entry = eqb-true l.0.entry entry (and_parts (eqb l.0.entry entry) (eqb l.0.column column) found.1).0 in
+      let whole : sum (unwrap_or (given lists runs entry column) []) ≡ sum (list_of (runs_of runs l.0)) = ap (λ (o : Option ColumnList). sum (unwrap_or (list_if runs o) [])) l.1 in
+      omega (arith, whole, found.0, ap (λ (k : ℕ). get_or rows k 0) same)
+
+  pub all_keep_rows : (subset : ℕ) → known_in rows lists runs (edges_of equalities) subset ≡ known rows lists runs
+  all_keep_rows subset = ap (λ (s : List ℕ). known s lists runs) (all_rows rows lists runs (edges_of equalities) subset keeps)
+    where
+      keeps : (entry : ℕ) → entry < length rows → rows_met lists runs entry (equalities_within subset (edges_of equalities)) (get_or rows entry 0) ≡ get_or rows entry 0
+      keeps entry low =
+          omega (
+            arith,
+            met_at_most lists runs entry (equalities_within subset (edges_of equalities)) (get_or rows entry 0),
+            met_at_least lists runs entry (equalities_within subset (edges_of equalities)) (get_or rows entry 0) (get_or rows entry 0) (omega arith)
+                (each_named (λ e c. HasAtLeast lists runs entry (get_or rows entry 0) (record { entry = e; column = c })) subset (edges_of equalities) (λ k d low joins.
+                both_listed rows equalities lists runs right (λ e c. HasAtLeast lists runs entry (get_or rows entry 0) (record { entry = e; column = c }))
+                (λ e c there any same. subst (λ (n : ℕ). get_or rows n 0 ≤ rows_with_value lists runs (record { entry = e; column = c })) same (column_full e c any)) k d low)),
+          )
+
+  pub told_full : (es : List Edge) (bounds : List ℕ) → bounds ≡ bounds_of_sets (known rows lists runs) es (length rows)
+      → bounds ≡ bounds_in_sets (known_in rows lists runs (edges_of equalities)) es (length rows)
+  told_full es bounds is = is ∙ ap (λ (b : ℕ → EntryBounds). bounds_in_sets b es (length rows)) (sym (fun_ext all_keep_rows))

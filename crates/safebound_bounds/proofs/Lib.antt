@@ -1,4 +1,12 @@
 pub mod Fitting
-pub mod WithoutValues
+pub mod MetRows
+pub mod WithValues
+pub mod Joined
+pub mod SameBounds
+pub mod InParts
 pub mod Holding
 pub mod Bounded
+pub mod Totals
+pub mod GivenSets
+pub mod Working
+pub mod Finding

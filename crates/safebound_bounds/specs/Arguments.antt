@@ -1,5 +1,5 @@
 -- Which values of a query are right.
-use Rattle.std.specs.Prelude.{◌≡◌, ◌≢◌, ℕ, ◌+◌, ◌<◌, ◌≤◌, Bool, true, false, ◌==◌, ◌&&◌, List, length, take, drop, slice_index, slice_index_or}
+use Rattle.std.specs.Prelude.{◌≡◌, ◌≢◌, ℕ, ◌+◌, ◌-◌, ◌^◌, ◌<◌, ◌≤◌, Bool, true, false, ◌==◌, ◌&&◌, List, length, take, drop, slice_index, slice_index_or}
 use Rattle.std.specs.List.{list_any}
 use Rattle.limits.specs.Profile.{greatest_rows}
 use Rattle.safebound_lists.specs.declared.runs.Run.{Run}
@@ -39,11 +39,19 @@ list_at lists i = slice_index_or lists i no_list
 abbrev pub is_of : ℕ → ℕ → ColumnList → Bool
 is_of entry column list = list.entry == entry && list.column == column
 
--- its entry is there, it has runs, they are there, and no list before it is of its column
+-- what stands in place of the first run in the list of a column in which no row has a value
+abbrev pub no_values : ℕ
+no_values = 2 ^ 64 - 1
+
+-- the runs of a list are there; where it has none, it is marked as one of no values
+pub record AreRunsThere (runs : ℕ) (list : ColumnList) : Type 0 where
+  pub there : 0 < list.length → list.first + list.length ≤ runs
+  pub marked : list.length ≡ 0 → list.first ≡ no_values
+
+-- its entry is there, its runs are there, and no list before it is of its column
 pub record IsListRight (entries runs : ℕ) (before : List ColumnList) (list : ColumnList) : Type 0 where
   pub entry : list.entry < entries
-  pub some : 0 < list.length
-  pub there : list.first + list.length ≤ runs
+  pub runs_there : AreRunsThere runs list
   pub once : list_any (is_of list.entry list.column) before ≡ false
 
 abbrev pub IsRightListAt : ℕ → ℕ → List ColumnList → ℕ → Type 0

@@ -8,6 +8,8 @@ use Rattle.safebound_lists.specs.declared.runs.Run.{Run}
 use Rattle.safebound_lists.specs.First.{IsFirstWrong}
 use Rattle.safebound_bounds.specs.declared.arguments.ColumnList.{ColumnList}
 use Rattle.safebound_bounds.specs.declared.arguments.Equality.{Equality}
+use Rattle.safebound_bounds.specs.Meaning.{edges_of, narrowed}
+use Rattle.safebound_bounds.specs.Work.{work_of}
 use Rattle.safebound_bounds.specs.Arguments.{AreListed, AreRunsRightAt, IsEqualityRight, IsRightListAt, IsRowsRightAt, IsWrongRun, equality_at}
 
 -- there are 1 to 12 entries, each with a row bound that is right
@@ -60,3 +62,15 @@ IsBoundsCause rows equalities lists runs room (refusal.Room needed) =
     IsRight rows equalities lists runs × (needed ≡ 2 ^ length rows) × (room < needed)
 IsBoundsCause rows equalities lists runs room refusal.NoMemory = ⊤
 IsBoundsCause rows equalities lists runs room _ = ⊥
+
+-- with a limit of work: the same, and where all else is right and there is room, more work than the limit
+abbrev pub IsWithinCause : List ℕ → List Equality → List ColumnList → List Run → ℕ → ℕ → Refusal → Type 0
+IsWithinCause rows equalities lists runs limit room (refusal.Work needed) =
+    IsRight rows equalities lists runs × (2 ^ length rows ≤ room) × (limit < work_of lists (edges_of equalities) (length rows))
+    × (needed ≡ narrowed (work_of lists (edges_of equalities) (length rows)))
+IsWithinCause rows equalities lists runs limit room why = IsBoundsCause rows equalities lists runs room why
+
+-- of one set: the same with room enough, and where all else is right, a set with an entry that isn't there
+abbrev pub IsSetCause : List ℕ → List Equality → List ColumnList → List Run → ℕ → Refusal → Type 0
+IsSetCause rows equalities lists runs subset (refusal.Set given) = IsRight rows equalities lists runs × (given ≡ subset) × (2 ^ length rows ≤ subset)
+IsSetCause rows equalities lists runs subset why = IsBoundsCause rows equalities lists runs (2 ^ length rows) why

@@ -3,5 +3,7 @@ pub mod Meaning
 pub mod Listed
 pub mod Values
 pub mod Causes
+pub mod Work
+pub mod InSets
 pub use Rattle.safebound_lists.specs.First
 pub use Rattle.safebound_lists.specs.Written

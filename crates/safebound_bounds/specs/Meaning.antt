@@ -1,8 +1,10 @@
 -- What the values of a query mean: bounds of its entries, and equalities.
-use Rattle.std.specs.Prelude.{ℕ, ◌-◌, ◌^◌, min, List, [], ◌++◌, map, find, replicate, slice_index, Option, Some, None}
+use Rattle.std.specs.Prelude.{ℕ, ◌-◌, ◌^◌, ◌==◌, if◌then◌else◌, min, List, [], ◌∷◌, ◌++◌, length, map, find, replicate, slice_index, Option, Some, None, unwrap_or}
 use Rattle.std.specs.List.{range_with_len, sum}
 use Rattle.degree_sequences.specs.RunningSums.{cut_at}
 use Rattle.berge_tree.specs.declared.edges.Edge.{Edge}
+use Rattle.berge_tree.specs.declared.edges.Place.{Place}
+use Rattle.join_graph.specs.Kept.{equalities_within}
 use Rattle.tree_bounds.specs.SetBounds.{bound_of_set}
 use Rattle.tree_bounds.specs.TreeBounds.{EntryBounds}
 use Rattle.safebound_lists.specs.declared.runs.Run.{Run}
@@ -20,7 +22,8 @@ edge_of e = record {
 abbrev pub edges_of : List Equality → List Edge
 edges_of equalities = map edge_of equalities
 
--- a list for so many rows: cut where it sums to more; where it sums to less, the other rows have no value, and each is a key of its own
+-- a list for so many rows: cut where it sums to more; where it sums to less, the other rows have no value, and each is counted as a key of
+-- its own. (No bound reads this of a column that equalities of the set name: rows without a value there aren't among these rows.)
 abbrev pub fitted : ℕ → List ℕ → List ℕ
 fitted rows list = cut_at list rows ++ replicate (rows - sum (cut_at list rows)) 1
 
@@ -32,7 +35,7 @@ list_if runs (Some list) = Some (list_of (runs_of runs list))
 abbrev pub given : List ColumnList → List Run → ℕ → ℕ → Option (List ℕ)
 given lists runs entry column = list_if runs (find (is_of entry column) lists)
 
--- what is known of the entries
+-- what is known of entries that have so many rows each
 abbrev pub fitted_if : ℕ → Option (List ℕ) → List ℕ
 fitted_if rows None = []
 fitted_if rows (Some list) = fitted rows list
@@ -43,6 +46,30 @@ known rows lists runs = record {
   list = λ entry column. fitted_if (slice_index rows entry) (given lists runs entry column);
 }
 
+-- ---- in a set
+
+-- how many rows of an entry have a value in a column, at most: the sum of its list
+abbrev pub rows_with_value : List ColumnList → List Run → Place → ℕ
+rows_with_value lists runs p = sum (unwrap_or (given lists runs p.entry p.column) [])
+
+-- a row bound of an entry, or how many of its rows have a value in this column, where it is one of its columns and they are fewer
+abbrev pub fewer_at : List ColumnList → List Run → ℕ → Place → ℕ → ℕ
+fewer_at lists runs entry p rows = if p.entry == entry then min rows (rows_with_value lists runs p) else rows
+
+-- the least of a row bound of an entry and of the numbers of its rows with a value, in each of its columns that the equalities name
+abbrev pub rows_met : List ColumnList → List Run → ℕ → List Edge → ℕ → ℕ
+rows_met lists runs entry [] rows = rows
+rows_met lists runs entry (e ∷ es) rows = rows_met lists runs entry es (fewer_at lists runs entry e.right (fewer_at lists runs entry e.left rows))
+
+-- of each entry, how many of its rows can be joined by all equalities of a set, at most: a row without a value equals none
+abbrev pub rows_in_set : List ℕ → List ColumnList → List Run → List Edge → ℕ → List ℕ
+rows_in_set rows lists runs es subset =
+    map (λ entry. rows_met lists runs entry (equalities_within subset es) (slice_index rows entry)) (range_with_len 0 (length rows))
+
+-- what is known of the entries in a set: so many rows, and lists that are cut there
+abbrev pub known_in : List ℕ → List ColumnList → List Run → List Edge → ℕ → EntryBounds
+known_in rows lists runs es subset = known (rows_in_set rows lists runs es subset) lists runs
+
 -- a bound in 64 bits: the greatest number stands for all from there on
 abbrev pub no_bound : ℕ
 no_bound = 2 ^ 64 - 1
@@ -50,6 +77,10 @@ no_bound = 2 ^ 64 - 1
 abbrev pub narrowed : ℕ → ℕ
 narrowed bound = min bound no_bound
 
+-- of a set, by what is known in it
+abbrev pub bound_in : (ℕ → EntryBounds) → List Edge → ℕ → ℕ
+bound_in b es subset = narrowed (bound_of_set (b subset) es subset)
+
 -- of each set of n entries, at the number whose bits are the set
-abbrev pub all_bounds : EntryBounds → List Edge → ℕ → List ℕ
-all_bounds b es n = map (λ subset. narrowed (bound_of_set b es subset)) (range_with_len 0 (2 ^ n))
+abbrev pub all_bounds : (ℕ → EntryBounds) → List Edge → ℕ → List ℕ
+all_bounds b es n = map (bound_in b es) (range_with_len 0 (2 ^ n))

@@ -1,7 +1,6 @@
 -- Tables in which rows may have no value in a column, and when what is handed in holds of them.
-use Rattle.std.specs.Prelude.{◌≡◌, ℕ, ◌+◌, ◌<◌, ◌≤◌, List, [], ◌∷◌, length, slice_index, slice_index_or, unwrap_or, Option, Some, None}
+use Rattle.std.specs.Prelude.{◌≡◌, ℕ, ◌<◌, ◌≤◌, List, [], ◌∷◌, length, slice_index, slice_index_or, unwrap_or, Option, Some, None}
 use Rattle.std.specs.List.{AllByRecursion}
-use Rattle.limits.specs.Profile.{greatest_rows}
 use Rattle.degree_sequences.specs.Domination.{DominatesKeys}
 use Rattle.berge_tree.specs.declared.edges.Edge.{Edge}
 use Rattle.entry_sets.specs.Sets.{entries_of_set}
@@ -18,15 +17,6 @@ abbrev pub present : List (Option ℕ) → List ℕ
 present [] = []
 present (None ∷ values) = present values
 present (Some value ∷ values) = value ∷ present values
-
--- keys for rows from number i on: a row without a value has a key of its own, below all that are made of values
-abbrev pub keys_from : ℕ → List (Option ℕ) → List ℕ
-keys_from i [] = []
-keys_from i (None ∷ values) = i ∷ keys_from (i + 1) values
-keys_from i (Some value ∷ values) = (value + greatest_rows) ∷ keys_from (i + 1) values
-
-abbrev pub keys_of : List (Option ℕ) → List ℕ
-keys_of values = keys_from 0 values
 
 -- the value of the chosen row in a column
 abbrev pub value_of : ValuedTables → (ℕ → ℕ) → ℕ → ℕ → Option ℕ

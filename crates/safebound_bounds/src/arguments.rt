@@ -10,6 +10,9 @@ pub struct Equality {
     pub right_column: u32,
 }
 
+/// What stands in `first` of a list without runs: that of a column in which no row has a value.
+pub const NO_VALUES: u64 = u64::MAX;
+
 /// The list of an entry's column: so many of the call's runs, from one on.
 #[repr(C)]
 #[derive(Clone, Copy, Debug, PartialEq, Eq)]

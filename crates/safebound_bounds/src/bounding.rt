@@ -1,23 +1,32 @@
-//! The bounds of all sets.
+//! The bounds of all sets, and of one.
 ghost use Rattle.std.specs.Prelude.{◌≡◌, ◌⊎◌, ◌^◌, ◌<◌, ◌≤◌, ℕ, List, length, map, slice_index, IfErr, IfOk, OnErr, OnOk};
 ghost use Rattle.std.specs.List.{AllByRecursion};
 ghost use Rattle.entry_sets.specs.Sets.{entries_of_set};
 ghost use Rattle.join_graph.specs.Kept.{equalities_within};
 ghost use Rattle.tree_bounds.specs.Tables.{AreDifferent};
+ghost use Rattle.safebound_lists.specs.declared.refusal.Refusal.TheVariants as refusal;
 ghost use Rattle.safebound_lists.specs.Written.{IsFilled};
-ghost use Rattle.safebound_bounds.specs.Causes.{IsBoundsCause, IsRight};
-ghost use Rattle.safebound_bounds.specs.Meaning.{all_bounds, edges_of, given, known, narrowed as narrowed_of, no_bound};
+ghost use Rattle.safebound_bounds.specs.Arguments.{list_at};
+ghost use Rattle.set_bounds.specs.AllSets.{bounds_in_sets as told_in_sets};
+ghost use Rattle.safebound_bounds.specs.Causes.{IsBoundsCause, IsRight, IsSetCause, IsWithinCause};
+ghost use Rattle.safebound_bounds.specs.InSets.{IsFull, known_by};
+ghost use Rattle.safebound_bounds.specs.Meaning.{all_bounds, bound_in, edges_of, given, known_in, narrowed as narrowed_of, no_bound};
 ghost use Rattle.safebound_bounds.specs.Values.{SatisfiesValues, ValuedTables, ValuesFit};
+ghost use Rattle.safebound_bounds.specs.Work.{work_of};
 
 use crate::arguments::{ColumnList, Equality};
 use crate::checking::{
     first_missing, first_wrong_equality, first_wrong_list, first_wrong_rows, first_wrong_run_of,
 };
+use crate::in_sets::{Given, are_full};
 use crate::listing::{entry_lists, parts_of};
+use crate::work::work;
 use base_io::{NoMemory, Seq};
+use entry_sets::EntrySet;
+use join_graph::Parts;
 use limits::{MOST_CONJUNCTS, MOST_ENTRIES};
 use safebound_lists::{Refusal, Run};
-use set_bounds::bounds_of_sets;
+use set_bounds::{KnownInSets, bounds_in_sets, bounds_of_sets};
 use std::alloc::Global;
 
 // The first value that is wrong.
@@ -66,21 +75,27 @@ fn first_wrong(
     Ok(())
 }
 
-// The bounds of right values, in 128 bits.
-fn wide_bounds(
-    alloc: Global,
-    rows: &[u64],
-    equalities: &[Equality],
-    lists: &[ColumnList],
-    runs: &[Run],
-) -> Result<Seq<u128>, NoMemory>
-    requires { IsRight rows.now equalities.now lists.now runs.now }
-    ensures { IfOk result (λ bounds. map narrowed_of bounds
-        ≡ all_bounds (known rows.now lists.now runs.now) (edges_of equalities.now) (length rows.now)) }
+// The bounds where no list leaves rows without a value: what is known is the same in every set.
+fn full_bounds(alloc: Global, parts: &Parts, given: &Given) -> Result<Seq<u128>, NoMemory>
+    requires right { IsRight given.now.rows.now given.now.equalities.now given.now.lists.now given.now.runs.now }
+    requires edges { parts.now.equalities ≡ edges_of given.now.equalities.now }
+    requires full { (i : ℕ) → i < length given.now.lists.now → IsFull given.now.rows.now given.now.runs.now (list_at given.now.lists.now i) }
+    ensures { IfOk result (λ bounds. bounds ≡ told_in_sets (known_by given.now) parts.now.equalities (length given.now.rows.now)) }
 {
-    let parts = parts_of(alloc, equalities)?;
-    let entries = entry_lists(alloc, rows, lists, runs)?;
-    bounds_of_sets(alloc, &parts, &entries, rows.len() as u8)
+    let entries = entry_lists(alloc, given.rows, given.lists, given.runs)?;
+    bounds_of_sets(alloc, parts, &entries, given.rows.len() as u8)
+}
+
+// The bounds, whatever the lists leave.
+fn told_bounds(alloc: Global, parts: &Parts, given: &Given) -> Result<Seq<u128>, NoMemory>
+    requires right { IsRight given.now.rows.now given.now.equalities.now given.now.lists.now given.now.runs.now }
+    requires edges { parts.now.equalities ≡ edges_of given.now.equalities.now }
+    ensures { IfOk result (λ bounds. bounds ≡ told_in_sets (known_by given.now) parts.now.equalities (length given.now.rows.now)) }
+{
+    if are_full(given.rows, given.lists, given.runs) {
+        return full_bounds(alloc, parts, given);
+    }
+    bounds_in_sets(alloc, parts, given, given.rows.len() as u8)
 }
 
 fn narrowed(bound: u128) -> u64
@@ -99,11 +114,48 @@ fn write_bounds(bounds: &[u128], into: &mut [u64])
     }
 }
 
+// Writes the bounds of right values.
+fn fill(alloc: Global, parts: &Parts, given: &Given, into: &mut [u64]) -> Result<u64, Refusal>
+    requires right { IsRight given.now.rows.now given.now.equalities.now given.now.lists.now given.now.runs.now }
+    requires edges { parts.now.equalities ≡ edges_of given.now.equalities.now }
+    requires room { 2 ^ length given.now.rows.now ≤ length into.old }
+    ensures done { IfOk result (IsFilled (all_bounds (known_by given.now) (edges_of given.now.equalities.now) (length given.now.rows.now)) into.old into.new) }
+    ensures refused { IfErr result (λ why. why ≡ refusal.NoMemory) }
+    ensures kept { OnErr result (into.new ≡ into.old) }
+{
+    let bounds = told_bounds(alloc, parts, given)?;
+    write_bounds(bounds.as_slice(), into);
+    Ok(bounds.len() as u64)
+}
+
+// Whether the values are right and there is room.
+fn may_write(
+    rows: &[u64],
+    equalities: &[Equality],
+    lists: &[ColumnList],
+    runs: &[Run],
+    room: usize,
+) -> Result<(), Refusal>
+    ensures right { OnOk result (IsRight rows.now equalities.now lists.now runs.now) }
+    ensures room { OnOk result (2 ^ length rows.now ≤ room) }
+    ensures refused { IfErr result (IsBoundsCause rows.now equalities.now lists.now runs.now room) }
+{
+    first_wrong(rows, equalities, lists, runs)?;
+    let sets = 1usize << rows.len();
+    if room < sets {
+        return Err(Refusal::Room {
+            needed: sets as u64,
+        });
+    }
+    Ok(())
+}
+
 /// Writes the bounds of all sets of entries, each at the number whose bits are the set, in rows, and answers how many they are. A bound of
 /// 2^64 - 1 stands for all from there on.
 ///
 /// Where the row bounds and lists fit tables, in which rows may be without values, no set has more choices of one row for each of its
-/// entries that satisfy its equalities (SafeBound, SIGMOD 2023; Degree Sequence Bound, ICDT 2023).
+/// entries that satisfy its equalities (SafeBound, SIGMOD 2023; Degree Sequence Bound, ICDT 2023). A comparison with a value that isn't
+/// there isn't true (SQL-92, 8.2).
 pub fn bounds(
     alloc: Global,
     rows: &[u64],
@@ -113,7 +165,7 @@ pub fn bounds(
     into: &mut [u64],
 ) -> Result<u64, Refusal>
     ensures done { IfOk result (IsFilled
-        (all_bounds (known rows.now lists.now runs.now) (edges_of equalities.now) (length rows.now)) into.old into.new) }
+        (all_bounds (known_in rows.now lists.now runs.now (edges_of equalities.now)) (edges_of equalities.now) (length rows.now)) into.old into.new) }
     ensures never_under { OnOk result ((subset : ℕ) → subset < 2 ^ length rows.now
         → (tables : ValuedTables) → ValuesFit rows.now (given lists.now runs.now) tables (edges_of equalities.now) subset
         → (choices : List (ℕ → ℕ))
@@ -124,14 +176,100 @@ pub fn bounds(
     ensures refused { IfErr result (IsBoundsCause rows.now equalities.now lists.now runs.now (length into.old)) }
     ensures kept { OnErr result (into.new ≡ into.old) }
 {
-    first_wrong(rows, equalities, lists, runs)?;
-    let sets = 1usize << rows.len();
-    if into.len() < sets {
-        return Err(Refusal::Room {
-            needed: sets as u64,
+    may_write(rows, equalities, lists, runs, into.len())?;
+    let parts = parts_of(alloc, equalities)?;
+    let given = Given {
+        rows,
+        equalities,
+        lists,
+        runs,
+    };
+    fill(alloc, &parts, &given, into)
+}
+
+// Whether a call has at most so much to do.
+fn may_work(alloc: Global, parts: &Parts, given: &Given, limit: u64) -> Result<(), Refusal>
+    requires right { IsRight given.now.rows.now given.now.equalities.now given.now.lists.now given.now.runs.now }
+    requires edges { parts.now.equalities ≡ edges_of given.now.equalities.now }
+    ensures within { OnOk result (work_of given.now.lists.now (edges_of given.now.equalities.now) (length given.now.rows.now) ≤ limit) }
+    ensures refused { (room : ℕ) → 2 ^ length given.now.rows.now ≤ room
+        → IfErr result (IsWithinCause given.now.rows.now given.now.equalities.now given.now.lists.now given.now.runs.now limit room) }
+{
+    let work = work(alloc, given.lists, parts, given.rows.len() as u8)?;
+    if work > u128::from(limit) {
+        return Err(Refusal::Work {
+            needed: narrowed(work),
         });
     }
-    let wide = wide_bounds(alloc, rows, equalities, lists, runs)?;
-    write_bounds(wide.as_slice(), into);
-    Ok(sets as u64)
+    Ok(())
+}
+
+/// The same, if its work is within a limit. The work is counted before a set is bounded, so a call whose work passes the limit ends at once.
+pub fn bounds_within(
+    alloc: Global,
+    rows: &[u64],
+    equalities: &[Equality],
+    lists: &[ColumnList],
+    runs: &[Run],
+    limit: u64,
+    into: &mut [u64],
+) -> Result<u64, Refusal>
+    ensures done { IfOk result (IsFilled
+        (all_bounds (known_in rows.now lists.now runs.now (edges_of equalities.now)) (edges_of equalities.now) (length rows.now)) into.old into.new) }
+    ensures never_under { OnOk result ((subset : ℕ) → subset < 2 ^ length rows.now
+        → (tables : ValuedTables) → ValuesFit rows.now (given lists.now runs.now) tables (edges_of equalities.now) subset
+        → (choices : List (ℕ → ℕ))
+        → AllByRecursion (SatisfiesValues tables (entries_of_set subset) (equalities_within subset (edges_of equalities.now))) choices
+        → AreDifferent (entries_of_set subset) choices
+        → (length choices ≤ slice_index into.new subset) ⊎ (slice_index into.new subset ≡ no_bound)) }
+    ensures right { OnOk result (IsRight rows.now equalities.now lists.now runs.now) }
+    ensures within { OnOk result (work_of lists.now (edges_of equalities.now) (length rows.now) ≤ limit) }
+    ensures refused { IfErr result (IsWithinCause rows.now equalities.now lists.now runs.now limit (length into.old)) }
+    ensures kept { OnErr result (into.new ≡ into.old) }
+{
+    may_write(rows, equalities, lists, runs, into.len())?;
+    let parts = parts_of(alloc, equalities)?;
+    let given = Given {
+        rows,
+        equalities,
+        lists,
+        runs,
+    };
+    may_work(alloc, &parts, &given, limit)?;
+    fill(alloc, &parts, &given, into)
+}
+
+/// The bound of one set of entries alone, in rows: what `bounds` writes at its number, in the time of this set.
+pub fn set_bound(
+    alloc: Global,
+    rows: &[u64],
+    equalities: &[Equality],
+    lists: &[ColumnList],
+    runs: &[Run],
+    set: u64,
+) -> Result<u64, Refusal>
+    ensures done { IfOk result (λ bound. bound ≡ bound_in (known_in rows.now lists.now runs.now (edges_of equalities.now)) (edges_of equalities.now) set) }
+    ensures never_under { IfOk result (λ bound.
+        (tables : ValuedTables) → ValuesFit rows.now (given lists.now runs.now) tables (edges_of equalities.now) set
+        → (choices : List (ℕ → ℕ))
+        → AllByRecursion (SatisfiesValues tables (entries_of_set set) (equalities_within set (edges_of equalities.now))) choices
+        → AreDifferent (entries_of_set set) choices
+        → (length choices ≤ bound) ⊎ (bound ≡ no_bound)) }
+    ensures right { OnOk result (IsRight rows.now equalities.now lists.now runs.now) }
+    ensures there { OnOk result (set < 2 ^ length rows.now) }
+    ensures refused { IfErr result (IsSetCause rows.now equalities.now lists.now runs.now set) }
+{
+    first_wrong(rows, equalities, lists, runs)?;
+    if set >= 1u64 << rows.len() {
+        return Err(Refusal::Set { given: set });
+    }
+    let parts = parts_of(alloc, equalities)?;
+    let given = Given {
+        rows,
+        equalities,
+        lists,
+        runs,
+    };
+    let bound = given.folded(alloc, &parts, EntrySet::from_bits(set as u16), false)?;
+    Ok(narrowed(bound))
 }

@@ -1,10 +1,11 @@
 //! Which value is the first wrong one. None of this takes memory.
-ghost use Rattle.std.specs.Prelude.{◌≡◌, ◌+◌, ◌<◌, ◌≤◌, ◌↔◌, ℕ, length, IsTrue, MatchOption};
+ghost use Rattle.std.specs.Prelude.{◌≡◌, ◌<◌, ◌≤◌, ◌↔◌, ℕ, find, length, IsTrue, MatchOption};
 ghost use Rattle.std.specs.List.{list_any};
 ghost use Rattle.safebound_lists.specs.First.{IsFirstWrong};
-ghost use Rattle.safebound_bounds.specs.Arguments.{AreListed, AreRunsRightAt, IsEqualityRight, IsListRight, IsRightListAt, IsRowsRightAt, IsWrongRun, equality_at, is_of, list_at, runs_of};
+ghost use Rattle.safebound_bounds.specs.Arguments.{AreListed, AreRunsRightAt, AreRunsThere, IsEqualityRight, IsListRight, IsRightListAt, IsRowsRightAt, IsWrongRun, equality_at, is_of, list_at, runs_of};
 
-use crate::arguments::{ColumnList, Equality};
+use crate::arguments::{ColumnList, Equality, NO_VALUES};
+use berge_tree::Place;
 use limits::GREATEST_ROWS;
 use safebound_lists::{Run, first_wrong_run};
 
@@ -49,13 +50,19 @@ fn is_listed(lists: &[ColumnList], entry: u32, column: u32) -> bool
         .any(|list| list.entry == entry && list.column == column)
 }
 
+fn are_runs_there(runs: usize, list: ColumnList) -> bool
+    ensures { IsTrue result ↔ AreRunsThere runs list }
+{
+    if list.length == 0 {
+        return list.first == NO_VALUES;
+    }
+    list.first <= runs as u64 && list.length <= runs as u64 - list.first
+}
+
 fn is_list_right(entries: usize, runs: usize, before: &[ColumnList], list: ColumnList) -> bool
     ensures { IsTrue result ↔ IsListRight entries runs before.now list }
 {
-    if list.entry as usize >= entries || list.length == 0 {
-        return false;
-    }
-    if list.first > runs as u64 || list.length > runs as u64 - list.first {
+    if list.entry as usize >= entries || !are_runs_there(runs, list) {
         return false;
     }
     !is_listed(before, list.entry, list.column)
@@ -73,16 +80,37 @@ pub(crate) fn first_wrong_list(entries: usize, runs: usize, lists: &[ColumnList]
     None
 }
 
-/// The runs of a list that are there.
+fn is_of(list: ColumnList, place: Place) -> bool
+    ensures { result ≡ is_of place.entry place.column list }
+{
+    list.entry == u32::from(place.entry) && list.column == place.column
+}
+
+/// The list of a column, if there is one.
+pub(crate) fn list_of(lists: &[ColumnList], place: Place) -> Option<ColumnList>
+    ensures { result ≡ find (is_of place.entry place.column) lists.now }
+{
+    for list in lists {
+        if is_of(*list, place) {
+            return Some(*list);
+        }
+    }
+    None
+}
+
+/// The runs of a list that are there; none of a column in which no row has a value.
 pub(crate) fn own_runs<'a>(runs: &'a [Run], list: ColumnList) -> &'a [Run]
-    requires { list.first + list.length ≤ length runs.now }
+    requires { AreRunsThere (length runs.now) list }
     ensures { result.now ≡ runs_of runs.now list }
 {
+    if list.length == 0 {
+        return &runs[..0];
+    }
     &runs[list.first as usize..(list.first + list.length) as usize]
 }
 
 pub(crate) fn first_wrong_run_of(lists: &[ColumnList], runs: &[Run]) -> Option<u64>
-    requires { (i : ℕ) → i < length lists.now → (list_at lists.now i).first + (list_at lists.now i).length ≤ length runs.now }
+    requires { (i : ℕ) → i < length lists.now → AreRunsThere (length runs.now) (list_at lists.now i) }
     ensures { MatchOption result ((i : ℕ) → i < length lists.now → AreRunsRightAt lists.now runs.now i) (IsWrongRun lists.now runs.now) }
 {
     for list in lists {

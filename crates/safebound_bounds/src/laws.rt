@@ -1,14 +1,27 @@
-//! Why rows without values are safe, as a law. The call does nothing.
-ghost use Rattle.std.specs.Prelude.{◌≤◌, ℕ, List, length, Option};
-ghost use Rattle.limits.specs.Profile.{greatest_rows};
-ghost use Rattle.degree_sequences.specs.Domination.{DominatesKeys};
-ghost use Rattle.degree_sequences.specs.Falling.{IsFalling};
-ghost use Rattle.safebound_bounds.specs.Meaning.{fitted};
-ghost use Rattle.safebound_bounds.specs.Values.{keys_of, present};
+//! What rows without values do to bounds, as laws. Each call does nothing.
+ghost use Rattle.std.specs.Prelude.{◌≡◌, ◌<◌, ◌≤◌, ◌^◌, ℕ, List, [], length, slice_index};
+ghost use Rattle.std.specs.List.{AllByRecursion};
+ghost use Rattle.berge_tree.specs.declared.edges.Edge.{Edge};
+ghost use Rattle.entry_sets.specs.Sets.{entries_of_set};
+ghost use Rattle.join_graph.specs.Kept.{equalities_within};
+ghost use Rattle.tree_bounds.specs.SetBounds.{bound_of_set};
+ghost use Rattle.tree_bounds.specs.Tables.{AreDifferent};
+ghost use Rattle.safebound_lists.specs.declared.runs.Run.{Run};
+ghost use Rattle.safebound_bounds.specs.declared.arguments.ColumnList.{ColumnList};
+ghost use Rattle.safebound_bounds.specs.declared.arguments.Equality.{Equality};
+ghost use Rattle.safebound_bounds.specs.Causes.{IsRight};
+ghost use Rattle.safebound_bounds.specs.Meaning.{edges_of, given, known, known_in};
+ghost use Rattle.safebound_bounds.specs.Values.{SatisfiesValues, ValuedTables, ValuesFit};
 
-/// A list that dominates the values that are there, fitted to at least as many rows, dominates keys of which each row without a value has
-/// one of its own.
-pub fn rows_without_values_are_keys_of_their_own()
-    ensures { (list : List ℕ) (rows : ℕ) (values : List (Option ℕ)) → IsFalling list → length values ≤ rows → rows ≤ greatest_rows
-        → DominatesKeys list (present values) → DominatesKeys (fitted rows list) (keys_of values) }
+/// Never under, where rows may be without values: different choices of one row for each entry of a set that satisfy all equalities of the
+/// set are no more than its bound, by what is known in the set. A set none of whose entries are joined has all rows of its entries.
+pub fn rows_without_values_join_with_nothing()
+    ensures never_under { (rows : List ℕ) (equalities : List Equality) (lists : List ColumnList) (runs : List Run)
+        → IsRight rows equalities lists runs → (subset : ℕ) → subset < 2 ^ length rows → (tables : ValuedTables)
+        → ValuesFit rows (given lists runs) tables (edges_of equalities) subset → (choices : List (ℕ → ℕ))
+        → AllByRecursion (SatisfiesValues tables (entries_of_set subset) (equalities_within subset (edges_of equalities))) choices
+        → AreDifferent (entries_of_set subset) choices
+        → length choices ≤ bound_of_set (known_in rows lists runs (edges_of equalities) subset) (edges_of equalities) subset }
+    ensures unjoined { (rows : List ℕ) (lists : List ColumnList) (runs : List Run) (es : List Edge) (subset : ℕ)
+        → equalities_within subset es ≡ [] → known_in rows lists runs es subset ≡ known rows lists runs }
 {}

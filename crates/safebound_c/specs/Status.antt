@@ -12,6 +12,7 @@ status_of_refusal (refusal.Room needed) = 1
 status_of_refusal refusal.NoMemory = 2
 status_of_refusal (refusal.Budget least) = 3
 status_of_refusal refusal.PastBits = 4
+status_of_refusal (refusal.Work needed) = 5
 status_of_refusal (refusal.Keys count) = 16
 status_of_refusal (refusal.Accuracy given) = 17
 status_of_refusal (refusal.Run place) = 18
@@ -29,6 +30,7 @@ status_of_refusal (refusal.Levels count) = 29
 status_of_refusal (refusal.Level place) = 30
 status_of_refusal (refusal.Joins count) = 31
 status_of_refusal (refusal.Join place) = 32
+status_of_refusal (refusal.Set given) = 33
 
 -- the number that goes with it, or the old one where none does
 abbrev pub detail_of_refusal : Refusal → ℕ → ℕ
@@ -36,6 +38,7 @@ detail_of_refusal (refusal.Room needed) old = needed
 detail_of_refusal refusal.NoMemory old = old
 detail_of_refusal (refusal.Budget least) old = least
 detail_of_refusal refusal.PastBits old = old
+detail_of_refusal (refusal.Work needed) old = needed
 detail_of_refusal (refusal.Keys count) old = count
 detail_of_refusal (refusal.Accuracy given) old = given
 detail_of_refusal (refusal.Run place) old = place
@@ -53,6 +56,7 @@ detail_of_refusal (refusal.Levels count) old = count
 detail_of_refusal (refusal.Level place) old = place
 detail_of_refusal (refusal.Joins count) old = count
 detail_of_refusal (refusal.Join place) old = place
+detail_of_refusal (refusal.Set given) old = given
 
 -- an answer is how many elements were written, or the number that was asked for, or a refusal
 abbrev pub status_of : Result ℕ Refusal → ℕ

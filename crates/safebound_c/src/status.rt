@@ -14,6 +14,8 @@ const BUDGET: u32 = 3;
 
 const PAST_BITS: u32 = 4;
 
+const WORK: u32 = 5;
+
 const BAD_KEYS: u32 = 16;
 
 const BAD_ACCURACY: u32 = 17;
@@ -48,6 +50,8 @@ const BAD_JOINS: u32 = 31;
 
 const BAD_JOIN: u32 = 32;
 
+const BAD_SET: u32 = 33;
+
 fn status(refusal: Refusal) -> u32
     ensures { result ≡ status_of_refusal refusal }
 {
@@ -56,6 +60,7 @@ fn status(refusal: Refusal) -> u32
         Refusal::NoMemory => NO_MEMORY,
         Refusal::Budget { least: _ } => BUDGET,
         Refusal::PastBits => PAST_BITS,
+        Refusal::Work { needed: _ } => WORK,
         Refusal::Keys { count: _ } => BAD_KEYS,
         Refusal::Accuracy { given: _ } => BAD_ACCURACY,
         Refusal::Run { place: _ } => BAD_RUN,
@@ -73,6 +78,7 @@ fn status(refusal: Refusal) -> u32
         Refusal::Level { place: _ } => BAD_LEVEL,
         Refusal::Joins { count: _ } => BAD_JOINS,
         Refusal::Join { place: _ } => BAD_JOIN,
+        Refusal::Set { given: _ } => BAD_SET,
     }
 }
 
@@ -84,6 +90,7 @@ fn detail_with(refusal: Refusal, old: u64) -> u64
         Refusal::NoMemory | Refusal::PastBits => old,
         Refusal::Room { needed } => needed,
         Refusal::Budget { least } => least,
+        Refusal::Work { needed } => needed,
         Refusal::Keys { count } => count,
         Refusal::Accuracy { given } => given,
         Refusal::Run { place } => place,
@@ -101,6 +108,7 @@ fn detail_with(refusal: Refusal, old: u64) -> u64
         Refusal::Level { place } => place,
         Refusal::Joins { count } => count,
         Refusal::Join { place } => place,
+        Refusal::Set { given } => given,
     }
 }
 

@@ -14,7 +14,7 @@ pub loop-list-init : goal.loop-list-init
 loop-list-init c = without_lists c.args.rows.now (length c.args.rows.now) c.args.runs.now c.in_ok-known.known c.in_ok-known.ensures
 
 pub own_runs-own-requires : goal.own_runs-own-requires
-own_runs-own-requires c = (c.requires.lists c.loop-list.list-index c.loop-list-test.true).there
+own_runs-own-requires c = (c.requires.lists c.loop-list.list-index c.loop-list-test.true).runs_there
 
 pub bounds-rows-list : goal.bounds-rows-list
 bounds-rows-list c = (c.requires.lists c.loop-list.list-index c.loop-list-test.true).entry

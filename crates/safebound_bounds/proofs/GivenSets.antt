@@ -1,0 +1,146 @@
+-- The values of a query in a set: the lists that are made there are those that are known in the set.
+use Rattle.std.proofs.Common.{◌≡◌, ℕ, ◌-◌, ◌<◌, ◌^◌, List, length, ap, sym, ◌∙◌, subst}
+use Rattle.std.specs.Prelude.{IfErr, IfOk, OnOk, Result, Ok, Err}
+use Rattle.berge_tree.specs.declared.edges.Edge.{Edge}
+use Rattle.tree_bounds.specs.TreeBounds.{EntryBounds}
+use Rattle.bound_fold.specs.declared.lists.EntryLists.{EntryLists}
+use Rattle.bound_fold.specs.Lists.{bounds_of}
+use Rattle.bound_fold.specs.Sets.{SetIsListed}
+use Rattle.set_bounds.specs.AllSets.{bound_told, bounds_in_sets, bounds_of_sets}
+use Rattle.set_bounds.specs.Parts.{LooksAtParts}
+use Rattle.set_bounds.proofs.Listing.{first_listed}
+use Rattle.safebound_lists.specs.declared.refusal.Refusal.{Refusal}
+use Rattle.safebound_lists.specs.declared.refusal.Refusal.TheVariants as refusal
+use Rattle.safebound_lists.specs.declared.runs.Run.{Run}
+use Rattle.safebound_bounds.specs.declared.arguments.ColumnList.{ColumnList}
+use Rattle.safebound_bounds.specs.declared.arguments.Equality.{Equality}
+use Rattle.safebound_bounds.specs.Arguments.{list_at}
+use Rattle.safebound_bounds.specs.Causes.{IsBoundsCause, IsRight, IsSetCause, IsWithinCause}
+use Rattle.safebound_bounds.specs.InSets.{IsFull}
+use Rattle.safebound_bounds.specs.Listed.{Holds}
+use Rattle.safebound_bounds.specs.Meaning.{edges_of, known, known_in, rows_in_set}
+use Rattle.safebound_bounds.proofs.Bounded.{all_listed, told_full}
+use Rattle.safebound_bounds.proofs.Holding.{bounds_known}
+use Rattle.safebound_bounds.proofs.InParts.{looks_at_parts}
+use Rattle.safebound_bounds.proofs.MetRows.{in_set_counted, right_in_set}
+
+module _ (rows : List ℕ) (equalities : List Equality) (lists : List ColumnList) (runs : List Run) (right : IsRight rows equalities lists runs) where
+  -- all sets have what their bounds need
+  pub whole_listed : (held : EntryLists) (es : List Edge) → es ≡ edges_of equalities → Holds rows (length rows) lists runs held → SetIsListed held es (2 ^ length rows - 1)
+  whole_listed held es same holds =
+      subst (λ (fs : List Edge). SetIsListed held fs (2 ^ length rows - 1)) (sym same) (all_listed rows equalities lists runs right held holds)
+
+  pub looks : (es : List Edge) → es ≡ edges_of equalities → LooksAtParts (known_in rows lists runs (edges_of equalities)) es
+  looks es same = subst (λ (fs : List Edge). LooksAtParts (known_in rows lists runs (edges_of equalities)) fs) (sym same) (looks_at_parts rows lists runs (edges_of equalities))
+
+  -- where no list leaves rows without a value
+  pub full_told : {E : Type 0} (held : EntryLists) (es : List Edge) → Holds rows (length rows) lists runs held → ((i : ℕ) → i < length lists → IsFull rows runs (list_at lists i))
+      → (r : Result (List ℕ) E) → IfOk r (λ bounds. bounds ≡ bounds_of_sets (bounds_of held) es (length rows))
+      → IfOk r (λ bounds. bounds ≡ bounds_in_sets (known_in rows lists runs (edges_of equalities)) es (length rows))
+  full_told held es holds full (Ok bounds) is =
+      told_full rows equalities lists runs right full es bounds
+      (is ∙ ap (λ (b : EntryBounds). bounds_of_sets b es (length rows)) (bounds_known rows lists runs held holds))
+  full_told held es holds full (Err e) is = tt
+
+  -- ---- one set
+
+  module _ (es edges : List Edge) (subset : ℕ) (same : es ≡ edges_of equalities) (edges_are : edges ≡ es) (made : List ℕ)
+      (are : made ≡ rows_in_set rows lists runs edges subset) where
+    made_are : made ≡ rows_in_set rows lists runs (edges_of equalities) subset
+    made_are = are ∙ ap (λ (fs : List Edge). rows_in_set rows lists runs fs subset) (edges_are ∙ same)
+
+    pub right_here : IsRight made equalities lists runs
+    right_here = subst (λ (s : List ℕ). IsRight s equalities lists runs) (sym made_are) (right_in_set rows lists runs (edges_of equalities) subset equalities right)
+
+    made_counted : length made ≡ length rows
+    made_counted = ap length made_are ∙ in_set_counted rows lists runs (edges_of equalities) subset
+
+    pub listed_here : (held : EntryLists) → subset < 2 ^ length rows → Holds made (length made) lists runs held → SetIsListed held es subset
+    listed_here held fits holds =
+        subst (λ (fs : List Edge). SetIsListed held fs subset) (sym same)
+        (first_listed held (edges_of equalities) (length made) subset (all_listed made equalities lists runs right_here held holds)
+        (subst (λ (n : ℕ). subset < 2 ^ n) (sym made_counted) fits))
+
+    pub told_here : {E : Type 0} (held : EntryLists) → Holds made (length made) lists runs held → (r : Result ℕ E) → IfOk r (λ n. n ≡ bound_told (bounds_of held) es subset)
+        → IfOk r (λ n. n ≡ bound_told (known_in rows lists runs (edges_of equalities) subset) es subset)
+    told_here held holds (Ok n) is =
+        is ∙ ap (λ (b : EntryBounds). bound_told b es subset) (bounds_known made lists runs held holds ∙ ap (λ (s : List ℕ). known s lists runs) made_are)
+    told_here held holds (Err e) is = tt
+
+-- ---- want of memory needs no cause
+
+pub ok_always : {A E : Type 0} (P : Type 0) (r : Result A E) → P → OnOk r P
+ok_always P (Ok a) held = held
+ok_always P (Err e) held = tt
+
+module _ {A : Type 0} (rows : List ℕ) (equalities : List Equality) (lists : List ColumnList) (runs : List Run) where
+  pub wants_memory : (room : ℕ) (r : Result A Refusal) → IfErr r (λ why. why ≡ refusal.NoMemory) → IfErr r (IsBoundsCause rows equalities lists runs room)
+  wants_memory room (Ok a) h = tt
+  wants_memory room (Err why) h = subst (IsBoundsCause rows equalities lists runs room) (sym h) tt
+
+  pub wants_memory_within : (limit room : ℕ) (r : Result A Refusal) → IfErr r (λ why. why ≡ refusal.NoMemory) → IfErr r (IsWithinCause rows equalities lists runs limit room)
+  wants_memory_within limit room (Ok a) h = tt
+  wants_memory_within limit room (Err why) h = subst (IsWithinCause rows equalities lists runs limit room) (sym h) tt
+
+-- ---- a cause for all bounds is one within a limit, and one of a set
+
+module _ (rows : List ℕ) (equalities : List Equality) (lists : List ColumnList) (runs : List Run) where
+  within_cause : (limit room : ℕ) (why : Refusal) → IsBoundsCause rows equalities lists runs room why → IsWithinCause rows equalities lists runs limit room why
+  within_cause limit room (refusal.Work needed) h = absurd h
+  within_cause limit room (refusal.Room needed) h = h
+  within_cause limit room refusal.NoMemory h = h
+  within_cause limit room (refusal.Budget least) h = h
+  within_cause limit room refusal.PastBits h = h
+  within_cause limit room (refusal.Keys count) h = h
+  within_cause limit room (refusal.Accuracy given) h = h
+  within_cause limit room (refusal.Run place) h = h
+  within_cause limit room (refusal.OtherRun place) h = h
+  within_cause limit room (refusal.Sum sum) h = h
+  within_cause limit room (refusal.Entries count) h = h
+  within_cause limit room (refusal.Rows place) h = h
+  within_cause limit room (refusal.Equalities count) h = h
+  within_cause limit room (refusal.Equality place) h = h
+  within_cause limit room (refusal.List place) h = h
+  within_cause limit room (refusal.MissingList place) h = h
+  within_cause limit room (refusal.Bounds count) h = h
+  within_cause limit room (refusal.GivenBudget given) h = h
+  within_cause limit room (refusal.Levels count) h = h
+  within_cause limit room (refusal.Level place) h = h
+  within_cause limit room (refusal.Joins count) h = h
+  within_cause limit room (refusal.Join place) h = h
+  within_cause limit room (refusal.Set given) h = h
+
+  set_cause : (subset : ℕ) (why : Refusal) → IsBoundsCause rows equalities lists runs (2 ^ length rows) why → IsSetCause rows equalities lists runs subset why
+  set_cause subset (refusal.Set given) h = absurd h
+  set_cause subset (refusal.Room needed) h = h
+  set_cause subset refusal.NoMemory h = h
+  set_cause subset (refusal.Budget least) h = h
+  set_cause subset refusal.PastBits h = h
+  set_cause subset (refusal.Keys count) h = h
+  set_cause subset (refusal.Accuracy given) h = h
+  set_cause subset (refusal.Run place) h = h
+  set_cause subset (refusal.OtherRun place) h = h
+  set_cause subset (refusal.Sum sum) h = h
+  set_cause subset (refusal.Entries count) h = h
+  set_cause subset (refusal.Rows place) h = h
+  set_cause subset (refusal.Equalities count) h = h
+  set_cause subset (refusal.Equality place) h = h
+  set_cause subset (refusal.List place) h = h
+  set_cause subset (refusal.MissingList place) h = h
+  set_cause subset (refusal.Bounds count) h = h
+  set_cause subset (refusal.GivenBudget given) h = h
+  set_cause subset (refusal.Levels count) h = h
+  set_cause subset (refusal.Level place) h = h
+  set_cause subset (refusal.Joins count) h = h
+  set_cause subset (refusal.Join place) h = h
+  set_cause subset (refusal.Work needed) h = h
+
+  pub refused_within : {A : Type 0} (limit room : ℕ) (r : Result A Refusal) → IfErr r (IsBoundsCause rows equalities lists runs room)
+      → IfErr r (IsWithinCause rows equalities lists runs limit room)
+  refused_within limit room (Ok a) h = tt
+  refused_within limit room (Err why) h = within_cause limit room why h
+
+  pub refused_set : {A : Type 0} (subset : ℕ) (r : Result A Refusal) → IfErr r (IsBoundsCause rows equalities lists runs (2 ^ length rows))
+      → IfErr r (IsSetCause rows equalities lists runs subset)
+  refused_set subset (Ok a) h = tt
+  refused_set subset (Err why) h = set_cause subset why h

@@ -1,0 +1,26 @@
+-- What a query's values tell of a set. The call's own words; no public clause cites them.
+use Rattle.std.specs.Prelude.{◌≡◌, ℕ, ◌^◌, ◌<◌, ◌≤◌, List, length, slice_index}
+use Rattle.std.specs.List.{sum}
+use Rattle.berge_tree.specs.declared.edges.Edge.{Edge}
+use Rattle.tree_bounds.specs.TreeBounds.{EntryBounds}
+use Rattle.safebound_lists.specs.declared.runs.Run.{Run}
+use Rattle.safebound_lists.specs.Runs.{list_of}
+use Rattle.safebound_bounds.specs.declared.arguments.ColumnList.{ColumnList}
+use Rattle.safebound_bounds.specs.declared.in_sets.Given.{Given}
+use Rattle.safebound_bounds.specs.Arguments.{runs_of}
+use Rattle.safebound_bounds.specs.Causes.{IsRight}
+use Rattle.safebound_bounds.specs.Meaning.{edges_of, known_in}
+
+-- the values are right, these are their equalities, and the set is of their entries
+pub record AreGiven (given : Given) (es : List Edge) (subset : ℕ) : Type 0 where
+  pub right : IsRight given.rows.now given.equalities.now given.lists.now given.runs.now
+  pub edges : es ≡ edges_of given.equalities.now
+  pub fits : subset < 2 ^ length given.rows.now
+
+-- what they tell of the entries in a set
+abbrev pub known_by : Given → ℕ → EntryBounds
+known_by given subset = known_in given.rows.now given.lists.now given.runs.now (edges_of given.equalities.now) subset
+
+-- a list has a row for each that its entry has at most
+abbrev pub IsFull : List ℕ → List Run → ColumnList → Type 0
+IsFull rows runs list = slice_index rows list.entry ≤ sum (list_of (runs_of runs list))

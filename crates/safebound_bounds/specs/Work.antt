@@ -1,0 +1,31 @@
+-- How much a call for all bounds does at most.
+use Rattle.std.specs.Prelude.{ℕ, ◌+◌, ◌*◌, ◌^◌, List, map, find, Option, Some, None}
+use Rattle.std.specs.List.{range_with_len, sum}
+use Rattle.berge_tree.specs.declared.edges.Edge.{Edge}
+use Rattle.berge_tree.specs.declared.edges.Place.{Place}
+use Rattle.join_graph.specs.Kept.{equalities_within, turn_count}
+use Rattle.safebound_bounds.specs.declared.arguments.ColumnList.{ColumnList}
+use Rattle.safebound_bounds.specs.Arguments.{is_of}
+
+-- the runs of the list of a column
+abbrev pub length_if : Option ColumnList → ℕ
+length_if None = 0
+length_if (Some list) = list.length
+
+abbrev pub runs_listed : List ColumnList → Place → ℕ
+runs_listed lists p = length_if (find (is_of p.entry p.column) lists)
+
+-- of both columns of an equality
+abbrev pub runs_joined : List ColumnList → Edge → ℕ
+runs_joined lists e = runs_listed lists e.left + runs_listed lists e.right
+
+-- a turn of a set: one, and the runs of its equalities
+abbrev pub turn_work : List ColumnList → List Edge → ℕ → ℕ
+turn_work lists es subset = 1 + sum (map (runs_joined lists) (equalities_within subset es))
+
+abbrev pub set_work : List ColumnList → List Edge → ℕ → ℕ
+set_work lists es subset = turn_count subset es * turn_work lists es subset
+
+-- of all sets of n entries
+abbrev pub work_of : List ColumnList → List Edge → ℕ → ℕ
+work_of lists es n = sum (map (set_work lists es) (range_with_len 0 (2 ^ n)))

@@ -1,0 +1,169 @@
+//! What is known of the entries in a set: rows without a value in a column that an equality of the set names are joined with nothing, and
+//! aren't counted.
+ghost use Rattle.std.specs.Prelude.{◌≡◌, ◌∷◌, [], ◌<◌, ◌≤◌, ℕ, length, true, IfOk};
+ghost use Rattle.std.specs.List.{sum};
+ghost use Rattle.limits.specs.Profile.{most_entries};
+ghost use Rattle.join_graph.specs.Kept.{equalities_within};
+ghost use Rattle.safebound_lists.specs.Runs.{AreRight, list_of as list_of_runs};
+ghost use Rattle.safebound_bounds.specs.Arguments.{AreRunsRightAt, AreRunsThere, IsRightListAt, list_at, runs_of};
+ghost use Rattle.safebound_bounds.specs.InSets.{AreGiven, IsFull, known_by};
+ghost use Rattle.safebound_bounds.specs.Meaning.{fewer_at as fewer_there, rows_in_set as rows_of_set, rows_met as met_by, rows_with_value as with_value};
+
+use crate::arguments::{ColumnList, Equality};
+use crate::checking::{list_of, own_runs};
+use crate::listing::entry_lists;
+use base_io::{NoMemory, Seq};
+use berge_tree::{Edge, Place};
+use entry_sets::EntrySet;
+use join_graph::{Parts, joins_within};
+use safebound_lists::Run;
+use set_bounds::{KnownInSets, folded_bound};
+use std::alloc::Global;
+
+/// The values of a query, as they were handed in.
+#[derive(Clone, Copy)]
+pub(crate) struct Given<'a> {
+    pub rows: &'a [u64],
+    pub equalities: &'a [Equality],
+    pub lists: &'a [ColumnList],
+    pub runs: &'a [Run],
+}
+
+// How many rows runs are of.
+fn total(runs: &[Run]) -> u64
+    requires { AreRight runs.now }
+    ensures { result ≡ sum (list_of_runs runs.now) }
+{
+    let mut total = 0;
+    for run in runs {
+        total += run.keys * run.degree;
+    }
+    total
+}
+
+// How many rows have a value in a column, at most.
+fn rows_with_value(lists: &[ColumnList], runs: &[Run], place: Place) -> u64
+    requires there { (i : ℕ) → i < length lists.now → AreRunsThere (length runs.now) (list_at lists.now i) }
+    requires right { (i : ℕ) → i < length lists.now → AreRunsRightAt lists.now runs.now i }
+    ensures { result ≡ with_value lists.now runs.now place }
+{
+    match list_of(lists, place) {
+        Some(list) => total(own_runs(runs, list)),
+        None => 0,
+    }
+}
+
+// A row bound of an entry, or how many of its rows have a value in this column, if it is one of its columns.
+fn fewer_at(lists: &[ColumnList], runs: &[Run], entry: u8, place: Place, rows: u64) -> u64
+    requires there { (i : ℕ) → i < length lists.now → AreRunsThere (length runs.now) (list_at lists.now i) }
+    requires right { (i : ℕ) → i < length lists.now → AreRunsRightAt lists.now runs.now i }
+    ensures { result ≡ fewer_there lists.now runs.now entry place rows }
+{
+    if place.entry != entry {
+        return rows;
+    }
+    rows.min(rows_with_value(lists, runs, place))
+}
+
+// A row bound of an entry, cut by one equality.
+fn met_at(
+    lists: &[ColumnList],
+    runs: &[Run],
+    entry: u8,
+    subset: EntrySet,
+    edge: Edge,
+    rows: u64,
+) -> u64
+    requires there { (i : ℕ) → i < length lists.now → AreRunsThere (length runs.now) (list_at lists.now i) }
+    requires right { (i : ℕ) → i < length lists.now → AreRunsRightAt lists.now runs.now i }
+    ensures { result ≡ met_by lists.now runs.now entry (equalities_within subset (edge ∷ [])) rows }
+{
+    if !joins_within(subset, edge) {
+        return rows;
+    }
+    let left = fewer_at(lists, runs, entry, edge.left, rows);
+    fewer_at(lists, runs, entry, edge.right, left)
+}
+
+// How many rows of an entry the equalities of a set can join, at most.
+fn rows_met(
+    lists: &[ColumnList],
+    runs: &[Run],
+    entry: u8,
+    subset: EntrySet,
+    edges: &[Edge],
+    most: u64,
+) -> u64
+    requires there { (i : ℕ) → i < length lists.now → AreRunsThere (length runs.now) (list_at lists.now i) }
+    requires right { (i : ℕ) → i < length lists.now → AreRunsRightAt lists.now runs.now i }
+    ensures { result ≡ met_by lists.now runs.now entry (equalities_within subset edges.now) most }
+{
+    let mut rows = most;
+    for edge in edges {
+        rows = met_at(lists, runs, entry, subset, *edge, rows);
+    }
+    rows
+}
+
+// The same of each entry.
+fn rows_in_set(
+    alloc: Global,
+    given: &Given,
+    edges: &[Edge],
+    subset: EntrySet,
+) -> Result<Seq<u64>, NoMemory>
+    requires few { length given.now.rows.now ≤ most_entries }
+    requires there { (i : ℕ) → i < length given.now.lists.now → AreRunsThere (length given.now.runs.now) (list_at given.now.lists.now i) }
+    requires right { (i : ℕ) → i < length given.now.lists.now → AreRunsRightAt given.now.lists.now given.now.runs.now i }
+    ensures { IfOk result (λ met. met ≡ rows_of_set given.now.rows.now given.now.lists.now given.now.runs.now edges.now subset) }
+{
+    let mut met = Seq::new(alloc);
+    for entry in 0..given.rows.len() as u8 {
+        let most = given.rows[entry as usize];
+        met.push(rows_met(given.lists, given.runs, entry, subset, edges, most))?;
+    }
+    Ok(met)
+}
+
+impl KnownInSets for Given<'_> {
+    ghost known = { known_by };
+
+    ghost is_listed = { AreGiven };
+
+    fn folded(
+        &self,
+        alloc: Global,
+        parts: &Parts,
+        subset: EntrySet,
+        forest: bool,
+    ) -> Result<u128, NoMemory> {
+        let edges = parts.equalities.as_slice();
+        let rows = rows_in_set(alloc, self, edges, subset)?;
+        let lists = entry_lists(alloc, rows.as_slice(), self.lists, self.runs)?;
+        folded_bound(alloc, parts, &lists, subset, forest)
+    }
+}
+
+// Whether the list has a row for each that its entry has at most.
+fn is_full(rows: &[u64], runs: &[Run], list: ColumnList) -> bool
+    requires entry { list.entry < length rows.now }
+    requires there { AreRunsThere (length runs.now) list }
+    requires right { AreRight (runs_of runs.now list) }
+    ensures { result ≡ true → IsFull rows.now runs.now list }
+{
+    total(own_runs(runs, list)) >= rows[list.entry as usize]
+}
+
+/// Where it is true, no list leaves rows without a value, so what is known is the same in every set.
+pub(crate) fn are_full(rows: &[u64], lists: &[ColumnList], runs: &[Run]) -> bool
+    requires lists { (i : ℕ) → i < length lists.now → IsRightListAt (length rows.now) (length runs.now) lists.now i }
+    requires runs { (i : ℕ) → i < length lists.now → AreRunsRightAt lists.now runs.now i }
+    ensures { result ≡ true → (i : ℕ) → i < length lists.now → IsFull rows.now runs.now (list_at lists.now i) }
+{
+    for list in lists {
+        if !is_full(rows, runs, *list) {
+            return false;
+        }
+    }
+    true
+}
