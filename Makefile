@@ -4,7 +4,7 @@ LIBRARY := library/out
 # Where `make install` lays what was built, and `make uninstall` takes it away.
 PREFIX ?= /usr/local
 
-# Where `make deb` leaves the package.
+# Where `make deb` leaves the packages.
 PACKAGES := out
 
 # What `make run` runs: a folder of yours (DATA) or one of examples/, and the command line.
@@ -22,7 +22,7 @@ WORDS := run schema.sql query.sql
 ## make library   proves and builds the library for C, Python and Rust (docs/EMBEDDING.md; under ten minutes the first time)
 ## make command   proves and builds the whole program as a library over files in memory (a minute, once make build has been)
 ## make install   lays what was built, program and libraries, below PREFIX, /usr/local (2 seconds); make uninstall takes it away
-## make deb       makes a Debian package of both in out/ (2 seconds, once they are built)
+## make deb       makes Debian packages of both in out/ (3 seconds, once they are built)
 ## make engines   tests safebound-sql on SQLite and on a PostgreSQL of its own, over the library (docs/ENGINES.md; minutes)
 ## make release   builds the last commit twice, from clean clones, and lays the result in dist/ (minutes, where the proofs are kept)
 ## make test      the gate: every proof, the gate's own edits, every test (about 40 minutes from nothing; it says how far it is)

@@ -14,16 +14,23 @@
 #ifndef SAFEBOUND_MEMORY_H
 #define SAFEBOUND_MEMORY_H
 
-#include <stdbool.h>
 #include <stddef.h>
+
+/* bool, or in C89, which has none, the same byte: 0 or 1. */
+#if defined(__cplusplus) || (defined(__STDC_VERSION__) && __STDC_VERSION__ >= 199901L)
+#include <stdbool.h>
+typedef bool rattle_given;
+#else
+typedef unsigned char rattle_given;
+#endif
 
 #ifdef __cplusplus
 extern "C" {
 #endif
 
-/* What a request gives: `given` is false where memory is wanting, and `at` then isn't looked at. */
+/* What a request gives: `given` is 0 where memory is wanting, and `at` then isn't looked at. */
 typedef struct rattle_memory {
-    bool given;
+    rattle_given given;
     void *at;
 } rattle_memory;
 

@@ -1,20 +1,29 @@
-"""Builds the package as a wheel (the build backend of pyproject.toml), with the standard library alone.
+"""Builds the package as a wheel and as a source archive (the build backend of pyproject.toml), with the standard library alone.
 
-The shared objects that `make library` and `make command` left go into the package, so that what is installed has them beside itself.
+A wheel has the shared objects beside the package. They come from the folder that SAFEBOUND_LIBRARY_DIR names, and then from no other;
+from where `make library` and `make command` leave them, in a clone; or from where pkg-config finds this version, as `make install`
+lays it. Where that folder has an archive alone, the C compiler makes the shared object of it.
+
+A source archive has the package and this file. It builds where one of these folders has the library.
 """
 
 import base64
 import hashlib
+import io
 import os
 import runpy
+import subprocess
 import sysconfig
+import tarfile
+import tempfile
 import zipfile
 
 HERE = os.path.dirname(os.path.abspath(__file__))
 PACKAGE = os.path.join(HERE, "safebound")
-BUILT = [path for name in ("libsafebound.so", "libsafebound_command.so") for path in [os.path.join(HERE, "..", "library", "out", name)] if os.path.isfile(path)]
 VERSION = runpy.run_path(os.path.join(PACKAGE, "_version.py"))["VERSION"]
 INFO = f"safebound-{VERSION}.dist-info"
+LIBRARIES = ("safebound", "safebound_command")
+VARIABLE = "SAFEBOUND_LIBRARY_DIR"
 
 METADATA = f"""\
 Metadata-Version: 2.1
@@ -22,6 +31,7 @@ Name: safebound
 Version: {VERSION}
 Summary: Row bounds of joins that are never too low, and the best plans by them
 License: Apache-2.0
+License-File: LICENSE
 Requires-Python: >=3.9
 Description-Content-Type: text/markdown
 
@@ -33,10 +43,60 @@ def read(*path):
         return f.read()
 
 
+# ---- the library
+
+
+def files_of(folder, name):
+    """The shared object and the archive of a library, as far as they are there."""
+    ends = (".so", ".so." + VERSION.partition(".")[0]), (".a",)
+    return [next(filter(os.path.isfile, (os.path.join(folder, f"lib{name}{end}") for end in some)), None) for some in ends]
+
+
+def installed():
+    """What pkg-config says of this version; nothing where there is none."""
+    words = [os.environ.get("PKG_CONFIG", "pkg-config"), "--variable=libdir", f"safebound = {VERSION}"]
+    try:
+        return subprocess.run(words, capture_output=True, text=True, check=True).stdout.strip()
+    except (OSError, subprocess.CalledProcessError):
+        return ""
+
+
+def folder_of_library():
+    named = os.environ.get(VARIABLE)
+    folders = [named] if named else [os.path.join(HERE, "..", "library", "out"), installed()]
+    found = next((folder for folder in folders if folder and any(files_of(folder, "safebound"))), None)
+    if found is None:
+        looked = ", ".join(os.path.normpath(folder) for folder in folders if folder)
+        raise RuntimeError(f"there is no libsafebound.so and no libsafebound.a in {looked}: make library, or name its folder by {VARIABLE}")
+    return found
+
+
+def linked(archive, name):
+    """The shared object of an archive."""
+    with tempfile.TemporaryDirectory() as room:
+        names, made = os.path.join(HERE, "safebound.map"), os.path.join(room, "made.so")
+        whole = ["-Wl,--whole-archive", archive, "-Wl,--no-whole-archive"]
+        own = [f"-Wl,-soname,lib{name}.so.{VERSION.partition('.')[0]}", f"-Wl,--version-script={names}", "-Wl,-z,defs", "-s"]
+        subprocess.run([os.environ.get("CC", "cc"), "-shared", "-o", made, *whole, *own], check=True)
+        return read(made)
+
+
+def libraries():
+    """The shared objects by their names in the package. The library for the whole program may be wanting."""
+    folder, found = folder_of_library(), {}
+    for name in LIBRARIES:
+        shared, archive = files_of(folder, name)
+        if shared or archive:
+            found[f"safebound/lib{name}.so"] = read(shared) if shared else linked(archive, name)
+    return found
+
+
+# ---- archives
+
+
 def tag():
     """What has a shared object is of this platform."""
-    platform = sysconfig.get_platform().replace("-", "_").replace(".", "_") if BUILT else "any"
-    return f"py3-none-{platform}"
+    return "py3-none-" + sysconfig.get_platform().replace("-", "_").replace(".", "_")
 
 
 def sources():
@@ -44,8 +104,8 @@ def sources():
     return {"safebound/" + name: read(PACKAGE, name) for name in names}
 
 
-def library():
-    return {"safebound/" + os.path.basename(path): read(path) for path in BUILT}
+def metadata():
+    return METADATA.encode() + read(HERE, "README.md")
 
 
 def record(files):
@@ -59,7 +119,7 @@ def record(files):
 
 def write(folder, files):
     wheel = f"Wheel-Version: 1.0\nGenerator: build_safebound\nRoot-Is-Purelib: false\nTag: {tag()}\n"
-    files = {**files, f"{INFO}/METADATA": METADATA.encode() + read(HERE, "README.md"), f"{INFO}/WHEEL": wheel.encode()}
+    files = {**files, f"{INFO}/METADATA": metadata(), f"{INFO}/WHEEL": wheel.encode(), f"{INFO}/LICENSE": read(HERE, "LICENSE")}
     files[f"{INFO}/RECORD"] = record(files)
     name = f"safebound-{VERSION}-{tag()}.whl"
     with zipfile.ZipFile(os.path.join(folder, name), "w", zipfile.ZIP_DEFLATED) as made:
@@ -69,7 +129,7 @@ def write(folder, files):
 
 
 def build_wheel(wheel_directory, config_settings=None, metadata_directory=None):
-    return write(wheel_directory, {**sources(), **library()})
+    return write(wheel_directory, {**sources(), **libraries()})
 
 
 def build_editable(wheel_directory, config_settings=None, metadata_directory=None):
@@ -78,4 +138,11 @@ def build_editable(wheel_directory, config_settings=None, metadata_directory=Non
 
 
 def build_sdist(sdist_directory, config_settings=None):
-    raise NotImplementedError("the package is built within its repository")
+    root = f"safebound-{VERSION}"
+    own = {name: read(HERE, name) for name in ("LICENSE", "README.md", "build_safebound.py", "pyproject.toml", "safebound.map")}
+    with tarfile.open(os.path.join(sdist_directory, root + ".tar.gz"), "w:gz") as made:
+        for path, data in {**own, "PKG-INFO": metadata(), **sources()}.items():
+            entry = tarfile.TarInfo(f"{root}/{path}")
+            entry.size, entry.mode = len(data), 0o644
+            made.addfile(entry, io.BytesIO(data))
+    return root + ".tar.gz"

@@ -87,16 +87,16 @@ fn query_over(folder: &str) -> Result<Query, Box<dyn std::error::Error>> {
         if let Some((column, value)) = condition {
             table = table.filtered(column, value);
         }
-        query.entry(entry, table.rows.len() as u64);
+        query = query.entry(entry, table.rows.len() as u64);
         for &(of, column) in joined.iter().filter(|(of, _)| *of == entry) {
-            query.list(
+            query = query.list(
                 (of, column),
                 &compress(&degree_sequence(table.values(column))?, 1)?,
             );
         }
     }
     for (left, right) in EQUALITIES {
-        query.equality(left, right);
+        query = query.equality(left, right);
     }
     Ok(query)
 }

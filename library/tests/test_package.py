@@ -2,7 +2,6 @@
 
 import doctest
 import os
-import random
 import shutil
 import subprocess
 import sys
@@ -12,10 +11,9 @@ import unittest
 from array import array
 
 import calls
-import reading
 
 import safebound
-from safebound import _library, lists, query
+from safebound import _library, bounds, lists, plans, query
 
 PAIR = [(("r", "x"), ("s", "x"))]
 
@@ -27,7 +25,7 @@ def pair(**changed):
 
 class Pages(unittest.TestCase):
     def test_what_docstrings_show(self):
-        for module in (safebound, lists, query):
+        for module in (safebound, bounds, lists, plans, query):
             failed, tried = doctest.testmod(module)
             self.assertEqual((failed, tried > 0), (0, True), module)
 
@@ -37,28 +35,6 @@ class Pages(unittest.TestCase):
         for name, number in vars(_library.Status).items():
             if not name.startswith("_"):
                 self.assertIn(f"SAFEBOUND_{name} = {number}", header.replace(",", " ").replace("\n", " "))
-
-
-class Values(unittest.TestCase):
-    def test_of_any_kind(self):
-        nan = float("nan")
-        for values in ([], ["a", "b", "a"], ["é", "", None, ""], [1, 1.0, True, 2], [(1, 2), (1, 2), (2, 1)], [None, None], [-1, 2**64, -1, 2**70], [1.5, nan, float("nan"), nan]):
-            known = ["nan" if v != v else v for v in values if v is not None]
-            degrees = reading.falling(known)
-            self.assertEqual([d for d, keys in safebound.degree_sequence(values) for _ in range(keys)], degrees, values)
-
-    def test_where_they_lie(self):
-        pick = random.Random(1)
-        numbers = [pick.choice([-1, 0, 7, 2**62]) for _ in range(100)]
-        expected = safebound.degree_sequence(numbers)
-        held = array("q", numbers)
-        for values in (held, memoryview(held), memoryview(held.tobytes()).cast("q"), array("i", [n % 2**30 for n in numbers]), iter(numbers)):
-            self.assertEqual(sum(d * k for d, k in safebound.degree_sequence(values)), 100)
-        self.assertEqual(safebound.degree_sequence(held), expected)
-        self.assertEqual(safebound.degree_sequence(held[::2]), safebound.degree_sequence(numbers[::2]))
-        self.assertEqual(safebound.degree_sequence(memoryview(held)[::2]), safebound.degree_sequence(numbers[::2]))
-        self.assertEqual(safebound.degree_sequence(array("d", [0.0, -0.0, 1.0])), [(2, 1), (1, 1)])
-        self.assertEqual(safebound.degree_sequence(b"abca"), [(2, 1), (1, 2)])
 
 
 class Errors(unittest.TestCase):

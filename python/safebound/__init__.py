@@ -17,10 +17,12 @@ values of each joined column repeat:
 from . import errors
 from ._library import VERSION as __version__
 from ._library import path, version
+from .bounds import Bounds
 from .command import Output, Plan, append_stats, plan_stats, run
 from .errors import *  # noqa: F401,F403
 from .lists import Run, Runs, append, compress, degree_sequence
-from .query import Bounds, Column, Join, Order, Query, Tree
+from .plans import Join, Order, Tree
+from .query import Column, Query
 
 __all__ = [name for name, value in vars(errors).items() if isinstance(value, type)]
 __all__ += ["Bounds", "Column", "Join", "Order", "Output", "Plan", "Query", "Run", "Runs", "Tree"]

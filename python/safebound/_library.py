@@ -5,13 +5,15 @@ from __future__ import annotations
 import ctypes
 import ctypes.util
 import functools
+import operator
 import os
 import sys
+import sysconfig
 from pathlib import Path
-from typing import Iterator
+from typing import Any, Iterator, Sequence
 
 from . import errors
-from ._version import VERSION
+from ._version import VERSION as VERSION
 
 NAME, VARIABLE = "libsafebound.so", "SAFEBOUND_LIBRARY"
 NO_BOUND = NO_VALUES = 2**64 - 1
@@ -69,18 +71,26 @@ WRONG = {
 }
 
 
+def _folders() -> Iterator[Path]:
+    """Where shared objects lie, that of this package first; each with the folder that it has for this machine, if there is one."""
+    here = Path(__file__).resolve().parent
+    yield here
+    libraries = [folder for folder in here.parents if folder.name == "lib"]
+    libraries += [Path(prefix) / "lib" for prefix in (sys.prefix, "/usr/local", "/usr")]
+    for folder in libraries:
+        yield folder
+        yield folder / (sysconfig.get_config_var("MULTIARCH") or "")
+    yield here.parents[1] / "library" / "out"
+
+
 def _candidates(name: str, variable: str) -> Iterator[Path]:
     named = os.environ.get(variable)
     if named:
         yield Path(named)
         return
-    here = Path(__file__).resolve().parent
-    yield here / name
-    yield from (folder / name for folder in here.parents if folder.name == "lib")
-    yield Path(sys.prefix) / "lib" / name
-    for prefix in ("/usr/local", "/usr"):
-        yield Path(prefix) / "lib" / name
-    yield here.parents[1] / "library" / "out" / name
+    for folder in dict.fromkeys(_folders()):
+        yield folder / f"{name}.{VERSION.partition('.')[0]}"
+        yield folder / name
 
 
 def find(name: str, variable: str) -> Path:
@@ -97,7 +107,8 @@ def path() -> Path:
 
     It is looked for in this order: the file that the variable SAFEBOUND_LIBRARY names, and then no other; beside this
     package; in the folder lib that the package lies below, where `make install` lays it; in lib/ of Python's prefix, of
-    /usr/local and of /usr; and where `make library` leaves it, in a clone of the repository.
+    /usr/local and of /usr; and where `make library` leaves it, in a clone of the repository. In each lib the folder of this kind
+    of machine counts too, such as x86_64-linux-gnu.
 
     Raises:
         LibraryNotFound: none is there.
@@ -127,8 +138,8 @@ def _library() -> ctypes.CDLL:
     for name, form in forms.items():
         function = getattr(found, "safebound_" + name)
         function.argtypes, function.restype = form, ctypes.c_uint32
-    text, detail = ctypes.create_string_buffer(64), _Number()
-    if found.safebound_version(text, 64, ctypes.byref(detail)) != Status.OK or text.value.decode() != VERSION:
+    text, told = ctypes.create_string_buffer(64), _Number()
+    if found.safebound_version(text, 64, ctypes.byref(told)) != Status.OK or text.value.decode() != VERSION:
         raise errors.LibraryNotFound(f"{path()} isn't of version {VERSION}")
     return found
 
@@ -137,10 +148,15 @@ def version() -> str:
     """The version of the library that is used, as text, such as 0.1.0."""
     status, detail, text = call("version", [], ctypes.c_char, 64)
     raise_for(status, detail)
-    return text.value.decode()
+    return str(text.value.decode())
 
 
-def call(name: str, given: list, element: type, room: int) -> tuple[int, int, ctypes.Array]:
+def array_of(element: Any, parts: Sequence[Any]) -> Any:
+    """An array of elements, each given by its numbers."""
+    return (element * len(parts))(*parts)
+
+
+def call(name: str, given: list[Any], element: Any, room: int) -> tuple[int, int, Any]:
     """Calls with so much room for elements, and with more where more is needed. Its status, detail and room."""
     function = getattr(_library(), "safebound_" + name)
     while True:
@@ -151,7 +167,7 @@ def call(name: str, given: list, element: type, room: int) -> tuple[int, int, ct
         room = detail.value
 
 
-def ask(name: str, given: list) -> tuple[int, int]:
+def ask(name: str, given: list[Any]) -> tuple[int, int]:
     """Calls what answers a number. Its status and the number."""
     detail = _Number()
     status = getattr(_library(), "safebound_" + name)(*given, ctypes.byref(detail))
@@ -173,10 +189,13 @@ def raise_for(status: int, detail: int) -> None:
 
 
 def whole(value: object) -> int | None:
-    """The number, or None where 64 bits don't hold it. What is no whole number is a TypeError."""
-    number = value.__index__() if hasattr(value, "__index__") else _no_number(value)
+    """The number, or None where 64 bits don't hold it. Whole numbers of other libraries are taken, and floats aren't.
+
+    Raises:
+        WrongType: it is no whole number.
+    """
+    try:
+        number = operator.index(value)  # type: ignore[arg-type]
+    except TypeError:
+        raise errors.WrongType(f"{value!r} is no whole number") from None
     return number if 0 <= number <= MOST else None
-
-
-def _no_number(value: object) -> int:
-    raise TypeError(f"{value!r} is no whole number")

@@ -4,18 +4,21 @@ from __future__ import annotations
 
 import ctypes
 import functools
-from typing import Iterable, Mapping, NamedTuple, Optional, Tuple, Union
+from typing import Any, Iterable, List, Mapping, NamedTuple, Optional, SupportsIndex, Tuple, TypeVar, Union
 
 from . import errors
-from ._library import find
+from ._library import find, whole
 from ._version import VERSION
-from .query import Order
+from .plans import Order
 
 NAME, VARIABLE = "libsafebound_command.so", "SAFEBOUND_COMMAND_LIBRARY"
 BUDGET, PAST_BITS, WRITE_FAULT, NO_MEMORY = 8, 9, 10, 11
 LEAST_OUT, LEAST_NOTES, GROWS = 65536, 4096, 8
 
-Text = Union[str, bytes]
+Text = Union[str, bytes, bytearray, memoryview]
+
+# A mapping is of one type of keys alone: this takes each that is a text.
+_Name = TypeVar("_Name", str, bytes)
 
 
 class _Text(ctypes.Structure):
@@ -47,13 +50,27 @@ def _library() -> ctypes.CDLL:
     return found
 
 
-def _text(value: Text) -> _Text:
-    """The bytes of a text where they lie. The structure keeps them."""
+def _text(value: Any, what: str) -> _Text:
+    """The bytes of a text where they lie. The structure keeps them. `bytes` would make a text of a list of numbers too."""
+    if not isinstance(value, (str, bytes, bytearray, memoryview)):
+        raise errors.WrongType(f"{what} is {value!r:.60}, and not a text or bytes")
     held = value.encode("utf-8", "surrogateescape") if isinstance(value, str) else bytes(value)
     return _Text(held, len(held))
 
 
-def run(words: Iterable[Text], files: Mapping[Text, Text]) -> Output:
+def _words(words: Any) -> List[_Text]:
+    if isinstance(words, (str, bytes, bytearray, memoryview)) or not isinstance(words, Iterable):
+        raise errors.WrongType(f"words are a list of texts, and not {words!r:.60}")
+    return [_text(word, f"word {place}") for place, word in enumerate(words)]
+
+
+def _files(files: Any) -> List[_File]:
+    if not isinstance(files, Mapping):
+        raise errors.WrongType(f"files are a mapping from names to texts, and not {type(files).__name__}")
+    return [_File(_text(name, "a file's name"), _text(data, f"file {name!r}")) for name, data in files.items()]
+
+
+def run(words: Iterable[Text], files: Mapping[_Name, Text]) -> Output:
     """Runs the program over files in memory.
 
     The words are those of its command line, without its own name; files go by the names by which words and tables ask for
@@ -77,11 +94,11 @@ def run(words: Iterable[Text], files: Mapping[Text, Text]) -> Output:
     Output(status=8, out=b'', notes=b'error budget 3\\n')
 
     Raises:
+        WrongType: a word, a name or a file that is neither a text nor bytes, or one text in place of a list of words.
         LibraryNotFound: libsafebound_command.so isn't there, or is of another version.
     """
+    given, named = _words(words), _files(files)
     call = _library().safebound_command
-    given = [_text(word) for word in words]
-    named = [_File(_text(name), _text(data)) for name, data in files.items()]
     word_array, file_array = (_Text * len(given))(*given), (_File * len(named))(*named)
     room, notes_room = LEAST_OUT, LEAST_NOTES
     while True:
@@ -102,7 +119,7 @@ class Plan(NamedTuple):
     order: Order
 
 
-def plan_stats(schema: Text, query: Text, stats: Text, budget: Optional[int] = None) -> Plan:
+def plan_stats(schema: Text, query: Text, stats: Text, budget: Optional[SupportsIndex] = None) -> Plan:
     """Plans a query from the text of a statistics file, without tables.
 
     The file is what `stats` writes, here or as a program. No bound of the plan is too low for the tables that the file was
@@ -119,21 +136,23 @@ def plan_stats(schema: Text, query: Text, stats: Text, budget: Optional[int] = N
 
     Raises:
         BudgetExceeded, PastBits: as for an order.
+        WrongType: a text that is none, or a budget that isn't a whole number.
         Refused: a text isn't right, or the file lacks something that the query needs.
         OutOfMemory: memory was wanting.
         LibraryNotFound: libsafebound_command.so isn't there, or is of another version.
     """
-    words = ["plan", "schema", "query", "--stats", "stats", *(["--budget", str(budget)] if budget is not None else [])]
+    words = ["plan", "schema", "query", "--stats", "stats", *(["--budget", str(_budget(budget))] if budget is not None else [])]
     output = run(words, {"schema": schema, "query": query, "stats": stats})
     if output.status:
         raise _refusal(output)
-    scans, levels = [], []
+    scans: List[Tuple[str, int]] = []
+    levels: List[Tuple[str, int]] = []
     for line in output.notes.decode().split("\n")[:-1]:
         kind, rest = line.split(" ", 1)
         # A name may have blanks: the bound is what stands behind the last one.
         name, bound = (rest if kind == "scan" else rest.split(" ", 1)[1]).rsplit(" ", 1)
         (scans if kind == "scan" else levels).append((name, int(bound)))
-    return Plan(tuple(scans), Order(*map(tuple, zip(*levels))))
+    return Plan(tuple(scans), Order(tuple(name for name, _ in levels), tuple(bound for _, bound in levels)))
 
 
 def append_stats(schema: Text, stats: Text, table: str, rows: Text) -> bytes:
@@ -154,14 +173,24 @@ def append_stats(schema: Text, stats: Text, table: str, rows: Text) -> bytes:
         rows: the new rows alone, as CSV with a header.
 
     Raises:
+        WrongType: a text that is none.
         Refused: a text or a row isn't right, the file has no statistics of the table, or it would have too many rows.
         OutOfMemory: memory was wanting.
         LibraryNotFound: libsafebound_command.so isn't there, or is of another version.
     """
+    if not isinstance(table, str):
+        raise errors.WrongType(f"table is {table!r}, and not a name")
     output = run(["append", "--", "schema", "stats", table, "rows"], {"schema": schema, "stats": stats, "rows": rows})
     if output.status:
         raise _refusal(output)
     return output.out
+
+
+def _budget(budget: SupportsIndex) -> int:
+    number = whole(budget)
+    if number is None:
+        raise errors.BadBudget(f"a budget is from 1 to 20,000,000, not {budget}", budget)
+    return number
 
 
 def _refusal(output: Output) -> errors.SafeBoundError:

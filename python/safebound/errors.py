@@ -4,7 +4,19 @@ from __future__ import annotations
 
 
 class SafeBoundError(Exception):
-    """What all errors of this package have in common."""
+    """What all errors of this package have in common.
+
+    Two are equal where they are of one class and say the same. `args` are what the class was called with, so that an error goes
+    whole from one process to another.
+    """
+
+    def __eq__(self, other: object) -> bool:
+        if not isinstance(other, SafeBoundError):
+            return NotImplemented
+        return type(self) is type(other) and self.args == other.args
+
+    def __hash__(self) -> int:
+        return hash((type(self), str(self)))
 
 
 class LibraryNotFound(SafeBoundError, ImportError):
@@ -27,8 +39,15 @@ class BudgetExceeded(SafeBoundError):
     """
 
     def __init__(self, least: int) -> None:
-        super().__init__(f"the best plan has a part of at most {least} rows, which is the least budget that would do")
+        super().__init__(least)
         self.least = least
+
+    def __str__(self) -> str:
+        return f"the best plan has a part of at most {self.least} rows, which is the least budget that would do"
+
+
+class WrongType(SafeBoundError, TypeError):
+    """What was given is of a kind that the call doesn't take. Nothing is guessed from it."""
 
 
 class WrongValue(SafeBoundError, ValueError):
@@ -39,8 +58,11 @@ class WrongValue(SafeBoundError, ValueError):
     """
 
     def __init__(self, message: str, place: object) -> None:
-        super().__init__(message)
-        self.place = place
+        super().__init__(message, place)
+        self.message, self.place = message, place
+
+    def __str__(self) -> str:
+        return self.message
 
 
 class BadKeys(WrongValue):
@@ -59,7 +81,7 @@ class BadRun(WrongValue):
 
     def __init__(self, message: str, place: int, column: object = None) -> None:
         super().__init__(message, place)
-        self.column = column
+        self.args, self.column = (message, place, column), column
 
 
 class BadOtherRun(BadRun):
@@ -115,5 +137,8 @@ class Refused(SafeBoundError):
     """
 
     def __init__(self, status: int, line: str) -> None:
-        super().__init__(f"{line} (status {status})")
+        super().__init__(status, line)
         self.status, self.line = status, line
+
+    def __str__(self) -> str:
+        return f"{self.line} (status {self.status})"

@@ -2,14 +2,13 @@
 
 from __future__ import annotations
 
-import ctypes
-from array import array
 from math import isqrt
-from typing import Hashable, Iterable, NamedTuple, Sequence, Union
+from typing import Any, Hashable, Iterable, NamedTuple, Sequence, SupportsIndex, Tuple
 
 from . import _library
 from ._library import Status
-from .errors import BadAccuracy, BadOtherRun, BadRun
+from .columns import keys_of
+from .errors import BadAccuracy, BadOtherRun, BadRun, WrongType
 
 __all__ = ["Run", "Runs", "append", "compress", "degree_sequence"]
 
@@ -21,38 +20,36 @@ class Run(NamedTuple):
     keys: int
 
 
-# Stands for all values that aren't equal to themselves.
-_UNLIKE_ITSELF = object()
-
-Runs = Sequence[Union[Run, "tuple[int, int]"]]
+Runs = Iterable[Tuple[SupportsIndex, SupportsIndex]]
 
 
 def degree_sequence(values: Iterable[Hashable]) -> list[Run]:
     """The degree sequence of a column: how often each of its values stands there.
 
     Args:
-        values: the column's values, one for each row, in any order and of any kinds that can be compared. None stands for
-            a row without a value (NULL) and is left out. All values that aren't equal to themselves (NaN) are one value.
-            A one-dimensional array of 64-bit whole numbers (`array`, `memoryview`, numpy) is read where it lies.
+        values: the column's values, one for each row, in any order: a column of pandas, Arrow or numpy, an `array`, or anything
+            that gives one hashable value after the other. Rows without a value (NULL) are left out: None, NaN, NaT,
+            `pandas.NA` and what is masked. Values are one where Python finds them equal; what your engine finds equal has to
+            be equal here too. Where it takes one NaN as equal to another, or letters of both cases, give one value for these.
+            One-dimensional 64-bit whole numbers are read where they lie.
 
     Returns:
         Runs of which the degrees fall. Their degrees sum to the number of rows with a value.
 
     Raises:
+        WrongType: a text, bytes, a mapping or a set; what has more than one dimension, as a table; a value that isn't
+            hashable. Read as a column these would give a list of something else.
         BadKeys: more than 2**48 values.
         OutOfMemory: memory was wanting.
 
     >>> degree_sequence([8, 8, 8, 8, 8, 2, 2, 2, None, 5])
     [Run(degree=5, keys=1), Run(degree=3, keys=1), Run(degree=1, keys=1)]
     """
-    keys = _keys_that_lie(values)
-    if keys is None:
-        numbers: dict[Hashable, int] = {}
-        keys = _as_keys(array("Q", [numbers.setdefault(_itself(v), len(numbers)) for v in values if v is not None]))
+    keys = keys_of(values)
     return _runs_of("degrees", [keys, len(keys)], isqrt(2 * len(keys)))
 
 
-def compress(runs: Runs, accuracy: int) -> list[Run]:
+def compress(runs: Runs, accuracy: SupportsIndex) -> list[Run]:
     """Few runs that dominate a list, so that bounds over them stay true and are made fast.
 
     Args:
@@ -73,7 +70,7 @@ def compress(runs: Runs, accuracy: int) -> list[Run]:
     given, number = encoded(runs), _library.whole(accuracy)
     if number is None:
         raise BadAccuracy(f"an accuracy is from 1 to 64, not {accuracy}", accuracy)
-    return _runs_of("compress", [given, len(given), number], len(given) + 1)
+    return _runs_of("compress", [given, len(given), number], len(given) + 1, given)
 
 
 def append(runs: Runs, others: Runs) -> list[Run]:
@@ -95,40 +92,57 @@ def append(runs: Runs, others: Runs) -> list[Run]:
     [Run(degree=5, keys=1), Run(degree=3, keys=1), Run(degree=1, keys=1)]
     """
     first, second = encoded(runs), encoded(others, BadOtherRun)
-    return _runs_of("append", [first, len(first), second, len(second)], len(first) + len(second))
+    return _runs_of("append", [first, len(first), second, len(second)], len(first) + len(second), first, second)
 
 
-def encoded(runs: Runs, error: type[BadRun] = BadRun, column: object = None) -> ctypes.Array:
+def encoded(runs: Runs, error: type[BadRun] = BadRun, column: object = None) -> Any:
     """The runs as the library takes them. A number that 64 bits don't hold is no number of a run."""
+    if not isinstance(runs, Iterable):
+        raise WrongType(f"{_of(error, column)}{type(runs).__name__} is no list of runs")
     pairs = []
-    for place, (degree, keys) in enumerate(runs):
+    for place, run in enumerate(runs):
+        degree, keys = _pair(run, place, _of(error, column))
         pair = (_library.whole(degree), _library.whole(keys))
         if None in pair:
-            raise error(f"run {place} has a number that isn't from 1 to 2**48", place, column)
+            what, number = ("degree", degree) if pair[0] is None else ("number of keys", keys)
+            raise error(f"{_of(error, column)}the {what} of run {place} is {number}, which isn't from 1 to 2**48", place, column)
         pairs.append(pair)
-    return (_library.Run * len(pairs))(*pairs)
+    return _library.array_of(_library.Run, pairs)
 
 
-def _runs_of(name: str, given: list, room: int) -> list[Run]:
+def wrong_run(runs: Sequence[Any], place: int, error: type[BadRun] = BadRun, column: object = None) -> BadRun:
+    """What is wrong with a run that the library refuses. It is the first wrong one of its list."""
+    degree, keys = runs[place].degree, runs[place].keys
+    before = runs[place - 1].degree if place else degree
+    if degree == 0 or keys == 0:
+        why = f"run {place} has " + ("degree 0" if degree == 0 else "no keys")
+    elif degree > before:
+        why = f"the list rises at run {place}: degree {degree} after {before}"
+    else:
+        why = f"at run {place} the list sums to more than 2**48 rows"
+    return error(_of(error, column) + why, place, column)
+
+
+def _of(error: type[BadRun], column: object) -> str:
+    """The head of a message on a list: which one it is, where there are several."""
+    if isinstance(column, tuple):
+        return f"{column[0]}.{column[1]}: "
+    return "second list: " if error is BadOtherRun else ""
+
+
+def _pair(run: Any, place: int, head: str) -> tuple[Any, Any]:
+    try:
+        degree, keys = run
+    except (TypeError, ValueError):
+        raise WrongType(f"{head}run {place} is {run!r}, and not a pair of a degree and a number of keys") from None
+    return degree, keys
+
+
+def _runs_of(name: str, given: list[Any], room: int, runs: Sequence[Any] = (), others: Sequence[Any] = ()) -> list[Run]:
     status, detail, into = _library.call(name, given, _library.Run, room)
+    if status == Status.BAD_RUN:
+        raise wrong_run(runs, detail)
+    if status == Status.BAD_OTHER_RUN:
+        raise wrong_run(others, detail, BadOtherRun)
     _library.raise_for(status, detail)
     return [Run(run.degree, run.keys) for run in into[:detail]]
-
-
-def _itself(value: Hashable) -> Hashable:
-    return value if value == value else _UNLIKE_ITSELF
-
-
-def _keys_that_lie(values: object) -> ctypes.Array | None:
-    """Values that lie in memory as keys, or None."""
-    try:
-        view = memoryview(values)  # type: ignore[arg-type]
-    except TypeError:
-        return None
-    fits = view.ndim == 1 and view.itemsize == 8 and view.format.lstrip("@=<") in ("q", "Q", "l", "L") and view.c_contiguous
-    return _as_keys(view) if fits else None
-
-
-def _as_keys(view: memoryview | array) -> ctypes.Array:
-    keys = ctypes.c_uint64 * len(view)
-    return keys.from_buffer_copy(view) if len(view) == 0 or memoryview(view).readonly else keys.from_buffer(view)

@@ -3,77 +3,44 @@
 from __future__ import annotations
 
 import ctypes
-from collections.abc import Mapping
+from collections.abc import Sequence as SomeSequence
 from functools import cached_property
-from typing import Dict, FrozenSet, Hashable, Iterable, Iterator, NamedTuple, NoReturn, Optional, Sequence, Tuple, Union
+from types import MappingProxyType
+from typing import Any, Dict, Hashable, Iterable, List, Mapping, NoReturn, Optional, SupportsIndex, Tuple, TypeVar
 
 from . import _library
-from ._library import NO_BOUND, Status
-from .errors import BadBudget, BadEntries, BadEquality, BadList, BadPlan, BadRows, BadRun, MissingList, PastBits
-from .lists import Runs, encoded
+from ._library import Status
+from ._tables import table
+from .bounds import Bounds
+from .errors import BadBudget, BadEntries, BadEquality, BadList, BadPlan, BadRows, MissingList, PastBits, WrongType
+from .lists import Run, Runs, encoded, wrong_run
+from .plans import Join, Order, QueryPlan, Tree
 
-__all__ = ["Bounds", "Column", "Join", "Order", "Query", "Tree"]
+__all__ = ["Column", "Query"]
 
 Column = Tuple[str, Hashable]
-Shape = Union[str, Tuple["Shape", "Shape"]]
+
+# Mappings are of one type of keys alone: these take each that is a name or a column.
+_Name = TypeVar("_Name", bound=str)
+_Column = TypeVar("_Column", bound=Column)
 
 # The list of a column in which no row has a value. It says more than there is.
 NO_VALUE = ((1, 1),)
 
 
-class Bounds(Mapping[FrozenSet[str], Optional[int]]):
-    """The bounds of all sets of a query's entries, in rows: `bounds[{"film", "person"}]`. None where no bound is known."""
-
-    def __init__(self, entries: Sequence[str], numbers: Sequence[int]) -> None:
-        self.entries = tuple(entries)
-        self._bit: Dict[str, int] = {entry: 1 << at for at, entry in enumerate(entries)}
-        self._numbers = numbers
-
-    def __getitem__(self, entries: Iterable[str]) -> int | None:
-        number = self._numbers[sum(self._bit[entry] for entry in set(entries))]
-        return None if number == NO_BOUND else number
-
-    def __iter__(self) -> Iterator[FrozenSet[str]]:
-        for number in range(len(self._numbers)):
-            yield frozenset(entry for entry, bit in self._bit.items() if number & bit)
-
-    def __len__(self) -> int:
-        return len(self._numbers)
+def _column(value: Any, where: str) -> Column:
+    """A column as it was given. A text is none: it would be read by its characters."""
+    if isinstance(value, (str, bytes)) or not isinstance(value, SomeSequence) or len(value) != 2:
+        raise WrongType(f"{where} is {value!r}, and not a pair of an entry and a name of its column")
+    return (value[0], value[1])
 
 
-class Order(NamedTuple):
-    """A left-deep order: `levels[k]` is the bound of the first k + 1 of `entries`, in rows."""
-
-    entries: Tuple[str, ...]
-    levels: Tuple[int, ...]
-
-    @property
-    def cost(self) -> int:
-        """The greatest level: the least budget for this order."""
-        return max(self.levels)
+def _text(column: Column) -> str:
+    return f"{column[0]}.{column[1]}"
 
 
-class Join(NamedTuple):
-    """A node of a tree: the numbers of the two nodes that it joins, and its bound in rows."""
-
-    left: int
-    right: int
-    bound: int
-
-
-class Tree(NamedTuple):
-    """A join tree over n entries. The nodes 0 to n - 1 are `entries`, and node n + i is `joins[i]`; the last is the root."""
-
-    entries: Tuple[str, ...]
-    joins: Tuple[Join, ...]
-
-    @property
-    def shape(self) -> Shape:
-        """The tree as pairs of pairs: `("a", ("b", "c"))`."""
-        nodes: list = list(self.entries)
-        for join in self.joins:
-            nodes.append((nodes[join.left], nodes[join.right]))
-        return nodes[-1]
+def _equality_text(equality: Tuple[Column, Column]) -> str:
+    return " = ".join(map(_text, equality))
 
 
 class Query:
@@ -89,7 +56,10 @@ class Query:
             for rows without a value; where they sum to more, they are cut there. Of a column in which no row has a value
             the list is `[(1, 1)]`; an empty one is taken for forgotten, unless the row bound is 0.
 
+    A query isn't changed once it is made. Two are equal where all of this is.
+
     Raises:
+        WrongType: a text where names or columns belong, a number that isn't whole, and the like.
         BadEntries, BadRows, BadEquality, BadList, BadRun: names or numbers that can't be right. Whatever else isn't
             right is told by the first call of `bounds`, `best_order` or `best_tree`.
 
@@ -106,13 +76,15 @@ class Query:
 
     def __init__(
         self,
-        entries: Sequence[str],
+        entries: Iterable[str],
         equalities: Iterable[Tuple[Column, Column]],
-        row_bounds: Mapping[str, int],
-        lists: Mapping[Column, Runs],
+        row_bounds: Mapping[_Name, SupportsIndex],
+        lists: Mapping[_Column, Runs],
     ) -> None:
-        self.entries = tuple(entries)
-        self.equalities = tuple((tuple(left), tuple(right)) for left, right in equalities)
+        if isinstance(entries, (str, bytes)):
+            raise WrongType(f"entries are a list of names, and not the text {entries!r}")
+        self.entries: Tuple[str, ...] = tuple(entries)
+        self.equalities = tuple(self._equality(place, given) for place, given in enumerate(equalities))
         self._entry = {entry: number for number, entry in enumerate(self.entries)}
         if len(self._entry) < len(self.entries):
             twice = next(entry for number, entry in enumerate(self.entries) if self._entry[entry] != number)
@@ -121,45 +93,153 @@ class Query:
         self._rows = self._rows_of(row_bounds)
         self._equalities = self._equalities_of()
         self._lists, self._runs, self._places = self._lists_of(lists)
+        self.row_bounds: Mapping[str, int] = MappingProxyType(dict(zip(self.entries, self._rows)))
+
+    @staticmethod
+    def _equality(place: int, given: Any) -> Tuple[Column, Column]:
+        if isinstance(given, (str, bytes)) or not isinstance(given, SomeSequence) or len(given) != 2:
+            raise WrongType(f"equality {place} is {given!r}, and not a pair of columns")
+        return (_column(given[0], f"a side of equality {place}"), _column(given[1], f"a side of equality {place}"))
 
     def _number_of(self, column: Column) -> int:
         return self._column.setdefault(column, len(self._column))
 
-    def _rows_of(self, row_bounds: Mapping[str, int]) -> ctypes.Array:
+    def _rows_of(self, row_bounds: Mapping[Any, SupportsIndex]) -> Any:
         rows = []
         for entry in self.entries:
-            number = _library.whole(row_bounds[entry]) if entry in row_bounds else None
+            if entry not in row_bounds:
+                raise BadRows(f"entry {entry!r} has no row bound", entry)
+            number = _library.whole(row_bounds[entry])
             if number is None:
-                raise BadRows(f"entry {entry!r} has no row bound from 0 to 2**48", entry)
+                raise self._bad_rows(entry, row_bounds[entry])
             rows.append(number)
-        return (ctypes.c_uint64 * len(rows))(*rows)
+        return _library.array_of(ctypes.c_uint64, rows)
 
-    def _equalities_of(self) -> ctypes.Array:
+    @staticmethod
+    def _bad_rows(entry: str, number: object) -> BadRows:
+        return BadRows(f"the row bound of entry {entry!r} is {number}, which isn't from 0 to 2**48", entry)
+
+    def _equalities_of(self) -> Any:
         found = []
         for place, (left, right) in enumerate(self.equalities):
-            if left[0] not in self._entry or right[0] not in self._entry:
-                raise BadEquality(f"equality {place} names an entry that isn't there: {left} = {right}", place)
+            alien = next((column for column in (left, right) if column[0] not in self._entry), None)
+            if alien is not None:
+                raise BadEquality(f"equality {place}, {_equality_text((left, right))}, names {alien[0]!r}, which is no entry", place)
             found.append((self._entry[left[0]], self._number_of(left), self._entry[right[0]], self._number_of(right)))
-        return (_library.Equality * len(found))(*found)
+        return _library.array_of(_library.Equality, found)
 
-    def _lists_of(self, lists: Mapping[Column, Runs]) -> tuple[ctypes.Array, ctypes.Array, list]:
-        found, runs, places = [], [], []
-        self._columns = [tuple(column) for column in lists]
-        for column, given in lists.items():
-            column = tuple(column)
+    def _lists_of(self, lists: Mapping[Any, Runs]) -> Tuple[Any, Any, List[Tuple[Column, int]]]:
+        if not isinstance(lists, Mapping):
+            raise WrongType(f"lists are a mapping from columns to runs, and not {type(lists).__name__}")
+        found: List[Tuple[int, int, int, int]] = []
+        runs: List[Tuple[int, int]] = []
+        places: List[Tuple[Column, int]] = []
+        self._of: Dict[Column, Tuple[Run, ...]] = {}
+        for given_column, given in lists.items():
+            column = _column(given_column, f"a key of lists, {given_column!r},")
             if column[0] not in self._entry:
-                raise BadList(f"there is a list of {column}, and no such entry", column)
-            own = encoded(given, BadRun, column)
+                raise BadList(f"there is a list of {_text(column)}, and no entry {column[0]!r}", column)
+            own = encoded(given, column=column)
+            self._of[column] = tuple(Run(run.degree, run.keys) for run in own)
             if len(own) == 0 and self._rows[self._entry[column[0]]] == 0:
                 own = encoded(NO_VALUE)
             found.append((self._entry[column[0]], self._number_of(column), len(runs), len(own)))
             runs += [(run.degree, run.keys) for run in own]
             places += [(column, place) for place in range(len(own))]
-        return (_library.List * len(found))(*found), (_library.Run * len(runs))(*runs), places
+        return _library.array_of(_library.List, found), _library.array_of(_library.Run, runs), places
+
+    @property
+    def lists(self) -> Mapping[Column, Tuple[Run, ...]]:
+        """The list of each column that was given."""
+        return MappingProxyType(self._of)
+
+    # ---- as a value
+
+    def _parts(self) -> Tuple[Any, ...]:
+        return (self.entries, self.equalities, dict(self.row_bounds), self._of)
+
+    def __eq__(self, other: object) -> bool:
+        return isinstance(other, Query) and (self is other or self._parts() == other._parts())
+
+    def __hash__(self) -> int:
+        return hash((self.entries, self.equalities, tuple(self._rows)))
+
+    def __reduce__(self) -> Tuple[Any, ...]:
+        return (Query, self._parts())
+
+    def __repr__(self) -> str:
+        lists = ", ".join(f"{column}: [{', '.join(str(tuple(run)) for run in runs)}]" for column, runs in self._of.items())
+        return f"Query(entries={list(self.entries)}, equalities={list(self.equalities)}, row_bounds={dict(self.row_bounds)}, lists={{{lists}}})"
+
+    def __str__(self) -> str:
+        return "\n\n".join(self._known())
+
+    def _known(self) -> List[str]:
+        """What is known: the rows of the entries, the equalities, and the lists of their columns. One table for each."""
+        named = [column for equality in self.equalities for column in equality]
+        used = [column for column in self._of if column in named]
+        lists = [(_text(c), sum(d * k for d, k in self._of[c]), sum(k for _, k in self._of[c]), max((d for d, _ in self._of[c]), default=0)) for c in used]
+        tables = [table(["entry", "rows at most"], list(self.row_bounds.items()))]
+        tables += [table(["equality"], [[_equality_text(equality)] for equality in self.equalities])] if self.equalities else []
+        return tables + ([table(["list of", "rows", "values", "rows of the most frequent"], lists)] if lists else [])
+
+    def explain(self, plan: Optional[QueryPlan] = None) -> str:
+        """What is known of the query, with the lists that its equalities use, and what follows: the bounds of its sets, or of each step of a plan.
+
+        Args:
+            plan: an order or a tree of this query.
+
+        Raises:
+            BadPlan: the plan isn't one of this query.
+
+        >>> query = Query(["r", "s"], [(("r", "x"), ("s", "x"))], {"r": 6, "s": 5},
+        ...               {("r", "x"): [(3, 2)], ("s", "x"): [(2, 2), (1, 1)]})
+        >>> print(query.explain(query.best_order(budget=12)))
+        entry  rows at most
+        r                 6
+        s                 5
+        <BLANKLINE>
+        equality
+        r.x = s.x
+        <BLANKLINE>
+        list of  rows  values  rows of the most frequent
+        r.x         6       2                          3
+        s.x         5       3                          2
+        <BLANKLINE>
+        level  joined  by         rows at most
+            1  s                             5
+            2  r       r.x = s.x            12
+        """
+        if plan is None:
+            return "\n\n".join([*self._known(), str(self.bounds())])
+        self._checked(plan)
+        return "\n\n".join([*self._known(), self._levels_table(plan) if isinstance(plan, Order) else self._joins_table(plan)])
+
+    def _levels_table(self, order: Order) -> str:
+        rows = [(at + 1, entry, self._between(order.entries[:at], [entry]), level) for at, (entry, level) in enumerate(zip(*order))]
+        return table(["level", "joined", "by", "rows at most"], rows)
+
+    def _joins_table(self, tree: Tree) -> str:
+        below = [[entry] for entry in tree.entries]
+        rows = []
+        for at, join in enumerate(tree.joins):
+            left, right = below[join.left], below[join.right]
+            rows.append((at, tree.node(join.left), tree.node(join.right), self._between(left, right), join.bound))
+            below.append(left + right)
+        return table(["join", "left", "right", "by", "rows at most"], rows) if rows else f"{tree} {tree.cost}"
+
+    def _between(self, some: Iterable[str], others: Iterable[str]) -> str:
+        """The equalities between two sets of entries."""
+        left, right = set(some), set(others)
+        used = [e for e in self.equalities if (e[0][0] in left and e[1][0] in right) or (e[0][0] in right and e[1][0] in left)]
+        return ", ".join(map(_equality_text, used))
+
+    # ---- what the library answers
 
     @cached_property
-    def _bounds(self) -> ctypes.Array:
-        given = [part for array in (self._rows, self._equalities, self._lists, self._runs) for part in (array, len(array))]
+    def _bounds(self) -> Any:
+        arrays: List[Any] = [self._rows, self._equalities, self._lists, self._runs]
+        given = [part for array in arrays for part in (array, len(array))]
         status, detail, into = _library.call("bounds", given, ctypes.c_uint64, 1 << min(len(self.entries), 12))
         if status != Status.OK:
             self._raise_for(status, detail)
@@ -168,18 +248,19 @@ class Query:
     def _raise_for(self, status: int, detail: int) -> NoReturn:
         """Raises what a status of `bounds` says, with the names of this query."""
         if status == Status.BAD_ROWS:
-            entry = self.entries[detail]
-            raise BadRows(f"the row bound of entry {entry!r} is above 2**48", entry)
+            raise self._bad_rows(self.entries[detail], self._rows[detail])
         if status == Status.BAD_RUN:
             column, place = self._places[detail]
-            raise BadRun(f"run {place} of {column} is of nothing, rises, or sums to more than 2**48", place, column)
+            raise wrong_run(self._of[column], place, column=column)
         if status == Status.BAD_LIST:
-            column = self._columns[detail]
-            raise BadList(f"the list of {column} has no runs: where no row has a value it is [(1, 1)]", column)
-        if status in (Status.BAD_EQUALITY, Status.MISSING_LIST):
-            kind, message = _library.WRONG[status]
-            left, right = self.equalities[detail]
-            raise kind(f"{message.format(detail)}: {left} = {right}", detail)
+            column = list(self._of)[detail]
+            raise BadList(f"the list of {_text(column)} has no runs: where no row has a value it is [(1, 1)]", column)
+        if status == Status.BAD_EQUALITY:
+            text = _equality_text(self.equalities[detail])
+            raise BadEquality(f"equality {detail}, {text}, has one entry on both sides", detail)
+        if status == Status.MISSING_LIST:
+            without = next(column for column in self.equalities[detail] if column not in self._of)
+            raise MissingList(f"{_text(without)} of equality {detail}, {_equality_text(self.equalities[detail])}, has no list", detail)
         _library.raise_for(status, detail)
         raise AssertionError(status)
 
@@ -194,9 +275,9 @@ class Query:
             BadEntries, BadRows, BadEqualities, BadEquality, BadList, BadRun, MissingList: a value isn't right.
             OutOfMemory: memory was wanting.
         """
-        return Bounds(self.entries, self._bounds)
+        return Bounds(self.entries, list(self._bounds))
 
-    def best_order(self, budget: int) -> Order:
+    def best_order(self, budget: SupportsIndex) -> Order:
         """The best left-deep order: the least greatest level, then the least sum of levels, then the first by `entries`.
 
         Args:
@@ -208,9 +289,11 @@ class Query:
             BadBudget, and what `bounds` raises.
         """
         levels = self._best("order", budget, _library.Level, len(self.entries))
-        return Order(tuple(self.entries[level.entry] for level in levels), tuple(level.bound for level in levels))
+        order = Order(tuple(self.entries[level.entry] for level in levels), tuple(level.bound for level in levels))
+        order._query = self
+        return order
 
-    def best_tree(self, budget: int) -> Tree:
+    def best_tree(self, budget: SupportsIndex) -> Tree:
         """The best join tree of any shape: the least greatest bound of its joins, then their least sum.
 
         Args:
@@ -220,9 +303,11 @@ class Query:
             As `best_order`.
         """
         joins = self._best("tree", budget, _library.Join, len(self.entries) - 1)
-        return Tree(self.entries, tuple(Join(join.left, join.right, join.bound) for join in joins))
+        tree = Tree(self.entries, tuple(Join(join.left, join.right, join.bound) for join in joins))
+        tree._query = self
+        return tree
 
-    def memory(self, plan: Union[Order, Tree]) -> int:
+    def memory(self, plan: QueryPlan) -> int:
         """How many bytes the buffers of SafeBound's own engine take for a plan of this query.
 
         Each buffer counts with its capacity times the size of an element, and each list of buffers with its own. It is the
@@ -232,7 +317,7 @@ class Query:
             plan: what `best_order` or `best_tree` gave.
 
         Raises:
-            BadPlan: the plan isn't one of this query.
+            BadPlan: the plan isn't one of this query: another one made it, or its entries, nodes or bounds aren't this one's.
             PastBits: 64 bits don't tell the number.
 
         >>> query = Query(["r", "s"], [(("r", "x"), ("s", "x"))], {"r": 6, "s": 5},
@@ -240,26 +325,60 @@ class Query:
         >>> query.memory(query.best_order(budget=12))
         556
         """
-        rows = [self._bounds[1 << place] for place in range(len(self.entries))]
+        self._checked(plan)
         if isinstance(plan, Order):
-            if any(entry not in self._entry for entry in plan.entries):
-                raise BadPlan(f"the order has other entries: {plan.entries}", len(plan.entries))
-            name, element = "memory", _library.Level
-            parts = [(self._entry[entry], bound) for entry, bound in zip(plan.entries, plan.levels)]
+            parts = _library.array_of(_library.Level, [(self._entry[entry], int(bound)) for entry, bound in zip(plan.entries, plan.levels)])
         else:
-            name, element = "tree_memory", _library.Join
-            parts = [(join.left, join.right, join.bound) for join in plan.joins]
-        given = [(ctypes.c_uint64 * len(rows))(*rows), len(rows), (element * len(parts))(*parts), len(parts)]
-        status, detail = _library.ask(name, given)
+            parts = _library.array_of(_library.Join, [tuple(map(int, join)) for join in plan.joins])
+        name = "memory" if isinstance(plan, Order) else "tree_memory"
+        status, detail = _library.ask(name, [self._rows, len(self._rows), parts, len(parts)])
         if status == Status.PAST_BITS:
             raise PastBits("the plan takes more bytes than 64 bits tell")
         _library.raise_for(status, detail)
         return detail
 
-    def _best(self, name: str, budget: int, element: type, room: int) -> list:
+    # ---- whether a plan is one of this query
+
+    def _checked(self, plan: QueryPlan) -> None:
+        """Raises BadPlan unless it is a plan of this query, with its entries and its bounds."""
+        if not isinstance(plan, (Order, Tree)):
+            raise WrongType(f"{type(plan).__name__} is no plan: best_order and best_tree give one")
+        if plan.query is not None and plan.query != self:
+            raise BadPlan(f"another query made this plan, over {', '.join(plan.entries)}", len(plan.entries))
+        if isinstance(plan, Order):
+            self._check_order(plan)
+        else:
+            self._check_tree(plan)
+
+    def _check_order(self, order: Order) -> None:
+        if sorted(order.entries) != sorted(self.entries):
+            raise BadPlan(f"the order has other entries: {', '.join(order.entries)}", len(order.entries))
+        if len(order.levels) != len(self.entries):
+            raise BadPlan(f"an order of {len(self.entries)} entries has as many levels, and not {len(order.levels)}", len(order.levels))
+        bounds = self.bounds()
+        for place, level in enumerate(order.levels):
+            self._check_bound(f"level {place}", place, level, bounds[order.entries[: place + 1]])
+
+    def _check_tree(self, tree: Tree) -> None:
+        if tuple(tree.entries) != self.entries or len(tree.joins) != len(self.entries) - 1:
+            raise BadPlan(f"the tree has other entries, or too many or too few joins: {tree!r}", len(tree.joins))
+        bounds, below = self.bounds(), [frozenset([entry]) for entry in self.entries]
+        for place, join in enumerate(tree.joins):
+            sides = [number for number in (join.left, join.right) if number in range(len(below))]
+            if len(sides) < 2 or below[sides[0]] & below[sides[1]]:
+                raise BadPlan(f"join {place} is of a node that doesn't stand before it, or of one entry twice", place)
+            below.append(below[sides[0]] | below[sides[1]])
+            self._check_bound(f"join {place}", place, join.bound, bounds[below[-1]])
+
+    @staticmethod
+    def _check_bound(part: str, place: int, given: object, bound: Optional[int]) -> None:
+        if isinstance(given, float) or given != bound:
+            raise BadPlan(f"the bound of {part} is {given!r}, and this query's is {bound}", place)
+
+    def _best(self, name: str, budget: SupportsIndex, element: Any, room: int) -> List[Any]:
         number = _library.whole(budget)
         if number is None:
             raise BadBudget(f"a budget is from 0 to 2**59, not {budget}", budget)
         status, detail, into = _library.call(name, [self._bounds, len(self._bounds), number], element, room)
         _library.raise_for(status, detail)
-        return into[:detail]
+        return list(into[:detail])

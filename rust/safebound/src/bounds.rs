@@ -3,7 +3,9 @@
 use crate::calls;
 use crate::errors::Error;
 use crate::plans::{Join, Order, Tree};
+use safebound_sys as sys;
 use std::fmt;
+use std::sync::Arc;
 
 /// At most so many rows, or no bound: what 64 bits don't tell. No bound is the greatest, so that `bound <= Bound::Rows(n)` is
 /// true only where at most n rows are promised.
@@ -25,7 +27,7 @@ impl Bound {
     }
 
     fn of_number(number: u64) -> Bound {
-        if number == safebound_sys::SAFEBOUND_NO_BOUND {
+        if number == sys::SAFEBOUND_NO_BOUND {
             return Bound::NoBound;
         }
         Bound::Rows(number)
@@ -41,29 +43,43 @@ impl fmt::Display for Bound {
     }
 }
 
-/// The bounds of all sets of a query's entries: at most so many choices of one row of each entry of a set satisfy all
-/// equalities between them.
-#[derive(Clone, Debug, PartialEq, Eq)]
-pub struct Bounds {
+/// What bounds are: the names of the entries, and a number for each set. Their plans share it.
+#[derive(Debug, PartialEq, Eq, Hash)]
+pub(crate) struct Known {
     entries: Vec<String>,
     numbers: Vec<u64>,
 }
 
+impl Known {
+    /// The row bound of each entry.
+    pub(crate) fn rows(&self) -> Vec<u64> {
+        (0..self.entries.len()).map(|entry| self.numbers[1 << entry]).collect()
+    }
+
+    fn place(&self, name: &str) -> Option<usize> {
+        self.entries.iter().position(|entry| entry == name)
+    }
+}
+
+/// The bounds of all sets of a query's entries: at most so many choices of one row of each entry of a set satisfy all
+/// equalities between them.
+#[derive(Clone, Debug, PartialEq, Eq, Hash)]
+pub struct Bounds(Arc<Known>);
+
 impl Bounds {
     pub(crate) fn new(entries: Vec<String>, numbers: Vec<u64>) -> Bounds {
-        Bounds { entries, numbers }
+        Bounds(Arc::new(Known { entries, numbers }))
     }
 
     /// The names of the entries, in the query's order.
     pub fn entries(&self) -> &[String] {
-        &self.entries
+        &self.0.entries
     }
 
     /// The bound of a set of entries by name; a name may come again.
     ///
     /// ```
-    /// # let mut query = safebound::Query::new();
-    /// # query.entry("film", 3).entry("person", 4);
+    /// # let query = safebound::Query::new().entry("film", 3).entry("person", 4);
     /// let bound = query.bounds()?.of(["film", "person"])?;
     /// assert_eq!(bound.rows(), Some(12));
     /// # Ok::<(), safebound::Error>(())
@@ -75,8 +91,7 @@ impl Bounds {
     pub fn of<'a>(&self, names: impl IntoIterator<Item = &'a str>) -> Result<Bound, Error> {
         let mut set = 0;
         for name in names {
-            let at = self.entries.iter().position(|entry| entry == name);
-            set |= 1 << at.ok_or_else(|| Error::UnknownEntry { entry: name.into() })?;
+            set |= 1 << self.0.place(name).ok_or_else(|| Error::UnknownEntry { entry: name.into() })?;
         }
         Ok(self.of_set(set))
     }
@@ -87,8 +102,7 @@ impl Bounds {
     ///
     /// ```
     /// # use safebound::{Bound, Query};
-    /// # let mut query = Query::new();
-    /// # query.entry("film", 3).entry("person", 4);
+    /// # let query = Query::new().entry("film", 3).entry("person", 4);
     /// # let (left, right, guess) = (1, 2, 50);
     /// let bounds = query.bounds()?; // once for a query
     /// let rows = bounds.of_set(left | right).min(Bound::Rows(guess)); // for each join that is tried
@@ -100,12 +114,12 @@ impl Bounds {
     ///
     /// Where a bit is of no entry.
     pub fn of_set(&self, set: usize) -> Bound {
-        Bound::of_number(self.numbers[set])
+        Bound::of_number(self.0.numbers[set])
     }
 
     /// All sets with their bounds, from the empty one on.
     pub fn sets(&self) -> impl ExactSizeIterator<Item = (usize, Bound)> + '_ {
-        self.numbers.iter().enumerate().map(|(set, &number)| (set, Bound::of_number(number)))
+        self.0.numbers.iter().enumerate().map(|(set, &number)| (set, Bound::of_number(number)))
     }
 
     /// The best left-deep order: the least greatest level, then the least sum of levels, then the first by `entries`.
@@ -117,10 +131,11 @@ impl Bounds {
     /// [`Error::BudgetExceeded`] with the least budget that would do; [`Error::PastBits`] where each order has a level without
     /// a bound; [`Error::BadBudget`], [`Error::OutOfMemory`].
     pub fn best_order(&self, budget: u64) -> Result<Order, Error> {
-        let levels = calls::order(&self.numbers, budget).map_err(Error::from_refusal)?;
+        let levels = calls::order(&self.0.numbers, budget).map_err(Error::from_refusal)?;
         Ok(Order {
-            entries: levels.iter().map(|level| self.entries[level.entry as usize].clone()).collect(),
+            entries: levels.iter().map(|level| self.entries()[level.entry as usize].clone()).collect(),
             levels: levels.iter().map(|level| level.bound).collect(),
+            known: self.0.clone(),
         })
     }
 
@@ -133,18 +148,14 @@ impl Bounds {
     ///
     /// As [`best_order`](Bounds::best_order).
     pub fn best_tree(&self, budget: u64) -> Result<Tree, Error> {
-        let joins = calls::tree(&self.numbers, budget).map_err(Error::from_refusal)?;
-        let join = |node: &safebound_sys::safebound_join| Join {
+        let joins = calls::tree(&self.0.numbers, budget).map_err(Error::from_refusal)?;
+        let join = |node: &sys::safebound_join| Join {
             left: node.left as usize,
             right: node.right as usize,
             bound: node.bound,
         };
-        Ok(Tree { entries: self.entries.clone(), joins: joins.iter().map(join).collect() })
-    }
-
-    // The row bound of each entry.
-    fn rows(&self) -> Vec<u64> {
-        (0..self.entries.len()).map(|entry| self.numbers[1 << entry]).collect()
+        let joins = joins.iter().map(join).collect();
+        Ok(Tree { entries: self.entries().to_vec(), joins, known: self.0.clone() })
     }
 
     /// How many bytes the buffers of SafeBound's own engine take for an order of these entries: of each buffer its capacity times
@@ -152,8 +163,7 @@ impl Bounds {
     ///
     /// ```
     /// # use safebound::Query;
-    /// # let mut query = Query::new();
-    /// # query.entry("r", 6).entry("s", 5);
+    /// # let query = Query::new().entry("r", 6).entry("s", 5);
     /// let bounds = query.bounds()?;
     /// let order = bounds.best_order(1_000_000)?;
     /// assert!(bounds.memory_of_order(&order)? > 0);
@@ -162,14 +172,11 @@ impl Bounds {
     ///
     /// # Errors
     ///
-    /// [`Error::BadPlan`] where the order isn't one of these entries; [`Error::PastBits`] where 64 bits don't tell the number.
+    /// [`Error::BadPlan`] where other bounds made the order, or its entries or levels were changed; [`Error::PastBits`] where 64
+    /// bits don't tell the number.
     pub fn memory_of_order(&self, order: &Order) -> Result<u64, Error> {
-        let entry = |name: &String| self.entries.iter().position(|entry| entry == name).ok_or(Error::BadPlan);
-        let levels = order.entries.iter().zip(&order.levels).map(|(name, &bound)| {
-            Ok(safebound_sys::safebound_level { entry: entry(name)? as u64, bound })
-        });
-        let levels = levels.collect::<Result<Vec<_>, Error>>()?;
-        calls::memory(&self.rows(), &levels).map_err(Error::from_refusal)
+        let levels = self.levels(order).ok_or(Error::BadPlan)?;
+        calls::memory(&self.0.rows(), &levels).map_err(Error::from_refusal)
     }
 
     /// The same for a join tree of these entries.
@@ -178,11 +185,36 @@ impl Bounds {
     ///
     /// As [`memory_of_order`](Bounds::memory_of_order).
     pub fn memory_of_tree(&self, tree: &Tree) -> Result<u64, Error> {
-        let joins = tree.joins.iter().map(|join| safebound_sys::safebound_join {
-            left: join.left as u64,
-            right: join.right as u64,
-            bound: join.bound,
-        });
-        calls::tree_memory(&self.rows(), &joins.collect::<Vec<_>>()).map_err(Error::from_refusal)
+        let joins = self.joins(tree).ok_or(Error::BadPlan)?;
+        calls::tree_memory(&self.0.rows(), &joins).map_err(Error::from_refusal)
+    }
+
+    /// The levels of an order, where it is one of these bounds.
+    fn levels(&self, order: &Order) -> Option<Vec<sys::safebound_level>> {
+        let mut set = 0;
+        let mut level = |(name, &bound): (&String, &u64)| {
+            let entry = self.0.place(name)?;
+            let is_new = set >> entry & 1 == 0;
+            set |= 1 << entry;
+            (is_new && bound == self.0.numbers[set]).then_some(sys::safebound_level { entry: entry as u64, bound })
+        };
+        let is_whole = order.known == self.0 && [order.entries.len(), order.levels.len()] == [self.entries().len(); 2];
+        let levels = order.entries.iter().zip(&order.levels).map(&mut level).collect::<Option<Vec<_>>>()?;
+        is_whole.then_some(levels)
+    }
+
+    /// The joins of a tree, where it is one of these bounds.
+    fn joins(&self, tree: &Tree) -> Option<Vec<sys::safebound_join>> {
+        let mut sets: Vec<usize> = (0..self.entries().len()).map(|entry| 1 << entry).collect();
+        let mut node = |&Join { left, right, bound }: &Join| {
+            let (one, other) = (*sets.get(left)?, *sets.get(right)?);
+            sets.push(one | other);
+            let is_so = one & other == 0 && bound == self.0.numbers[one | other];
+            is_so.then_some(sys::safebound_join { left: left as u64, right: right as u64, bound })
+        };
+        let joins = tree.joins.iter().map(&mut node).collect::<Option<Vec<_>>>()?;
+        let is_whole =
+            tree.known == self.0 && tree.entries == self.entries() && sets.last() == Some(&(self.0.numbers.len() - 1));
+        is_whole.then_some(joins)
     }
 }

@@ -52,7 +52,7 @@ impl<'a> Command<'a> {
     }
 
     /// Adds a file. Of two with one name the first counts.
-    pub fn file<N, B>(&mut self, name: &'a N, bytes: &'a B) -> &mut Command<'a>
+    pub fn file<N, B>(mut self, name: &'a N, bytes: &'a B) -> Command<'a>
     where
         N: AsRef<[u8]> + ?Sized,
         B: AsRef<[u8]> + ?Sized,

@@ -1,6 +1,7 @@
 //! What a call answers in place of a result: one case for each status of the library.
 
 use crate::calls::Refusal;
+use crate::lists::Run;
 use safebound_sys as sys;
 use std::fmt;
 
@@ -23,6 +24,70 @@ impl fmt::Display for Column {
     fn fmt(&self, f: &mut fmt::Formatter<'_>) -> fmt::Result {
         write!(f, "{}.{}", self.entry, self.name)
     }
+}
+
+/// What is wrong with the first wrong run of a list.
+#[non_exhaustive]
+#[derive(Clone, Copy, Debug, PartialEq, Eq, Hash)]
+pub enum WrongRun {
+    /// Its degree is 0.
+    NoDegree,
+    /// Its number of keys is 0.
+    NoKeys,
+    /// Its degree is above the one before it.
+    Rises {
+        /// The degree of the run before it.
+        before: u64,
+        /// Its own.
+        degree: u64,
+    },
+    /// With it the list sums to more than 2^48 rows.
+    PastRows,
+}
+
+impl WrongRun {
+    fn of(runs: &[Run], place: usize) -> WrongRun {
+        let Run { degree, keys } = runs[place];
+        match place.checked_sub(1).map(|at| runs[at].degree) {
+            _ if degree == 0 => WrongRun::NoDegree,
+            _ if keys == 0 => WrongRun::NoKeys,
+            Some(before) if degree > before => WrongRun::Rises { before, degree },
+            _ => WrongRun::PastRows,
+        }
+    }
+
+    fn write(self, f: &mut fmt::Formatter<'_>, head: &str, place: usize) -> fmt::Result {
+        match self {
+            WrongRun::NoDegree => write!(f, "{head}run {place} has degree 0"),
+            WrongRun::NoKeys => write!(f, "{head}run {place} has no keys"),
+            WrongRun::Rises { before, degree } => {
+                write!(f, "{head}the list rises at run {place}: degree {degree} after {before}")
+            }
+            WrongRun::PastRows => write!(f, "{head}at run {place} the list sums to more than 2^48 rows"),
+        }
+    }
+}
+
+/// What is wrong with a query's list.
+#[non_exhaustive]
+#[derive(Clone, Copy, Debug, PartialEq, Eq, Hash)]
+pub enum WrongList {
+    /// Its entry isn't there.
+    UnknownEntry,
+    /// It has no runs.
+    NoRuns,
+    /// Its column has one already.
+    Repeated,
+}
+
+/// What is wrong with an equality.
+#[non_exhaustive]
+#[derive(Clone, Copy, Debug, PartialEq, Eq, Hash)]
+pub enum WrongEquality {
+    /// An entry of it isn't there.
+    UnknownEntry,
+    /// Both sides are of one entry.
+    OneEntry,
 }
 
 /// Why there is no result. Whatever it is, nothing has changed.
@@ -56,11 +121,15 @@ pub enum Error {
         place: usize,
         /// Which list of a query it is; nothing outside of a query.
         column: Option<Column>,
+        /// Which of these it is.
+        why: WrongRun,
     },
     /// As [`BadRun`](Error::BadRun), in the second of two lists.
     BadOtherRun {
         /// The run's number in the second list, from 0.
         place: usize,
+        /// What is wrong with it.
+        why: WrongRun,
     },
     /// Two lists together have more than 2^48 rows.
     BadSum {
@@ -86,6 +155,8 @@ pub enum Error {
     BadRows {
         /// The entry's name.
         entry: String,
+        /// What it is.
+        rows: u64,
     },
     /// A query has more than 256 equalities.
     BadEqualities {
@@ -96,23 +167,33 @@ pub enum Error {
     BadEquality {
         /// The equality's number, from 0.
         place: usize,
+        /// Its left side.
+        left: Column,
+        /// Its right side.
+        right: Column,
+        /// Which of these it is.
+        why: WrongEquality,
     },
     /// A list is of an entry that isn't there, has no runs, or is the second of its column.
     BadList {
         /// The list's column.
         column: Column,
+        /// Which of these it is.
+        why: WrongList,
     },
     /// A column that an equality names has no list.
     MissingList {
         /// The equality's number, from 0.
         place: usize,
+        /// The column: its left side, if that has none.
+        column: Column,
     },
     /// The budget is above 2^59.
     BadBudget {
         /// What it is.
         budget: u64,
     },
-    /// The order or the tree isn't one of these entries.
+    /// The order or the tree isn't one of these bounds: others made it, or its entries, nodes or numbers were changed.
     BadPlan,
     /// The library answers what this crate doesn't know, so it is of another version.
     OtherVersion {
@@ -122,7 +203,22 @@ pub enum Error {
 }
 
 impl Error {
-    /// What a refusal says, where its place needs no names.
+    /// A run that is refused in a list, of a query's column or outside of a query.
+    pub(crate) fn bad_run(runs: &[Run], place: usize, column: Option<Column>) -> Error {
+        Error::BadRun { place, column, why: WrongRun::of(runs, place) }
+    }
+
+    /// What a refusal of one or two lists says.
+    pub(crate) fn of_lists(refusal: Refusal, runs: &[Run], others: &[Run]) -> Error {
+        let place = refusal.detail as usize;
+        match refusal.status {
+            sys::SAFEBOUND_BAD_RUN => Error::bad_run(runs, place, None),
+            sys::SAFEBOUND_BAD_OTHER_RUN => Error::BadOtherRun { place, why: WrongRun::of(others, place) },
+            _ => Error::from_refusal(refusal),
+        }
+    }
+
+    /// What a refusal says, where its place needs no names and no runs.
     pub(crate) fn from_refusal(Refusal { status, detail }: Refusal) -> Error {
         let place = detail as usize;
         match status {
@@ -131,13 +227,9 @@ impl Error {
             sys::SAFEBOUND_NO_MEMORY => Error::OutOfMemory,
             sys::SAFEBOUND_BAD_KEYS => Error::BadKeys { count: detail },
             sys::SAFEBOUND_BAD_ACCURACY => Error::BadAccuracy { accuracy: detail },
-            sys::SAFEBOUND_BAD_RUN => Error::BadRun { place, column: None },
-            sys::SAFEBOUND_BAD_OTHER_RUN => Error::BadOtherRun { place },
             sys::SAFEBOUND_BAD_SUM => Error::BadSum { sum: detail },
             sys::SAFEBOUND_BAD_ENTRIES => Error::BadEntries { count: place },
             sys::SAFEBOUND_BAD_EQUALITIES => Error::BadEqualities { count: place },
-            sys::SAFEBOUND_BAD_EQUALITY => Error::BadEquality { place },
-            sys::SAFEBOUND_MISSING_LIST => Error::MissingList { place },
             sys::SAFEBOUND_BAD_BUDGET => Error::BadBudget { budget: detail },
             sys::SAFEBOUND_BAD_LEVELS
             | sys::SAFEBOUND_BAD_LEVEL
@@ -158,30 +250,32 @@ impl fmt::Display for Error {
             Error::OutOfMemory => write!(f, "memory was wanting"),
             Error::BadKeys { count } => write!(f, "{count} keys are more than 2^48"),
             Error::BadAccuracy { accuracy } => write!(f, "an accuracy is from 1 to 64, not {accuracy}"),
-            Error::BadRun { place, column: None } => {
-                write!(f, "run {place} is of nothing, rises, or sums to more than 2^48")
-            }
-            Error::BadRun { place, column: Some(column) } => {
-                write!(f, "run {place} of {column} is of nothing, rises, or sums to more than 2^48")
-            }
-            Error::BadOtherRun { place } => {
-                write!(f, "run {place} of the second list is of nothing, rises, or sums to more than 2^48")
-            }
+            Error::BadRun { place, column: None, why } => why.write(f, "", *place),
+            Error::BadRun { place, column: Some(column), why } => why.write(f, &format!("{column}: "), *place),
+            Error::BadOtherRun { place, why } => why.write(f, "second list: ", *place),
             Error::BadSum { sum } => write!(f, "both lists together have {sum} rows, more than 2^48"),
             Error::BadEntries { count } => write!(f, "a query has 1 to 12 entries, not {count}"),
             Error::RepeatedEntry { entry } => write!(f, "entry {entry} comes twice"),
             Error::UnknownEntry { entry } => write!(f, "there is no entry {entry}"),
-            Error::BadRows { entry } => write!(f, "the row bound of entry {entry} is above 2^48"),
+            Error::BadRows { entry, rows } => {
+                write!(f, "the row bound of entry {entry} is {rows}, which is above 2^48")
+            }
             Error::BadEqualities { count } => write!(f, "a query has at most 256 equalities, not {count}"),
-            Error::BadEquality { place } => {
-                write!(f, "equality {place} isn't of two different entries of the query")
+            Error::BadEquality { place, left, right, why } => {
+                let wrong = match why {
+                    WrongEquality::UnknownEntry => "names an entry that isn't there",
+                    WrongEquality::OneEntry => "has one entry on both sides",
+                };
+                write!(f, "equality {place}, {left} = {right}, {wrong}")
             }
-            Error::BadList { column } => {
-                write!(f, "the list of {column} is of an entry that isn't there, has no runs, or comes twice")
+            Error::BadList { column, why: WrongList::UnknownEntry } => {
+                write!(f, "there is a list of {column}, and no entry {}", column.entry)
             }
-            Error::MissingList { place } => write!(f, "a column of equality {place} has no list"),
+            Error::BadList { column, why: WrongList::NoRuns } => write!(f, "the list of {column} has no runs"),
+            Error::BadList { column, why: WrongList::Repeated } => write!(f, "{column} has two lists"),
+            Error::MissingList { place, column } => write!(f, "{column} of equality {place} has no list"),
             Error::BadBudget { budget } => write!(f, "a budget is from 0 to 2^59, not {budget}"),
-            Error::BadPlan => write!(f, "the plan isn't one of these entries"),
+            Error::BadPlan => write!(f, "the plan isn't one of these bounds"),
             Error::OtherVersion { status } => {
                 write!(f, "the library answers {status}: it is of another version than this crate")
             }

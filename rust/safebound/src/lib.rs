@@ -6,8 +6,7 @@
 //! ```
 //! use safebound::{degree_sequence, Bound, Query};
 //!
-//! let mut query = Query::new();
-//! query
+//! let query = Query::new()
 //!     .entry("r", 6)
 //!     .entry("s", 5)
 //!     .equality(("r", "x"), ("s", "x"))
@@ -40,7 +39,7 @@ pub use bounds::{Bound, Bounds};
 pub use calls::version;
 #[cfg(feature = "command")]
 pub use command::{Command, Output};
-pub use errors::{Column, Error};
+pub use errors::{Column, Error, WrongEquality, WrongList, WrongRun};
 pub use lists::{append, compress, degree_sequence, degree_sequence_of_keys, Run};
 pub use plans::{Join, Order, Shape, Tree};
 pub use query::Query;

@@ -89,7 +89,7 @@ pub fn degree_sequence_of_keys(keys: &[u64]) -> Result<Vec<Run>, Error> {
 ///
 /// [`Error::BadAccuracy`], [`Error::BadRun`], [`Error::OutOfMemory`].
 pub fn compress(runs: &[Run], accuracy: u64) -> Result<Vec<Run>, Error> {
-    calls::compress(runs, accuracy).map_err(Error::from_refusal)
+    calls::compress(runs, accuracy).map_err(|refusal| Error::of_lists(refusal, runs, &[]))
 }
 
 /// The rank-wise sum of two lists: a list of a column's old rows and of rows that came later, whichever values repeat.
@@ -107,5 +107,5 @@ pub fn compress(runs: &[Run], accuracy: u64) -> Result<Vec<Run>, Error> {
 /// [`Error::BadRun`] for a run of the first list, [`Error::BadOtherRun`] for one of the second, [`Error::BadSum`] where both
 /// together have more than 2^48 rows, [`Error::OutOfMemory`].
 pub fn append(runs: &[Run], others: &[Run]) -> Result<Vec<Run>, Error> {
-    calls::append(runs, others).map_err(Error::from_refusal)
+    calls::append(runs, others).map_err(|refusal| Error::of_lists(refusal, runs, others))
 }

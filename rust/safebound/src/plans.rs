@@ -1,14 +1,18 @@
 //! The best plans over bounds.
 
+use crate::bounds::Known;
 use std::fmt;
+use std::sync::Arc;
 
-/// A left-deep order: `levels[k]` is the bound of the first k + 1 of `entries`, in rows.
-#[derive(Clone, Debug, PartialEq, Eq, Hash)]
+/// A left-deep order: `levels[k]` is the bound of the first k + 1 of `entries`, in rows. It knows the bounds that it is a plan of.
+#[derive(Clone, PartialEq, Eq, Hash)]
 pub struct Order {
     /// The entries in the order in which they are joined.
     pub entries: Vec<String>,
     /// A bound for each.
     pub levels: Vec<u64>,
+    /// The bounds that it is a plan of.
+    pub(crate) known: Arc<Known>,
 }
 
 impl Order {
@@ -30,21 +34,33 @@ pub struct Join {
 }
 
 /// A join tree over n entries. The nodes 0 to n - 1 are `entries`, and node n + i is `joins[i]`; each stands behind those
-/// below it, and the last is the root.
-#[derive(Clone, Debug, PartialEq, Eq, Hash)]
+/// below it, and the last is the root. It knows the bounds that it is a plan of.
+#[derive(Clone, PartialEq, Eq, Hash)]
 pub struct Tree {
     /// The entries in the query's order.
     pub entries: Vec<String>,
     /// One less than entries.
     pub joins: Vec<Join>,
+    /// The bounds that it is a plan of.
+    pub(crate) known: Arc<Known>,
 }
 
 impl Tree {
+    /// The greatest bound of its joins, or of an entry alone its own: the least budget for this tree.
+    ///
+    /// ```
+    /// # let query = safebound::Query::new().entry("a", 9).entry("b", 2);
+    /// assert_eq!(query.best_tree(1_000_000)?.cost(), 18);
+    /// # Ok::<(), safebound::Error>(())
+    /// ```
+    pub fn cost(&self) -> u64 {
+        self.joins.iter().map(|join| join.bound).max().unwrap_or_else(|| self.known.rows()[0])
+    }
+
     /// The tree from its root.
     ///
     /// ```
-    /// # let mut query = safebound::Query::new();
-    /// # query.entry("a", 9).entry("b", 2).entry("c", 3);
+    /// # let query = safebound::Query::new().entry("a", 9).entry("b", 2).entry("c", 3);
     /// assert_eq!(query.best_tree(1_000_000)?.shape().to_string(), "(a, (b, c))");
     /// # Ok::<(), safebound::Error>(())
     /// ```
@@ -78,5 +94,17 @@ impl fmt::Display for Shape<'_> {
             Shape::Entry(name) => write!(f, "{name}"),
             Shape::Join(left, right) => write!(f, "({left}, {right})"),
         }
+    }
+}
+
+impl fmt::Debug for Order {
+    fn fmt(&self, f: &mut fmt::Formatter<'_>) -> fmt::Result {
+        f.debug_struct("Order").field("entries", &self.entries).field("levels", &self.levels).finish_non_exhaustive()
+    }
+}
+
+impl fmt::Debug for Tree {
+    fn fmt(&self, f: &mut fmt::Formatter<'_>) -> fmt::Result {
+        f.debug_struct("Tree").field("entries", &self.entries).field("joins", &self.joins).finish_non_exhaustive()
     }
 }

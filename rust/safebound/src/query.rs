@@ -2,7 +2,7 @@
 
 use crate::bounds::Bounds;
 use crate::calls::{self, Numbers, Refusal};
-use crate::errors::{Column, Error};
+use crate::errors::{Column, Error, WrongEquality, WrongList};
 use crate::lists::Run;
 use crate::plans::{Order, Tree};
 use safebound_sys as sys;
@@ -20,11 +20,13 @@ const NO_ENTRY: u32 = u32::MAX;
 /// Other conditions aren't said: a condition on one entry shows in its row bound and its lists, and what is left out makes
 /// no bound too low. Whatever isn't right is told by [`bounds`](Query::bounds).
 ///
+/// Each part takes the query and gives it back, so that a query is made in one expression; in a loop write
+/// `query = query.entry(..)`.
+///
 /// ```
 /// use safebound::{Error, Query, Run};
 ///
-/// let mut query = Query::new();
-/// query
+/// let query = Query::new()
 ///     .entry("r", 6)
 ///     .entry("s", 5)
 ///     .equality(("r", "x"), ("s", "x"))
@@ -34,7 +36,7 @@ const NO_ENTRY: u32 = u32::MAX;
 /// assert_eq!(query.best_tree(11), Err(Error::BudgetExceeded { least: 12 }));
 /// # Ok::<(), Error>(())
 /// ```
-#[derive(Clone, Debug, Default)]
+#[derive(Clone, Debug, Default, PartialEq, Eq, Hash)]
 pub struct Query {
     entries: Vec<(String, u64)>,
     equalities: Vec<(Column, Column)>,
@@ -50,13 +52,13 @@ impl Query {
     /// One more entry, and how many rows it has at most: 0 to 2^48. A table that is joined with itself is two entries.
     ///
     /// The row bound is no estimate: each promise stands on it. What is always true is the number of rows of the table.
-    pub fn entry(&mut self, name: impl Into<String>, row_bound: u64) -> &mut Query {
+    pub fn entry(mut self, name: impl Into<String>, row_bound: u64) -> Query {
         self.entries.push((name.into(), row_bound));
         self
     }
 
     /// One more equality, of columns of two different entries; at most 256.
-    pub fn equality(&mut self, left: impl Into<Column>, right: impl Into<Column>) -> &mut Query {
+    pub fn equality(mut self, left: impl Into<Column>, right: impl Into<Column>) -> Query {
         self.equalities.push((left.into(), right.into()));
         self
     }
@@ -67,7 +69,7 @@ impl Query {
     /// Where it sums to less than the entry's row bound, the other rows are taken for rows without a value; where it sums to
     /// more, it is cut there, so that the list of a whole table serves for some of its rows. Of a column in which no row has
     /// a value it is (1, 1); one without runs is taken for forgotten, unless the row bound is 0.
-    pub fn list(&mut self, column: impl Into<Column>, runs: &[Run]) -> &mut Query {
+    pub fn list(mut self, column: impl Into<Column>, runs: &[Run]) -> Query {
         self.lists.push((column.into(), runs.to_vec()));
         self
     }
@@ -145,23 +147,60 @@ impl Query {
     fn error(&self, refusal: Refusal) -> Error {
         let at = refusal.detail as usize;
         match refusal.status {
-            sys::SAFEBOUND_BAD_ROWS => Error::BadRows { entry: self.entries[at].0.clone() },
-            sys::SAFEBOUND_BAD_LIST => Error::BadList { column: self.lists[at].0.clone() },
+            sys::SAFEBOUND_BAD_ROWS => {
+                let (entry, rows) = self.entries[at].clone();
+                Error::BadRows { entry, rows }
+            }
+            sys::SAFEBOUND_BAD_EQUALITY => self.bad_equality(at),
+            sys::SAFEBOUND_MISSING_LIST => self.missing_list(at),
+            sys::SAFEBOUND_BAD_LIST => self.bad_list(at),
             sys::SAFEBOUND_BAD_RUN => self.bad_run(at),
             _ => Error::from_refusal(refusal),
         }
     }
 
+    fn bad_equality(&self, place: usize) -> Error {
+        let (left, right) = self.equalities[place].clone();
+        let why = if left.entry == right.entry && self.has(&left.entry) {
+            WrongEquality::OneEntry
+        } else {
+            WrongEquality::UnknownEntry
+        };
+        Error::BadEquality { place, left, right, why }
+    }
+
+    fn missing_list(&self, place: usize) -> Error {
+        let (left, right) = &self.equalities[place];
+        let has_list = self.lists.iter().any(|(column, _)| column == left);
+        Error::MissingList { place, column: if has_list { right } else { left }.clone() }
+    }
+
+    fn bad_list(&self, at: usize) -> Error {
+        let (column, runs) = &self.lists[at];
+        let why = if !self.has(&column.entry) {
+            WrongList::UnknownEntry
+        } else if self.told(column, runs).is_empty() {
+            WrongList::NoRuns
+        } else {
+            WrongList::Repeated
+        };
+        Error::BadList { column: column.clone(), why }
+    }
+
+    fn has(&self, entry: &str) -> bool {
+        self.entries.iter().any(|(name, _)| name == entry)
+    }
+
     /// The list in which a run lies, and its number there.
     fn bad_run(&self, mut place: usize) -> Error {
         for (column, runs) in &self.lists {
-            let length = self.told(column, runs).len();
-            if place < length {
-                return Error::BadRun { place, column: Some(column.clone()) };
+            let own = self.told(column, runs);
+            if place < own.len() {
+                return Error::bad_run(own, place, Some(column.clone()));
             }
-            place -= length;
+            place -= own.len();
         }
-        Error::BadRun { place, column: None }
+        Error::OtherVersion { status: sys::SAFEBOUND_BAD_RUN }
     }
 }
 

@@ -40,13 +40,13 @@ fn random_query(pick: &mut Pick) -> (Query, String) {
     let rows: Vec<u64> = (0..entries).map(|_| pick.below(most) as u64).collect();
     let mut query = Query::new();
     for (entry, &number) in rows.iter().enumerate() {
-        query.entry(name(entry), number);
+        query = query.entry(name(entry), number);
     }
     let (mut equalities, mut sides) = (Vec::new(), Vec::new());
     for _ in 0..if entries > 1 { pick.below(entries + 2) } else { 0 } {
         let (left, column) = (pick.below(entries), pick.below(3));
         let (right, other) = ((left + 1 + pick.below(entries - 1)) % entries, pick.below(3));
-        query.equality((name(left), format!("c{column}")), (name(right), format!("c{other}")));
+        query = query.equality((name(left), format!("c{column}")), (name(right), format!("c{other}")));
         equalities.push([left, column + 700, right, other + 700]);
         sides.extend([(left, column), (right, other)]);
     }
@@ -55,7 +55,7 @@ fn random_query(pick: &mut Pick) -> (Query, String) {
     let (mut lists, mut runs) = (Vec::new(), Vec::new());
     for (entry, column) in sides {
         let own = pick.runs();
-        query.list((name(entry), format!("c{column}")), &own);
+        query = query.list((name(entry), format!("c{column}")), &own);
         lists.push([entry, column + 700, runs.len(), own.len()]);
         runs.extend(own);
     }

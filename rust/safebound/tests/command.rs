@@ -8,9 +8,8 @@ const SCHEMA: &str = "CREATE TABLE R (X INTEGER NOT NULL); CREATE TABLE S (X INT
 const QUERY: &str = "SELECT R.X FROM R, S WHERE R.X = S.X";
 
 fn join<'a>(words: &'a [&'a str], r: &'a str, s: &'a str) -> Output {
-    let mut command = Command::new(words.iter().copied());
-    command.file("schema.sql", SCHEMA).file("query.sql", QUERY).file("r.csv", r).file("s.csv", s);
-    command.run().expect("memory")
+    let command = Command::new(words.iter().copied()).file("schema.sql", SCHEMA).file("query.sql", QUERY);
+    command.file("r.csv", r).file("s.csv", s).run().expect("memory")
 }
 
 fn text(bytes: &[u8]) -> &str {

@@ -72,9 +72,8 @@ fn refuse_each<T: PartialEq + std::fmt::Debug>(call: impl Fn() -> Result<T, Erro
 fn each_request_refused() {
     let keys: Vec<u64> = (0..200).flat_map(|key| vec![key << 40; key as usize % 20]).collect();
     let list: Vec<Run> = (1..60).rev().map(|degree| Run { degree, keys: 1 }).collect();
-    let mut query = Query::new();
-    query.entry("r", 6).entry("s", 5).equality(("r", "x"), ("s", "x"));
-    query.list(("r", "x"), &list).list(("s", "x"), &list);
+    let query = Query::new().entry("r", 6).entry("s", 5).equality(("r", "x"), ("s", "x"));
+    let query = query.list(("r", "x"), &list).list(("s", "x"), &list);
     let told = refuse_each(|| degree_sequence_of_keys(&keys))
         + refuse_each(|| compress(&list, 2))
         + refuse_each(|| query.bounds())

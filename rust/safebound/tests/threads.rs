@@ -10,9 +10,11 @@ fn planned(rows: u64) -> Result<(Vec<Run>, Order, Tree), Error> {
     let list = degree_sequence_of_keys(&keys)?;
     let mut query = Query::new();
     for entry in ["a", "b", "c", "d"] {
-        query.entry(entry, rows).list((entry, "x"), &list);
+        query = query.entry(entry, rows).list((entry, "x"), &list);
     }
-    query.equality(("a", "x"), ("b", "x")).equality(("b", "x"), ("c", "x")).equality(("c", "x"), ("d", "x"));
+    for (left, right) in [("a", "b"), ("b", "c"), ("c", "d")] {
+        query = query.equality((left, "x"), (right, "x"));
+    }
     let bounds = query.bounds()?;
     Ok((list, bounds.best_order(1 << 59)?, bounds.best_tree(1 << 59)?))
 }

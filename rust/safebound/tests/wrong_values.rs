@@ -1,6 +1,6 @@
 //! Each wrong value, told with its place.
 
-use safebound::{append, compress, Column, Error, Query, Run};
+use safebound::{append, compress, Column, Error, Query, Run, WrongEquality, WrongList, WrongRun};
 
 const MOST_ROWS: u64 = 1 << 48;
 const MOST_BUDGET: u64 = 1 << 59;
@@ -35,13 +35,13 @@ impl Chain {
     fn query(&self) -> Query {
         let mut query = Query::new();
         for &(entry, rows) in &self.rows {
-            query.entry(entry, rows);
+            query = query.entry(entry, rows);
         }
         for &(left, right) in &self.equalities {
-            query.equality(left, right);
+            query = query.equality(left, right);
         }
         for (column, list) in &self.lists {
-            query.list(*column, list);
+            query = query.list(*column, list);
         }
         query
     }
@@ -65,11 +65,17 @@ fn accuracies() {
 
 #[test]
 fn runs_of_lists() {
-    for wrong in [(0, 1), (1, 0), (6, 1), (1, MOST_ROWS), (u64::MAX, u64::MAX)] {
+    for (wrong, why) in [
+        ((0, 1), WrongRun::NoDegree),
+        ((1, 0), WrongRun::NoKeys),
+        ((6, 1), WrongRun::Rises { before: 5, degree: 6 }),
+        ((1, MOST_ROWS), WrongRun::PastRows),
+        ((5, u64::MAX), WrongRun::PastRows),
+    ] {
         let list = runs([(5, 1), wrong]);
-        assert_eq!(compress(&list, 1), Err(Error::BadRun { place: 1, column: None }));
-        assert_eq!(append(&list, &[]), Err(Error::BadRun { place: 1, column: None }));
-        assert_eq!(append(&[], &list), Err(Error::BadOtherRun { place: 1 }));
+        assert_eq!(compress(&list, 1), Err(Error::BadRun { place: 1, column: None, why }));
+        assert_eq!(append(&list, &[]), Err(Error::BadRun { place: 1, column: None, why }));
+        assert_eq!(append(&[], &list), Err(Error::BadOtherRun { place: 1, why }));
     }
     assert_eq!(append(&runs([(MOST_ROWS, 1)]), &runs([(1, 1)])), Err(Error::BadSum { sum: MOST_ROWS + 1 }));
 }
@@ -79,7 +85,7 @@ fn entries() {
     for count in [0, 13, 64, 300] {
         let mut query = Query::new();
         for entry in 0..count {
-            query.entry(format!("e{entry}"), 1);
+            query = query.entry(format!("e{entry}"), 1);
         }
         assert_eq!(query.bounds(), Err(Error::BadEntries { count }));
     }
@@ -94,20 +100,25 @@ fn row_bounds() {
         for place in 0..3 {
             let mut wrong = chain();
             wrong.rows[place].1 = number;
-            assert_eq!(wrong.error(), Error::BadRows { entry: wrong.rows[place].0.into() });
+            assert_eq!(wrong.error(), Error::BadRows { entry: wrong.rows[place].0.into(), rows: number });
         }
     }
 }
 
 #[test]
 fn equalities() {
-    for wrong in
-        [(("q", "x"), ("s", "x")), (("r", "x"), ("q", "x")), (("r", "x"), ("r", "x")), (("s", "x"), ("s", "y"))]
-    {
+    for (wrong, why) in [
+        ((("q", "x"), ("s", "x")), WrongEquality::UnknownEntry),
+        ((("r", "x"), ("q", "x")), WrongEquality::UnknownEntry),
+        ((("q", "x"), ("q", "x")), WrongEquality::UnknownEntry),
+        ((("r", "x"), ("r", "x")), WrongEquality::OneEntry),
+        ((("s", "x"), ("s", "y")), WrongEquality::OneEntry),
+    ] {
         for place in 0..2 {
             let mut changed = chain();
             changed.equalities[place] = wrong;
-            assert_eq!(changed.error(), Error::BadEquality { place });
+            let (left, right) = (wrong.0.into(), wrong.1.into());
+            assert_eq!(changed.error(), Error::BadEquality { place, left, right, why });
         }
     }
     let mut many = chain();
@@ -123,17 +134,18 @@ fn lists() {
         let column: Column = chain().lists[place].0.into();
         let (mut gone, mut empty, mut alien, mut twice) = (chain(), chain(), chain(), chain());
         gone.lists.remove(place);
-        assert_eq!(gone.error(), Error::MissingList { place: place / 2 });
+        assert_eq!(gone.error(), Error::MissingList { place: place / 2, column: column.clone() });
         empty.lists[place].1.clear();
-        assert_eq!(empty.error(), Error::BadList { column: column.clone() });
+        let no_runs = Error::BadList { column: column.clone(), why: WrongList::NoRuns };
+        assert_eq!(empty.error(), no_runs);
         // Only an entry without rows has nothing to forget.
         let other = empty.rows.iter().position(|(name, _)| *name != column.entry).expect("another entry");
         empty.rows[other].1 = 0;
-        assert_eq!(empty.error(), Error::BadList { column: column.clone() });
+        assert_eq!(empty.error(), no_runs);
         alien.lists[place].0 = ("q", "x");
-        assert_eq!(alien.error(), Error::BadList { column: ("q", "x").into() });
+        assert_eq!(alien.error(), Error::BadList { column: ("q", "x").into(), why: WrongList::UnknownEntry });
         twice.lists.push(twice.lists[place].clone());
-        assert_eq!(twice.error(), Error::BadList { column });
+        assert_eq!(twice.error(), Error::BadList { column, why: WrongList::Repeated });
     }
 }
 
@@ -142,11 +154,13 @@ fn lists() {
 fn runs_of_queries() {
     for (list, length) in [2, 1, 2, 1].into_iter().enumerate() {
         for place in 0..length {
-            for wrong in [(0, 1), (1, 0), (1, u64::MAX)] {
+            for (wrong, why) in
+                [((0, 1), WrongRun::NoDegree), ((1, 0), WrongRun::NoKeys), ((1, u64::MAX), WrongRun::PastRows)]
+            {
                 let mut changed = chain();
                 changed.lists[list].1[place] = wrong.into();
                 let column = Some(changed.lists[list].0.into());
-                assert_eq!(changed.error(), Error::BadRun { place, column });
+                assert_eq!(changed.error(), Error::BadRun { place, column, why });
             }
         }
     }
@@ -154,7 +168,8 @@ fn runs_of_queries() {
     behind.rows[0].1 = 0;
     behind.lists[0].1.clear();
     behind.lists[2].1[1] = (3, 1).into();
-    assert_eq!(behind.error(), Error::BadRun { place: 1, column: Some(("s", "y").into()) });
+    let why = WrongRun::Rises { before: 2, degree: 3 };
+    assert_eq!(behind.error(), Error::BadRun { place: 1, column: Some(("s", "y").into()), why });
 }
 
 #[test]
@@ -179,11 +194,29 @@ fn texts() {
         Error::BudgetExceeded { least: 12 }.to_string(),
         "the best plan has a part of at most 12 rows, which is the least budget that would do"
     );
-    let column = Some(("s", "y").into());
+    let column: Column = ("s", "y").into();
+    for (why, text) in [
+        (WrongRun::NoDegree, "run 1 has degree 0"),
+        (WrongRun::NoKeys, "run 1 has no keys"),
+        (WrongRun::Rises { before: 5, degree: 6 }, "the list rises at run 1: degree 6 after 5"),
+        (WrongRun::PastRows, "at run 1 the list sums to more than 2^48 rows"),
+    ] {
+        assert_eq!(Error::BadRun { place: 1, column: None, why }.to_string(), text);
+        assert_eq!(Error::BadRun { place: 1, column: Some(column.clone()), why }.to_string(), format!("s.y: {text}"));
+        assert_eq!(Error::BadOtherRun { place: 1, why }.to_string(), format!("second list: {text}"));
+    }
+    for (why, text) in [
+        (WrongList::UnknownEntry, "there is a list of s.y, and no entry s"),
+        (WrongList::NoRuns, "the list of s.y has no runs"),
+        (WrongList::Repeated, "s.y has two lists"),
+    ] {
+        assert_eq!(Error::BadList { column: column.clone(), why }.to_string(), text);
+    }
+    let why = WrongEquality::OneEntry;
     assert_eq!(
-        Error::BadRun { place: 1, column }.to_string(),
-        "run 1 of s.y is of nothing, rises, or sums to more than 2^48"
+        Error::BadEquality { place: 2, left: column.clone(), right: ("s", "z").into(), why }.to_string(),
+        "equality 2, s.y = s.z, has one entry on both sides"
     );
-    let told: Box<dyn std::error::Error + Send + Sync> = Error::MissingList { place: 3 }.into();
-    assert_eq!(told.to_string(), "a column of equality 3 has no list");
+    let told: Box<dyn std::error::Error + Send + Sync> = Error::MissingList { place: 3, column }.into();
+    assert_eq!(told.to_string(), "s.y of equality 3 has no list");
 }

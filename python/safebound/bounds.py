@@ -1,0 +1,82 @@
+"""Bounds of sets of entries."""
+
+from __future__ import annotations
+
+from collections.abc import Collection, Mapping
+from typing import Dict, FrozenSet, Iterator, Optional, Sequence
+
+from ._library import NO_BOUND
+from ._tables import table
+from .errors import WrongType
+
+__all__ = ["Bounds"]
+
+# So many sets are shown at most: all of those of four entries.
+_MOST_SHOWN = 16
+
+
+def rows_text(bound: Optional[int]) -> object:
+    """A bound as it is shown."""
+    return "no bound" if bound is None else bound
+
+
+class Bounds(Mapping[FrozenSet[str], Optional[int]]):
+    """The bounds of all sets of a query's entries, in rows: `bounds[{"film", "person"}]`. None where no bound is known.
+
+    A set is told by any collection of names. A text isn't one: it would be read by its characters.
+
+    >>> bounds = Bounds(["r", "s"], [1, 6, 5, 12])
+    >>> bounds[["s", "r"]]
+    12
+    >>> print(bounds)
+    entries  rows at most
+    r                   6
+    s                   5
+    r, s               12
+    """
+
+    def __init__(self, entries: Sequence[str], numbers: Sequence[int]) -> None:
+        self.entries = tuple(entries)
+        self._bit: Dict[str, int] = {entry: 1 << at for at, entry in enumerate(entries)}
+        self._numbers = tuple(numbers)
+
+    def __getitem__(self, entries: Collection[str]) -> Optional[int]:
+        if isinstance(entries, (str, bytes)) or not isinstance(entries, Collection):
+            raise WrongType(f"a set of entries is a collection of their names, such as {{{entries!r}}}, and not {entries!r}")
+        return self._bound(sum(self._bit[entry] for entry in set(entries)))
+
+    def _bound(self, number: int) -> Optional[int]:
+        return None if self._numbers[number] == NO_BOUND else self._numbers[number]
+
+    def _names(self, number: int) -> FrozenSet[str]:
+        return frozenset(entry for entry, bit in self._bit.items() if number & bit)
+
+    def __iter__(self) -> Iterator[FrozenSet[str]]:
+        return map(self._names, range(len(self._numbers)))
+
+    def __len__(self) -> int:
+        return len(self._numbers)
+
+    def __eq__(self, other: object) -> bool:
+        if isinstance(other, Bounds) and self.entries == other.entries:
+            return self._numbers == other._numbers
+        return super().__eq__(other)
+
+    def __hash__(self) -> int:
+        return hash((frozenset(self.entries), self._numbers[-1]))
+
+    def __repr__(self) -> str:
+        shown = ", ".join(f"{set(self._names(number)) or '{}'}: {self._bound(number)}" for number in self._shown())
+        left = len(self) - len(self._shown()) - 1
+        return f"<Bounds {{{shown}}}{f' and {left} other sets' if left else ''}>"
+
+    def __str__(self) -> str:
+        rows = [(", ".join(e for e in self.entries if e in self._names(number)), rows_text(self._bound(number))) for number in self._shown()]
+        left = len(self) - len(rows) - 1
+        return table(["entries", "rows at most"], rows) + (f"\nand {left} other sets" if left else "")
+
+    def _shown(self) -> Sequence[int]:
+        """The sets that are shown: all but the empty one, or where these are many each entry alone and all together."""
+        if len(self) <= _MOST_SHOWN:
+            return sorted(range(1, len(self)), key=lambda number: (bin(number).count("1"), number))
+        return [*self._bit.values(), len(self) - 1]

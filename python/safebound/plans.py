@@ -1,0 +1,116 @@
+"""The best plans by bounds: orders and join trees, which know their query."""
+
+from __future__ import annotations
+
+from typing import TYPE_CHECKING, NamedTuple, Optional, Tuple, Union
+
+from ._tables import table
+from .errors import BadPlan
+
+if TYPE_CHECKING:
+    from .query import Query
+
+__all__ = ["Join", "Order", "QueryPlan", "Shape", "Tree"]
+
+Shape = Union[str, Tuple["Shape", "Shape"]]
+
+
+class _OfQuery:
+    """What orders and trees have in common: the query whose plan it is."""
+
+    _query: Optional[Query] = None
+
+    @property
+    def query(self) -> Optional[Query]:
+        """The query that made this plan; None of one that was put together by hand, or comes from a statistics file."""
+        return self._query
+
+    def explain(self) -> str:
+        """Each step with its entries, the equalities and the lists that it uses, and its bound, as text.
+
+        Raises:
+            BadPlan: no query made it.
+        """
+        if self._query is None:
+            raise BadPlan("no query made this plan: nothing is known of its lists", None)
+        return self._query.explain(self)  # type: ignore[arg-type]
+
+
+class _OrderParts(NamedTuple):
+    entries: Tuple[str, ...]
+    levels: Tuple[int, ...]
+
+
+class Order(_OfQuery, _OrderParts):
+    """A left-deep order: `levels[k]` is the bound of the first k + 1 of `entries`, in rows.
+
+    >>> print(Order(("s", "r"), (5, 12)))
+    level  joined  rows at most
+        1  s                  5
+        2  r                 12
+    """
+
+    @property
+    def cost(self) -> int:
+        """The greatest level: the least budget for this order."""
+        return max(self.levels)
+
+    def __str__(self) -> str:
+        return table(["level", "joined", "rows at most"], [(at, *level) for at, level in enumerate(zip(self.entries, self.levels), 1)])
+
+
+class Join(NamedTuple):
+    """A node of a tree: the numbers of the two nodes that it joins, and its bound in rows."""
+
+    left: int
+    right: int
+    bound: int
+
+
+class _TreeParts(NamedTuple):
+    entries: Tuple[str, ...]
+    joins: Tuple[Join, ...]
+
+
+class Tree(_OfQuery, _TreeParts):
+    """A join tree over n entries. The nodes 0 to n - 1 are `entries`, and node n + i is `joins[i]`; the last is the root.
+
+    >>> print(Tree(("a", "b", "c"), (Join(1, 2, 6), Join(0, 3, 30))))
+    join  left  right   rows at most
+       0  b     c                  6
+       1  a     join 0            30
+    """
+
+    @property
+    def cost(self) -> int:
+        """The greatest bound of its joins, or of an entry alone its own: the least budget for this tree.
+
+        Raises:
+            BadPlan: it is an entry alone, and no query made it.
+        """
+        if self.joins:
+            return max(join.bound for join in self.joins)
+        if self._query is None:
+            raise BadPlan("no query made this tree of one entry: its rows aren't known", 1)
+        return self._query.row_bounds[self.entries[0]]
+
+    @property
+    def shape(self) -> Shape:
+        """The tree as pairs of pairs: `("a", ("b", "c"))`."""
+        nodes: list[Shape] = list(self.entries)
+        for join in self.joins:
+            nodes.append((nodes[join.left], nodes[join.right]))
+        return nodes[-1]
+
+    def node(self, number: int) -> str:
+        """How a node is called: an entry's name, or `join` with its number."""
+        return self.entries[number] if number < len(self.entries) else f"join {number - len(self.entries)}"
+
+    def __str__(self) -> str:
+        if not self.joins:
+            return f"{self.entries[0]} alone"
+        rows = [(at, self.node(join.left), self.node(join.right), join.bound) for at, join in enumerate(self.joins)]
+        return table(["join", "left", "right", "rows at most"], rows)
+
+
+QueryPlan = Union[Order, Tree]
