@@ -16,8 +16,10 @@ import unittest
 import sqlglot
 from sqlglot import exp
 
+import random_names
 from bases import OnEachEngine, counted, on_postgres
 from process import PROGRAM
+from random_names import RandomNames
 from random_queries import TABLES, Randomly
 from safebound_sql.counting import counts_of
 from safebound_sql.dialects import DIALECTS, Unreached
@@ -98,6 +100,27 @@ class RandomDialects(Dialects):
         return bool(planner.query.equalities)
 
 
+class RandomNamesInDialects(Dialects):
+    """Outputs with names of columns, over USING: the script's rows are the query's, in its order."""
+
+    def test_random_queries(self) -> None:
+        for number in range(SEED, SEED + max(QUERIES // 3, 1)):
+            randomly = RandomNames(number, "sqlite")
+            if (number - SEED) % QUERIES_OF_A_DATABASE == 0:
+                schema = re.sub("REAL|NUMERIC", "INTEGER", randomly.schema())
+                self.base.script(schema)
+                for table in range(random_names.TABLES):
+                    self.base.fill(f"u{table}", randomly.rows())
+            text = randomly.query().replace("offset", "total")
+            for dialect in DIALECTS:
+                with self.subTest(number=number, query=text, dialect=dialect):
+                    planner = self.planner(dialect, text, re.sub(r"DROP TABLE IF EXISTS \w+;", "", schema), randomly.random.random() < 0.6)
+                    counts = counts_of(planner.query, self.run_script(planner.counting))
+                    script = planner.script(planner.planned(counts, 1, MOST_BUDGET, randomly.random.random() < 0.4))
+                    parsed(script, dialect)
+                    self.assertEqual(self.run_script(script), self.base.rows(text), script)
+
+
 RandomDialectsOnPostgres = on_postgres(RandomDialects)
 
 
@@ -135,6 +158,16 @@ class Written(Dialects):
             rows.append((entry.name, "", many, 1))
             rows += [(entry.name, column.name, 1, many) for column in planner.query.joined(entry.number)]
         return counts_of(planner.query, rows)
+
+    def test_parts_that_would_be_computed_too_often(self) -> None:
+        """Where parts aren't kept, a statement that would read a table more than 100 times counts under own conditions alone."""
+        text = "SELECT 1 FROM a AS e1, a AS e2, a AS e3, a AS e4, a AS e5 WHERE e1.y = e2.y AND e2.y = e3.y AND e3.y = e4.y AND e4.y = e5.y"
+        for dialect in DIALECTS:
+            planner = self.planner(dialect, text)
+            self.assertEqual(planner.reduce, dialect not in ("spark", "trino"))
+            self.assertEqual("--no-reduce" in (planner.note or ""), dialect in ("spark", "trino"))
+            self.assertEqual(" IN (SELECT " in planner.counting, planner.reduce)
+            self.assertTrue(self.planner(dialect, JOINED).reduce)
 
     def test_materialized_where_it_is_known(self) -> None:
         for dialect in DIALECTS:
