@@ -51,6 +51,7 @@
 --   What joins over a tree ask for is that tables are small too, which the code knows of the tables that it read (`plan_over`).
 -- - An answer of either shape is `seen` over the answer of its choice, and `seen_ok` takes a plan out again.
 
+pub mod AllowedFacts
 pub mod Answered
 pub mod AppendRuns
 pub mod AppendStages
