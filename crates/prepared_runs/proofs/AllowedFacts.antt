@@ -1,5 +1,5 @@
 -- A plan that was made costs no more than the budget.
-use Rattle.std.proofs.Common.{◌≡◌, ℕ, ◌≤◌, List, Result, Ok, length, ap, sym, subst, arith}
+use Rattle.std.proofs.Common.{◌≡◌, ℕ, ◌≤◌, List, Result, Ok, length, ap, subst, arith}
 use Rattle.order_search.specs.Orders.{cost, greatest}
 use Rattle.order_search.specs.declared.refusal.PlanError.{PlanError}
 use Rattle.plans.specs.declared.left_deep.Plan.{Plan}

@@ -1,18 +1,15 @@
 -- A command line has few words: those of its places, one of each flag, two of each option, its command's word and `--`.
 use Rattle.std.proofs.Common.{◌≡◌, ◌+◌, ◌*◌, ◌≤◌, ◌<◌, ◌&&◌, ◌++◌, ℕ, Bool, true, false, suc, zero, inl, inr, List, [], ◌∷◌, length, Option, None, Some, ap, sym, refl, ◌∙◌, arith}
-use Rattle.std.specs.Prelude.{if◌then◌else◌, codes, option_map, ◌==◌}
-use Rattle.std.specs.Bool.{IsTrue}
+use Rattle.std.specs.Prelude.{if◌then◌else◌, option_map, ◌==◌}
 use Rattle.std.specs.List.{AllByRecursion, flat_map, list_any, sum_by}
-use Rattle.std.specs.Str.{bytes_eq}
 use Rattle.std.proofs.lemmas.Bool.{cases_Bool, eqb-true, false≢true}
 use Rattle.std.proofs.lemmas.List.{length-append}
 use Rattle.std.proofs.lemmas.List.Sums.{sum_by-cons}
 use Rattle.std.proofs.lemmas.Slice.Eq.{bytes_eq-Decides}
 use Rattle.safebound_words.specs.Answer.{command_of}
 use Rattle.safebound_words.specs.CommandLines.{Alone, Beside, IsEnd, IsItemOf, Item, Joined, Place, given_by, given_in, place_words, same_flag, same_option, set_by, spelling}
-use Rattle.safebound_words.specs.Commands.{demo_of, over_query, with_rows}
-use Rattle.safebound_words.specs.Numbers.{number_within}
-use Rattle.safebound_words.specs.Table.{Given, command_row, file_of, flag_word, from_file, is_file, is_set, limit_of, of_append, of_number, of_stats, option_row, over_files, over_two, planned_from, value_of, ◌>>=◌}
+use Rattle.safebound_words.specs.Commands.{over_query}
+use Rattle.safebound_words.specs.Table.{Given, command_row, file_of, flag_word, from_file, is_set, limit_of, of_append, of_number, of_stats, option_row, over_files, over_two, planned_from, value_of}
 use Rattle.safebound_words.specs.Words.{Word}
 use Rattle.safebound_words.specs.declared.command.Command.{Command}
 use Rattle.safebound_words.specs.declared.command.OutText.{OutText}
@@ -35,13 +32,13 @@ option_given : (option : OptionName) (item : Item) (value : Word) (options : Lis
 option_given option item value [] gives has = absurd (false≢true has)
 option_given option item value (first ∷ options) gives has = elim (cases_Bool (same_option option first)) [
   | inl is ↦
-    let words = (bytes_eq-Decides (option_row option).word (option_row first).word).0 is in
-    let same : same_option first option ≡ true = (bytes_eq-Decides (option_row first).word (option_row option).word).1 (sym words) in
-    let one : length (given_by first item) ≡ 1 = ap (λ (ws : List Word). length ws) (gives first) ∙ rw same refl in
-    omega (arith, one, sum_by-cons (λ other. length (given_by other item)) first options)
+      let words = (bytes_eq-Decides (option_row option).word (option_row first).word).0 is in
+      let same : same_option first option ≡ true = (bytes_eq-Decides (option_row first).word (option_row option).word).1 (sym words) in
+      let one : length (given_by first item) ≡ 1 = ap (λ (ws : List Word). length ws) (gives first) ∙ rw same refl in
+      omega (arith, one, sum_by-cons (λ other. length (given_by other item)) first options)
   | inr isnt ↦
-    let rest : list_any (same_option option) options ≡ true = rw isnt at has in
-    omega (arith, option_given option item value options gives rest, sum_by-cons (λ other. length (given_by other item)) first options)
+      let rest : list_any (same_option option) options ≡ true = rw isnt at has in
+      omega (arith, option_given option item value options gives rest, sum_by-cons (λ other. length (given_by other item)) first options)
 ]
 
 -- an item of a flag of these sets it
@@ -49,13 +46,13 @@ flag_given : (flag : FlagName) (flags : List FlagName) → list_any (same_flag f
 flag_given flag [] has = absurd (false≢true has)
 flag_given flag (first ∷ flags) has = elim (cases_Bool (same_flag flag first)) [
   | inl is ↦
-    let words = (bytes_eq-Decides (flag_word flag) (flag_word first)).0 is in
-    let same : same_flag first flag ≡ true = (bytes_eq-Decides (flag_word first) (flag_word flag)).1 (sym words) in
-    let one : set_by first (Alone flag) ≡ 1 = rw same refl in
-    omega (arith, one, sum_by-cons (λ other. set_by other (Alone flag)) first flags)
+      let words = (bytes_eq-Decides (flag_word flag) (flag_word first)).0 is in
+      let same : same_flag first flag ≡ true = (bytes_eq-Decides (flag_word first) (flag_word flag)).1 (sym words) in
+      let one : set_by first (Alone flag) ≡ 1 = rw same refl in
+      omega (arith, one, sum_by-cons (λ other. set_by other (Alone flag)) first flags)
   | inr isnt ↦
-    let rest : list_any (same_flag flag) flags ≡ true = rw isnt at has in
-    omega (arith, flag_given flag flags rest, sum_by-cons (λ other. set_by other (Alone flag)) first flags)
+      let rest : list_any (same_flag flag) flags ≡ true = rw isnt at has in
+      omega (arith, flag_given flag flags rest, sum_by-cons (λ other. set_by other (Alone flag)) first flags)
 ]
 
 item_words : (name : CommandName) (item : Item) → IsItemOf name item
