@@ -73,6 +73,9 @@ class Texts(unittest.TestCase):
         odd = {b"\xff": "", "": QUERY, "é\0": SCHEMA, "r.csv": FILES["r.csv"], "s.csv": FILES["s.csv"]}
         self.assertEqual(safebound.run(["run", "é\0", ""], odd), (0, ROWS, NOTES))
         self.assertEqual(safebound.run(["run"] * 100_000, FILES), (2, b"", b"error usage\n"))
+        self.assertEqual(safebound.run(["run"] * 20 + [b"\xff"], FILES), (15, b"", b""))
+        longest = ["run", "--budget", "1000", "--accuracy", "64", "--memory", "1000000", "--reduce", "--bushy", "--", "schema.sql", "query.sql"]
+        self.assertEqual(safebound.run(longest, FILES).status, 0)
 
 
 class Statistics(unittest.TestCase):
