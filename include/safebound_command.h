@@ -66,7 +66,7 @@ enum {
    the beginning of its text. How much would be needed isn't known then; give more, and call again. A plan mostly takes less
    than 4,096 bytes. Where the line of another status finds too little room, as much of it is written as fits.
 
-   SAFEBOUND_EXIT_WORDS comes with empty texts, and SAFEBOUND_EXIT_NO_MEMORY too where memory was wanting for the words.
+   SAFEBOUND_EXIT_WORDS comes with empty texts.
 
    Example: the plan of a query over two tables.
 

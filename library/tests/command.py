@@ -73,6 +73,9 @@ class Texts(unittest.TestCase):
         odd = {b"\xff": "", "": QUERY, "é\0": SCHEMA, "r.csv": FILES["r.csv"], "s.csv": FILES["s.csv"]}
         self.assertEqual(safebound.run(["run", "é\0", ""], odd), (0, ROWS, NOTES))
         self.assertEqual(safebound.run(["run"] * 100_000, FILES), (2, b"", b"error usage\n"))
+        self.assertEqual(safebound.run(["run"] * 20 + [b"\xff"], FILES), (15, b"", b""))
+        longest = ["run", "--budget", "1000", "--accuracy", "64", "--memory", "1000000", "--reduce", "--bushy", "--", "schema.sql", "query.sql"]
+        self.assertEqual(safebound.run(longest, FILES).status, 0)
 
 
 class Statistics(unittest.TestCase):
@@ -150,7 +153,7 @@ class Library(unittest.TestCase):
 
 
 class Memory(unittest.TestCase):
-    """From C, each request for memory refused in turn: the line, or, where words can't be had, nothing; and no row is written."""
+    """From C, each request for memory refused in turn: the line, and no row is written."""
 
     def ends(self, refuse, words):
         with tempfile.TemporaryDirectory() as folder:
@@ -167,8 +170,7 @@ class Memory(unittest.TestCase):
             answers = []
             while answers[-5:] != [whole] * 5:
                 answers.append(self.ends(len(answers), words))
-            self.assertEqual(answers[0], (11, b"", b""))
-            self.assertEqual(set(answers) - {whole}, {(11, b"", b""), (11, b"", b"error memory\n")})
+            self.assertEqual(set(answers) - {whole}, {(11, b"", b"error memory\n")})
 
 
 unittest.main()

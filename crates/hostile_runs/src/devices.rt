@@ -75,7 +75,8 @@ fn code<S: Store, O: Sink, N: Sink>(
     notes: &mut N,
 ) -> u8 {
     let words = ["run", "schema.sql", "query.sql"];
-    safebound(alloc, &words, store, out, notes).code()
+    let mut kept = None;
+    safebound(alloc, &words, store, out, notes, &mut kept).code()
 }
 
 fn what_was_written(

@@ -63,7 +63,8 @@ fn code_of(
     out: &mut MemSink,
     notes: &mut MemSink,
 ) -> u8 {
-    let status = safebound(alloc, words, store, out, notes);
+    let mut kept = None;
+    let status = safebound(alloc, words, store, out, notes, &mut kept);
     status.code()
 }
 

@@ -20,6 +20,9 @@
 -- - A word is got (`get`) where it is read, and no earlier: then one equation of `get` is rewritten at the read, and clauses above speak of the
 --   command's own words.
 --
+-- - What takes memory for joins requires `MayJoin`. That the plan is within the budget is a clause of `plan_task` (AllowedFacts), and that it is
+--   within the limit of memory is what the test's own answer says (`within_ok`). So the two can only be called behind the test.
+--
 -- Sources of lists
 --
 -- - What a source gives is a value (`sourced`, a record of bounds, scan bounds and lists), and what holds of it is one record
@@ -51,6 +54,7 @@
 --   What joins over a tree ask for is that tables are small too, which the code knows of the tables that it read (`plan_over`).
 -- - An answer of either shape is `seen` over the answer of its choice, and `seen_ok` takes a plan out again.
 
+pub mod AllowedFacts
 pub mod Answered
 pub mod AppendRuns
 pub mod AppendStages

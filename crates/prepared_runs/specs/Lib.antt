@@ -1,4 +1,5 @@
 pub mod Accepted
+pub mod Allowed
 pub mod Appending
 pub mod Counted
 pub mod Filed

@@ -1,5 +1,5 @@
 //! Everything that a run takes memory for, before it writes.
-ghost use Rattle.std.specs.Prelude.{◌≡◌, IfErr, IfOk, Ok};
+ghost use Rattle.std.specs.Prelude.{◌≡◌, ◌≤◌, IfErr, IfOk, Ok};
 ghost use Rattle.base_io.specs.Devices.{reading};
 ghost use Rattle.key_carriers.specs.Keys.{KeysHold};
 ghost use Rattle.outcomes.specs.Reads.{Reads, StopsBy, seen};
@@ -13,6 +13,8 @@ ghost use Rattle.table_files.specs.Stage.{IsReached, tables_of_query};
 ghost use Rattle.safebound_words.specs.InRange.{HasRanges, IsInRange, WorkHasRanges};
 ghost use Rattle.safebound_words.specs.declared.command.Aim.TheVariants as aims;
 ghost use Rattle.safebound_words.specs.declared.command.Work.TheVariants as works;
+ghost use Rattle.prepared_runs.specs.Allowed.{shape_cost};
+ghost use Rattle.prepared_runs.specs.Limits.{AreWithin};
 ghost use Rattle.prepared_runs.specs.Prepared.{AreListed, HasRoom, HoldExactly, HoldsBytes, IsPrepared, lists_in, plan_left, text_left};
 ghost use Rattle.prepared_runs.specs.Ready.{CanBeWritten, outcome_of, planned_from};
 ghost use Rattle.prepared_runs.specs.Shapes.{IsPlanOver, scan_bounds, shape_bytes};
@@ -58,14 +60,23 @@ pub struct Prepared {
     pub rest: Rest,
 }
 
-// Takes the memory for what is left to do.
+// What is left to do where nothing is joined: the plan alone, and no memory is taken.
+fn without_joins(planned: Planned) -> Rest
+    ensures { result ≡ Rest.Nothing planned.plan }
+{
+    Rest::Nothing(planned.plan)
+}
+
+// Takes the memory for what is left to do, by a plan that is within the budget and the limit of memory.
 fn make_room(
     alloc: Global,
-    out: OutText,
+    task: &PlanWork,
     planned: Planned,
     query: &Query,
     db: &Database,
 ) -> Result<Rest, NoMemory>
+    requires affordable { shape_cost planned.plan ≤ task.now.budget }
+    requires within { AreWithin task.now.memory (shape_bytes planned.plan) }
     requires database { IsDatabaseOf query.now db.now }
     requires plan { IsPlanOver query.now (tables_of db.now) (lists_in planned.scans query.now (tables_of db.now)) planned.plan }
     requires rows { LoseNoRow query.now (tables_of db.now) (lists_in planned.scans query.now (tables_of db.now)) }
@@ -73,13 +84,13 @@ fn make_room(
     ensures plan { IfOk result (λ rest. plan_left rest ≡ planned.plan) }
     ensures room { IfOk result (HasRoom query.now db.now) }
     ensures lists { IfOk result (AreListed (lists_in planned.scans query.now (tables_of db.now))) }
-    ensures out { IfOk result (λ rest. text_left rest ≡ out) }
+    ensures out { IfOk result (λ rest. text_left rest ≡ task.now.out) }
     ensures bytes { IfOk result (HoldsBytes (shape_bytes planned.plan)) }
 {
-    match out {
-        OutText::Rows => Ok(Rest::Rows(prepare_joins(alloc, planned, query, db)?)),
-        OutText::Audit => Ok(Rest::Audit(prepare_joins(alloc, planned, query, db)?)),
-        OutText::Nothing => Ok(Rest::Nothing(planned.plan)),
+    match task.out {
+        OutText::Rows => Ok(Rest::Rows(prepare_joins(alloc, task, planned, query, db)?)),
+        OutText::Audit => Ok(Rest::Audit(prepare_joins(alloc, task, planned, query, db)?)),
+        OutText::Nothing => Ok(without_joins(planned)),
     }
 }
 
@@ -115,7 +126,7 @@ fn prepare_plan(
     let planned = plan_task(alloc, task, schema, &query, &db)?;
     let bytes = memory_of(&planned.plan);
     keep_limit(task.memory, bytes)?;
-    let rest = make_room(alloc, task.out, planned, &query, &db)?;
+    let rest = make_room(alloc, task, planned, &query, &db)?;
     Ok(Prepared {
         query,
         db,

@@ -7,6 +7,7 @@ ghost use Rattle.sql_meaning.specs.Tables.{tables_of};
 ghost use Rattle.join_steps.specs.Lists.{lists_of, rows_listed, scans_of};
 ghost use Rattle.planning.specs.Gives.{Gives};
 ghost use Rattle.safebound_words.specs.InRange.{IsInRange};
+ghost use Rattle.prepared_runs.specs.Allowed.{MayJoin, shape_cost};
 ghost use Rattle.prepared_runs.specs.Prepared.{CanJoin, HoldExactly, bytes_held, lists_in, plan_in};
 ghost use Rattle.prepared_runs.specs.Shapes.{IsPlanOver, scan_bounds, shape_bytes};
 ghost use Rattle.prepared_runs.specs.Sources.{lists_by, scans_by, set_bounds_by, sourced};
@@ -110,6 +111,7 @@ pub fn plan_task(
     requires database { IsDatabaseOf query.now db.now }
     requires ranges { IsInRange task.now }
     ensures planned { IfOk result (λ p. plan_asked task.now schema.now query.now (tables_of db.now) ≡ Ok p.plan) }
+    ensures affordable { IfOk result (λ p. shape_cost p.plan ≤ task.now.budget) }
     ensures lists { IfOk result (λ p. lists_in p.scans query.now (tables_of db.now)
         ≡ lists_by task.now.source query.now (tables_of db.now)) }
     ensures exact { IfOk result (λ p. HoldExactly p.scans (scan_bounds p.plan)) }
@@ -127,21 +129,23 @@ pub fn plan_task(
     Ok(Planned { plan, scans })
 }
 
-// Lists the rows of each entry's scan, in memory that is taken by these bounds.
+// Lists the rows of each entry's scan, in memory that is taken by the plan's bounds.
 fn list_scans(
     alloc: Global,
+    _task: &PlanWork,
+    plan: &Shaped,
     query: &Query,
     db: &Database,
-    bounds: &[u64],
 ) -> Result<Vec<RowBuf<u32>>, NoMemory>
+    requires allowed { MayJoin _task.now plan.now }
     requires database { IsDatabaseOf query.now db.now }
-    requires count { length bounds.now ≡ length query.now.from }
+    requires count { length (scan_bounds plan.now) ≡ length query.now.from }
     requires fit { (entry : ℕ) → entry < length query.now.from
-        → rows_listed (scans_of query.now (tables_of db.now)) entry ≤ slice_index bounds.now entry }
+        → rows_listed (scans_of query.now (tables_of db.now)) entry ≤ slice_index (scan_bounds plan.now) entry }
     ensures lists { IfOk result (λ lists. lists_of lists.items ≡ scans_of query.now (tables_of db.now)) }
-    ensures bytes { IfOk result (λ lists. buffers_bytes lists ≡ lists_bytes bounds.now) }
+    ensures bytes { IfOk result (λ lists. buffers_bytes lists ≡ lists_bytes (scan_bounds plan.now)) }
 {
-    let mut lists = reserve_scans(alloc, query, db, bounds)?;
+    let mut lists = reserve_scans(alloc, query, db, bounds_of_scans(plan))?;
     scan_all(query, db, lists.as_mut_slice());
     Ok(lists)
 }
@@ -149,32 +153,37 @@ fn list_scans(
 // The list of each entry's rows. Whole scans are listed now.
 fn list_rows(
     alloc: Global,
+    task: &PlanWork,
+    plan: &Shaped,
     scans: Scans,
     query: &Query,
     db: &Database,
-    bounds: &[u64],
 ) -> Result<Vec<RowBuf<u32>>, NoMemory>
+    requires allowed { MayJoin task.now plan.now }
     requires database { IsDatabaseOf query.now db.now }
-    requires count { length bounds.now ≡ length query.now.from }
+    requires count { length (scan_bounds plan.now) ≡ length query.now.from }
     requires fit { (entry : ℕ) → entry < length query.now.from
-        → rows_listed (lists_in scans query.now (tables_of db.now)) entry ≤ slice_index bounds.now entry }
-    requires exact { HoldExactly scans bounds.now }
+        → rows_listed (lists_in scans query.now (tables_of db.now)) entry ≤ slice_index (scan_bounds plan.now) entry }
+    requires exact { HoldExactly scans (scan_bounds plan.now) }
     ensures lists { IfOk result (λ lists. lists_of lists.items ≡ lists_in scans query.now (tables_of db.now)) }
-    ensures bytes { IfOk result (λ lists. buffers_bytes lists ≡ lists_bytes bounds.now) }
+    ensures bytes { IfOk result (λ lists. buffers_bytes lists ≡ lists_bytes (scan_bounds plan.now)) }
 {
     match scans {
-        Scans::Whole => list_scans(alloc, query, db, bounds),
+        Scans::Whole => list_scans(alloc, task, plan, query, db),
         Scans::Listed(lists) => Ok(lists),
     }
 }
 
 /// Takes all memory that the joins of a plan need, and lists the rows that are joined. Lists and buffers hold exactly the bytes of the plan.
+/// The caller has to know that the task joins, and that the plan is within its budget and its limit of memory.
 pub fn prepare_joins(
     alloc: Global,
+    task: &PlanWork,
     planned: Planned,
     query: &Query,
     db: &Database,
 ) -> Result<Joins, NoMemory>
+    requires allowed { MayJoin task.now planned.plan }
     requires database { IsDatabaseOf query.now db.now }
     requires plan { IsPlanOver query.now (tables_of db.now) (lists_in planned.scans query.now (tables_of db.now)) planned.plan }
     requires rows { LoseNoRow query.now (tables_of db.now) (lists_in planned.scans query.now (tables_of db.now)) }
@@ -185,7 +194,7 @@ pub fn prepare_joins(
     ensures lists { IfOk result (λ joins. lists_of joins.lists.items ≡ lists_in planned.scans query.now (tables_of db.now)) }
 {
     let Planned { plan, scans } = planned;
-    let lists = list_rows(alloc, scans, query, db, bounds_of_scans(&plan))?;
-    let room = reserve_room(alloc, plan, query, db)?;
+    let lists = list_rows(alloc, task, &plan, scans, query, db)?;
+    let room = reserve_room(alloc, task, plan, query, db)?;
     Ok(Joins { lists, room })
 }

@@ -4,6 +4,7 @@ ghost use Rattle.limits.specs.Profile.{most_entries};
 ghost use Rattle.order_search.specs.declared.refusal.PlanError.TheVariants as error;
 ghost use Rattle.sql_meaning.specs.Databases.{IsDatabaseOf};
 ghost use Rattle.sql_meaning.specs.Tables.{tables_of};
+ghost use Rattle.prepared_runs.specs.Allowed.{MayJoin};
 ghost use Rattle.prepared_runs.specs.Prepared.{IsRoomOver, held_bytes, plan_in};
 ghost use Rattle.prepared_runs.specs.Shapes.{IsPlanOver, answer_of, parts_bytes, scan_bounds};
 ghost use Rattle.safebound_words.specs.Commands.{most_budget_of};
@@ -17,7 +18,7 @@ use planning::{Known, plan_from};
 use plans::Plan;
 use query_types::Query;
 use reserve_plan::Reserved;
-use safebound_words::Shape;
+use safebound_words::{PlanWork, Shape};
 use std::alloc::Global;
 use tree_plans::BushyPlan;
 use tree_rows::{BushyReserved, reserve_bushy};
@@ -70,13 +71,15 @@ pub fn bounds_of_scans(plan: &Shaped) -> &[u64]
     }
 }
 
-/// Takes all memory of the joins of a plan but for the lists that are joined.
+/// Takes all memory of the joins of a plan but for the lists that are joined. The caller has to know that the plan may have it.
 pub fn reserve_room(
     alloc: Global,
+    _task: &PlanWork,
     plan: Shaped,
     query: &Query,
     db: &Database,
 ) -> Result<Room, NoMemory>
+    requires allowed { MayJoin _task.now plan }
     requires database { IsDatabaseOf query.now db.now }
     requires plan { (lists : List (List ℕ)) × IsPlanOver query.now (tables_of db.now) lists plan }
     ensures plan { IfOk result (λ room. plan_in room ≡ plan) }

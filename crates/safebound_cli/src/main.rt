@@ -44,12 +44,14 @@ fn main(rt: HostRuntime) -> ExitCode {
     let mut store = FolderStore::new(&rt);
     let mut out = StreamSink::new(rt.stdout());
     let mut notes = StreamSink::new(rt.stderr());
+    let mut kept = None;
     let status = safebound(
         rt.alloc(),
         words.as_slice(),
         &mut store,
         &mut out,
         &mut notes,
+        &mut kept,
     );
     ExitCode::from(status.code())
 }

@@ -40,7 +40,7 @@ prefix_behind : (name : ℕ) (before : List ℕ) (after : Option (List ℕ)) (te
     → GrewByPrefix (Some (name ∷ before)) after text → GrewByPrefix (Some before) (behind after) text
 prefix_behind name before after text h = record { front = h.front; rest = h.rest; whole = h.whole; grew = ap behind h.grew }
 
-tells_behind : (name : ℕ) (before : List ℕ) (after : Option (List ℕ)) (f f' : ℕ) (text : List ℕ)
+pub tells_behind : (name : ℕ) (before : List ℕ) (after : Option (List ℕ)) (f f' : ℕ) (text : List ℕ)
     → GrewOrWasCut (Some (name ∷ before)) after f f' text → GrewOrWasCut (Some before) (behind after) f f' text
 tells_behind name before after f f' text h = record {
   prefix = prefix_behind name before after text h.prefix;

@@ -23,7 +23,7 @@ name_in None = 0
 name_in (Some []) = 0
 name_in (Some (name ∷ text)) = name
 
-prefix_name : (name : ℕ) (before : List ℕ) (after : Option (List ℕ)) (text : List ℕ) → GrewByPrefix (Some (name ∷ before)) after text → name_in after ≡ name
+pub prefix_name : (name : ℕ) (before : List ℕ) (after : Option (List ℕ)) (text : List ℕ) → GrewByPrefix (Some (name ∷ before)) after text → name_in after ≡ name
 prefix_name name before after text h = ap name_in h.grew
 
 cut_name : (name : ℕ) (before : List ℕ) (after : Option (List ℕ)) (text line : List ℕ)

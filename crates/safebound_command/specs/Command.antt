@@ -46,12 +46,11 @@ pub record IsWithin (w : Written) (faults : ℕ) : Type 0 where
   pub full : 0 < faults → w.count ≡ length w.room
 
 -- The program was run: the code is its exit status, both texts stand in their rooms, and the run has the headline, over a store that tells
--- just these files and never fails.
-pub record Ran (words : List (List ℕ)) (files : Files) (out notes : Written) (code : ℕ) : Type 0 where
+-- just these files, never fails, and was asked for so many names that it hasn't.
+pub record Ran (words : List (List ℕ)) (files : Files) (out notes : Written) (misses code : ℕ) : Type 0 where
   pub status : Status
   pub told : code ≡ code_of status
   pub files_after : Files
-  pub misses : ℕ
   pub out_faults : ℕ
   pub notes_faults : ℕ
   pub out_within : IsWithin out out_faults
@@ -64,10 +63,13 @@ pub record Ran (words : List (List ℕ)) (files : Files) (out notes : Written) (
     notes = stream (text_of notes) notes_faults;
   })
 
--- the words can't be had: 15 where one isn't UTF-8, 11 where memory for them was wanting
-abbrev pub HasNoWords : List (List ℕ) → ℕ → Type 0
-HasNoWords words code = ((code ≡ 15) × Any (λ word. ¬ (IsUtf8 word)) words) ⊎ (code ≡ 11)
+-- a word isn't UTF-8: the code is 15, and both texts are empty
+pub record HasNoWords (words : List (List ℕ)) (out notes : Written) (code : ℕ) : Type 0 where
+  pub told : code ≡ 15
+  pub word : Any (λ word. ¬ (IsUtf8 word)) words
+  pub no_out : out.count ≡ 0
+  pub no_notes : notes.count ≡ 0
 
--- the program was run, or the words can't be had, and then both texts are empty
+-- the program was run, or a word isn't UTF-8. Want of memory is an answer of the run alone: the words take none
 abbrev pub CallEnds : List (List ℕ) → Files → Written → Written → ℕ → Type 0
-CallEnds words files out notes code = Ran words files out notes code ⊎ (HasNoWords words code × (out.count ≡ 0) × (notes.count ≡ 0))
+CallEnds words files out notes code = ((misses : ℕ) × Ran words files out notes misses code) ⊎ HasNoWords words out notes code

@@ -3,9 +3,9 @@ ghost use Rattle.std.specs.Prelude.{map};
 ghost use Rattle.slice_devices.specs.Slices.{files_of};
 ghost use Rattle.safebound_command.specs.Command.{CallEnds, written};
 
-use crate::rooms::run_over;
+use crate::rooms::{refuse_over, run_over};
 use crate::words::{NoWords, texts};
-use outcomes::{NO_MEMORY, NO_WORDS};
+use outcomes::NO_WORDS;
 use slice_devices::SliceFile;
 use std::alloc::Global;
 
@@ -25,12 +25,11 @@ pub extern "C" fn safebound_command(
 {
     *out_length = 0;
     *notes_length = 0;
-    let texts = match texts(alloc, words) {
-        Ok(texts) => texts,
+    let ended = match texts(words) {
+        Ok(texts) => run_over(alloc, texts.as_slice(), files, out, notes),
+        Err(NoWords::TooMany) => refuse_over(words, files, out, notes),
         Err(NoWords::NotUtf8) => return NO_WORDS as u32,
-        Err(NoWords::NoMemory) => return NO_MEMORY as u32,
     };
-    let ended = run_over(alloc, texts.as_slice(), files, out, notes);
     *out_length = ended.out;
     *notes_length = ended.notes;
     ended.status.code() as u32

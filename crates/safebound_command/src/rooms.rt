@@ -1,20 +1,22 @@
 //! The program over files and rooms.
-ghost use Rattle.std.specs.Prelude.{map};
+ghost use Rattle.std.specs.Prelude.{◌<◌, length, map};
 ghost use Rattle.outcomes.specs.Statuses.{code_of};
 ghost use Rattle.slice_devices.specs.Slices.{files_of};
 ghost use Rattle.safebound_command.specs.Command.{Ran, written};
 
-use crate::run::run;
+use crate::run::{refuse, run};
 use safebound_top::Status;
+use safebound_words::MOST_WORDS;
 use slice_devices::{SliceFile, SliceSink, SliceStore};
 use std::alloc::Global;
 
-/// How a run ended, and how many bytes of each room it wrote.
+/// How a run ended, how many bytes of each room it wrote, and how many names it asked for that no file has.
 #[derive(Clone, Copy, Debug)]
 pub(crate) struct Ended {
     pub status: Status,
     pub out: u64,
     pub notes: u64,
+    pub misses: u64,
 }
 
 /// Runs the program over these files.
@@ -26,15 +28,38 @@ pub(crate) fn run_over(
     notes: &mut [u8],
 ) -> Ended
     ensures { Ran (map (λ w. w.now) words.now) (files_of files.now) (written out.new result.out) (written notes.new result.notes)
-        (code_of result.status) }
+        result.misses (code_of result.status) }
 {
     let mut store = SliceStore::new(files);
     let mut out = SliceSink::new(out);
     let mut notes = SliceSink::new(notes);
-    let status = run(alloc, words, &mut store, &mut out, &mut notes);
+    let mut kept = None;
+    let status = run(alloc, words, &mut store, &mut out, &mut notes, &mut kept);
     Ended {
         status,
         out: out.used as u64,
         notes: notes.used as u64,
+        misses: store.misses,
+    }
+}
+
+/// Refuses words that are more than a command line has. No file is read, and nothing is written to the other room.
+pub(crate) fn refuse_over(
+    words: &[&[u8]],
+    files: &[SliceFile<'_>],
+    _out: &[u8],
+    notes: &mut [u8],
+) -> Ended
+    requires { MOST_WORDS < length words.now }
+    ensures { Ran (map (λ w. w.now) words.now) (files_of files.now) (written _out.now result.out) (written notes.new result.notes)
+        result.misses (code_of result.status) }
+{
+    let mut notes = SliceSink::new(notes);
+    let status = refuse(words, files, &mut notes);
+    Ended {
+        status,
+        out: 0,
+        notes: notes.used as u64,
+        misses: 0,
     }
 }

@@ -1,33 +1,52 @@
-//! The words of a call as texts.
-ghost use Rattle.std.specs.Prelude.{◌≡◌, Err, IfOk, map, Any};
+//! The words of a call as texts. They take no memory.
+ghost use Rattle.std.specs.Prelude.{◌≡◌, ◌<◌, Err, IfOk, false, length, map, Any};
 ghost use Rattle.std.specs.Str.{IsUtf8};
 ghost use Rattle.safebound_command.specs.declared.words.NoWords.TheVariants as no_words;
 
-use std::alloc::Global;
+use arrayvec::ArrayVec;
+use safebound_words::MOST_WORDS;
 use std::str;
 
-/// Why there are no words.
+/// Why words aren't handed on.
 #[derive(Clone, Copy, Debug, PartialEq, Eq)]
 pub(crate) enum NoWords {
     /// One of them isn't UTF-8.
     NotUtf8,
-    /// Memory was wanting.
-    NoMemory,
+    /// They are more than any command line has.
+    TooMany,
+}
+
+// Whether each of these words is UTF-8.
+fn are_texts(words: &[&[u8]]) -> bool
+    ensures { result ≡ false → Any (λ w. ¬ (IsUtf8 w)) (map (λ w. w.now) words.now) }
+{
+    'words: for word in words {
+        let Ok(_) = str::from_utf8(word) else {
+            return false;
+        };
+    }
+    true
 }
 
 /// The words, each as a text.
-pub(crate) fn texts<'a>(alloc: Global, words: &[&'a [u8]]) -> Result<Vec<&'a str>, NoWords>
+pub(crate) fn texts<'a>(words: &[&'a [u8]]) -> Result<ArrayVec<&'a str, MOST_WORDS>, NoWords>
     ensures same { IfOk result (λ texts. map (λ t. t.now) texts.items ≡ map (λ w. w.now) words.now) }
     ensures not_utf8 { result ≡ Err no_words.NotUtf8 → Any (λ w. ¬ (IsUtf8 w)) (map (λ w. w.now) words.now) }
+    ensures too_many { result ≡ Err no_words.TooMany → MOST_WORDS < length words.now }
 {
-    let mut all = Vec::new(alloc);
+    if words.len() > MOST_WORDS {
+        return Err(if are_texts(words) {
+            NoWords::TooMany
+        } else {
+            NoWords::NotUtf8
+        });
+    }
+    let mut all = ArrayVec::new();
     'words: for word in words {
         let Ok(text) = str::from_utf8(word) else {
             return Err(NoWords::NotUtf8);
         };
-        if all.push(text).is_err() {
-            return Err(NoWords::NoMemory);
-        }
+        all.push(text);
     }
     Ok(all)
 }

@@ -126,7 +126,7 @@ pub record NothingIsRefusedWithoutCause (call : Call) : Type 0 where
 
 -- 9. Where the verdict is accepted and `--memory N` stands, the bytes that the plan text of 1 prints are those that the plan's buffers take, and
 --    they are at most N. A plan that takes more is refused as MemoryLimit, behind Budget and PastBits. That the buffers of a call that is done
---    hold exactly these bytes is the clause `buffers` of `safebound_keeping` (specs/Kept.antt).
+--    hold exactly these bytes is the clause `buffers` of `safebound` (`KeepsItsBuffers` of prepared_runs).
 abbrev pub EveryLimitIsKept : Call → Type 0
 EveryLimitIsKept call = OverFiles call (λ files v. IfOk v KeepsItsLimit)
 

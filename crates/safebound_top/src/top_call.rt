@@ -172,12 +172,28 @@ fn run_command<S: Store, O: Sink, N: Sink>(
     }
 }
 
-/// Runs a command as `safebound` does, and hands out the buffers in which it joined, with the rows in them, once all is written.
+/// Tells that words are no command.
+pub fn refuse_words<N: Sink>(notes: &mut N) -> Status
+    ensures status { result ≡ Status.Refused Refusal.Usage }
+    ensures told { Told (growth N.taken N.faults notes.old notes.new) (status_line result None None) }
+{
+    let status = Status::Refused(Refusal::Usage);
+    report(status, None, None, notes);
+    status
+}
+
+/// Runs a command: reads the words' files, plans, takes all memory, writes the plan text to `notes` and the rows text or
+/// the audit text, where one is asked for, to `out`; or tells in one line of `notes` why not. `stats` writes a statistics
+/// file to `out` and no plan, `plan --stats` reads one and no table, and `append` reads one and new rows and writes it with
+/// these to `out`. `demo` reads files that it makes in memory, and leaves `store` as it is.
 ///
-/// Where `run`, `audit` or `demo` is done, these are the buffers of its plan: the rows of each level, or of each inner node, stand in them, and
-/// their capacities times the sizes of items sum to exactly the bytes of the plan. With `--memory N` these bytes are what the plan text prints,
-/// and at most N (sentences 1 and 9 of the headline). No other command takes such buffers.
-pub fn safebound_keeping<S: Store, O: Sink, N: Sink>(
+/// Once all is written, `kept` has the buffers in which `run`, `audit` or `demo` joined: the rows of each level, or of each inner node, stand
+/// in them, and their capacities times the sizes of items sum to exactly the bytes of the plan. With `--memory N` these bytes are what the
+/// plan text prints, and at most N (sentences 1 and 9 of the headline). No other command takes such buffers. The caller lets them go.
+///
+/// The contract is what `run` promises (`specs/Promise.antt`), the project's headline, sentence by sentence in `specs/Headline.antt`, and
+/// what the buffers hold (`KeepsItsBuffers` of prepared_runs).
+pub fn safebound<S: Store, O: Sink, N: Sink>(
     alloc: Global,
     words: &[&str],
     store: &mut S,
@@ -186,41 +202,6 @@ pub fn safebound_keeping<S: Store, O: Sink, N: Sink>(
     kept: &mut Option<Joined>,
 ) -> Status
     requires none { kept.old ≡ None }
-    ensures headline { Headline (record {
-      words = map (λ w. w.now) words.now;
-      status = result;
-      store = store_read (shop_of (map (λ w. w.now) words.now)) (reading S.files S.faults S.misses store.old store.new);
-      out = growth O.taken O.faults out.old out.new;
-      notes = growth N.taken N.faults notes.old notes.new;
-    }) }
-    ensures untouched { IfSome (shop_of (map (λ w. w.now) words.now)) (λ number. store.new ≡ store.old) }
-    ensures buffers { result ≡ Status.Done → KeepsItsBuffers
-        (store_read (shop_of (map (λ w. w.now) words.now)) (reading S.files S.faults S.misses store.old store.new))
-        (verdict (map (λ w. w.now) words.now)) kept.new }
-{
-    match read_words(words) {
-        Ok(command) => run_command(alloc, &command, store, out, notes, kept),
-        Err(_) => {
-            let status = Status::Refused(Refusal::Usage);
-            report(status, None, None, notes);
-            status
-        }
-    }
-}
-
-/// Runs a command: reads the words' files, plans, takes all memory, writes the plan text to `notes` and the rows text or
-/// the audit text, where one is asked for, to `out`; or tells in one line of `notes` why not. `stats` writes a statistics
-/// file to `out` and no plan, `plan --stats` reads one and no table, and `append` reads one and new rows and writes it with
-/// these to `out`. `demo` reads files that it makes in memory, and leaves `store` as it is.
-///
-/// The contract is what `run` promises (`specs/Promise.antt`), and the project's headline, sentence by sentence in `specs/Headline.antt`.
-pub fn safebound<S: Store, O: Sink, N: Sink>(
-    alloc: Global,
-    words: &[&str],
-    store: &mut S,
-    out: &mut O,
-    notes: &mut N,
-) -> Status
     ensures promise { Promise (record {
       words = map (λ w. w.now) words.now;
       status = result;
@@ -236,7 +217,12 @@ pub fn safebound<S: Store, O: Sink, N: Sink>(
       notes = growth N.taken N.faults notes.old notes.new;
     }) }
     ensures untouched { IfSome (shop_of (map (λ w. w.now) words.now)) (λ number. store.new ≡ store.old) }
+    ensures buffers { result ≡ Status.Done → KeepsItsBuffers
+        (store_read (shop_of (map (λ w. w.now) words.now)) (reading S.files S.faults S.misses store.old store.new))
+        (verdict (map (λ w. w.now) words.now)) kept.new }
 {
-    let mut kept = None;
-    safebound_keeping(alloc, words, store, out, notes, &mut kept)
+    match read_words(words) {
+        Ok(command) => run_command(alloc, &command, store, out, notes, kept),
+        Err(_) => refuse_words(notes),
+    }
 }

@@ -4,4 +4,5 @@ pub mod Ranges
 pub mod Readings
 mod Steps
 mod WholeLines
+pub mod WordCounts
 mod WordKinds

@@ -27,4 +27,4 @@ pub use command::{Aim, Command, ListSource, NewRows, OutText, PlanWork, Shape, W
 pub use laws::{one_command, one_reading};
 pub use table::{CommandName, FlagName, OptionName};
 pub use word::Word;
-pub use words::read_words;
+pub use words::{MOST_WORDS, read_words};

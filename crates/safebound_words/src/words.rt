@@ -1,5 +1,5 @@
 //! From the words of a command line to a command.
-ghost use Rattle.std.specs.Prelude.{◌≡◌, IfOk, map, OnErr};
+ghost use Rattle.std.specs.Prelude.{◌≡◌, ◌≤◌, IfOk, OnOk, length, map, OnErr};
 ghost use Rattle.std.specs.Result.{result_ok};
 ghost use Rattle.safebound_words.specs.Answer.{command_of as asked_by};
 ghost use Rattle.safebound_words.specs.CommandLines.{AskFor};
@@ -10,6 +10,9 @@ use crate::command::{Command, WordsError};
 use crate::line::read_line;
 use crate::request::command_of;
 use crate::table::command_named;
+
+/// No command line has more words.
+pub const MOST_WORDS: usize = 16;
 
 // The command that the words are, computed.
 fn command_in<'a>(words: &[&'a str]) -> Option<Command<'a>>
@@ -35,6 +38,7 @@ pub fn read_words<'a>(words: &[&'a str]) -> Result<Command<'a>, WordsError>
     // The same as a function of the words.
     ensures answer { result_ok result ≡ asked_by (map (λ w. w.now) words.now) }
     ensures ranges { IfOk result (λ command. HasRanges command.aim) }
+    ensures few { OnOk result (length words.now ≤ MOST_WORDS) }
 {
     match command_in(words) {
         Some(command) => Ok(command),

@@ -1,5 +1,7 @@
 //! A room of the caller's, which is filled from its front.
-ghost use Rattle.std.specs.Prelude.{◌≡◌, ◌<◌, ◌≤◌, length};
+ghost use Rattle.std.specs.Prelude.{◌≡◌, ◌<◌, ◌≤◌, IfOk, OnErr, drop, length, take};
+ghost use Rattle.base_io.specs.Causes.{Rose};
+ghost use Rattle.base_io.specs.Sinks.{appended};
 ghost use Rattle.slice_devices.specs.Slices.{told_of};
 
 use base_io::{Failed, Sink};
@@ -19,6 +21,7 @@ impl<'a> SliceSink<'a> {
     /// A sink that has taken nothing.
     pub fn new(room: &'a mut [u8]) -> SliceSink<'a>
         ensures same_room { result.room.ghost_name ≡ room.entry.ghost_name }
+        ensures same_bytes { result.room.now ≡ room.old }
         ensures used { result.used ≡ 0 }
         ensures faults { result.faults ≡ 0 }
     {
@@ -35,7 +38,20 @@ impl Sink for SliceSink<'_> {
 
     ghost faults = { λ s. s.faults };
 
-    fn write(&mut self, bytes: &[u8]) -> Result<usize, Failed> {
+    /// As every sink's, and nothing is written behind what is taken.
+    fn write(&mut self, bytes: &[u8]) -> Result<usize, Failed>
+        ensures bound { IfOk result (λ n. n ≤ length bytes.now) }
+        ensures progress { 0 < length bytes.now → IfOk result (λ n. 0 < n) }
+        ensures took { IfOk result (λ n. told_of self.new.room.ghost_name self.new.used self.new.room.now
+            ≡ appended (told_of self.old.room.ghost_name self.old.used self.old.room.now) (take n bytes.now)) }
+        ensures nothing { OnErr result (told_of self.new.room.ghost_name self.new.used self.new.room.now
+            ≡ told_of self.old.room.ghost_name self.old.used self.old.room.now) }
+        ensures later { self.old.faults ≤ self.new.faults }
+        ensures failed { OnErr result (Rose self.old.faults self.new.faults) }
+
+        // Each byte behind what was taken is as it was.
+        ensures kept { drop self.new.used self.new.room.now ≡ drop self.new.used self.old.room.now }
+    {
         let left = self.room.len() - self.used;
         if left == 0 && !bytes.is_empty() {
             self.faults = self.faults.saturating_add(1);

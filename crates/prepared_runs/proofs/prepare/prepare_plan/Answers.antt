@@ -2,6 +2,7 @@ use Rattle.std.proofs.Common.{List, ℕ, Ok, length, ◌∙◌, ap, sym, subst, 
 use Rattle.std.proofs.lemmas.Result.{err_from_is_err_and}
 use Rattle.sql_meaning.specs.Tables.{Tables, tables_of}
 use Rattle.table_files.specs.EntryTables.{entry_rows, tables_in}
+use Rattle.prepared_runs.specs.Limits.{AreWithin}
 use Rattle.prepared_runs.specs.Outcome.{Planned}
 use Rattle.prepared_runs.specs.Prepared.{AreListed, HoldsBytes, text_left}
 use Rattle.prepared_runs.specs.Shapes.{IsPlanOver, IsShapedPlan, shape_bytes}
@@ -10,8 +11,9 @@ use Rattle.prepared_runs.specs.Standing.{LoseNoRow}
 use Rattle.prepared_runs.specs.declared.shapes.Shaped.{Shaped}
 use Rattle.safebound_words.specs.declared.command.OutText.{OutText}
 use Rattle.prepared_runs.proofs.Answered.{limit_told, plan_stage_ok, plan_told}
-use Rattle.prepared_runs.proofs.ShapeFacts.{plan_fits, plan_over}
 use Rattle.prepared_runs.proofs.KeyFacts.{needs_met}
+use Rattle.prepared_runs.proofs.LimitFacts.{within_ok}
+use Rattle.prepared_runs.proofs.ShapeFacts.{plan_fits, plan_over}
 use Rattle.prepared_runs.proofs.SourceFacts.{rows_kept, stand}
 use Rattle.prepared_runs.proofs.prepare.prepare_plan.Goals as goal
 
@@ -39,6 +41,11 @@ returns-in_err-keep_limit-clause-refused c =
     let p = err_from_is_err_and c.from_residual-in_err-keep_limit.result c.from_residual-in_err-keep_limit.ensures.1 in
     rw (p.1, p.2) (limit_told c.args.task.now c.args.schema.now c.args.query (entry_rows c.args.db) (tables_of c.args.db) c.requires.tables c.in_ok-planned.planned.plan
     c.in_ok-planned.ensures.planned c.in_err-keep_limit.field-0.0 (sym (rw c.memory_of-bytes.ensures at c.in_err-keep_limit.ensures)))
+
+pub make_room-requires-clause-within : goal.make_room-requires-clause-within
+make_room-requires-clause-within c =
+    let memory = c.args.task.now.memory in
+    subst (AreWithin memory) c.memory_of-bytes.ensures (within_ok memory c.memory_of-bytes.result tt tt (sym c.in_ok-keep_limit.ensures)).1
 
 pub make_room-requires-clause-plan : goal.make_room-requires-clause-plan
 make_room-requires-clause-plan c =

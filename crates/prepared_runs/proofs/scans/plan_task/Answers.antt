@@ -6,6 +6,7 @@ use Rattle.planning.proofs.Giving.{known_long, known_many}
 use Rattle.prepared_runs.specs.Prepared.{HoldExactly}
 use Rattle.prepared_runs.specs.Shapes.{answer_of}
 use Rattle.prepared_runs.specs.Sources.{Sourced, scans_by, set_bounds_by, sourced}
+use Rattle.prepared_runs.proofs.AllowedFacts.{plan_costs}
 use Rattle.prepared_runs.proofs.Answered.{was_made, was_refused}
 use Rattle.prepared_runs.proofs.KeptFacts.{scans_given}
 use Rattle.prepared_runs.proofs.ShapeFacts.{planned_known}
@@ -49,6 +50,14 @@ returns-clause-planned c =
     let known_is = subst (λ (a : ℕ). Gives (set_bounds_by (sourced task.source c.args.schema.now query tables) query a) ((sourced task.source c.args.schema.now query tables).scans a) known) c.of.ensures c.in_ok-known.ensures.known in
     sym (planned_known task.shape (sourced task.source c.args.schema.now query tables) query task.accuracy task.budget known known_is)
     ∙ was_made (answer_of task.shape known.sets known.scans task.budget) c.in_ok-plan.plan c.in_ok-plan.ensures
+
+pub returns-clause-affordable : goal.returns-clause-affordable
+returns-clause-affordable c =
+    let task = c.args.task.now in
+    let query = c.args.query.now in
+    let tables = tables_of c.args.db.now in
+    plan_costs query tables (sourced task.source c.args.schema.now query tables) task.accuracy task.budget (scans_bound query tables task.source task.accuracy)
+    c.requires.database.some c.requires.database.few task.shape c.in_ok-plan.plan (returns-clause-planned c)
 
 pub returns-clause-exact : goal.returns-clause-exact
 returns-clause-exact c =

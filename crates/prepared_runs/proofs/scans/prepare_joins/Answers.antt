@@ -14,14 +14,14 @@ list_rows-requires-clause-count c =
     let planned = c.args.planned in
     let query = c.args.query.now in
     let tables = tables_of c.args.db.now in
-    rw c.bounds_of_scans.ensures (over_fits query tables (lists_in planned.scans query tables) planned.plan c.requires.plan).1
+    (over_fits query tables (lists_in planned.scans query tables) planned.plan c.requires.plan).1
 
 pub list_rows-requires-clause-fit : goal.list_rows-requires-clause-fit
 list_rows-requires-clause-fit c =
     let planned = c.args.planned in
     let query = c.args.query.now in
     let tables = tables_of c.args.db.now in
-    rw c.bounds_of_scans.ensures (over_fits query tables (lists_in planned.scans query tables) planned.plan c.requires.plan).2
+    (over_fits query tables (lists_in planned.scans query tables) planned.plan c.requires.plan).2
 
 pub reserve_room-requires-clause-plan : goal.reserve_room-requires-clause-plan
 reserve_room-requires-clause-plan c = (lists_in c.args.planned.scans c.args.query.now (tables_of c.args.db.now), c.requires.plan)
@@ -37,11 +37,8 @@ returns-clause-room c =
       room = c.in_ok-room.ensures.ready (lists_of c.in_ok-lists.lists.items) its;
     }
 
-pub list_rows-requires-clause-exact : goal.list_rows-requires-clause-exact
-list_rows-requires-clause-exact c = rw c.bounds_of_scans.ensures c.requires.exact
-
 pub returns-clause-bytes : goal.returns-clause-bytes
 returns-clause-bytes c =
     let plan = c.args.planned.plan in
-    ap (λ (n : ℕ). n + held_bytes c.in_ok-room.room) (rw c.bounds_of_scans.ensures at c.in_ok-lists.ensures.bytes)
+    ap (λ (n : ℕ). n + held_bytes c.in_ok-room.room) c.in_ok-lists.ensures.bytes
     ∙ ap (λ (n : ℕ). lists_bytes (scan_bounds plan) + n) c.in_ok-room.ensures.bytes ∙ all_bytes plan

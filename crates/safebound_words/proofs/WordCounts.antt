@@ -1,0 +1,267 @@
+-- A command line has few words: those of its places, one of each flag, two of each option, its command's word and `--`.
+use Rattle.std.proofs.Common.{◌≡◌, ◌+◌, ◌*◌, ◌≤◌, ◌<◌, ◌&&◌, ◌++◌, ℕ, Bool, true, false, suc, zero, inl, inr, List, [], ◌∷◌, length, Option, None, Some, ap, sym, refl, ◌∙◌, arith}
+use Rattle.std.specs.Prelude.{if◌then◌else◌, option_map, ◌==◌}
+use Rattle.std.specs.List.{AllByRecursion, flat_map, list_any, sum_by}
+use Rattle.std.proofs.lemmas.Bool.{cases_Bool, eqb-true, false≢true}
+use Rattle.std.proofs.lemmas.List.{length-append}
+use Rattle.std.proofs.lemmas.List.Sums.{sum_by-cons}
+use Rattle.std.proofs.lemmas.Slice.Eq.{bytes_eq-Decides}
+use Rattle.safebound_words.specs.Answer.{command_of}
+use Rattle.safebound_words.specs.CommandLines.{Alone, Beside, IsEnd, IsItemOf, Item, Joined, Place, given_by, given_in, place_words, same_flag, same_option, set_by, spelling}
+use Rattle.safebound_words.specs.Commands.{over_query}
+use Rattle.safebound_words.specs.Table.{Given, command_row, file_of, flag_word, from_file, is_set, limit_of, of_append, of_number, of_stats, option_row, over_files, over_two, planned_from, value_of}
+use Rattle.safebound_words.specs.Words.{Word}
+use Rattle.safebound_words.specs.declared.command.Command.{Command}
+use Rattle.safebound_words.specs.declared.command.OutText.{OutText}
+use Rattle.safebound_words.specs.declared.command.OutText.TheVariants as out_text
+use Rattle.safebound_words.specs.declared.command.Work.TheVariants as works
+use Rattle.safebound_words.specs.declared.table.CommandName.{CommandName}
+use Rattle.safebound_words.specs.declared.table.CommandName.TheVariants as command
+use Rattle.safebound_words.specs.declared.table.FlagName.{FlagName}
+use Rattle.safebound_words.specs.declared.table.FlagName.TheVariants as flag
+use Rattle.safebound_words.specs.declared.table.OptionName.{OptionName}
+use Rattle.safebound_words.specs.declared.table.OptionName.TheVariants as option
+use Rattle.safebound_words.proofs.Readings.{bind_so, computed_asked}
+
+-- ---- the words of items, by what they give
+
+-- an item of an option of these gives it a value
+option_given : (option : OptionName) (item : Item) (value : Word) (options : List OptionName)
+    → ((other : OptionName) → given_by other item ≡ (if same_option other option then value ∷ [] else []))
+    → list_any (same_option option) options ≡ true → 1 ≤ sum_by (λ other. length (given_by other item)) options
+option_given option item value [] gives has = absurd (false≢true has)
+option_given option item value (first ∷ options) gives has = elim (cases_Bool (same_option option first)) [
+  | inl is ↦
+      let words = (bytes_eq-Decides (option_row option).word (option_row first).word).0 is in
+      let same : same_option first option ≡ true = (bytes_eq-Decides (option_row first).word (option_row option).word).1 (sym words) in
+      let one : length (given_by first item) ≡ 1 = ap (λ (ws : List Word). length ws) (gives first) ∙ rw same refl in
+      omega (arith, one, sum_by-cons (λ other. length (given_by other item)) first options)
+  | inr isnt ↦
+      let rest : list_any (same_option option) options ≡ true = rw isnt at has in
+      omega (arith, option_given option item value options gives rest, sum_by-cons (λ other. length (given_by other item)) first options)
+]
+
+-- an item of a flag of these sets it
+flag_given : (flag : FlagName) (flags : List FlagName) → list_any (same_flag flag) flags ≡ true → 1 ≤ sum_by (λ other. set_by other (Alone flag)) flags
+flag_given flag [] has = absurd (false≢true has)
+flag_given flag (first ∷ flags) has = elim (cases_Bool (same_flag flag first)) [
+  | inl is ↦
+      let words = (bytes_eq-Decides (flag_word flag) (flag_word first)).0 is in
+      let same : same_flag first flag ≡ true = (bytes_eq-Decides (flag_word first) (flag_word flag)).1 (sym words) in
+      let one : set_by first (Alone flag) ≡ 1 = rw same refl in
+      omega (arith, one, sum_by-cons (λ other. set_by other (Alone flag)) first flags)
+  | inr isnt ↦
+      let rest : list_any (same_flag flag) flags ≡ true = rw isnt at has in
+      omega (arith, flag_given flag flags rest, sum_by-cons (λ other. set_by other (Alone flag)) first flags)
+]
+
+item_words : (name : CommandName) (item : Item) → IsItemOf name item
+    → length (spelling item) ≤ length (place_words item) + (2 * sum_by (λ option. length (given_by option item)) (command_row name).options + sum_by (λ flag. set_by flag item) (command_row name).flags)
+item_words name (Place word) of = omega arith
+item_words name (Alone f) of = omega (arith, flag_given f (command_row name).flags of)
+item_words name (Beside o value) of = omega (arith, option_given o (Beside o value) value (command_row name).options (λ other. refl) of)
+item_words name (Joined o value) of = omega (arith, option_given o (Joined o value) value (command_row name).options (λ other. refl) of)
+
+values_split : (item : Item) (items : List Item) (options : List OptionName)
+    → sum_by (λ option. length (flat_map (given_by option) (item ∷ items))) options
+    ≡ sum_by (λ option. length (given_by option item)) options + sum_by (λ option. length (flat_map (given_by option) items)) options
+values_split item items [] = refl
+values_split item items (first ∷ options) =
+    omega (
+      arith,
+      length-append (given_by first item) (flat_map (given_by first) items),
+      values_split item items options,
+      sum_by-cons (λ option. length (flat_map (given_by option) (item ∷ items))) first options,
+      sum_by-cons (λ option. length (given_by option item)) first options,
+      sum_by-cons (λ option. length (flat_map (given_by option) items)) first options,
+    )
+
+times_split : (item : Item) (items : List Item) (flags : List FlagName)
+    → sum_by (λ flag. sum_by (set_by flag) (item ∷ items)) flags ≡ sum_by (λ flag. set_by flag item) flags + sum_by (λ flag. sum_by (set_by flag) items) flags
+times_split item items [] = refl
+times_split item items (first ∷ flags) =
+    omega (
+      arith,
+      times_split item items flags,
+      sum_by-cons (λ flag. sum_by (set_by flag) (item ∷ items)) first flags,
+      sum_by-cons (λ flag. set_by flag item) first flags,
+      sum_by-cons (λ flag. sum_by (set_by flag) items) first flags,
+      sum_by-cons (set_by first) item items,
+    )
+
+-- what is given to a command, in words
+abbrev weight : CommandName → List Word → Given → ℕ
+weight name places given =
+    length places + (2 * sum_by (λ option. length (given.values option)) (command_row name).options + sum_by (λ flag. given.times flag) (command_row name).flags)
+
+all_words : (name : CommandName) (items : List Item) → AllByRecursion (IsItemOf name) items
+    → length (flat_map spelling items) ≤ weight name (flat_map place_words items) (given_in items)
+all_words name [] all = omega arith
+all_words name (item ∷ items) all =
+    omega (
+      arith,
+      length-append (spelling item) (flat_map spelling items),
+      length-append (place_words item) (flat_map place_words items),
+      values_split item items (command_row name).options,
+      times_split item items (command_row name).flags,
+      item_words name item all.0,
+      all_words name items all.1,
+    )
+
+-- ---- what a command takes at most
+
+one_value : (option : OptionName) (given : List Word) (n : ℕ) → value_of option given ≡ Some n → length given ≤ 1
+one_value option [] n is = omega arith
+one_value option (word ∷ []) n is = omega arith
+one_value option (word ∷ another ∷ words) n is = absurd (cc)
+
+one_file : (given : List Word) (file : Option Word) → file_of given ≡ Some file → length given ≤ 1
+one_file [] file is = omega arith
+one_file (word ∷ []) file is = omega arith
+one_file (word ∷ another ∷ words) file is = absurd (cc)
+
+once : (times : ℕ) (set : Bool) → is_set times ≡ Some set → times ≤ 1
+once zero set is = omega arith
+once (suc zero) set is = omega arith
+once (suc (suc more)) set is = absurd (cc)
+
+-- a test before what is asked for
+asked_if : (test : Bool) (made r : Command) → (if test then Some made else None) ≡ Some r → test ≡ true
+asked_if true made r is = refl
+asked_if false made r is = absurd (cc)
+
+both_true : (a b : Bool) → (a && b) ≡ true → (a ≡ true) × (b ≡ true)
+both_true true b is = (refl, is)
+both_true false b is = absurd (false≢true is)
+
+map_so : {A B : Type 0} (f : A → B) (from : Option A) (b : B) → option_map f from ≡ Some b → (a : A) × (from ≡ Some a)
+map_so f None b is = absurd (cc)
+map_so f (Some a) b is = (a, refl)
+
+-- two places, and each of these at most once
+record AreFew (places : List Word) (given : Given) : Type 0 where
+  two : length places ≡ 2
+  budget : length (given.values option.Budget) ≤ 1
+  accuracy : length (given.values option.Accuracy) ≤ 1
+  reduce : given.times flag.Reduce ≤ 1
+  bushy : given.times flag.Bushy ≤ 1
+  keys : given.times flag.Keys ≤ 1
+
+two_few : (out : OutText) (memory : Option ℕ) (places : List Word) (given : Given) (r : Command) → over_two out memory places given ≡ Some r → AreFew places given
+two_few out memory [] given r is = absurd (cc)
+two_few out memory (schema ∷ []) given r is = absurd (cc)
+two_few out memory (schema ∷ query ∷ []) given r is =
+    let budget = bind_so (value_of option.Budget (given.values option.Budget)) _ r is in
+    let accuracy = bind_so (value_of option.Accuracy (given.values option.Accuracy)) _ r budget.2 in
+    let reduce = bind_so (is_set (given.times flag.Reduce)) _ r accuracy.2 in
+    let bushy = bind_so (is_set (given.times flag.Bushy)) _ r reduce.2 in
+    let keys = bind_so (is_set (given.times flag.Keys)) _ r bushy.2 in
+    record {
+      two = refl;
+      budget = one_value option.Budget (given.values option.Budget) budget.0 budget.1;
+      accuracy = one_value option.Accuracy (given.values option.Accuracy) accuracy.0 accuracy.1;
+      reduce = once (given.times flag.Reduce) reduce.0 reduce.1;
+      bushy = once (given.times flag.Bushy) bushy.0 bushy.1;
+      keys = once (given.times flag.Keys) keys.0 keys.1;
+    }
+two_few out memory (schema ∷ query ∷ more ∷ places) given r is = absurd (cc)
+
+files_few : (out : OutText) (places : List Word) (given : Given) (r : Command) → over_files out places given ≡ Some r → AreFew places given × (length (given.values option.Memory) ≤ 1)
+unfolding over_files
+files_few out places given r is =
+    let memory = bind_so (value_of option.Memory (given.values option.Memory)) _ r is in
+    (two_few out (limit_of memory.0) places given r memory.2, one_value option.Memory (given.values option.Memory) memory.0 memory.1)
+
+from_few : (file : Word) (memory : Option ℕ) (places : List Word) (given : Given) (r : Command) → from_file file memory places given ≡ Some r → AreFew places given
+from_few file memory [] given r is = absurd (cc)
+from_few file memory (schema ∷ []) given r is = absurd (cc)
+from_few file memory (schema ∷ query ∷ []) given r is =
+    let budget = bind_so (value_of option.Budget (given.values option.Budget)) _ r is in
+    let alone = asked_if _ (over_query None schema query (works.PlanFrom file budget.0 memory)) r budget.2 in
+    let first = both_true (length (given.values option.Accuracy) == 0) _ alone in
+    let second = both_true (given.times flag.Reduce == 0) _ first.1 in
+    let third = both_true (given.times flag.Bushy == 0) (given.times flag.Keys == 0) second.1 in
+    record {
+      two = refl;
+      budget = one_value option.Budget (given.values option.Budget) budget.0 budget.1;
+      accuracy = omega (arith, eqb-true (length (given.values option.Accuracy)) 0 first.0);
+      reduce = omega (arith, eqb-true (given.times flag.Reduce) 0 second.0);
+      bushy = omega (arith, eqb-true (given.times flag.Bushy) 0 third.0);
+      keys = omega (arith, eqb-true (given.times flag.Keys) 0 third.1);
+    }
+from_few file memory (schema ∷ query ∷ more ∷ places) given r is = absurd (cc)
+
+planned_few : (file : Option Word) (places : List Word) (given : Given) (r : Command) → planned_from file places given ≡ Some r → AreFew places given × (length (given.values option.Memory) ≤ 1)
+planned_few None places given r is = files_few out_text.Nothing places given r is
+planned_few (Some file) places given r is =
+    let memory = bind_so (value_of option.Memory (given.values option.Memory)) _ r is in
+    (from_few file (limit_of memory.0) places given r memory.2, one_value option.Memory (given.values option.Memory) memory.0 memory.1)
+
+stats_few : (places : List Word) (given : Given) (r : Command) → of_stats places given ≡ Some r → (length places ≡ 2) × (length (given.values option.Accuracy) ≤ 1)
+stats_few [] given r is = absurd (cc)
+stats_few (schema ∷ []) given r is = absurd (cc)
+stats_few (schema ∷ query ∷ []) given r is =
+    let accuracy = map_so (λ a. over_query None schema query (works.File a)) (value_of option.Accuracy (given.values option.Accuracy)) r is in
+    (refl, one_value option.Accuracy (given.values option.Accuracy) accuracy.0 accuracy.1)
+stats_few (schema ∷ query ∷ more ∷ places) given r is = absurd (cc)
+
+append_few : (places : List Word) (given : Given) (r : Command) → of_append places given ≡ Some r → length places ≡ 4
+append_few [] given r is = absurd (cc)
+append_few (schema ∷ []) given r is = absurd (cc)
+append_few (schema ∷ file ∷ []) given r is = absurd (cc)
+append_few (schema ∷ file ∷ table ∷ []) given r is = absurd (cc)
+append_few (schema ∷ file ∷ table ∷ rows ∷ []) given r is = refl
+append_few (schema ∷ file ∷ table ∷ rows ∷ more ∷ places) given r is = absurd (cc)
+
+demo_few : (places : List Word) (given : Given) (r : Command) → of_number places given ≡ Some r → length places ≡ 1
+demo_few [] given r is = absurd (cc)
+demo_few (number ∷ []) given r is = refl
+demo_few (number ∷ more ∷ places) given r is = absurd (cc)
+
+-- two places, three options and three flags; a plan may have one option more
+whole_few : (places : List Word) (given : Given) → AreFew places given → length (given.values option.Memory) ≤ 1 → weight command.Run places given ≤ 11
+whole_few places given few memory = omega (arith, few.two, few.budget, few.accuracy, few.reduce, few.bushy, few.keys, memory)
+
+asks_few : (name : CommandName) (places : List Word) (given : Given) (r : Command) → (command_row name).asks places given ≡ Some r → weight name places given ≤ 13
+asks_few command.Run places given r is = let few = files_few out_text.Rows places given r is in omega (arith, whole_few places given few.0 few.1)
+asks_few command.Plan places given r is =
+    let file = bind_so (file_of (given.values option.Stats)) _ r is in
+    let few = planned_few file.0 places given r file.2 in
+    omega (arith, whole_few places given few.0 few.1, one_file (given.values option.Stats) file.0 file.1)
+asks_few command.Audit places given r is = let few = files_few out_text.Audit places given r is in omega (arith, whole_few places given few.0 few.1)
+asks_few command.Stats places given r is = let few = stats_few places given r is in omega (arith, few.0, few.1)
+asks_few command.Append places given r is = omega (arith, append_few places given r is)
+asks_few command.Demo places given r is = omega (arith, demo_few places given r is)
+
+-- ---- the words of a line
+
+behind_words : (rest behind : List Word) → IsEnd rest behind → length rest ≤ length behind + 1
+behind_words rest behind end = elim end [
+  | inl none ↦ omega (arith, ap (λ (ws : List Word). length ws) none.0)
+  | inr marked ↦ omega (arith, ap (λ (ws : List Word). length ws) marked)
+]
+
+pub few_words : (words : List Word) (r : Command) → command_of words ≡ Some r → length words ≤ 16
+few_words words r is =
+    let asked = computed_asked words r is in
+    let reading = asked.0 in
+    let reads = asked.1 in
+    let places = flat_map place_words reading.items in
+    let takes : weight reading.command (places ++ reading.behind) (given_in reading.items) ≤ 13 = asks_few reading.command _ _ r asked.2 in
+    omega (
+      arith,
+      ap (λ (ws : List Word). length ws) reads.spelled,
+      length-append (flat_map spelling reading.items) reads.rest,
+      length-append places reading.behind,
+      behind_words reads.rest reading.behind reads.end,
+      all_words reading.command reading.items reads.items,
+      takes,
+    )
+
+-- more words ask for nothing
+pub too_many : (words : List Word) → 16 < length words → command_of words ≡ None
+too_many words many = by (command_of words) refl
+  where
+    by : (asked : Option Command) → command_of words ≡ asked → command_of words ≡ None
+    by None is = is
+    by (Some r) is = absurd (omega (arith, many, few_words words r is))
