@@ -1,5 +1,5 @@
 -- The verdict of an append, stage by stage.
-use Rattle.std.proofs.Common.{◌≡◌, ℕ, ◌+◌, ◌≤◌, true, List, length, Some, Result, Ok, Err, inl, inr, refl, ap, sym, ◌∙◌, subst, arith}
+use Rattle.std.proofs.Common.{◌≡◌, ℕ, ◌+◌, ◌≤◌, true, List, length, Some, Result, Ok, inl, inr, refl, ap, sym, ◌∙◌, subst, arith}
 use Rattle.std.specs.Prelude.{IfOk, nat_le}
 use Rattle.std.proofs.lemmas.Bool.{cases_Bool}
 use Rattle.std.proofs.lemmas.Bool.Decides.{nat_tests}
@@ -10,11 +10,9 @@ use Rattle.csv_tables.specs.Rows.{Row}
 use Rattle.limits.specs.Profile.{most_rows}
 use Rattle.outcomes.specs.Reads.{◌>>=◌}
 use Rattle.outcomes.specs.declared.refusal.Refusal.{Refusal}
-use Rattle.outcomes.specs.declared.refusal.Refusal.TheVariants as refusal
 use Rattle.safebound_words.specs.Answer.{command_of}
 use Rattle.schema_types.specs.Validity.{IsValid}
 use Rattle.schema_types.specs.declared.types.Schema.{Schema}
-use Rattle.sql_meaning.specs.Tables.{Tables}
 use Rattle.stats_file.specs.Rules.{KeepsRules}
 use Rattle.stats_file.specs.declared.types.StatsFile.{StatsFile}
 use Rattle.table_files.specs.Stage.{table_at}
@@ -26,7 +24,7 @@ use Rattle.safebound_words.specs.declared.command.Command.{Command}
 use Rattle.safebound_words.specs.declared.command.NewRows.{NewRows}
 use Rattle.safebound_words.specs.declared.command.Aim.TheVariants as aims
 use Rattle.prepared_runs.specs.Filed.{stats_stage}
-use Rattle.prepared_runs.specs.Outcome.{Appended, AppendedRows, FiledPlan, HoldsWhereItStands, NoBoundIsTooLow, Outcome, PlannedByFile}
+use Rattle.prepared_runs.specs.Outcome.{Appended, HoldsWhereItStands, NoBoundIsTooLow, Outcome, PlannedByFile}
 use Rattle.prepared_runs.specs.Verdict.{aim_run, command_run, command_stage, or_usage, schema_stage, verdict}
 use Rattle.prepared_runs.proofs.FiledRuns.{stats_keep}
 use Rattle.prepared_runs.proofs.Runs.{bounds_hold, schema_ok}

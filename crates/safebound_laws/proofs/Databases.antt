@@ -1,8 +1,7 @@
 -- Whatever tables are read, some database has their rows.
-use Rattle.std.proofs.Common.{◌≡◌, ℕ, ◌<◌, ◌≤◌, List, [], ◌∷◌, length, Result, Ok, refl, ap, sym, ◌∙◌, subst}
-use Rattle.std.specs.Prelude.{All}
+use Rattle.std.proofs.Common.{◌≡◌, ℕ, ◌<◌, List, [], ◌∷◌, length, Ok, refl, ap, sym, ◌∙◌, subst}
 use Rattle.std.specs.List.{AllByRecursion, IsDistinct}
-use Rattle.std.specs.Str.{IsUtf8, bytes_eq}
+use Rattle.std.specs.Str.{IsUtf8}
 use Rattle.std.proofs.lemmas.List.Elements.{All-from_recursion, All-nil, recursion_from_All}
 use Rattle.std.proofs.lemmas.Map.Made.{AllPairs-from_IsDistinct}
 use Rattle.std.proofs.lemmas.Slice.Eq.{bytes_eq-Decides}
@@ -18,7 +17,6 @@ use Rattle.csv_tables.proofs.TableFacts.{columns-grown, rows_of_columns-grown}
 use Rattle.filed_stats.proofs.Read.{over_all}
 use Rattle.filed_stats.specs.Databases.{IsOverSchema}
 use Rattle.outcomes.specs.Reads.{◌>>=◌}
-use Rattle.outcomes.specs.declared.refusal.Refusal.{Refusal}
 use Rattle.query_types.specs.Validity.{IsOf}
 use Rattle.query_types.specs.declared.types.Query.{Query}
 use Rattle.schema_types.specs.Validity.{IsValid}

@@ -1,5 +1,5 @@
 -- No file of `demo` is absent, and no read of its store fails: it never ends with a read fault.
-use Rattle.std.proofs.Common.{◌≡◌, inl, inr, ℕ, List, [], Option, None, Some, Result, Ok, Err, refl, ap, sym, ◌∙◌, subst, arith}
+use Rattle.std.proofs.Common.{◌≡◌, inl, inr, ℕ, List, Option, None, Some, Result, Ok, Err, refl, ap, sym, ◌∙◌, subst, arith}
 use Rattle.std.specs.Prelude.{codes}
 use Rattle.base_io.specs.Causes.{Rose}
 use Rattle.base_io.specs.Devices.{Reading}

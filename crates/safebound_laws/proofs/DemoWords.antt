@@ -1,5 +1,5 @@
 -- The words of `demo` ask what those of an audit ask.
-use Rattle.std.proofs.Common.{◌≡◌, ℕ, List, [], ◌∷◌, None, Some, Result, Ok, refl, ap, sym, ◌∙◌}
+use Rattle.std.proofs.Common.{◌≡◌, ℕ, List, [], ◌∷◌, None, Some, Result, refl, ap, sym, ◌∙◌}
 use Rattle.std.specs.Prelude.{codes, false}
 use Rattle.base_io.specs.Files.{Files}
 use Rattle.safebound_words.specs.Answer.{command_of, kind_of, parts_from, reading_of}
@@ -9,7 +9,7 @@ use Rattle.safebound_words.specs.declared.command.Command.{Command}
 use Rattle.safebound_words.specs.declared.command.OutText.TheVariants as out_text
 use Rattle.outcomes.specs.Reads.{◌>>=◌}
 use Rattle.outcomes.specs.declared.refusal.Refusal.{Refusal}
-use Rattle.prepared_runs.specs.Verdict.{command_run, command_stage, or_usage, verdict}
+use Rattle.prepared_runs.specs.Verdict.{command_run, or_usage, verdict}
 
 abbrev audit_words : List (List ℕ)
 audit_words = codes "audit" ∷ codes "schema.sql" ∷ codes "query.sql" ∷ []

@@ -1,5 +1,5 @@
 -- The rows in a table's file are those of some cells, over a pool that grows.
-use Rattle.std.proofs.Common.{◌≡◌, ◌≢◌, ℕ, zero, suc, ◌+◌, ◌*◌, ◌^◌, ◌<◌, ◌≤◌, ℤ, pos, neg_ℤ, Bool, true, false, not, if◌then◌else◌, List, [], ◌∷◌, ◌++◌, length, map, get_or, Option, None, Some, Result, Ok, Err, refl, ap, sym, ◌∙◌, subst, arith, SFits, append-nil}
+use Rattle.std.proofs.Common.{◌≡◌, ℕ, zero, suc, ◌+◌, ◌<◌, ◌≤◌, ℤ, Bool, true, false, not, if◌then◌else◌, List, [], ◌∷◌, ◌++◌, length, get_or, Option, None, Some, Result, Ok, Err, refl, ap, sym, ◌∙◌, subst, arith, SFits, append-nil}
 use Rattle.std.specs.Prelude.{All, ◌==◌, ◌&&◌, nat_lt, nat_le, option_map, replicate}
 use Rattle.std.specs.List.{AllByRecursion, IsDistinct, list_any}
 use Rattle.std.specs.Cmp.{IsEquivalence}
@@ -15,7 +15,7 @@ use Rattle.std.proofs.lemmas.List.Elements.{All-push}
 use Rattle.std.proofs.lemmas.Map.Keys.{IsDistinct-push}
 use Rattle.std.proofs.lemmas.Slice.Eq.{bytes_eq-Decides}
 use Rattle.std.proofs.lemmas.Str.{IsUtf8-from_is_utf8, IsUtf8-nil}
-use Rattle.csv.specs.Machine.{Read, next_record, ends_at_end}
+use Rattle.csv.specs.Machine.{Read, next_record}
 use Rattle.csv.specs.Reading.{default_config, records_from, records_next, strip_bom, NextIs}
 use Rattle.csv.specs.Records.{AllText}
 use Rattle.csv.specs.declared.parser.State.{State}
@@ -26,13 +26,13 @@ use Rattle.schema_types.specs.declared.types.Column.{Column}
 use Rattle.schema_types.specs.declared.types.Kind.{Kind}
 use Rattle.schema_types.specs.declared.types.Kind.TheVariants as kind
 use Rattle.schema_types.specs.declared.types.Table.{Table}
-use Rattle.csv_tables.specs.Cells.{AreCellsOf, AreColumns, IsCell, rows_of_cells, rows_of_columns, value_of_cell}
+use Rattle.csv_tables.specs.Cells.{AreCellsOf, rows_of_cells, rows_of_columns}
 use Rattle.csv_tables.specs.Files.{after_header, header_of, rows_in_records, rows_of_file, rows_under_header}
 use Rattle.csv_tables.specs.Header.{column_place, column_places}
 use Rattle.csv_tables.specs.Keys.{rows_with_keys}
 use Rattle.csv_tables.specs.Numbers.{bits_of, decimal_after, greatest, is_minus, is_numeral, signed, size_of, without_sign}
 use Rattle.csv_tables.specs.Pools.{BeginsWith}
-use Rattle.csv_tables.specs.Reads.{AreCellsOfRow, HoldsRow, IsCellOf, add_row, kinds_of}
+use Rattle.csv_tables.specs.Reads.{AreCellsOfRow, IsCellOf, add_row, kinds_of}
 use Rattle.csv_tables.specs.Records.{Record, records_of}
 use Rattle.csv_tables.specs.Rows.{Row, row_of_record, rows_of_records, values_of_record}
 use Rattle.csv_tables.specs.Steps.{◌>>=◌, or_refuse, refuse_if, then_all}

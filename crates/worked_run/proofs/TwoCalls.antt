@@ -2,10 +2,10 @@
 use Rattle.std.proofs.Common.{◌≡◌, ℕ, List, None, Some, Ok, refl, ap, sym, ◌∙◌, subst}
 use Rattle.std.specs.Prelude.{codes}
 use Rattle.base_io.specs.Files.{Files, file_of}
-use Rattle.file_laws.proofs.Ended.{same_some}
-use Rattle.file_laws.proofs.Planned.{plan_holds}
-use Rattle.file_laws.specs.Calls.{PlannedFrom, Took, WroteStats}
-use Rattle.file_laws.specs.Plans.{PlanHolds}
+use Rattle.safebound_laws.proofs.Ended.{same_some}
+use Rattle.safebound_laws.proofs.Planned.{plan_holds}
+use Rattle.safebound_laws.specs.FileCalls.{PlannedFrom, Took, WroteStats}
+use Rattle.safebound_laws.specs.FilePlans.{PlanHolds}
 use Rattle.outcomes.specs.declared.status.Status.TheVariants as status
 use Rattle.schema_types.specs.Texts.{IsSchemaOf}
 use Rattle.table_files.specs.Examples.{two_tables}

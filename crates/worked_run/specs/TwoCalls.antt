@@ -2,7 +2,7 @@
 use Rattle.std.specs.Prelude.{codes, None}
 use Rattle.base_io.specs.Files.{Files}
 use Rattle.safebound_top.specs.Call.{Call}
-use Rattle.file_laws.specs.Calls.{PlanCall, StatsCall}
+use Rattle.safebound_laws.specs.FileCalls.{PlanCall, StatsCall}
 use Rattle.worked_run.specs.TwoTables.{small_files}
 
 abbrev pub stats_call : Call → StatsCall

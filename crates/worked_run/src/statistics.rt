@@ -1,8 +1,8 @@
 //! What `stats`, `plan --stats` and `append` answer. Each function is the law in its contract, and does nothing.
 ghost use Rattle.std.specs.Prelude.{◌≡◌, Ok, None, Some, codes};
 ghost use Rattle.base_io.specs.Files.{Files, file_of};
-ghost use Rattle.file_laws.specs.Calls.{Took};
-ghost use Rattle.file_laws.specs.Plans.{PlanHolds};
+ghost use Rattle.safebound_laws.specs.FileCalls.{Took};
+ghost use Rattle.safebound_laws.specs.FilePlans.{PlanHolds};
 ghost use Rattle.outcomes.specs.Reads.{seen};
 ghost use Rattle.outcomes.specs.declared.status.Status.TheVariants as status;
 ghost use Rattle.prepared_runs.specs.Verdict.{verdict};

@@ -37,7 +37,7 @@ use Rattle.safebound_top.specs.Headline.{GrewWhole}
 use Rattle.safebound_top.specs.OutcomeTexts.{notes_text, out_text}
 use Rattle.safebound_top.specs.Promise.{DeclaresSchema}
 use Rattle.safebound_top.proofs.Promises.{declares}
-use Rattle.file_laws.specs.Calls.{IsDone, Took}
+use Rattle.safebound_laws.specs.FileCalls.{IsDone, Took}
 
 -- ---- values
 

@@ -10,7 +10,7 @@ ghost use Rattle.stats_file.specs.Rules.{KeepsRules};
 ghost use Rattle.stats_file.specs.declared.types.StatsFile.{StatsFile};
 ghost use Rattle.prepared_runs.specs.Outcome.{Outcome};
 ghost use Rattle.safebound_laws.specs.Appends.{Grows};
-ghost use Rattle.file_laws.specs.Others.{HaveSameRows, IsOfTables};
+ghost use Rattle.safebound_laws.specs.OtherQueries.{HaveSameRows, IsOfTables};
 
 /// The file that `append` writes keeps the rules of files.
 pub fn appended_files_keep_the_rules()

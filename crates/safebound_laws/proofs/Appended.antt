@@ -39,7 +39,7 @@ use Rattle.safebound_laws.proofs.AppendFacts as appends
 use Rattle.safebound_laws.proofs.TableCells.{IsPool, TableFound, table_found}
 use Rattle.safebound_top.proofs.Promises.{declares}
 use Rattle.safebound_top.specs.Promise.{DeclaresSchema}
-use Rattle.file_laws.proofs.Ended.{byte_columns, is_valid}
+use Rattle.safebound_laws.proofs.Ended.{byte_columns, is_valid}
 
 no_texts : IsPool []
 unfolding IsDistinct

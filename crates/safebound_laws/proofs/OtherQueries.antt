@@ -10,7 +10,7 @@ use Rattle.sql_meaning.specs.Tables.{Tables}
 use Rattle.stats_file.specs.declared.types.Pair.{Pair}
 use Rattle.stats_file.specs.declared.types.StatsFile.{StatsFile}
 use Rattle.stats_file.specs.declared.types.TableStats.{TableStats}
-use Rattle.file_laws.specs.Others.{HaveSameRows, IsOfTables}
+use Rattle.safebound_laws.specs.OtherQueries.{HaveSameRows, IsOfTables}
 
 -- what stands for an entry's rows stands for them as a table of their own, and back
 pair_alone : (pair : Pair) (tables : Tables) (entry : ℕ) (key : ℕ → ℕ) → PairStandsFor pair tables entry key → PairStandsFor pair (alone (tables entry)) 0 key

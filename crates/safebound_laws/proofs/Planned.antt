@@ -44,12 +44,12 @@ use Rattle.safebound_top.specs.Call.{Grew}
 use Rattle.safebound_top.specs.Headline.{GrewWhole}
 use Rattle.safebound_top.specs.OutcomeTexts.{filed_plan_text, notes_text}
 use Rattle.safebound_top.specs.Promise.{AreInFile, PrintsOrder}
-use Rattle.file_laws.specs.Calls.{AppendCall, AppendedEach, PlanCall, PlannedFrom, StatsCall, WroteStats, last_bytes}
-use Rattle.file_laws.specs.Others.{HaveSameRows}
-use Rattle.file_laws.specs.Plans.{Added, GrownPlanHolds, IsOver, PlanHolds, added_rows, with_added}
-use Rattle.file_laws.proofs.Ended.{byte_columns, ended, is_valid, same_schema, stats_are}
-use Rattle.file_laws.proofs.Known.{FromAppends, FromStats, Known, from_appends, from_stats}
-use Rattle.file_laws.proofs.Others.{stands_for_other}
+use Rattle.safebound_laws.specs.FileCalls.{AppendCall, AppendedEach, PlanCall, PlannedFrom, StatsCall, WroteStats, last_bytes}
+use Rattle.safebound_laws.specs.OtherQueries.{HaveSameRows}
+use Rattle.safebound_laws.specs.FilePlans.{Added, GrownPlanHolds, IsOver, PlanHolds, added_rows, with_added}
+use Rattle.safebound_laws.proofs.Ended.{byte_columns, ended, is_valid, same_schema, stats_are}
+use Rattle.safebound_laws.proofs.KnownBytes.{FromAppends, FromStats, Known, from_appends, from_stats}
+use Rattle.safebound_laws.proofs.OtherQueries.{stands_for_other}
 
 -- ---- the stages of a plan from a file
 

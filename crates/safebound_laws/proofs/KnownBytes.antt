@@ -42,11 +42,11 @@ use Rattle.safebound_laws.proofs.Databases.{DatabaseFound, database_found}
 use Rattle.safebound_top.proofs.Promises.{query_of_schema}
 use Rattle.safebound_top.specs.Headline.{GrewWhole}
 use Rattle.safebound_top.specs.OutcomeTexts.{out_text}
-use Rattle.file_laws.specs.Calls.{AppendCall, AppendedEach, AppendedTo, StatsCall, WroteStats, last_bytes}
-use Rattle.file_laws.specs.Others.{IsOfTables}
-use Rattle.file_laws.specs.Plans.{AddEach, Added, Adds, with_added}
-use Rattle.file_laws.proofs.Appended.{after_keeps, its_section, rows_read, section_before, table_there}
-use Rattle.file_laws.proofs.Ended.{byte_columns, ended, is_valid, ranges, same_schema, stats_are, took_text}
+use Rattle.safebound_laws.specs.FileCalls.{AppendCall, AppendedEach, AppendedTo, StatsCall, WroteStats, last_bytes}
+use Rattle.safebound_laws.specs.OtherQueries.{IsOfTables}
+use Rattle.safebound_laws.specs.FilePlans.{AddEach, Added, Adds, with_added}
+use Rattle.safebound_laws.proofs.Appended.{after_keeps, its_section, rows_read, section_before, table_there}
+use Rattle.safebound_laws.proofs.Ended.{byte_columns, ended, is_valid, ranges, same_schema, stats_are, took_text}
 
 -- they are the text of a file that keeps the rules, stands for these tables of a query, and has sections of the query's tables alone
 pub record Known (schema : Schema) (query : Query) (bytes : List ℕ) (tables : Tables) : Type 0 where

@@ -19,7 +19,7 @@ use Rattle.schema_types.specs.declared.types.Table.{Table}
 use Rattle.sql_meaning.specs.Tables.{Tables}
 use Rattle.safebound_top.specs.Call.{Grew}
 use Rattle.safebound_top.specs.Promise.{AreInFile, AsksQuery, PrintsOrder}
-use Rattle.file_laws.specs.Calls.{AppendCall, PlanCall, StatsCall}
+use Rattle.safebound_laws.specs.FileCalls.{AppendCall, PlanCall, StatsCall}
 
 -- ---- the rows that `stats` read
 

@@ -4,8 +4,8 @@ ghost use Rattle.plan_nearness.specs.Nearness.{FiltersNoEntry};
 ghost use Rattle.query_types.specs.declared.types.Query.{Query};
 ghost use Rattle.schema_types.specs.declared.types.Schema.{Schema};
 ghost use Rattle.safebound_top.specs.Promise.{AsksQuery};
-ghost use Rattle.file_laws.specs.Calls.{AppendCall, AppendedEach, PlanCall, PlannedFrom, StatsCall, WroteStats, last_bytes};
-ghost use Rattle.file_laws.specs.Plans.{GrownPlanHolds, PlanHolds, PlanIsNear, PlanIsOfTables};
+ghost use Rattle.safebound_laws.specs.FileCalls.{AppendCall, AppendedEach, PlanCall, PlannedFrom, StatsCall, WroteStats, last_bytes};
+ghost use Rattle.safebound_laws.specs.FilePlans.{GrownPlanHolds, PlanHolds, PlanIsNear, PlanIsOfTables};
 
 /// `stats`, then `plan --stats`: where the one wrote the bytes that the other read as its statistics file, and both declare one schema, then
 /// for every query that the later call accepts no scan and no level has more rows than its plan text says, over the rows in the files that

@@ -31,12 +31,12 @@ use Rattle.stats_file.specs.declared.types.Pair.{Pair}
 use Rattle.stats_file.specs.declared.types.StatsFile.{StatsFile}
 use Rattle.stats_file.specs.declared.types.TableStats.{TableStats}
 use Rattle.safebound_top.specs.Promise.{AsksQuery}
-use Rattle.file_laws.specs.Calls.{PlanCall, PlannedFrom, StatsCall, WroteStats}
-use Rattle.file_laws.specs.Plans.{IsOver, PlanIsNear, PlanIsOfTables}
-use Rattle.file_laws.proofs.Known.{FromStats, from_stats}
-use Rattle.file_laws.proofs.Others.{stands_for_other}
-use Rattle.file_laws.proofs.Planned as planned_facts
-use Rattle.file_laws.proofs.Planned.{PlanMade, moved}
+use Rattle.safebound_laws.specs.FileCalls.{PlanCall, PlannedFrom, StatsCall, WroteStats}
+use Rattle.safebound_laws.specs.FilePlans.{IsOver, PlanIsNear, PlanIsOfTables}
+use Rattle.safebound_laws.proofs.KnownBytes.{FromStats, from_stats}
+use Rattle.safebound_laws.proofs.OtherQueries.{stands_for_other}
+use Rattle.safebound_laws.proofs.Planned as planned_facts
+use Rattle.safebound_laws.proofs.Planned.{PlanMade, moved}
 
 module _ (schema : Schema) (bytes : List ℕ) (made : StatsCall) (planned : PlanCall) (wrote : WroteStats made schema bytes) (from : PlannedFrom schema bytes planned) where
   start : FromStats made bytes schema

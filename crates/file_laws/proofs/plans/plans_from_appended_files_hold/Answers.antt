@@ -1,5 +1,0 @@
-use Rattle.file_laws.proofs.Planned.{grown_plan_holds}
-use Rattle.file_laws.proofs.plans.plans_from_appended_files_hold.Goals as goal
-
-pub returns : goal.returns
-returns c = grown_plan_holds

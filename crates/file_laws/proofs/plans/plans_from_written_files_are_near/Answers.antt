@@ -1,5 +1,0 @@
-use Rattle.file_laws.proofs.Near.{plan_near}
-use Rattle.file_laws.proofs.plans.plans_from_written_files_are_near.Goals as goal
-
-pub returns : goal.returns
-returns c = plan_near
