@@ -28,6 +28,8 @@ pub const SAFEBOUND_MOST_ROWS: u64 = 1 << 48;
 pub const SAFEBOUND_MOST_BUDGET: u64 = 1 << 59;
 /// A bound that stands for itself and for all that 64 bits don't tell: no bound is known.
 pub const SAFEBOUND_NO_BOUND: u64 = u64::MAX;
+/// What stands in `first` of the list of a column in which no row has a value.
+pub const SAFEBOUND_NO_VALUES: u64 = u64::MAX;
 
 /// What a call answers; the number behind `detail` goes with it.
 pub type safebound_status = u32;
@@ -46,6 +48,7 @@ statuses! {
     SAFEBOUND_NO_MEMORY = 2, "Memory was wanting.";
     SAFEBOUND_BUDGET = 3, "The best plan passes the budget; `detail` is the least that would do.";
     SAFEBOUND_PAST_BITS = 4, "Each plan has a part without a bound.";
+    SAFEBOUND_WORK = 5, "The work passes the limit; `detail` is the limit that would do.";
     SAFEBOUND_BAD_KEYS = 16, "`detail` is the number of keys.";
     SAFEBOUND_BAD_ACCURACY = 17, "`detail` is the accuracy.";
     SAFEBOUND_BAD_RUN = 18, "`detail` is an element of `runs`.";
@@ -63,6 +66,7 @@ statuses! {
     SAFEBOUND_BAD_LEVEL = 30, "`detail` is an element of `levels`.";
     SAFEBOUND_BAD_JOINS = 31, "`detail` is the number of joins.";
     SAFEBOUND_BAD_JOIN = 32, "`detail` is an element of `joins`.";
+    SAFEBOUND_BAD_SET = 33, "`detail` is the set.";
 }
 
 /// So many keys stand in `degree` rows each.
@@ -97,9 +101,9 @@ pub struct safebound_list {
     pub entry: u32,
     /// As in the equalities.
     pub column: u32,
-    /// Its first element of `runs`.
+    /// Its first element of `runs`, or `SAFEBOUND_NO_VALUES`.
     pub first: u64,
-    /// At least 1.
+    /// At least 1, or 0 where no row has a value.
     pub length: u64,
 }
 
@@ -181,6 +185,36 @@ extern "C" {
         detail: *mut u64,
     ) -> safebound_status;
 
+    /// The same, if its work is within a limit.
+    pub fn safebound_bounds_within(
+        rows: *const u64,
+        entries: usize,
+        equalities: *const safebound_equality,
+        equalities_length: usize,
+        lists: *const safebound_list,
+        lists_length: usize,
+        runs: *const safebound_run,
+        runs_length: usize,
+        limit: u64,
+        into: *mut u64,
+        room: usize,
+        detail: *mut u64,
+    ) -> safebound_status;
+
+    /// The bound of one set of entries.
+    pub fn safebound_set_bound(
+        rows: *const u64,
+        entries: usize,
+        equalities: *const safebound_equality,
+        equalities_length: usize,
+        lists: *const safebound_list,
+        lists_length: usize,
+        runs: *const safebound_run,
+        runs_length: usize,
+        set: u64,
+        detail: *mut u64,
+    ) -> safebound_status;
+
     /// The best left-deep order over bounds of all sets.
     pub fn safebound_order(
         bounds: *const u64,
@@ -221,4 +255,7 @@ extern "C" {
 
     /// The library's version as text, with a 0 at its end.
     pub fn safebound_version(into: *mut c_char, room: usize, detail: *mut u64) -> safebound_status;
+
+    /// The text of a status.
+    pub fn safebound_status_text(status: safebound_status) -> *const c_char;
 }
