@@ -6,7 +6,6 @@ import os
 import re
 import subprocess
 import tempfile
-import time
 from typing import NamedTuple
 
 from . import places
@@ -46,14 +45,12 @@ class Rows(NamedTuple):
 
 
 def ended(command: list[str], out: str, folder: str | None = None, **more) -> Ended:
-    with open(out, "wb") as rows, tempfile.TemporaryFile() as notes:
-        began = time.perf_counter()
-        process = subprocess.Popen(command, cwd=folder, stdin=subprocess.DEVNULL, stdout=rows, stderr=notes, **more)
-        _, status, usage = os.wait4(process.pid, 0)
-        process.returncode = os.waitstatus_to_exitcode(status)
-        seconds = time.perf_counter() - began
+    timed = os.path.join(os.path.dirname(os.path.abspath(__file__)), "timed.py")
+    with open(out, "wb") as rows, tempfile.TemporaryFile() as notes, tempfile.NamedTemporaryFile("r") as told:
+        subprocess.run(["/usr/bin/python3", "-S", "-E", timed, told.name, *command], cwd=folder, stdin=subprocess.DEVNULL, stdout=rows, stderr=notes, check=True, **more)
+        status, seconds, peak = told.read().split()
         notes.seek(0)
-        return Ended(process.returncode, seconds, usage.ru_maxrss / 1024, notes.read().decode())
+        return Ended(int(status), float(seconds), int(peak) / 1024, notes.read().decode())
 
 
 def by_program(command: str, question: str, words: list[str], out: str) -> Ended:
