@@ -18,7 +18,7 @@ WORDS := run schema.sql query.sql
 ##                (2 seconds with the built program, or where the kit isn't here with the release's; else a minute, and nothing is proved)
 ## make archive   fetches what Debian's archive says of itself by apt (55 MB), makes tables of 2,400,000 rows of it, and answers one
 ##                question, with bounds, rows and a picture (about two minutes; Debian only)
-## make build     proves and builds the program (about 20 minutes the first time; it says how long is left)
+## make build     proves and builds the program (the first time 18 minutes, when there were 54 crates; it says how long is left)
 ## make library   proves and builds the library for C, Python and Rust (docs/EMBEDDING.md; under ten minutes the first time)
 ## make command   proves and builds the whole program as a library over files in memory (a minute, once make build has been)
 ## make install   lays what was built, program and libraries, below PREFIX, /usr/local (2 seconds); make uninstall takes it away
