@@ -75,7 +75,9 @@ class BlockNames(Names):
     def _about(self, source: Source) -> Table | None:
         number = len(self.entries)
         if source.is_query:
-            inner = next(inner for inner in self.core.inner if self.plans.pieces[inner.start].at == source.table[1].at)
+            inner = next((inner for inner in self.core.inner if self.plans.pieces[inner.start].at == source.table[1].at), None)
+            if inner is None:
+                raise self.statement.refuse(source.alias, "only a SELECT is bounded here")
             return self._given(number, inner, self.plans.source_of(inner), source.columns, source)
         part = self._part(source)
         if part is None:
@@ -117,11 +119,12 @@ class Block:
         self.on: dict[int, list[str]] = {step.source: [self._text(piece) for piece in step.conditions] for step in self.steps}
         self.left_over: list[tuple[str, frozenset[int] | None]] = []
         self.not_used: list[Tokens] = []
+        self.outputs = {self.names.key(alias) for output in self.statement.outputs if (alias := alias_of(output))}
         for piece in self.statement.conditions:
             self._condition(piece)
         for step in self.steps:
             for piece in step.conditions:
-                self._condition(piece) if step.source in self.island else self._of_step(step, piece)
+                self._condition(piece, of_on=True) if step.source in self.island else self._of_step(step, piece)
 
     def _island(self) -> list[int]:
         """The entries that are joined first, in an order of the plan's: inner ones, before any RIGHT or FULL JOIN."""
@@ -140,14 +143,19 @@ class Block:
     def _text(self, piece: Tokens) -> str:
         return self.plans.text_of(piece)
 
-    def _condition(self, piece: Tokens) -> None:
-        """A condition of WHERE or of an inner join's ON. Behind an outer join it's tested at the end."""
+    def _condition(self, piece: Tokens, of_on: bool = False) -> None:
+        """A condition of WHERE or of an inner join's ON. Where rows may come without the entries joined first, that of WHERE is
+        tested at the end, and that of ON before."""
+        self._check(piece)
         entries = self._entries(piece)
         outer = self._names_outside(piece)
-        settled = entries <= set(self.island) and not self.turns and not outer
+        settled = entries <= set(self.island) and (of_on or not self.turns) and not outer
         sides = self._sides(piece) if settled else None
         if sides and self._edge(*sides):
             self.left_over.append((self._text(piece), entries))
+        elif of_on and self.turns:
+            self.left_over.append((self._text(piece), frozenset(self.island)))
+            self.not_used.append(piece)
         elif settled and len(entries) == 1 and self._counts(piece):
             self.query.entries[min(entries)].own.append(self.names.spelled(piece))
         else:
@@ -156,6 +164,7 @@ class Block:
 
     def _of_step(self, step: Step, piece: Tokens) -> None:
         """A condition of an ON that stays where it is."""
+        self._check(piece)
         entries = self._entries(piece)
         sides = None if self._names_outside(piece) else self._sides(piece)
         if sides and step.source in (sides[0].entry, sides[1].entry) and self._edge(*sides):
@@ -165,6 +174,10 @@ class Block:
             self.query.entries[step.source].own.append(self.names.spelled(piece))
         else:
             self.not_used.append(piece)
+
+    def _check(self, piece: Tokens) -> None:
+        if self.engine.outputs_in_conditions:
+            self.names.check_outputs_names(piece, self.outputs)
 
     def _sides(self, piece: Tokens) -> tuple[Named, Named] | None:
         for at, token in enumerate(piece):
@@ -194,7 +207,7 @@ class Block:
             if behind and behind[0].says("."):
                 if key in aliases and key not in self.names.by_alias:
                     return True
-            elif key in columns and not any(key in entry.about.by_key for entry in self.query.entries):
+            elif (key in columns or token.kind == "quoted") and not any(key in entry.about.by_key for entry in self.query.entries):
                 return True
         return False
 
@@ -202,6 +215,9 @@ class Block:
         """Whether the rows that satisfy it may be counted: no subquery of it joins, names an entry or chooses rows."""
         for start, end in subqueries(piece):
             inner = piece[start + 1 : end - 1]
+            parts = {self.names.key(part.name) for part in self.visible}
+            if any(token.names and self.names.key(token) in parts for token in inner):
+                return False
             if any(choosing(inner, self.engine.plain_words, self.engine.takes_bare_columns)):
                 return False
             if self.plans.joins_within(inner) or self.engine.stands_alone(inner):
@@ -281,12 +297,15 @@ class Block:
     def _rows(self, joined: int) -> int | None:
         """The most rows of the block, by those of its joins; None where what stands above may make more."""
         above, outputs = self.statement.above, [token for piece in self.statement.outputs for token in piece]
-        if any(token.says(*SETS_OF_GROUPS) for token in above) or self.engine.makes_rows(outputs):
+        sets = any(token.says(*SETS_OF_GROUPS) or (token.says("(") and behind.says(")")) for token, behind in zip(above, above[1:]))
+        if sets or self.engine.makes_rows(outputs):
             return None
-        grouped = bool(above) and above[0].says("GROUP")
-        if not grouped and (_aggregates(outputs) or (above and above[0].says("HAVING"))):
+        if above and above[0].says("GROUP"):
+            return _limited(joined, above)
+        if _aggregates(outputs) or (above and above[0].says("HAVING")):
             return 1
-        return _limited(joined, above)
+        # A function that isn't known to be an aggregate may be one, which makes a row of none.
+        return _limited(max(joined, int(any(token.says("(") for token in outputs))), above)
 
     def join(self, levels: int) -> str:
         """FROM and WHERE of so many levels, as they are bounded."""
@@ -429,15 +448,15 @@ class Planner:
                 names = [token for token in self.pieces[core.start : core.end] if token.names]
                 keys = {self._key(token) for token in names}
                 return aliases | keys, columns | keys
+            columns |= {self._key(alias) for output in statement.outputs if (alias := alias_of(output))}
+            parts = {self._key(part.name) for part in self.visible[core.start]}
             for source in statement.sources:
                 aliases.add(self._key(source.alias))
-                about = None if source.is_query else self.engine.table(source.table)
-                columns |= set(about.by_key) if about else self._names_in(source)
+                whole = not source.is_query and self._key(source.table[-1]) not in parts
+                about = self.engine.table(source.table) if whole else None
+                # A query in FROM or a part of WITH may call its columns by any name of the text.
+                columns |= set(about.by_key) if about else {self._key(token) for token in self.pieces if token.names}
         return aliases, columns
-
-    def _names_in(self, source: Source) -> set[str]:
-        """What a query in FROM or a part of WITH may call its columns: any name of the text."""
-        return {self._key(token) for token in self.pieces if token.names}
 
     def _key(self, token: Token) -> str:
         quoted = token.kind in ("quoted", "text")

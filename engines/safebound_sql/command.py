@@ -16,7 +16,6 @@ from .faults import AboveBound, Fault, Refused, Unreadable, Usage
 from .kept import Kept
 from .levels import MOST_BUDGET, Plan
 from .planner import Planner
-from .postgres import Postgres
 from .sqlite import Sqlite
 
 ABOUT = {
@@ -111,6 +110,8 @@ def _engine(given: argparse.Namespace) -> Engine:
 def opened(db: str, timeout: int | None) -> Engine:
     kind, _, rest = db.partition(":")
     if kind in ("postgresql", "postgres"):
+        from .postgres import Postgres  # psycopg takes a while to load
+
         return Postgres(db, timeout)
     if kind == "sqlite" and rest:
         return Sqlite(rest, timeout)

@@ -12,6 +12,10 @@ from .reading import Statement, Tokens, at_commas, read
 from .tokens import Token, closing, part_of_name, tokens, written
 
 
+# Types that PostgreSQL groups by nothing.
+UNGROUPED = ("json", "xml", "point", "line", "lseg", "box", "path", "polygon", "circle")
+
+
 def refuse_fickle(statement: Statement, pieces: Tokens, engine: Engine) -> None:
     """Refuses what may answer anew at each call: functions, operators, and views that use them."""
     asked = _calls(pieces, engine)
@@ -143,8 +147,10 @@ class Meaning:
         for piece in self.statement.outputs:
             named |= set(self.names.star(piece) or ())
         more: Tokens = []
-        for other in sorted(named - grouped):
+        for other in sorted(named - grouped, key=lambda named: (named.entry, named.column.name)):
             about = self.query.entries[other.entry].about
+            if other.column.type in UNGROUPED:
+                continue
             if about.key and {Named(other.entry, about.by_key[name]) for name in about.key if name in about.by_key} <= grouped:
                 more += tokens(f", {self.names.qualified(other)}", self.engine.rules)
         return above[: groups.stop] + more + above[groups.stop :]

@@ -179,7 +179,7 @@ class Names:
     def places(self, piece: Tokens) -> Iterator[Place]:
         inside = self._inside(piece)
         for at, token in enumerate(piece):
-            if at and piece[at - 1].says("AS", ".", "::", "COLLATE"):
+            if at and piece[at - 1].says("AS", ".", "::", "COLLATE", "OVER", "WINDOW"):
                 continue
             if at in inside:
                 if self.looks_into_subqueries:

@@ -43,7 +43,7 @@ class Source:
 class Step:
     """How a source comes to those before it: INNER, LEFT, RIGHT or FULL, and the conditions of its ON.
 
-    Those of inner joins are with the statement's, unless an outer join stands before them.
+    Those of inner joins are with the statement's, where it can have no other joins.
     """
 
     kind: str
@@ -242,8 +242,7 @@ class Reader:
             elif self._take("ON"):
                 start = self.at
                 parts = self._parts(self._until((*IN_FROM, *BEHIND_FROM, ",", ")")))
-                behind_outer = any(step.kind != "INNER" for step in self.statement.steps)
-                (self.statement.steps[-1] if behind_outer else self.statement).conditions += parts
+                (self.statement.steps[-1] if self.in_blocks else self.statement).conditions += parts
                 self.holes.append((start, self.at, None))
             elif self._take("USING"):
                 self._using(first, right)
@@ -276,7 +275,10 @@ class Reader:
     def _source(self) -> None:
         if self._peek("(") and not _query(self.pieces, self.at + 1):
             self.at += 1
-            self._joined(len(self.statement.sources))
+            start = len(self.statement.sources)
+            self._joined(start)
+            if start and any(step.kind != "INNER" for step in self.statement.steps[start:]):
+                raise self._refuse("an outer join in parentheses isn't bounded behind another table")
             if not self._take(")"):
                 raise self._refuse("a parenthesis of FROM isn't closed here")
             if self._peek("AS") or (self.at < len(self.pieces) and self._alias_here()):

@@ -78,6 +78,10 @@ class Blocks(InBlocks):
             "SELECT a.p, b.z, c.w FROM a LEFT JOIN b ON a.x = b.x, c WHERE c.w = a.p",
             "SELECT count(*) FROM a LEFT JOIN b ON a.x = b.x LEFT JOIN c ON c.w = a.p FULL JOIN k ON k.x = c.y",
             "SELECT a.p FROM a LEFT JOIN b ON a.x = b.x OR a.p = b.z",
+            "SELECT a.p, b.z, k.x FROM a JOIN b ON a.x = b.x AND a.p > 12 AND 1 < 2 RIGHT JOIN k ON k.x = a.x",
+            "SELECT a.p, b.z, k.x FROM a JOIN b ON 1 = 0 RIGHT JOIN k ON k.x = a.x WHERE k.x > 0",
+            "SELECT a.p, b.z, k.x FROM (a LEFT JOIN b ON a.x = b.x) FULL JOIN k ON k.x = a.x AND b.z > 3",
+            "SELECT a.p, b.z, k.x FROM a CROSS JOIN b FULL JOIN k ON k.x = a.x AND b.z = a.p WHERE a.p IS NULL OR b.x = 1",
         ):
             self.bounds(text)
 
@@ -91,7 +95,22 @@ class Blocks(InBlocks):
             "SELECT count(*) FROM (SELECT DISTINCT x FROM b) AS s, k WHERE s.x = k.x",
         ):
             self.bounds(text)
-        self.bounds("SELECT s.n, k.x FROM (SELECT count(*) AS n FROM b, c WHERE b.y = c.y) AS s, k", [20, 60], [1, 3])
+        # An aggregate makes one row of none.
+        for count in ("count(*)", "count(*) FILTER (WHERE b.z > 0)", "coalesce(max(b.z), 1)"):
+            self.bounds(f"SELECT s.n, k.x FROM (SELECT {count} AS n FROM b WHERE b.z > 99) AS s, k", [0], [1, 3])
+        # A part of WITH hides the table of its name.
+        self.bounds("WITH c AS (SELECT 1 AS y) SELECT b.z FROM b WHERE b.y IN (SELECT y FROM c)")
+        self.bounds("SELECT s.n, k.x FROM (SELECT count(*) AS n FROM b, c WHERE b.y = c.y) AS s, k", [12, 60], [1, 3])
+
+    def test_what_isnt_read(self) -> None:
+        for text, words in (
+            ("SELECT a.p FROM a, (SELECT b.x FROM b LEFT JOIN (c LEFT JOIN k ON k.x = c.y) ON b.y = c.y) AS s", "in parentheses"),
+            ("SELECT a.p FROM a JOIN (b LEFT JOIN c ON b.y = c.y) ON a.x = b.x LEFT JOIN k ON k.x = a.x", "in parentheses"),
+            ("SELECT a.p FROM a LEFT JOIN b USING (x)", "write out its columns with ON"),
+            ("SELECT a.p, v.n FROM a LEFT JOIN b ON a.x = b.x, (VALUES (1)) AS v", "only a SELECT"),
+        ):
+            done = self.tried("plan", text=text)
+            self.assertIn(words, done.stdout + done.stderr)
 
     def test_together(self) -> None:
         self.bounds("SELECT x FROM k UNION ALL SELECT y FROM c ORDER BY 1", [3], [12])

@@ -16,8 +16,10 @@ import unittest
 import sqlglot
 from sqlglot import exp
 
+import random_names
 from bases import OnEachEngine, counted, on_postgres
 from process import PROGRAM
+from random_names import RandomNames
 from random_queries import TABLES, Randomly
 from safebound_sql.counting import counts_of
 from safebound_sql.dialects import DIALECTS, Unreached
@@ -96,6 +98,27 @@ class RandomDialects(Dialects):
         parsed(script, dialect)
         self.assertEqual(counted(self.run_script(script)), counted(self.base.rows(found.text)), script)
         return bool(planner.query.equalities)
+
+
+class RandomNamesInDialects(Dialects):
+    """Outputs with names of columns, over USING: the script's rows are the query's, in its order."""
+
+    def test_random_queries(self) -> None:
+        for number in range(SEED, SEED + max(QUERIES // 3, 1)):
+            randomly = RandomNames(number, "sqlite")
+            if (number - SEED) % QUERIES_OF_A_DATABASE == 0:
+                schema = re.sub("REAL|NUMERIC", "INTEGER", randomly.schema())
+                self.base.script(schema)
+                for table in range(random_names.TABLES):
+                    self.base.fill(f"u{table}", randomly.rows())
+            text = randomly.query().replace("offset", "total")
+            for dialect in DIALECTS:
+                with self.subTest(number=number, query=text, dialect=dialect):
+                    planner = self.planner(dialect, text, re.sub(r"DROP TABLE IF EXISTS \w+;", "", schema), randomly.random.random() < 0.6)
+                    counts = counts_of(planner.query, self.run_script(planner.counting))
+                    script = planner.script(planner.planned(counts, 1, MOST_BUDGET, randomly.random.random() < 0.4))
+                    parsed(script, dialect)
+                    self.assertEqual(self.run_script(script), self.base.rows(text), script)
 
 
 RandomDialectsOnPostgres = on_postgres(RandomDialects)

@@ -3,6 +3,7 @@
 from __future__ import annotations
 
 import os
+import pty
 import signal
 import sqlite3
 import subprocess
@@ -32,32 +33,27 @@ class Ends(OnEachEngine, Process):
             self.assertEqual(ended.stdout, f'x,t\n1,{null}\n2,{empty}\n3,{word}\n4,"a ""b"", c"\n', ended.stderr)
 
     def test_signals(self) -> None:
-        """Both end the command at once, and the statement on the server."""
+        """Both end the command while it joins, and the statement on the server."""
         for number, status in ((signal.SIGINT, 130), (signal.SIGTERM, 143)):
+            ours, theirs = pty.openpty()
             line = [PROGRAM, "audit", "--db", self.base.url, "-"]
-            running = subprocess.Popen(line, stdin=subprocess.PIPE, stdout=subprocess.PIPE, stderr=subprocess.PIPE)
-            running.stdin.write(self.takes_long.encode())
-            running.stdin.close()
-            self.until_it_joins(running)
-            running.send_signal(number)
-            self.assertEqual(running.wait(timeout=60), status)
-            self.assertEqual((running.stdout.read(), running.stderr.read()), (b"", b""))
-            running.stdout.close(), running.stderr.close()
+            running = subprocess.Popen(line, stdin=subprocess.PIPE, stdout=subprocess.DEVNULL, stderr=theirs)
+            try:
+                running.stdin.write(self.takes_long.encode())
+                running.stdin.close()
+                seen = b""
+                while b"levels: " not in seen:
+                    seen += os.read(ours, 4096)
+                time.sleep(1)
+                running.send_signal(number)
+                self.assertEqual(running.wait(timeout=60), status)
+            finally:
+                running.kill()
+                os.close(ours), os.close(theirs)
             if self.base.engine == "postgres":
                 time.sleep(0.5)
-                self.assertEqual(self.statements(), 0)
-
-    def statements(self) -> int:
-        return self.base.rows("SELECT count(*) FROM pg_stat_activity WHERE state = 'active' AND query LIKE '%long AS c%' AND pid <> pg_backend_pid()")[0][0]
-
-    def until_it_joins(self, running) -> None:
-        if self.base.engine == "sqlite":
-            return time.sleep(6)
-        for _ in range(600):
-            if self.statements():
-                return
-            time.sleep(0.1)
-        self.fail("the statement never began")
+                told = self.base.rows("SELECT count(*) FROM pg_stat_activity WHERE query LIKE '%long AS c%' AND pid <> pg_backend_pid()")
+                self.assertEqual(told[0][0], 0)
 
     def test_a_full_disk(self) -> None:
         for command, *words in (["plan"], ["sql"], ["run", "--budget", "99"], ["audit", "--json"]):
