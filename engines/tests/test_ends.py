@@ -67,7 +67,7 @@ class Ends(OnEachEngine, Process):
         ended = self.tried("plan", text=f"SELECT a.x FROM a WHERE {'(' * 1500}a.x = 1{')' * 1500}")
         self.assertEqual(ended.returncode, 5, ended.stderr)
         self.assertEqual(len(ended.stderr.splitlines()), 1)
-        ended = self.tried("plan", text=f"SELECT a.x FROM a WHERE {'(' * 90}a.x = 1{')' * 90}")
+        ended = self.tried("plan", text=f"SELECT a.x FROM a WHERE {'(' * 40}a.x = 1{')' * 40}")
         self.assertEqual(ended.returncode, 0, ended.stderr)
 
     def test_conditions_that_arent_counted_are_said(self) -> None:
