@@ -21,7 +21,7 @@ def scans(statement: str, prefix: str) -> Counter[str]:
     """How often each table is read where a part is computed again wherever it is named."""
     read: dict[str, Counter[str]] = {}
     last: Counter[str] = Counter()
-    for name, text in re.findall(rf"(?:^  ({re.escape(prefix)}\d+) AS |^SELECT )(.*)$", statement, re.MULTILINE):
+    for name, text in re.findall(rf"(?:^  ({re.escape(prefix)}\d+) AS |^(?:UNION ALL )?SELECT )(.*)$", statement, re.MULTILINE):
         found: Counter[str] = Counter()
         for table in re.findall(r"\b(?:FROM|JOIN) ([^\s()]+)", text):
             found += read.get(table, Counter([table]))

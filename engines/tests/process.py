@@ -2,11 +2,13 @@
 
 from __future__ import annotations
 
+import os
 import subprocess
 
 from bases import ROOT
 
-PROGRAM = str(ROOT / "engines" / "safebound-sql")
+# Wrong bodies are tried in a copy.
+PROGRAM = os.environ.get("SAFEBOUND_SQL_PROGRAM", str(ROOT / "engines" / "safebound-sql"))
 
 
 class Process:

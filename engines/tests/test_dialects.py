@@ -159,6 +159,16 @@ class Written(Dialects):
             rows += [(entry.name, column.name, 1, many) for column in planner.query.joined(entry.number)]
         return counts_of(planner.query, rows)
 
+    def test_parts_that_would_be_computed_too_often(self) -> None:
+        """Where parts aren't kept, a statement that would read a table more than 100 times counts under own conditions alone."""
+        text = "SELECT 1 FROM a AS e1, a AS e2, a AS e3, a AS e4, a AS e5 WHERE e1.y = e2.y AND e2.y = e3.y AND e3.y = e4.y AND e4.y = e5.y"
+        for dialect in DIALECTS:
+            planner = self.planner(dialect, text)
+            self.assertEqual(planner.reduce, dialect not in ("spark", "trino"))
+            self.assertEqual("--no-reduce" in (planner.note or ""), dialect in ("spark", "trino"))
+            self.assertEqual(" IN (SELECT " in planner.counting, planner.reduce)
+            self.assertTrue(self.planner(dialect, JOINED).reduce)
+
     def test_materialized_where_it_is_known(self) -> None:
         for dialect in DIALECTS:
             self.assertEqual("MATERIALIZED" in self.planner(dialect, JOINED).counting, dialect == "duckdb")

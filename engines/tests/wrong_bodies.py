@@ -246,9 +246,10 @@ def tried(edit: Edit) -> str:
         if text.count(edit.old) != 1:
             return f"stands {text.count(edit.old)} times"
         (copy / edit.file).write_text(text.replace(edit.old, edit.new))
+        program = shutil.copy(PACKAGE.parent / "safebound-sql", folder)
         path = os.pathsep.join([folder, str(HERE), str(HERE.parent / "servers"), *filter(None, [os.environ.get("PYTHONPATH")]), str(ROOT / "python")])
         ran = subprocess.run(
-            [sys.executable, "-B", "-m", "unittest", edit.test], cwd=HERE, env={**os.environ, "PYTHONPATH": path},
+            [sys.executable, "-B", "-m", "unittest", edit.test], cwd=HERE, env={**os.environ, "PYTHONPATH": path, "SAFEBOUND_SQL_PROGRAM": program},
             capture_output=True, text=True,
         )
     if "ImportError" in ran.stderr or "SyntaxError" in ran.stderr:
