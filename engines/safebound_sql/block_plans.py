@@ -16,12 +16,12 @@ from .blocks import Core, Finder, Part, Query as Several
 from .choosing import choosing
 from .counting import Counts, counts_among, histograms
 from .engine import Engine
-from .faults import EngineFault, Fault, NoBound, PastBudget, Refused
+from .faults import EngineFault, Missing, NoBound, PastBudget, Refused, WrongCounts
 from .levels import MOST_BUDGET, NO_VALUE, library
 from .meaning import refuse_fickle
 from .names import Names, alias_of, subqueries
 from .progress import Progress
-from .query import MOST_EQUALITIES, Column, Entry, Equality, Named, Query, Table
+from .query import MOST_EQUALITIES, Equality, Named, Query, Table
 from .reading import Source, Statement, Step, Tokens, read
 from .reducing import bracketed, own_conditions, where
 from .servers import Source as Counted
@@ -92,8 +92,8 @@ class BlockNames(Names):
     def _given(self, number: int, query: Several, text: str, columns: Tokens, source: Source) -> Table:
         """The columns of a query, of which the rows are bounded and not counted."""
         rows = self.plans.rows_of(query)
-        if rows is None:
-            raise self.statement.refuse(source.alias, "its rows aren't bounded")
+        if rows is None or rows > MOST_ROWS:
+            raise self.statement.refuse(source.alias, "its rows aren't bounded" + ("" if rows is None else f" by {MOST_ROWS} or fewer"))
         found = self.engine.described(self.plans.with_parts(self.visible, text))
         names = [self.key(token) for token in columns if token.names]
         found = [column._replace(name=name) for name, column in zip(names, found)] + found[len(names) :]
@@ -257,7 +257,7 @@ class Block:
         counts = counts_among(asked, self.engine.rows("\nUNION ALL ".join(selects)) if selects else [])
         for number, (rows, unique) in given.items():
             entry = query.entries[number]
-            counts.rows[entry.name] = min(rows, MOST_ROWS)
+            counts.rows[entry.name] = rows
             for column in query.joined(number):
                 once = self.engine.key(column.name, True) in unique
                 counts.runs[entry.name, column.name] = [(1, rows) if once else (rows, 1)] if rows else []
@@ -367,6 +367,8 @@ class Planner:
         self._see(self.query)
         for core in self.query.cores():
             self.plans[core.start] = self._plan(core)
+        if self.unbounded and not self.blocks:
+            raise Refused(self.unbounded[0])
         over = [plan.cost for plan in self.plans.values() if plan.cost > budget]
         if over:
             raise PastBudget(budget, max(over))
@@ -392,6 +394,14 @@ class Planner:
                 plan = block.planned()
         except (Refused, NoBound) as fault:
             return BlockPlan(core, refused=str(fault))
+        except library().BudgetExceeded as error:
+            raise PastBudget(self.budget, error.least) from None
+        except library().PastBits:
+            return BlockPlan(core, refused=str(NoBound()))
+        except library().LibraryNotFound as error:
+            raise Missing(str(error)) from None
+        except library().WrongValue as error:
+            raise WrongCounts(str(error)) from None
         self.blocks[core.start] = block
         return plan
 
@@ -604,7 +614,7 @@ def several(text: str, engine: Engine) -> bool:
     try:
         statement = read(text, list(pieces), engine.comma_binds_less, engine.plain_words, in_blocks=True)
     except Refused:
-        return False
+        return any(token.says("LEFT", "RIGHT", "FULL") and behind.says("JOIN", "OUTER") for token, behind in zip(pieces, pieces[1:]))
     if any(step.kind != "INNER" for step in statement.steps) or any(source.is_query for source in statement.sources):
         return True
     for inner in core.inner:

@@ -107,7 +107,7 @@ class Blocks(InBlocks):
             ("SELECT a.p FROM a, (SELECT b.x FROM b LEFT JOIN (c LEFT JOIN k ON k.x = c.y) ON b.y = c.y) AS s", "in parentheses"),
             ("SELECT a.p FROM a JOIN (b LEFT JOIN c ON b.y = c.y) ON a.x = b.x LEFT JOIN k ON k.x = a.x", "in parentheses"),
             ("SELECT a.p FROM a LEFT JOIN b USING (x)", "write out its columns with ON"),
-            ("SELECT a.p, v.n FROM a LEFT JOIN b ON a.x = b.x, (VALUES (1)) AS v", "only a SELECT"),
+            ("SELECT a.p FROM a LEFT JOIN b ON a.x = b.x, (VALUES (1)) AS v", "only a SELECT"),
         ):
             done = self.tried("plan", text=text)
             self.assertIn(words, done.stdout + done.stderr)
@@ -133,14 +133,25 @@ class Blocks(InBlocks):
 
     def test_what_isnt_bounded_is_named(self) -> None:
         text = "WITH RECURSIVE r (n) AS (SELECT 1 UNION SELECT n + 1 FROM r WHERE n < 5) SELECT r.n FROM r, k WHERE k.x = r.n"
-        planner = self.tried_in_blocks(text)
+        whole = text + " UNION SELECT a.p FROM a, k WHERE a.x = k.x"
+        planner = self.tried_in_blocks(whole)
         self.assertIn("WITH RECURSIVE at line 1, column 6", planner.unbounded[0])
-        done = self.tried("plan", text=text + " UNION SELECT a.p FROM a, k WHERE a.x = k.x")
+        done = self.tried("plan", text=text)
+        self.assertEqual((done.returncode, done.stdout), (5, ""), done.stderr)
+        self.assertIn("refused: WITH RECURSIVE at line 1, column 6", done.stderr)
+        done = self.tried("plan", text=whole)
         self.assertEqual(done.returncode, 0, done.stderr)
         self.assertIn("not bounded: WITH RECURSIVE at line 1, column 6", done.stdout)
         self.assertIn("the query, UNION: at most", done.stdout)
-        done = self.tried("run", "--budget", "1000", text=text)
+        done = self.tried("run", "--budget", "1000", text=whole)
         self.assertEqual((done.returncode, done.stdout), (5, ""), done.stderr)
+
+    def test_bounds_past_all_numbers(self) -> None:
+        """Twelve entries without an equality are too many for any number; a block over such a one isn't bounded either."""
+        many = ", ".join(f"b AS b{n}" for n in range(12))
+        done = self.tried("plan", text=f"SELECT s.n FROM (SELECT b0.x AS n FROM {many}) AS s, k")
+        self.assertIn("not bounded: the query: s at line 1", done.stdout, done.stderr)
+        self.assertIn("not bounded: ", done.stdout)
 
     def test_a_budget_is_for_every_block(self) -> None:
         text = "SELECT k.x FROM k WHERE k.x IN (SELECT b.y FROM b, c WHERE b.y = c.y)"

@@ -19,9 +19,11 @@ class Corners(OnEachEngine, Process):
 
     def refused(self, text: str, *words: str) -> None:
         with self.subTest(text):
-            with self.assertRaises(Refused) as raised:
-                self.opened(text)
-            self.doCleanups()
+            try:
+                with self.assertRaises(Refused) as raised:
+                    self.opened(text)
+            finally:
+                self.doCleanups()  # an open transaction would hold what the test changes next
             for word in words:
                 self.assertIn(word, str(raised.exception))
 

@@ -79,7 +79,7 @@ class EndsOfPostgres(OnEachEngine, Process):
     base_class = PostgresBase
     schema = """
     CREATE TYPE mood AS ENUM ('sad', 'glad');
-    CREATE TABLE a (x INTEGER, y INTEGER, m mood, secret INTEGER);
+    CREATE TABLE a (x INTEGER, y INTEGER, m mood, "time" INTEGER);
     CREATE TABLE b (x INTEGER, s DATE, e DATE);
     INSERT INTO a SELECT n, n - 1, 'sad', n FROM generate_series(1, 5) n;
     INSERT INTO b SELECT n, '2020-01-01', '2020-02-01' FROM generate_series(3, 5) n;
@@ -94,14 +94,15 @@ class EndsOfPostgres(OnEachEngine, Process):
             planner.engine.close()
 
     def test_rights_on_columns(self) -> None:
-        """A column that may not be read isn't carried for a condition."""
+        """A column that may not be read isn't carried for a condition in which its name is another word."""
         self.base.script("""
             DO $$ BEGIN CREATE ROLE reader LOGIN; EXCEPTION WHEN duplicate_object THEN NULL; END $$;
             GRANT SELECT (x, y, m) ON a TO reader; GRANT SELECT ON b TO reader; GRANT USAGE ON SCHEMA public TO reader
         """)
         try:
             url = POSTGRES.replace("//postgres@", "//reader@")
-            text = "SELECT a.x FROM a, b WHERE a.x = b.x AND a.m = 'sad'::mood AND a.y + b.x > 0 ORDER BY 1"
+            text = "SELECT a.x FROM a, b WHERE a.x = b.x AND a.m = 'sad'::mood AND a.y + b.x > 0"
+            text += " AND (b.s::timestamp AT TIME ZONE 'UTC') > '2019-01-01' ORDER BY 1"
             ended = self.tried("run", "--budget", "99", text=text, db=url)
             self.assertEqual((ended.returncode, ended.stdout), (0, "x\n3\n4\n5\n"), ended.stderr)
         finally:

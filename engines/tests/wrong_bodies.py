@@ -106,7 +106,7 @@ EDITS = [
          "test_corners.ViewsThatChooseOnPostgres.test_they_are_refused"),
     Edit("columns beside GROUP BY choose nothing", "sqlite.py", "takes_bare_columns = True", "takes_bare_columns = False",
          "test_corners.ViewsThatChoose.test_they_are_refused"),
-    Edit("line ends are those of the file", "command.py", 'return sys.stdin.buffer.read().decode("utf-8-sig")', "return sys.stdin.read()",
+    Edit("line ends are those of the file", "command.py", 'return text.read().decode("utf-8-sig")', 'return text.read().decode("utf-8-sig").replace("\\r\\n", "\\n")',
          "test_corners.Texts.test_line_ends_stay"),
     Edit("settings may be asked for", "postgres.py", "|current_setting$", "", "test_corners.CornersOfPostgres.test_the_sessions_settings"),
     Edit("row policies aren't looked at", "postgres.py", "WHERE relrowsecurity AND polqual IS NOT NULL", "WHERE false",
