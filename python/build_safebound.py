@@ -43,6 +43,12 @@ def read(*path):
         return f.read()
 
 
+def place_of(name):
+    """Where a file of the project lies: in a source archive beside this file, and in a clone in a folder of its own."""
+    beside = os.path.join(HERE, name)
+    return beside if os.path.isfile(beside) else os.path.join(HERE, "..", {"safebound.map": "library"}.get(name, ""), name)
+
+
 # ---- the library
 
 
@@ -74,7 +80,7 @@ def folder_of_library():
 def linked(archive, name):
     """The shared object of an archive."""
     with tempfile.TemporaryDirectory() as room:
-        names, made = os.path.join(HERE, "safebound.map"), os.path.join(room, "made.so")
+        names, made = place_of("safebound.map"), os.path.join(room, "made.so")
         whole = ["-Wl,--whole-archive", archive, "-Wl,--no-whole-archive"]
         own = [f"-Wl,-soname,lib{name}.so.{VERSION.partition('.')[0]}", f"-Wl,--version-script={names}", "-Wl,-z,defs", "-s"]
         subprocess.run([os.environ.get("CC", "cc"), "-shared", "-o", made, *whole, *own], check=True)
@@ -119,7 +125,7 @@ def record(files):
 
 def write(folder, files):
     wheel = f"Wheel-Version: 1.0\nGenerator: build_safebound\nRoot-Is-Purelib: false\nTag: {tag()}\n"
-    files = {**files, f"{INFO}/METADATA": metadata(), f"{INFO}/WHEEL": wheel.encode(), f"{INFO}/LICENSE": read(HERE, "LICENSE")}
+    files = {**files, f"{INFO}/METADATA": metadata(), f"{INFO}/WHEEL": wheel.encode(), f"{INFO}/LICENSE": read(place_of("LICENSE"))}
     files[f"{INFO}/RECORD"] = record(files)
     name = f"safebound-{VERSION}-{tag()}.whl"
     with zipfile.ZipFile(os.path.join(folder, name), "w", zipfile.ZIP_DEFLATED) as made:
@@ -139,7 +145,7 @@ def build_editable(wheel_directory, config_settings=None, metadata_directory=Non
 
 def build_sdist(sdist_directory, config_settings=None):
     root = f"safebound-{VERSION}"
-    own = {name: read(HERE, name) for name in ("LICENSE", "README.md", "build_safebound.py", "pyproject.toml", "safebound.map")}
+    own = {name: read(place_of(name)) for name in ("LICENSE", "README.md", "build_safebound.py", "pyproject.toml", "safebound.map")}
     with tarfile.open(os.path.join(sdist_directory, root + ".tar.gz"), "w:gz") as made:
         for path, data in {**own, "PKG-INFO": metadata(), **sources()}.items():
             entry = tarfile.TarInfo(f"{root}/{path}")
