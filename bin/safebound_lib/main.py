@@ -25,8 +25,16 @@ def main(words):
             return with_schema(line, own_command)
         return with_schema(line, lambda whole: run_program(whole, is_last=whole is line))
     except Misused as fault:
-        program.say(f"safebound: {fault}\n")
-        return MISUSED
+        return misused(f"safebound: {fault}")
+
+
+def misused(text):
+    """Says what the friendly command can't take, on a terminal within its width."""
+    if program.is_terminal(2):
+        from .explain import wrapped
+        text = "\n".join(map(wrapped, text.split("\n")))
+    program.say(f"{text}\n")
+    return MISUSED
 
 
 def refuse_strange(line):

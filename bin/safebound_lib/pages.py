@@ -23,7 +23,7 @@ def options_of(command):
 def overview(stream=1):
     """The help, as wide as the terminal of a stream."""
     wide = columns(stream)
-    lines = [f"safebound {VERSION}: {SUMMARY}", "", *wrapped(ABOUT, wide), "", "Commands:"]
+    lines = [*wrapped(f"safebound {VERSION}: {SUMMARY}", wide), "", *wrapped(ABOUT, wide), "", "Commands:"]
     lines += [entry(" ".join([c.word, *places_of(c)]), c.help, wide) for c in COMMANDS]
     lines += ["", *wrapped(OWN_OPTIONS, wide), "", *wrapped("Limits: " + LIMITS, wide), "", "Begin with:", "    safebound new trips", "    cd trips", "    safebound run schema.sql query.sql", "",
               *wrapped("`safebound help COMMAND` says more of one, with examples; `safebound help errors` lists the faults.", wide)]
@@ -68,7 +68,7 @@ def errors():
     for line in lines:
         cells = [plain(cell.strip()) for cell in line.strip("|").split("|")]
         if line.startswith("| `error") and len(cells) == 4:
-            found += [f"{cells[0]}  (exit status {cells[1]})", *indented(f"{cells[2]}.")]
+            found += [*wrapped(f"{cells[0]}  (exit status {cells[1]})", columns(1), "    "), *indented(f"{cells[2]}.")]
             found += indented(f"To do: {cells[3]}.") if cells[3] else []
             found.append("")
     return "\n".join(found)

@@ -37,7 +37,8 @@ def tables_of(words: list) -> list:
         run = Run(words)
         files = dict.fromkeys(entry.table.name.lower() + ".csv" for entry in run.query.entries) if run.stats_file is None else ()
         return [(file, os.path.getsize(file)) for file in files]
-    except (OSError, ValueError):
+    except Exception:
+        # Whatever goes wrong here, the run goes on.
         return []
 
 
