@@ -98,6 +98,7 @@ class Blocks(InBlocks):
         # An aggregate makes one row of none.
         for count in ("count(*)", "count(*) FILTER (WHERE b.z > 0)", "coalesce(max(b.z), 1)"):
             self.bounds(f"SELECT s.n, k.x FROM (SELECT {count} AS n FROM b WHERE b.z > 99) AS s, k", [0], [1, 3])
+        self.bounds("SELECT s.x FROM (SELECT x FROM k UNION ALL SELECT y FROM c) AS s, k", [3], [12], [3, 45])
         # A part of WITH hides the table of its name.
         self.bounds("WITH c AS (SELECT 1 AS y) SELECT b.z FROM b WHERE b.y IN (SELECT y FROM c)")
         self.bounds("SELECT s.n, k.x FROM (SELECT count(*) AS n FROM b, c WHERE b.y = c.y) AS s, k", [12, 60], [1, 3])
