@@ -9,7 +9,7 @@ TABLES = 3
 SHARED = ("id", "k", "w")
 TYPES_OF_ID = {
     "sqlite": ("INTEGER", "INTEGER", "REAL", "NUMERIC"),
-    "postgres": ("INTEGER", "INTEGER", "BIGINT", "NUMERIC", "NUMERIC(7, 1)"),
+    "postgres": ("INTEGER", "INTEGER", "BIGINT", "NUMERIC"),
 }
 
 
