@@ -17,7 +17,7 @@ from .truth import Counter
 SETS = os.path.join(places.MADE, "sets.csv")
 RUNS = os.path.join(places.MADE, "runs.csv")
 SET_COLUMNS = ["question", "entries", "size", "whole", "cyclic", "rows", "by", "expected", *(flags.name for flags in ALL)]
-RUN_COLUMNS = ["question", "flags", "cost", "status", "seconds", "peak", "rows", "same", "postgres_rows", "postgres_seconds"]
+RUN_COLUMNS = ["question", "flags", "cost", "last", "status", "seconds", "peak", "rows", "same", "postgres_rows", "postgres_seconds"]
 # How long PostgreSQL may take to count a set, and for a query.
 COUNTING, ASKING = 60, 60
 
@@ -66,4 +66,5 @@ def one_run(question: asked.Question, words: list[str], out: str, true: running.
     """The run, or its refusal, with its rows beside PostgreSQL's."""
     run = running.by_program("run", os.path.basename(question.path), words, out)
     rows = running.rows_of(out, True) if run.status == 0 else None
-    return [run.cost, run.status, run.seconds, run.peak, rows and rows.number, None if None in (rows, true) else int(rows == true)]
+    last = run.levels[-1][1] if run.status == 0 else None
+    return [run.cost, last, run.status, run.seconds, run.peak, rows and rows.number, None if None in (rows, true) else int(rows == true)]

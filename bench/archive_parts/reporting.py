@@ -48,13 +48,18 @@ def bounded(sets: list[dict[str, str]], name: str) -> list[float]:
 
 
 def check(sets: list[dict[str, str]], runs: list[dict[str, str]]) -> None:
-    """No bound is under, and no run has other rows than PostgreSQL."""
-    under = [one for one in sets for flags in ALL if one["rows"] and one[flags.name] and int(one[flags.name]) < int(one["rows"])]
-    wrong = [one for one in runs if one["same"] == "0"]
+    """No bound is under, no run has other rows than PostgreSQL, and the program prints the bounds that the definitions give."""
+    under = [one for one in sets for flags in ALL if one["rows"] and int(one[flags.name]) < int(one["rows"])]
+    bound = {(one["question"], flags.name): int(one[flags.name]) for one in sets if one["whole"] == "1" for flags in ALL}
+    ran = [one for one in runs if one["status"] == "0"]
+    others = [one for one in ran if int(one["last"]) != bound[one["question"], one["flags"]]]
+    low = [one for one in runs if int(one["cost"]) < bound[one["question"], one["flags"]]]
+    wrong = [one for one in ran if one["same"] == "0"]
     print(f"{len(sets)} sets, of which {sum(not one['rows'] for one in sets)} weren't counted; bounds that were under: {len(under)}."
-          f" {sum(one['status'] == '0' for one in runs)} runs, of which {sum(one['same'] == '1' for one in runs)} have PostgreSQL's rows and {len(wrong)} others.\n")
-    if under or wrong:
-        raise SystemExit(f"archive: {under + wrong}")
+          f" {len(ran)} runs, of which {sum(one['same'] == '1' for one in ran)} have PostgreSQL's rows and {len(wrong)} others;"
+          f" {len(ran) - len(others)} print the bound of the definitions.\n")
+    if under or wrong or others or low:
+        raise SystemExit(f"archive: {under + wrong + others + low}")
 
 
 def whole_queries(sets: list[dict[str, str]], runs: list[dict[str, str]]) -> None:
