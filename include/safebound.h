@@ -234,8 +234,8 @@ safebound_status safebound_bounds(const uint64_t *rows, size_t entries, const sa
 
    A set is looked at in as many turns as it has equalities, but in one at least and in 16 at most. The work of a turn is 1,
    and 1 more for each run of both lists of each equality of the set; that of a call is the work of all turns of all sets.
-   It is no less than what is done: turns of a set that come to the same are bounded once, and where the equalities close
-   no cycle all of them do.
+   It is a measure of the query, and no count of steps: turns of a set that come to the same are bounded once, as all do
+   where the equalities close no cycle, and lists grow on their way along a chain.
 
    The statuses are those of safebound_bounds, and between SAFEBOUND_ROOM and SAFEBOUND_NO_MEMORY
 

@@ -57,9 +57,10 @@ enum {
 
 /* Runs the command line `words`, without the program's own name, over `files`, of which the first of a name counts.
 
-   `out` gets what the program writes on standard output: the rows of `run`, the audit of `audit` and `demo`, and nothing for
-   `plan`. `notes` gets what it writes on standard error: the plan, or the line that says why there is none. Behind `out_length`
-   and `notes_length` stands how many bytes were written. No 0 is put behind them, and what else is in the rooms afterwards has
+   `out` gets what the program writes on standard output: the rows of `run`, the audit of `audit` and `demo`, the file of
+   `stats` and `append`, and nothing for `plan`. `notes` gets what it writes on standard error: the plan, for `stats` and
+   `append` nothing, or the line that says why the call went no further. Behind `out_length` and `notes_length` stands how
+   many bytes were written. No 0 is put behind them, and what else is in the rooms afterwards has
    no meaning.
 
    SAFEBOUND_EXIT_WRITE is answered where a room is too small: the one whose length is all of its room. What stands in it is

@@ -43,7 +43,9 @@ exits! {
     SAFEBOUND_EXIT_PAST_BITS = 9, "Each order has a level whose bound passes 128 bits.";
     SAFEBOUND_EXIT_WRITE = 10, "A room is too small.";
     SAFEBOUND_EXIT_NO_MEMORY = 11, "Memory was wanting.";
+    SAFEBOUND_EXIT_STATS = 14, "A text of statistics is refused, or lacks what the query needs.";
     SAFEBOUND_EXIT_WORDS = 15, "A word isn't UTF-8.";
+    SAFEBOUND_EXIT_MEMORY_LIMIT = 16, "The plan's buffers take more bytes than --memory says.";
 }
 
 extern "C" {
