@@ -1,3 +1,3 @@
 """The friendly command around the proved program: it explains, helps and finds things, and changes no answer."""
 
-VERSION = "0.1"
+VERSION = "0.2"

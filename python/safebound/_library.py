@@ -145,7 +145,7 @@ def _library() -> ctypes.CDLL:
 
 
 def version() -> str:
-    """The version of the library that is used, as text, such as 0.1.0."""
+    """The version of the library that is used, as text, such as 0.2.0."""
     status, detail, text = call("version", [], ctypes.c_char, 64)
     raise_for(status, detail)
     return str(text.value.decode())
