@@ -1,4 +1,4 @@
--- How much a call for all bounds does at most.
+-- The work of a call for all bounds, as a measure: no number of steps.
 use Rattle.std.specs.Prelude.{ℕ, ◌+◌, ◌*◌, ◌^◌, List, map, find, Option, Some, None}
 use Rattle.std.specs.List.{range_with_len, sum}
 use Rattle.berge_tree.specs.declared.edges.Edge.{Edge}

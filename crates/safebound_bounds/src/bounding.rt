@@ -204,7 +204,7 @@ fn may_work(alloc: Global, parts: &Parts, given: &Given, limit: u64) -> Result<(
     Ok(())
 }
 
-/// The same, if its work is within a limit. The work is counted before a set is bounded, so a call whose work passes the limit ends at once.
+/// The same, if its work is within a limit. The work is counted first, and no set is bounded where it passes the limit.
 pub fn bounds_within(
     alloc: Global,
     rows: &[u64],
@@ -239,7 +239,7 @@ pub fn bounds_within(
     fill(alloc, &parts, &given, into)
 }
 
-/// The bound of one set of entries alone, in rows: what `bounds` writes at its number, in the time of this set.
+/// The bound of one set of entries alone, in rows: what `bounds` writes at its number. No other set is bounded.
 pub fn set_bound(
     alloc: Global,
     rows: &[u64],

@@ -1,4 +1,4 @@
-//! How much a call for all bounds does at most, counted before it begins.
+//! The work of a call for all bounds, a measure that is counted before it begins.
 ghost use Rattle.std.specs.Prelude.{◌≡◌, ◌+◌, ◌^◌, ◌<◌, ◌≤◌, if◌then◌else◌, ℕ, length, map, slice_index, IfOk};
 ghost use Rattle.limits.specs.Profile.{most_conjuncts, most_entries};
 ghost use Rattle.join_graph.specs.Kept.{joins_within};
