@@ -30,7 +30,7 @@ def triangle():
 
 
 ERRORS = [
-    errors.BudgetExceeded(12), errors.PastBits("each plan has a part without a bound"), errors.OutOfMemory("memory was wanting"),
+    errors.BudgetExceeded(12), errors.WorkExceeded(7), errors.PastBits("each plan has a part without a bound"), errors.OutOfMemory("memory was wanting"),
     errors.LibraryNotFound("no library"), errors.Refused(5, "query syntax 0"), errors.WrongType("a text"), errors.SafeBoundError("x"),
     errors.BadRun("rises", 3, ("r", "x")), errors.BadOtherRun("rises", 3), errors.BadEntries("twice", "r"), errors.BadPlan("another", 2),
 ]

@@ -2,6 +2,7 @@
 
 import doctest
 import os
+import pickle
 import shutil
 import subprocess
 import sys
@@ -113,6 +114,26 @@ class Answers(unittest.TestCase):
         self.assertEqual((empty.bounds()[{"r"}], empty.bounds()[{"r", "s"}]), (0, 0))
         without = pair(lists={("r", "x"): [(1, 1)], ("s", "x"): [(2, 2), (1, 1)]})
         self.assertEqual((without.bounds()[{"r"}], without.bounds()[{"r", "s"}]), (6, 2))
+        nothing = pair(lists={("r", "x"): safebound.NO_VALUES, ("s", "x"): [(2, 2), (1, 1)]})
+        self.assertEqual((nothing.bounds()[{"r"}], nothing.bounds()[{"r", "s"}]), (6, 0))
+        self.assertEqual(pickle.loads(pickle.dumps(nothing)), nothing)
+        self.assertIn("('r', 'x'): NO_VALUES", repr(nothing))
+
+    def test_one_set(self):
+        asked = pair()
+        self.assertEqual([asked.bound_of(entries) for entries in ([], ["s"], {"r", "s"}, asked.entries)], [1, 5, 12, 12])
+        self.assertRaises(KeyError, asked.bound_of, {"t"})
+        self.assertRaises(safebound.WrongType, asked.bound_of, "rs")
+        self.assertIsNone(safebound.Query(["r", "s"], [], {"r": 2**48, "s": 2**48}, {}).bound_of(["r", "s"]))
+
+    def test_limit_of_work(self):
+        asked = pair()
+        with self.assertRaises(safebound.WorkExceeded) as raised:
+            asked.bounds(6)
+        self.assertEqual(raised.exception.least, 7)
+        self.assertEqual(asked.bounds(7), asked.bounds())
+        self.assertRaises(safebound.BadLimit, asked.bounds, -1)
+        self.assertRaises(safebound.WrongType, asked.bounds, 7.0)
 
     def test_one_entry(self):
         alone = safebound.Query(["r"], [], {"r": 7}, {})

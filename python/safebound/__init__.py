@@ -22,8 +22,8 @@ from .command import Output, Plan, append_stats, plan_stats, run
 from .errors import *  # noqa: F401,F403
 from .lists import Run, Runs, append, compress, degree_sequence
 from .plans import Join, Order, Tree
-from .query import Column, Query
+from .query import NO_VALUES, Column, Query
 
 __all__ = [name for name, value in vars(errors).items() if isinstance(value, type)]
-__all__ += ["Bounds", "Column", "Join", "Order", "Output", "Plan", "Query", "Run", "Runs", "Tree"]
+__all__ += ["NO_VALUES", "Bounds", "Column", "Join", "Order", "Output", "Plan", "Query", "Run", "Runs", "Tree"]
 __all__ += ["__version__", "append", "append_stats", "compress", "degree_sequence", "path", "plan_stats", "run", "version"]

@@ -182,6 +182,8 @@ def raise_for(status: int, detail: int) -> None:
         raise errors.OutOfMemory("memory was wanting")
     if status == Status.BUDGET:
         raise errors.BudgetExceeded(detail)
+    if status == Status.WORK:
+        raise errors.WorkExceeded(detail)
     if status == Status.PAST_BITS:
         raise errors.PastBits("each plan has a part without a bound")
     kind, message = WRONG[status]

@@ -46,6 +46,21 @@ class BudgetExceeded(SafeBoundError):
         return f"the best plan has a part of at most {self.least} rows, which is the least budget that would do"
 
 
+class WorkExceeded(SafeBoundError):
+    """The work passes the limit.
+
+    Attributes:
+        least: the least limit that would do.
+    """
+
+    def __init__(self, least: int) -> None:
+        super().__init__(least)
+        self.least = least
+
+    def __str__(self) -> str:
+        return f"the work is {self.least}, which is the least limit that would do"
+
+
 class WrongType(SafeBoundError, TypeError):
     """What was given is of a kind that the call doesn't take. Nothing is guessed from it."""
 
@@ -126,6 +141,10 @@ class BadPlan(WrongValue):
 
 class BadBudget(WrongValue):
     """The budget isn't from 0 to 2**59. `place` is the budget."""
+
+
+class BadLimit(WrongValue):
+    """The limit of work isn't from 0 to 2**64 - 1. `place` is the limit."""
 
 
 class Refused(SafeBoundError):

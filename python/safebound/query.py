@@ -3,20 +3,21 @@
 from __future__ import annotations
 
 import ctypes
+from collections.abc import Collection as SomeCollection
 from collections.abc import Sequence as SomeSequence
 from functools import cached_property
 from types import MappingProxyType
-from typing import Any, Dict, Hashable, Iterable, List, Mapping, NoReturn, Optional, SupportsIndex, Tuple, TypeVar
+from typing import Any, Collection, Dict, Hashable, Iterable, List, Mapping, NoReturn, Optional, SupportsIndex, Tuple, TypeVar
 
 from . import _library
 from ._library import Status
 from ._tables import table
 from .bounds import Bounds
-from .errors import BadBudget, BadEntries, BadEquality, BadList, BadPlan, BadRows, MissingList, PastBits, WrongType
+from .errors import BadBudget, BadEntries, BadEquality, BadLimit, BadList, BadPlan, BadRows, MissingList, PastBits, WrongType
 from .lists import Run, Runs, encoded, wrong_run
 from .plans import Join, Order, QueryPlan, Tree
 
-__all__ = ["Column", "Query"]
+__all__ = ["NO_VALUES", "Column", "Query"]
 
 Column = Tuple[str, Hashable]
 
@@ -24,8 +25,27 @@ Column = Tuple[str, Hashable]
 _Name = TypeVar("_Name", bound=str)
 _Column = TypeVar("_Column", bound=Column)
 
-# The list of a column in which no row has a value. It says more than there is.
-NO_VALUE = ((1, 1),)
+
+class _NoValues(Tuple[Run, ...]):
+    """The list of a column in which no row has a value."""
+
+    __slots__ = ()
+
+    def __eq__(self, other: object) -> bool:
+        return self is other
+
+    def __hash__(self) -> int:
+        return hash(_NoValues)
+
+    def __repr__(self) -> str:
+        return "NO_VALUES"
+
+    def __reduce__(self) -> str:
+        return "NO_VALUES"
+
+
+# An empty list looks like one that was forgotten.
+NO_VALUES = _NoValues()
 
 
 def _column(value: Any, where: str) -> Column:
@@ -53,8 +73,8 @@ class Query:
         row_bounds: for each entry how many rows it has at most, 0 to 2**48.
         lists: for each column that an equality names the runs that dominate its values, as `degree_sequence`,
             `compress` and `append` give them. Where they sum to less than the entry's row bound, the other rows are taken
-            for rows without a value; where they sum to more, they are cut there. Of a column in which no row has a value
-            the list is `[(1, 1)]`; an empty one is taken for forgotten, unless the row bound is 0.
+            for rows without a value, which join with nothing; where they sum to more, they are cut there. Of a column in
+            which no row has a value the list is `NO_VALUES`; an empty one is taken for forgotten, unless the row bound is 0.
 
     A query isn't changed once it is made. Two are equal where all of this is.
 
@@ -140,10 +160,9 @@ class Query:
             if column[0] not in self._entry:
                 raise BadList(f"there is a list of {_text(column)}, and no entry {column[0]!r}", column)
             own = encoded(given, column=column)
-            self._of[column] = tuple(Run(run.degree, run.keys) for run in own)
-            if len(own) == 0 and self._rows[self._entry[column[0]]] == 0:
-                own = encoded(NO_VALUE)
-            found.append((self._entry[column[0]], self._number_of(column), len(runs), len(own)))
+            self._of[column] = NO_VALUES if given is NO_VALUES else tuple(Run(run.degree, run.keys) for run in own)
+            without = given is NO_VALUES or (len(own) == 0 and self._rows[self._entry[column[0]]] == 0)
+            found.append((self._entry[column[0]], self._number_of(column), _library.NO_VALUES if without else len(runs), len(own)))
             runs += [(run.degree, run.keys) for run in own]
             places += [(column, place) for place in range(len(own))]
         return _library.array_of(_library.List, found), _library.array_of(_library.Run, runs), places
@@ -168,7 +187,8 @@ class Query:
         return (Query, self._parts())
 
     def __repr__(self) -> str:
-        lists = ", ".join(f"{column}: [{', '.join(str(tuple(run)) for run in runs)}]" for column, runs in self._of.items())
+        shown = {column: runs if runs is NO_VALUES else [tuple(run) for run in runs] for column, runs in self._of.items()}
+        lists = ", ".join(f"{column}: {runs}" for column, runs in shown.items())
         return f"Query(entries={list(self.entries)}, equalities={list(self.equalities)}, row_bounds={dict(self.row_bounds)}, lists={{{lists}}})"
 
     def __str__(self) -> str:
@@ -236,14 +256,20 @@ class Query:
 
     # ---- what the library answers
 
-    @cached_property
-    def _bounds(self) -> Any:
+    def _given(self) -> List[Any]:
+        """The query as the library takes it."""
         arrays: List[Any] = [self._rows, self._equalities, self._lists, self._runs]
-        given = [part for array in arrays for part in (array, len(array))]
-        status, detail, into = _library.call("bounds", given, ctypes.c_uint64, 1 << min(len(self.entries), 12))
+        return [part for array in arrays for part in (array, len(array))]
+
+    def _asked(self, name: str, given: List[Any]) -> Any:
+        status, detail, into = _library.call(name, given, ctypes.c_uint64, 1 << min(len(self.entries), 12))
         if status != Status.OK:
             self._raise_for(status, detail)
         return into
+
+    @cached_property
+    def _bounds(self) -> Any:
+        return self._asked("bounds", self._given())
 
     def _raise_for(self, status: int, detail: int) -> NoReturn:
         """Raises what a status of `bounds` says, with the names of this query."""
@@ -254,7 +280,7 @@ class Query:
             raise wrong_run(self._of[column], place, column=column)
         if status == Status.BAD_LIST:
             column = list(self._of)[detail]
-            raise BadList(f"the list of {_text(column)} has no runs: where no row has a value it is [(1, 1)]", column)
+            raise BadList(f"the list of {_text(column)} has no runs: where no row has a value it is NO_VALUES", column)
         if status == Status.BAD_EQUALITY:
             text = _equality_text(self.equalities[detail])
             raise BadEquality(f"equality {detail}, {text}, has one entry on both sides", detail)
@@ -264,8 +290,12 @@ class Query:
         _library.raise_for(status, detail)
         raise AssertionError(status)
 
-    def bounds(self) -> Bounds:
+    def bounds(self, limit: Optional[SupportsIndex] = None) -> Bounds:
         """The bounds of all sets of entries.
+
+        Args:
+            limit: the most work that is done. It is counted before it begins: for each set, and for each of at most 16 ways in
+                which it is looked at where equalities close a cycle, 1 and the runs of both lists of each of its equalities.
 
         Returns:
             A mapping from each of the 2**n sets of names to a number of rows: at most so many choices of one row of each
@@ -273,9 +303,39 @@ class Query:
 
         Raises:
             BadEntries, BadRows, BadEqualities, BadEquality, BadList, BadRun, MissingList: a value isn't right.
+            WorkExceeded: the work passes the limit; `least` would do.
+            BadLimit: the limit isn't from 0 to 2**64 - 1.
             OutOfMemory: memory was wanting.
         """
-        return Bounds(self.entries, list(self._bounds))
+        if limit is None:
+            return Bounds(self.entries, list(self._bounds))
+        number = _library.whole(limit)
+        if number is None:
+            raise BadLimit(f"a limit is from 0 to 2**64 - 1, not {limit}", limit)
+        return Bounds(self.entries, list(self._asked("bounds_within", [*self._given(), number])))
+
+    def bound_of(self, entries: Collection[str]) -> Optional[int]:
+        """The bound of one set of entries alone, which `bounds()` has there too, in the time of this set.
+
+        Args:
+            entries: a collection of names, such as `query.entries` for all. None where no bound is known.
+
+        Raises:
+            KeyError: a name is of no entry.
+            As `bounds`.
+
+        >>> query = Query(["r", "s"], [(("r", "x"), ("s", "x"))], {"r": 6, "s": 5},
+        ...               {("r", "x"): [(3, 2)], ("s", "x"): [(2, 2), (1, 1)]})
+        >>> query.bound_of({"r", "s"})
+        12
+        """
+        if isinstance(entries, (str, bytes)) or not isinstance(entries, SomeCollection):
+            raise WrongType(f"a set of entries is a collection of their names, such as {{{entries!r}}}, and not {entries!r}")
+        number = sum(1 << self._entry[entry] for entry in set(entries))
+        status, detail = _library.ask("set_bound", [*self._given(), number & _library.MOST])
+        if status != Status.OK:
+            self._raise_for(status, detail)
+        return None if detail == _library.NO_BOUND else detail
 
     def best_order(self, budget: SupportsIndex) -> Order:
         """The best left-deep order: the least greatest level, then the least sum of levels, then the first by `entries`.

@@ -26,7 +26,7 @@ impl Bound {
         }
     }
 
-    fn of_number(number: u64) -> Bound {
+    pub(crate) fn of_number(number: u64) -> Bound {
         if number == sys::SAFEBOUND_NO_BOUND {
             return Bound::NoBound;
         }

@@ -109,6 +109,52 @@ pub(crate) fn bounds(query: &Numbers) -> Result<Vec<u64>, Refusal> {
     }
 }
 
+pub(crate) fn bounds_within(query: &Numbers, limit: u64) -> Result<Vec<u64>, Refusal> {
+    let Numbers { rows, equalities, lists, runs } = query;
+    let room = 1 << rows.len().min(sys::SAFEBOUND_MOST_ENTRIES);
+    unsafe {
+        answer(room, |into, room, detail| {
+            sys::safebound_bounds_within(
+                rows.as_ptr(),
+                rows.len(),
+                equalities.as_ptr(),
+                equalities.len(),
+                lists.as_ptr(),
+                lists.len(),
+                runs.as_ptr().cast(),
+                runs.len(),
+                limit,
+                into,
+                room,
+                detail,
+            )
+        })
+    }
+}
+
+pub(crate) fn set_bound(query: &Numbers, set: u64) -> Result<u64, Refusal> {
+    let Numbers { rows, equalities, lists, runs } = query;
+    let mut detail = 0;
+    let status = unsafe {
+        sys::safebound_set_bound(
+            rows.as_ptr(),
+            rows.len(),
+            equalities.as_ptr(),
+            equalities.len(),
+            lists.as_ptr(),
+            lists.len(),
+            runs.as_ptr().cast(),
+            runs.len(),
+            set,
+            &mut detail,
+        )
+    };
+    match status {
+        sys::SAFEBOUND_OK => Ok(detail),
+        status => Err(Refusal { status, detail }),
+    }
+}
+
 pub(crate) fn order(bounds: &[u64], budget: u64) -> Result<Vec<sys::safebound_level>, Refusal> {
     unsafe {
         answer(sys::SAFEBOUND_MOST_ENTRIES, |into, room, detail| {

@@ -99,6 +99,11 @@ pub enum Error {
         /// The least budget that would do, in rows. It may be above 2^59, which no budget is.
         least: u64,
     },
+    /// The work passes the limit.
+    WorkExceeded {
+        /// The least limit that would do.
+        least: u64,
+    },
     /// Each plan has a part without a bound: one that 64 bits don't tell.
     PastBits,
     /// Memory was wanting in the library, or for what it answers. Where Rust's own collections want it, as for the numbers
@@ -223,6 +228,7 @@ impl Error {
         let place = detail as usize;
         match status {
             sys::SAFEBOUND_BUDGET => Error::BudgetExceeded { least: detail },
+            sys::SAFEBOUND_WORK => Error::WorkExceeded { least: detail },
             sys::SAFEBOUND_PAST_BITS => Error::PastBits,
             sys::SAFEBOUND_NO_MEMORY => Error::OutOfMemory,
             sys::SAFEBOUND_BAD_KEYS => Error::BadKeys { count: detail },
@@ -246,6 +252,7 @@ impl fmt::Display for Error {
             Error::BudgetExceeded { least } => {
                 write!(f, "the best plan has a part of at most {least} rows, which is the least budget that would do")
             }
+            Error::WorkExceeded { least } => write!(f, "the work is {least}, which is the least limit that would do"),
             Error::PastBits => write!(f, "each plan has a part without a bound"),
             Error::OutOfMemory => write!(f, "memory was wanting"),
             Error::BadKeys { count } => write!(f, "{count} keys are more than 2^48"),

@@ -1,15 +1,12 @@
 //! Queries: what is known of their rows.
 
-use crate::bounds::Bounds;
+use crate::bounds::{Bound, Bounds};
 use crate::calls::{self, Numbers, Refusal};
 use crate::errors::{Column, Error, WrongEquality, WrongList};
 use crate::lists::Run;
 use crate::plans::{Order, Tree};
 use safebound_sys as sys;
 use std::collections::HashMap;
-
-/// The list of a column in which no row has a value. It says more than there is.
-const NO_VALUE: Run = Run { degree: 1, keys: 1 };
 
 /// The number of an entry that isn't there; the library refuses it in its turn.
 const NO_ENTRY: u32 = u32::MAX;
@@ -40,7 +37,7 @@ const NO_ENTRY: u32 = u32::MAX;
 pub struct Query {
     entries: Vec<(String, u64)>,
     equalities: Vec<(Column, Column)>,
-    lists: Vec<(Column, Vec<Run>)>,
+    lists: Vec<(Column, Option<Vec<Run>>)>,
 }
 
 impl Query {
@@ -66,11 +63,18 @@ impl Query {
     /// The list of a column: runs that dominate its values, as [`degree_sequence`](crate::degree_sequence),
     /// [`compress`](crate::compress) and [`append`](crate::append) give them.
     ///
-    /// Where it sums to less than the entry's row bound, the other rows are taken for rows without a value; where it sums to
-    /// more, it is cut there, so that the list of a whole table serves for some of its rows. Of a column in which no row has
-    /// a value it is (1, 1); one without runs is taken for forgotten, unless the row bound is 0.
+    /// Where it sums to less than the entry's row bound, the other rows are taken for rows without a value, which join with
+    /// nothing; where it sums to more, it is cut there, so that the list of a whole table serves for some of its rows. One
+    /// without runs is taken for forgotten, unless the row bound is 0: for a column in which no row has a value there is
+    /// [`no_values`](Query::no_values).
     pub fn list(mut self, column: impl Into<Column>, runs: &[Run]) -> Query {
-        self.lists.push((column.into(), runs.to_vec()));
+        self.lists.push((column.into(), Some(runs.to_vec())));
+        self
+    }
+
+    /// In this column no row has a value. It stands in place of the column's list.
+    pub fn no_values(mut self, column: impl Into<Column>) -> Query {
+        self.lists.push((column.into(), None));
         self
     }
 
@@ -81,14 +85,51 @@ impl Query {
     /// `BadEntries`, `RepeatedEntry`, `BadRows`, `BadEqualities`, `BadEquality`, `BadList`, `BadRun`, `MissingList`: a value
     /// isn't right. [`Error::OutOfMemory`].
     pub fn bounds(&self) -> Result<Bounds, Error> {
+        let names = self.names()?;
+        let numbers = calls::bounds(&self.numbers()).map_err(|refusal| self.error(refusal))?;
+        Ok(Bounds::new(names, numbers))
+    }
+
+    /// The bounds of all sets of entries, if the work is within a limit. It is counted before it begins: for each set, and for
+    /// each of at most 16 ways in which it is looked at where equalities close a cycle, 1 and the runs of both lists of each
+    /// of its equalities.
+    ///
+    /// # Errors
+    ///
+    /// [`Error::WorkExceeded`], and as `bounds`.
+    pub fn bounds_within(&self, limit: u64) -> Result<Bounds, Error> {
+        let names = self.names()?;
+        let numbers = calls::bounds_within(&self.numbers(), limit).map_err(|refusal| self.error(refusal))?;
+        Ok(Bounds::new(names, numbers))
+    }
+
+    /// The bound of one set of entries alone, which [`bounds`](Query::bounds) has there too, in the time of this set. A name
+    /// may come again.
+    ///
+    /// # Errors
+    ///
+    /// [`Error::UnknownEntry`], and as `bounds`.
+    pub fn bound_of<'a>(&self, names: impl IntoIterator<Item = &'a str>) -> Result<Bound, Error> {
+        let entries = self.names()?;
+        let mut set = 0;
+        for name in names {
+            let place = entries.iter().position(|entry| entry == name);
+            let place = place.ok_or_else(|| Error::UnknownEntry { entry: name.into() })?;
+            set |= 1u64.checked_shl(place as u32).unwrap_or(0);
+        }
+        let number = calls::set_bound(&self.numbers(), set).map_err(|refusal| self.error(refusal))?;
+        Ok(Bound::of_number(number))
+    }
+
+    /// The names of the entries, each once.
+    fn names(&self) -> Result<Vec<String>, Error> {
         let names: Vec<String> = self.entries.iter().map(|(name, _)| name.clone()).collect();
         for (at, name) in names.iter().enumerate() {
             if names[..at].contains(name) {
                 return Err(Error::RepeatedEntry { entry: name.clone() });
             }
         }
-        let numbers = calls::bounds(&self.numbers()).map_err(|refusal| self.error(refusal))?;
-        Ok(Bounds::new(names, numbers))
+        Ok(names)
     }
 
     /// The best left-deep order: [`Bounds::best_order`]. Who wants a tree too asks [`bounds`](Query::bounds) once.
@@ -122,11 +163,12 @@ impl Query {
             });
         }
         for (column, runs) in &self.lists {
-            let own = self.told(column, runs);
+            let own = runs.as_deref().unwrap_or(&[]);
+            let first = if self.has_no_values(column, runs) { sys::SAFEBOUND_NO_VALUES } else { made.runs.len() as u64 };
             made.lists.push(sys::safebound_list {
                 entry: names.entry(column),
                 column: names.column(column),
-                first: made.runs.len() as u64,
+                first,
                 length: own.len() as u64,
             });
             made.runs.extend_from_slice(own);
@@ -134,13 +176,13 @@ impl Query {
         made
     }
 
-    /// The runs that the library is told for a list. An entry without rows has lists without runs, which aren't forgotten.
-    fn told<'a>(&self, column: &Column, runs: &'a [Run]) -> &'a [Run] {
+    /// Whether no row has a value in a column. An entry without rows has lists without runs, which aren't forgotten.
+    fn has_no_values(&self, column: &Column, runs: &Option<Vec<Run>>) -> bool {
         let is_empty = |entry: &(String, u64)| entry.0 == column.entry && entry.1 == 0;
-        if runs.is_empty() && self.entries.iter().any(is_empty) {
-            return &[NO_VALUE];
+        match runs {
+            None => true,
+            Some(runs) => runs.is_empty() && self.entries.iter().any(is_empty),
         }
-        runs
     }
 
     /// What a refusal says, with the names of this query.
@@ -179,7 +221,7 @@ impl Query {
         let (column, runs) = &self.lists[at];
         let why = if !self.has(&column.entry) {
             WrongList::UnknownEntry
-        } else if self.told(column, runs).is_empty() {
+        } else if runs.as_ref().is_some_and(Vec::is_empty) && !self.has_no_values(column, runs) {
             WrongList::NoRuns
         } else {
             WrongList::Repeated
@@ -194,7 +236,7 @@ impl Query {
     /// The list in which a run lies, and its number there.
     fn bad_run(&self, mut place: usize) -> Error {
         for (column, runs) in &self.lists {
-            let own = self.told(column, runs);
+            let own = runs.as_deref().unwrap_or(&[]);
             if place < own.len() {
                 return Error::bad_run(own, place, Some(column.clone()));
             }

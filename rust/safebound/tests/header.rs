@@ -112,6 +112,22 @@ fn no_rows_and_no_values() -> Result<(), Error> {
         let query = query.list(("r", "x"), &list).list(("s", "x"), &runs([(2, 2), (1, 1)]));
         assert_eq!(query.bounds()?.of(["r", "s"])?, Bound::Rows(joined));
     }
+    let query = Query::new().entry("r", 6).entry("s", 5).equality(("r", "x"), ("s", "x"));
+    let query = query.no_values(("r", "x")).list(("s", "x"), &runs([(2, 2), (1, 1)]));
+    assert_eq!((query.bound_of(["r"])?, query.bound_of(["r", "s"])?), (Bound::Rows(6), Bound::Rows(0)));
+    Ok(())
+}
+
+/// The header's examples of one set, and of a limit.
+#[test]
+fn one_set_and_a_limit() -> Result<(), Error> {
+    let query = Query::new().entry("r", 6).entry("s", 5).equality(("r", "x"), ("s", "x"));
+    let query = query.list(("r", "x"), &runs([(3, 2)])).list(("s", "x"), &runs([(2, 2), (1, 1)]));
+    assert_eq!(query.bound_of(["r", "s"])?, Bound::Rows(12));
+    assert_eq!(query.bound_of([])?, Bound::Rows(1));
+    assert_eq!(query.bound_of(["t"]), Err(Error::UnknownEntry { entry: "t".into() }));
+    assert_eq!(query.bounds_within(6), Err(Error::WorkExceeded { least: 7 }));
+    assert_eq!(query.bounds_within(7)?, query.bounds()?);
     Ok(())
 }
 
