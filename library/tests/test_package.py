@@ -205,6 +205,8 @@ class Installed(unittest.TestCase):
         shutil.copytree(os.path.join(calls.ROOT, "python"), os.path.join(self.folder, "python"), ignore=shutil.ignore_patterns("*.so", "__pycache__", "build", "*.egg-info"))
         os.makedirs(os.path.join(self.folder, "library", "out"))
         shutil.copy(self.library, os.path.join(self.folder, "library", "out"))
+        for name in ("LICENSE", os.path.join("library", "safebound.map")):
+            shutil.copy(os.path.join(calls.ROOT, name), os.path.join(self.folder, name))
         target = os.path.join(self.folder, "site")
         done = self.run_python("-m", "pip", "install", "--quiet", "--no-index", "--target", target, "./python")
         self.assertEqual(done.returncode, 0, done.stderr)
