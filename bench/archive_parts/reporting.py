@@ -21,10 +21,12 @@ def read(path: str) -> list[dict[str, str]]:
 
 
 def shown(value: float) -> str:
-    """Two digits below ten, then whole numbers, and from ten million on in tens."""
+    """Two digits below ten, whole numbers below a thousand, then three digits, and from a million on powers of ten."""
     if value < 10:
         return f"{value:.2g}"
-    return f"{float(f'{value:.3g}'):,.0f}" if value < 1e7 else f"{value:.1e}".replace("e+0", "e").replace("e+", "e")
+    if value < 1000:
+        return f"{value:.0f}"
+    return f"{float(f'{value:.3g}'):,.0f}" if value < 1e6 else f"{value:.1e}".replace("e+0", "e").replace("e+", "e")
 
 
 def spread(values: Iterable[float]) -> list[str]:
@@ -90,11 +92,11 @@ def by_size(sets: list[dict[str, str]]) -> None:
 
 def estimates(sets: list[dict[str, str]]) -> None:
     rows = []
-    for title, chosen in (("whole queries", [one for one in sets if one["whole"] == "1"]), ("all sets", sets)):
+    for title, chosen in (("whole queries", [one for one in sets if one["whole"] == "1"]), ("all connected sets", sets)):
         counted = [one for one in chosen if one["rows"]]
         low = [int(one["rows"]) / max(int(one["expected"]), 1) for one in counted if int(one["expected"]) < int(one["rows"])]
-        rows.append([title, str(len(counted)), f"{100 * len(low) / len(counted):.0f}", f"{100 * sum(by > 10 for by in low) / len(counted):.0f}", shown(max(low))])
-    table(["PostgreSQL's estimates", "counted", "too low, of 100", "by more than ten times, of 100", "at worst, times"], rows)
+        rows.append([title, f"{len(counted)} of {len(chosen)}", str(len(low)), str(sum(by > 10 for by in low)), f"{max(low):,.0f} times"])
+    table(["", "counted", "too low", "too low by more than ten times", "at worst"], rows)
 
 
 def times(runs: list[dict[str, str]]) -> None:
@@ -108,6 +110,18 @@ def times(runs: list[dict[str, str]]) -> None:
         rows.append([flags.name, str(len(ran)), f"{seconds:.1f} s", f"{beside:.1f} s", str(late), f"{np.median(peaks):.0f} MiB, {max(peaks):.0f} MiB",
                      f"{max(refusals, default=0):.1f} s"])
     table(["", "admitted", "`run` of all of these", "PostgreSQL of the same", "of these not ended after 60 s", "peak, median and greatest", "longest refusal"], rows)
+
+
+def sums(runs: list[dict[str, str]]) -> None:
+    """What `--reduce` took beside PostgreSQL, and what each set of flags took for what all of them admit."""
+    ran = [one for one in runs if one["status"] == "0"]
+    both = [(float(one["seconds"]), float(one["postgres_seconds"])) for one in ran if one["flags"] == "`--reduce`" and one["postgres_rows"]]
+    sides = [f"{sum(side):.1f} s, {np.median(side):.2f} s in the median" for side in zip(*both)]
+    print(f"{len(both)} questions that `--reduce` admits and PostgreSQL ended: `run` took {sides[0]}, PostgreSQL {sides[1]}; `run` was faster for"
+          f" {sum(mine < other for mine, other in both)}.\n")
+    admitted = set.intersection(*({one["question"] for one in ran if one["flags"] == flags.name} for flags in ALL))
+    took = {flags.name: sum(float(one["seconds"]) for one in ran if one["flags"] == flags.name and one["question"] in admitted) for flags in ALL}
+    print(f"{len(admitted)} questions are admitted whatever the flags: " + ", ".join(f"{seconds:.1f} s with {name}" for name, seconds in took.items()) + ".\n")
 
 
 def worst(sets: list[dict[str, str]], number: int = 10) -> None:
@@ -125,4 +139,5 @@ def report() -> None:
     by_size(sets)
     estimates(sets)
     times(runs)
+    sums(runs)
     worst(sets)
