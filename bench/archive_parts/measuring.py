@@ -1,4 +1,4 @@
-"""Measures everything, into two CSV files: the sets of entries, and the plans and runs of each question."""
+"""Measures everything, into three CSV files: the sets of entries, the runs of each question beside PostgreSQL, and its plans beside its runs."""
 
 from __future__ import annotations
 
@@ -16,8 +16,11 @@ from .truth import Counter
 
 SETS = os.path.join(places.MADE, "sets.csv")
 RUNS = os.path.join(places.MADE, "runs.csv")
+PLANS = os.path.join(places.MADE, "plans.csv")
 SET_COLUMNS = ["question", "entries", "size", "whole", "cyclic", "rows", "by", "expected", *(flags.name for flags in ALL)]
 RUN_COLUMNS = ["question", "flags", "cost", "last", "status", "seconds", "peak", "rows", "same", "postgres_rows", "postgres_seconds"]
+COMMANDS, FIGURES = ("plan", "run"), ("status", "seconds", "processor", "peak")
+PLAN_COLUMNS = ["question", "flags", "load", *(f"{command}_{figure}" for command in COMMANDS for figure in FIGURES)]
 # How long PostgreSQL may take to count a set, and for a query.
 COUNTING, ASKING = 60, 60
 
@@ -68,3 +71,15 @@ def one_run(question: asked.Question, words: list[str], out: str, true: running.
     rows = running.rows_of(out, True) if run.status == 0 else None
     last = run.levels[-1][1] if run.status == 0 else None
     return [run.cost, last, run.status, run.seconds, run.peak, rows and rows.number, None if None in (rows, true) else int(rows == true)]
+
+
+def plans() -> Iterator[list]:
+    """Each plan, and right after it the run of the same, with the machine's load at that time."""
+    with tempfile.TemporaryDirectory(dir=places.MADE) as folder:
+        out = os.path.join(folder, "rows.csv")
+        for question in asked.questions():
+            say(f"plans of {question.name}")
+            shutil.copy(question.path, places.TABLES)
+            for flags in ALL:
+                both = [running.by_program(command, os.path.basename(question.path), flags.words, out) for command in COMMANDS]
+                yield [question.name, flags.name, os.getloadavg()[0], *(getattr(one, figure) for one in both for figure in FIGURES)]

@@ -1,4 +1,4 @@
-"""The tables of the pages, out of the two CSV files of `measuring`."""
+"""The tables of the pages, out of the three CSV files of `measuring`."""
 
 from __future__ import annotations
 
@@ -8,7 +8,7 @@ from typing import Iterable
 import numpy as np
 
 from .bounding import ALL
-from .measuring import RUNS, SETS
+from .measuring import COMMANDS, PLANS, RUNS, SETS
 from .running import BUDGET
 
 SMALL_BUDGET = 1_000_000
@@ -33,6 +33,12 @@ def spread(values: Iterable[float]) -> list[str]:
     """Median, 75th and 90th percentile, and the greatest."""
     values = list(values)
     return [shown(np.percentile(values, share)) for share in SHARES] if values else ["-"] * len(SHARES)
+
+
+def three(values: Iterable[float]) -> str:
+    """Median, 90th percentile and the greatest."""
+    found = spread(values)
+    return f"{found[0]}, {found[2]}, {found[3]}"
 
 
 def table(header: list[str], rows: Iterable[list[str]]) -> None:
@@ -124,6 +130,22 @@ def sums(runs: list[dict[str, str]]) -> None:
     print(f"{len(admitted)} questions are admitted whatever the flags: " + ", ".join(f"{seconds:.1f} s with {name}" for name, seconds in took.items()) + ".\n")
 
 
+def plans(found: list[dict[str, str]]) -> None:
+    """`plan` beside the `run` right after it, for what the budget admits: each cell has median, 90th percentile and worst."""
+    figures = (("seconds", "seconds"), ("processor", "seconds of processor"), ("peak", "peak in MiB"))
+    rows = []
+    for flags in ALL:
+        ran = [one for one in found if one["flags"] == flags.name and one["run_status"] == "0"]
+        rows.append([flags.name, str(len(ran)), *(three(float(one[f"{command}_{name}"]) for one in ran) for name, _ in figures for command in COMMANDS)])
+    loads, refused = [float(one["load"]) for one in found], [one for one in found if one["run_status"] != "0"]
+    longest = {command: max(float(one[f"{command}_seconds"]) for one in refused) for command in COMMANDS}
+    print(f"{len(found)} plans, each with its run right after it, at load {min(loads):.0f} to {max(loads):.0f}; {len(refused)} times both refused, in at most"
+          f" {longest['plan']:.1f} s and {longest['run']:.1f} s. Median, 90th percentile, worst of the others:\n")
+    table(["", "admitted", *(f"`{command}`, {title}" for _, title in figures for command in COMMANDS)], rows)
+    if any(one["plan_status"] != one["run_status"] for one in found):
+        raise SystemExit("archive: a plan and its run ended otherwise")
+
+
 def worst(sets: list[dict[str, str]], number: int = 10) -> None:
     """The whole queries with the loosest bounds, for each set of flags."""
     for flags in ALL:
@@ -140,4 +162,5 @@ def report() -> None:
     estimates(sets)
     times(runs)
     sums(runs)
+    plans(read(PLANS))
     worst(sets)

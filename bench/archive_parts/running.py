@@ -14,10 +14,11 @@ BUDGET = 20_000_000
 
 
 class Ended(NamedTuple):
-    """A process that ended: its status, seconds, peak of memory in MiB, and what it noted."""
+    """A process that ended: its status, seconds, seconds of processor, peak of memory in MiB, and what it noted."""
 
     status: int
     seconds: float
+    processor: float
     peak: float
     notes: str
 
@@ -48,9 +49,9 @@ def ended(command: list[str], out: str, folder: str | None = None, **more) -> En
     timed = os.path.join(os.path.dirname(os.path.abspath(__file__)), "timed.py")
     with open(out, "wb") as rows, tempfile.TemporaryFile() as notes, tempfile.NamedTemporaryFile("r") as told:
         subprocess.run(["/usr/bin/python3", "-S", "-E", timed, told.name, *command], cwd=folder, stdin=subprocess.DEVNULL, stdout=rows, stderr=notes, check=True, **more)
-        status, seconds, peak = told.read().split()
+        status, seconds, processor, peak = told.read().split()
         notes.seek(0)
-        return Ended(int(status), float(seconds), int(peak) / 1024, notes.read().decode())
+        return Ended(int(status), float(seconds), float(processor), int(peak) / 1024, notes.read().decode())
 
 
 def by_program(command: str, question: str, words: list[str], out: str) -> Ended:
