@@ -491,7 +491,8 @@ class Planner:
         if not visible:
             return text
         parts = [f"{part.name.text}{written(part.columns)} AS ({self.planned_text(part.query)})" for part in visible]
-        return f"WITH {', '.join(parts)}\n{text}"
+        recursive = "RECURSIVE " * any(part.query.refused for part in visible)
+        return f"WITH {recursive}{', '.join(parts)}\n{text}"
 
     def text_of(self, piece: Tokens) -> str:
         """Tokens as they were written, with the blocks among them in their planned order."""
@@ -550,9 +551,11 @@ class Planner:
         return list(dict.fromkeys(recursive)) + [f"{plan.core.called}: {plan.refused}" for plan in self.plans.values() if plan.refused]
 
     def true_rows(self) -> None:
-        """Asks for the rows of each level, of the blocks that stand by themselves."""
+        """Asks for the rows of each level, of the blocks that stand by themselves and are no part of a WITH RECURSIVE."""
         self.engine.keep_order()
         for start, block in self.blocks.items():
+            if any(part.query.refused and part.query.start <= start < part.query.end for part in self.query.parts):
+                continue
             if any(self.aliases_outside(block.core)) and any(map(block._names_outside, [*block.statement.conditions, *(
                     piece for step in block.steps for piece in step.conditions)])):
                 continue
