@@ -272,7 +272,7 @@ class Orders(OnEachEngine):
 
     def test_a_budget_is_for_every_level(self) -> None:
         planner, plan = self.planned("SELECT d.x FROM d JOIN d AS e ON d.x = e.x", reduce=False)
-        self.assertEqual([level.bound for level in plan.levels], [10, 10])
+        self.assertEqual([level.bound for level in plan.levels], [10, 1])
         with self.assertRaises(PastBudget) as refused:
             planner.plan(1, 9, False)
         self.assertEqual(refused.exception.least, 10)
