@@ -1,4 +1,5 @@
-"""What each of these faults has to be told: its place, its cause and its remedy. The list was written before any explanation was looked at.
+"""What each of these faults has to be told: its place, its cause and its remedy. The list was written before any of them was run, though not
+before the code of the explanations was read.
 
 A word of a list stands for all its alternatives, which `|` separates; one of them has to be said. Cause and remedy are looked for in the
 sentences alone, and not in the excerpt of the text, which shows what was typed anyway.
