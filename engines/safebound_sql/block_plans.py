@@ -17,7 +17,7 @@ from .choosing import choosing
 from .counting import Counts, counts_among, histograms
 from .engine import Engine
 from .faults import EngineFault, Missing, NoBound, PastBudget, Refused, WrongCounts
-from .levels import MOST_BUDGET, NO_VALUE, library
+from .levels import MOST_BUDGET, library, lists_of
 from .meaning import refuse_fickle
 from .names import Names, alias_of, subqueries
 from .progress import Progress
@@ -229,7 +229,7 @@ class Block:
         counts = self._counted()
         proved = library()
         names = [entry.name for entry in self.query.entries]
-        lists = {column: proved.compress(runs or NO_VALUE, self.plans.accuracy) for column, runs in counts.runs.items()}
+        lists = lists_of(counts, self.plans.accuracy)
         equalities = [tuple((names[side.entry], side.column.name) for side in equality) for equality in self.query.equalities]
         self.bounds = proved.Query(names, equalities, counts.rows, lists).bounds()
         self.order = self._order(proved, names, equalities, counts, lists)

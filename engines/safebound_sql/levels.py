@@ -13,9 +13,6 @@ from .query import Query
 
 MOST_BUDGET = 2**59
 
-# The list of a column in which no row has a value: it says more than there is.
-NO_VALUE = [(1, 1)]
-
 Shape = Union[int, "tuple[Shape, Shape]"]
 
 
@@ -81,8 +78,7 @@ def planned(query: Query, counts: Counts, accuracy: int, budget: int, tree: bool
     """
     proved = library()
     try:
-        lists = {column: proved.compress(runs or NO_VALUE, accuracy) for column, runs in counts.runs.items()}
-        known = proved.Query([entry.name for entry in query.entries], _equalities(query), counts.rows, lists)
+        known = proved.Query([entry.name for entry in query.entries], _equalities(query), counts.rows, lists_of(counts, accuracy))
         levels = _levels_of_tree(query, known.best_tree(budget), counts) if tree else _levels(query, known.best_order(budget))
     except proved.BudgetExceeded as error:
         raise PastBudget(budget, error.least) from None
@@ -93,6 +89,12 @@ def planned(query: Query, counts: Counts, accuracy: int, budget: int, tree: bool
     except proved.WrongValue as error:
         raise WrongCounts(str(error)) from None
     return Plan(query, counts, levels[-1].shape, levels, tree)
+
+
+def lists_of(counts: Counts, accuracy: int) -> dict:
+    """The list of each counted column, as the library takes it."""
+    proved = library()
+    return {column: proved.compress(runs, accuracy) if runs else proved.NO_VALUES for column, runs in counts.runs.items()}
 
 
 def _equalities(query: Query) -> list:

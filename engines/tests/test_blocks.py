@@ -46,6 +46,7 @@ class Blocks(InBlocks):
     CREATE TABLE b (x INTEGER, y INTEGER, z INTEGER);
     CREATE TABLE c (y INTEGER, w INTEGER);
     CREATE TABLE k (x INTEGER PRIMARY KEY);
+    CREATE TABLE v (x INTEGER);
     """
 
     @classmethod
@@ -54,6 +55,7 @@ class Blocks(InBlocks):
         cls.base.fill("b", [(n % 5, n % 4, n) for n in range(20)])
         cls.base.fill("c", [(n % 3, n) for n in range(12)])
         cls.base.fill("k", [(n,) for n in range(3)])
+        cls.base.fill("v", [(None,)] * 5)
 
     def bounds(self, text: str, *bounds: list[int]) -> None:
         """The bounds of the blocks' levels, the inner blocks first, as they are counted by hand."""
@@ -69,6 +71,8 @@ class Blocks(InBlocks):
         self.bounds("SELECT k.x, b.z FROM k LEFT JOIN b ON k.x = b.x AND b.z < 5", [3, 6])
         self.bounds("SELECT k.x, b.z FROM b RIGHT JOIN k ON k.x = b.x", [20, 15])
         self.bounds("SELECT k.x, b.z FROM k FULL JOIN b ON k.x = b.x", [3, 35])
+        # No row of v has a value.
+        self.bounds("SELECT k.x FROM k LEFT JOIN v ON k.x = v.x", [3, 3])
         for text in (
             "SELECT a.p, b.z, c.w FROM a LEFT JOIN b ON a.x = b.x AND b.z > 4 LEFT JOIN c ON c.y = b.y WHERE a.p > 3 AND b.z IS NULL OR c.w = 1",
             "SELECT a.p, b.z FROM a LEFT JOIN b ON a.x = b.x WHERE b.z IS NULL AND a.t = 't1'",

@@ -50,11 +50,14 @@ class Counted(OnEachEngine):
         self.assertEqual(self.counts(text, reduce=True).rows, {"p": 1, "q": 1})
 
     def test_a_column_without_values(self) -> None:
+        """Its rows join nothing. A list of one value would say that it joins the two rows of a's value 1."""
         text = "SELECT a.y FROM a, n WHERE a.x = n.x"
-        for reduce in (True, False):
-            planner, plan = self.planned(text, reduce)
-            self.assertEqual(plan.counts.runs["n", "x"], [])
-            self.assertEqual(self.never_under(planner, plan, text)[-1], 0)
+        for reduce, bounds in ((True, [0, 0]), (False, [3, 0])):
+            for tree in (False, True):
+                planner, plan = self.planned(text, reduce, tree=tree)
+                self.assertEqual(plan.counts.runs["n", "x"], [])
+                self.assertEqual([level.bound for level in plan.levels], bounds[tree:])
+                self.assertEqual(self.never_under(planner, plan, text)[-1], 0)
 
     def test_an_entry_that_nothing_joins(self) -> None:
         counts = self.counts("SELECT a.y FROM a, b WHERE b.z > 5", reduce=True)

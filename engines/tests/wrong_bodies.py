@@ -74,6 +74,8 @@ EDITS = [
     Edit("a budget isn't compared with the levels", "levels.py",
          "_levels(query, known.best_order(budget))", "_levels(query, known.best_order(MOST_BUDGET))",
          "test_meaning.Orders.test_a_budget_is_for_every_level"),
+    Edit("a column without values has one", "levels.py", "if runs else proved.NO_VALUES", "if runs else [(1, 1)]",
+         "test_meaning.Counted.test_a_column_without_values"),
     Edit("counts of two snapshots, in SQLite", "sqlite.py", '        self.connection.execute("BEGIN")\n', "",
          "test_meaning.Snapshots.test_rows_that_come_between"),
     Edit("counts of two snapshots, in PostgreSQL", "postgres.py", "IsolationLevel.REPEATABLE_READ", "IsolationLevel.READ_COMMITTED",
