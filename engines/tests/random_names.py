@@ -3,14 +3,17 @@
 from __future__ import annotations
 
 import random
+import re
 from decimal import Decimal
 
 TABLES = 3
 SHARED = ("id", "k", "w")
 TYPES_OF_ID = {
     "sqlite": ("INTEGER", "INTEGER", "REAL", "NUMERIC"),
-    "postgres": ("INTEGER", "INTEGER", "BIGINT", "NUMERIC"),
+    "postgres": ("INTEGER", "INTEGER", "BIGINT", "NUMERIC", "NUMERIC(7, 1)"),
 }
+# Of two of these types PostgreSQL converts the one before to the one behind, and both to NUMERIC.
+WIDER = ("INTEGER", "BIGINT", "NUMERIC(7, 1)", "NUMERIC")
 
 
 class RandomNames:
@@ -55,6 +58,18 @@ class RandomNames:
         conditions = [text for text in (self._condition() for _ in range(choose((0, 1, 1, 2)))) if text]
         where = f" WHERE {' AND '.join(conditions)}" if conditions else ""
         return choose((self._plain, self._plain, self._grouped))(sources, where)
+
+    def converts_both(self, schema: str) -> bool:
+        """Whether USING merges two columns into one that is neither of them: a whole number with one of a digit behind the point."""
+        if self.engine == "sqlite" or "id" not in self.merged:
+            return False
+        types = re.findall(r"\(id (.*?), k", schema)
+        merged, *others = [types[table] for _, table in self.entries]
+        for other in others:
+            if merged in ("INTEGER", "BIGINT") and other == "NUMERIC(7, 1)":
+                return True
+            merged = max(merged, other, key=WIDER.index)
+        return False
 
     def _condition(self) -> str:
         left, right = self._operand(), self._operand()

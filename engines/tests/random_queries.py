@@ -3,9 +3,15 @@
 from __future__ import annotations
 
 import datetime
+import os
 import random
 from dataclasses import dataclass, field
 from decimal import Decimal
+from typing import Callable
+
+QUERIES = int(os.environ.get("SAFEBOUND_SQL_QUERIES", "20"))
+NAMED = int(os.environ.get("SAFEBOUND_SQL_OUTPUTS", "20"))
+SEED = int(os.environ.get("SAFEBOUND_SQL_SEED", "1"))
 
 TABLES = 4
 TYPES = {"k": "INTEGER", "m": "BIGINT", "w": "TEXT", "v": "VARCHAR(9)", "d": "DATE", "n": "NUMERIC(6, 2)"}
@@ -24,6 +30,19 @@ OUTPUTS = (
     "{k}, {W}", "*", "count(*)", "DISTINCT {k}, {K}", "min({w}), max({M}), count({d})", "{a}.*, {N}",
     "{w} AS word, {n} * 2 AS twice, {D}",
 )
+
+
+def in_tens(queries: int) -> Callable[[type], type]:
+    """A test of a class for each ten random queries, which share their tables: its `ask` gets their numbers."""
+
+    def with_tests(test: type) -> type:
+        for begin in range(SEED, SEED + queries, 10):
+            numbers = range(begin, min(begin + 10, SEED + queries))
+            setattr(test, f"test_queries_from_{begin:05}", lambda self, numbers=numbers: self.ask(numbers))
+        test.apart = True
+        return test
+
+    return with_tests
 
 
 @dataclass

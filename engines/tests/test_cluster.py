@@ -11,10 +11,10 @@ from fractions import Fraction
 
 import test_kept
 import test_meaning
-from bases import CLUSTER, ROOT, ClusterBase, OnEachEngine, counted, on_cluster
+from bases import CLUSTER, DATABASE, ROOT, ClusterBase, OnEachEngine, counted, on_cluster
 from process import Process
-from random_queries import Randomly
-from test_random import RandomQueries
+from random_queries import QUERIES, Randomly, RandomQuery, in_tens
+from test_random import AnyQueries
 from safebound_sql.command import opened
 from safebound_sql.counting import Counts, counts_of
 from safebound_sql.kept import Kept
@@ -234,13 +234,14 @@ CREATE TABLE b (z INTEGER, x INTEGER, y INTEGER, v VARCHAR(9), t TEXT)"""
         coordinator = self.base.cluster.coordinator
         options = self.base.on(coordinator, "SELECT umoptions FROM pg_user_mapping LIMIT 1")[0][0]
         password = next(option.partition("=")[2] for option in options if option.startswith("password="))
-        self.base.on(coordinator, "CREATE ROLE reader LOGIN; GRANT USAGE ON SCHEMA public TO reader")
-        self.addCleanup(self.base.on, coordinator, "DROP OWNED BY reader; DROP ROLE reader")
-        self.base.on(coordinator, f"GRANT SELECT ON {', '.join(tables)} TO reader")
+        reader = f"reader_{DATABASE}"
+        self.base.on(coordinator, f"CREATE ROLE {reader} LOGIN; GRANT USAGE ON SCHEMA public TO {reader}")
+        self.addCleanup(self.base.on, coordinator, f"DROP OWNED BY {reader}; DROP ROLE {reader}")
+        self.base.on(coordinator, f"GRANT SELECT ON {', '.join(tables)} TO {reader}")
         for number in (1, 2):
             mapping = f"OPTIONS (user 'postgres', password '{password}')"
-            self.base.on(coordinator, f"CREATE USER MAPPING FOR reader SERVER server{number} {mapping}")
-        return self.base.url.replace("//postgres@", "//reader@")
+            self.base.on(coordinator, f"CREATE USER MAPPING FOR {reader} SERVER server{number} {mapping}")
+        return self.base.url.replace("//postgres@", f"//{reader}@")
 
     def test_parts_that_may_not_be_read(self) -> None:
         """Whoever may read the table and not its parts gets the same counts, by the rows."""
@@ -265,18 +266,14 @@ CREATE TABLE b (z INTEGER, x INTEGER, y INTEGER, v VARCHAR(9), t TEXT)"""
 
 
 @unittest.skipUnless(CLUSTER, "no cluster")
-class RandomQueriesOnCluster(RandomQueries, OnCluster):
+@in_tens(max(10, QUERIES // 4))
+class RandomQueriesOnCluster(AnyQueries, OnCluster):
     """Fewer than on one server."""
 
-    def queries(self) -> int:
-        return max(10, super().queries() // 4)
-
-    def check(self, randomly: Randomly, found) -> bool:
+    def check(self, randomly: Randomly, found: RandomQuery) -> bool:
         self.same_counts(found.text)
         return super().check(randomly, found)
 
-
-del RandomQueries
 
 for test in (test_meaning.Counted, test_meaning.Reduced, test_meaning.Snapshots, test_kept.Taken):
     globals()[test.__name__ + "OnCluster"] = on_cluster(test)

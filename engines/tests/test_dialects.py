@@ -17,19 +17,18 @@ import sqlglot
 from sqlglot import exp
 
 import random_names
-from bases import OnEachEngine, counted, on_postgres
+from bases import COUNTED, OnEachEngine, counted, on_postgres
 from process import PROGRAM
 from random_names import RandomNames
-from random_queries import TABLES, Randomly
+from random_queries import NAMED, QUERIES, TABLES, Randomly, in_tens
 from safebound_sql.counting import counts_of
 from safebound_sql.dialects import DIALECTS, Unreached
 from safebound_sql.faults import Refused
 from safebound_sql.levels import MOST_BUDGET, entries_of
 from safebound_sql.planner import Planner
 
-QUERIES = min(int(os.environ.get("SAFEBOUND_SQL_QUERIES", "20")), 60)
-SEED = int(os.environ.get("SAFEBOUND_SQL_SEED", "1"))
-QUERIES_OF_A_DATABASE = 10
+# Each query is asked in five dialects.
+MOST = 60
 TAKEN_BY_POSTGRES = ("trino", "duckdb")
 
 SCHEMA = """
@@ -66,12 +65,13 @@ class Dialects(OnEachEngine):
         return self.base.rows(last)
 
 
+@in_tens(min(QUERIES, MOST))
 class RandomDialects(Dialects):
-    def test_random_queries(self) -> None:
+    def ask(self, numbers: range) -> None:
         joined = 0
-        for number in range(SEED, SEED + QUERIES):
+        for number in numbers:
             randomly = Randomly(number, self.base.engine)
-            if (number - SEED) % QUERIES_OF_A_DATABASE == 0:
+            if number == numbers[0]:
                 # A table that SQLite makes of a query loses collations, as those of other engines don't.
                 schema = randomly.schema().replace(" COLLATE NOCASE", "")
                 self.base.script(schema)
@@ -81,7 +81,8 @@ class RandomDialects(Dialects):
             for dialect in DIALECTS if self.base.engine == "sqlite" else TAKEN_BY_POSTGRES:
                 with self.subTest(number=number, query=found.text, dialect=dialect):
                     joined += self.check(dialect, randomly, re.sub(r"DROP TABLE IF EXISTS \w+;", "", schema), found)
-        self.assertGreater(joined, QUERIES // 2)
+                    COUNTED[f"random queries answered in {dialect} on {self.base.engine}"] += 1
+        self.assertGreater(joined, len(numbers) // 2)
 
     def check(self, dialect: str, randomly: Randomly, schema: str, found) -> bool:
         """Checks one query on one engine. Answers whether bounds had an equality to go by."""
@@ -100,13 +101,14 @@ class RandomDialects(Dialects):
         return bool(planner.query.equalities)
 
 
+@in_tens(min(NAMED, MOST // 3))
 class RandomNamesInDialects(Dialects):
     """Outputs with names of columns, over USING: the script's rows are the query's, in its order."""
 
-    def test_random_queries(self) -> None:
-        for number in range(SEED, SEED + max(QUERIES // 3, 1)):
+    def ask(self, numbers: range) -> None:
+        for number in numbers:
             randomly = RandomNames(number, "sqlite")
-            if (number - SEED) % QUERIES_OF_A_DATABASE == 0:
+            if number == numbers[0]:
                 schema = re.sub("REAL|NUMERIC", "INTEGER", randomly.schema())
                 self.base.script(schema)
                 for table in range(random_names.TABLES):

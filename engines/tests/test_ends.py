@@ -11,7 +11,7 @@ import tempfile
 import time
 import unittest
 
-from bases import POSTGRES, OnEachEngine, PostgresBase, SqliteBase, on_postgres
+from bases import DATABASE, POSTGRES, OnEachEngine, PostgresBase, SqliteBase, on_postgres
 from process import PROGRAM, Process
 
 
@@ -52,7 +52,9 @@ class Ends(OnEachEngine, Process):
                 os.close(ours), os.close(theirs)
             if self.base.engine == "postgres":
                 time.sleep(0.5)
-                told = self.base.rows("SELECT count(*) FROM pg_stat_activity WHERE query LIKE '%long AS c%' AND pid <> pg_backend_pid()")
+                told = self.base.rows(
+                    "SELECT count(*) FROM pg_stat_activity WHERE query LIKE '%long AS c%' AND pid <> pg_backend_pid() AND datname = current_database()"
+                )
                 self.assertEqual(told[0][0], 0)
 
     def test_a_full_disk(self) -> None:
@@ -95,18 +97,19 @@ class EndsOfPostgres(OnEachEngine, Process):
 
     def test_rights_on_columns(self) -> None:
         """A column that may not be read isn't carried for a condition in which its name is another word."""
-        self.base.script("""
-            DO $$ BEGIN CREATE ROLE reader LOGIN; EXCEPTION WHEN duplicate_object THEN NULL; END $$;
-            GRANT SELECT (x, y, m) ON a TO reader; GRANT SELECT ON b TO reader; GRANT USAGE ON SCHEMA public TO reader
+        reader = f"reader_{DATABASE}"
+        self.base.script(f"""
+            DO $$ BEGIN CREATE ROLE {reader} LOGIN; EXCEPTION WHEN duplicate_object THEN NULL; END $$;
+            GRANT SELECT (x, y, m) ON a TO {reader}; GRANT SELECT ON b TO {reader}; GRANT USAGE ON SCHEMA public TO {reader}
         """)
         try:
-            url = POSTGRES.replace("//postgres@", "//reader@")
+            url = POSTGRES.replace("//postgres@", f"//{reader}@")
             text = "SELECT a.x FROM a, b WHERE a.x = b.x AND a.m = 'sad'::mood AND a.y + b.x > 0"
             text += " AND (b.s::timestamp AT TIME ZONE 'UTC') > '2019-01-01' ORDER BY 1"
             ended = self.tried("run", "--budget", "99", text=text, db=url)
             self.assertEqual((ended.returncode, ended.stdout), (0, "x\n3\n4\n5\n"), ended.stderr)
         finally:
-            self.base.script("DROP OWNED BY reader; DROP ROLE reader")
+            self.base.script(f"DROP OWNED BY {reader}; DROP ROLE {reader}")
 
     def test_what_the_engine_refuses_is_told_first(self) -> None:
         """A group by a key whose other column can't be grouped by: the plan says so, and nothing is admitted."""
@@ -141,20 +144,21 @@ class EndsOfPostgres(OnEachEngine, Process):
         self.assertIn("audit: level 1 has 5 rows, and its bound is 0", ended.stderr)
 
     def test_other_encodings(self) -> None:
-        for name, encoding in (("latin", "LATIN1"), ("bytes", "SQL_ASCII")):
+        for encoding in ("LATIN1", "SQL_ASCII"):
+            name, latin = f"{encoding.lower()}_{DATABASE}", encoding == "LATIN1"
             self.base.script(f"DROP DATABASE IF EXISTS {name}")
             self.base.script(f"CREATE DATABASE {name} ENCODING '{encoding}' LC_COLLATE 'C' LC_CTYPE 'C' TEMPLATE template0")
             try:
-                url = POSTGRES.replace("/postgres?", f"/{name}?")
+                url = POSTGRES.replace(f"/{DATABASE}?", f"/{name}?")
                 import psycopg
                 with psycopg.connect(url, autocommit=True, client_encoding="utf8") as there:
                     there.execute("CREATE TABLE a (x INTEGER, \"größe\" TEXT)")
                     there.execute("INSERT INTO a VALUES (1, 'ä')")
-                text = 'SELECT "é".x AS "ß", größe FROM a AS "é", a AS "ü" WHERE "é".x = "ü".x' if name == "latin" else "SELECT x FROM a"
-                if name == "latin":
+                text = 'SELECT "é".x AS "ß", größe FROM a AS "é", a AS "ü" WHERE "é".x = "ü".x' if latin else "SELECT x FROM a"
+                if latin:
                     text = text.replace("größe", '"é"."größe"')
                 ended = self.tried("run", "--budget", "9", text=text, db=url)
-                if name == "latin":
+                if latin:
                     self.assertEqual((ended.returncode, ended.stdout), (0, "ß,größe\n1,ä\n"), ended.stderr)
                 else:
                     self.assertEqual(ended.returncode, 5)

@@ -11,12 +11,12 @@ from pathlib import Path
 
 from bases import OnEachEngine, SqliteBase, on_postgres
 from process import PROGRAM, Process
-from random_queries import TABLES, Randomly
+from random_queries import QUERIES, TABLES, Randomly, in_tens
 from safebound_sql.faults import WrongCounts
 from safebound_sql.kept import Kept
 from safebound_sql.levels import MOST_BUDGET
 
-QUERIES = min(int(os.environ.get("SAFEBOUND_SQL_QUERIES", "20")), 60)
+MOST = 60
 JOINED = "SELECT a.y, b.z FROM a JOIN b ON a.x = b.x"
 
 
@@ -172,10 +172,11 @@ OtherTypesOnPostgres = on_postgres(OtherTypes)
 del OtherTypes
 
 
+@in_tens(min(QUERIES, MOST))
 class RandomlyKept(WithKept):
-    def test_random_queries(self) -> None:
+    def ask(self, numbers: range) -> None:
         taken = 0
-        for number in range(1, QUERIES + 1):
+        for number in numbers:
             randomly = Randomly(number, self.base.engine)
             self.doCleanups()
             WithKept.setUp(self)
@@ -195,7 +196,7 @@ class RandomlyKept(WithKept):
                 plan, _ = self.by_kept(found.text, tree=randomly.random.random() < 0.3)
                 self.assertEqual(plan.changed, {})
                 taken += len(plan.kept)
-        self.assertGreater(taken, QUERIES // 2)
+        self.assertGreater(taken, len(numbers) // 2)
 
 
 RandomlyKeptOnPostgres = on_postgres(RandomlyKept)

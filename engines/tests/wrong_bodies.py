@@ -4,28 +4,30 @@ from __future__ import annotations
 
 import os
 import shutil
-import subprocess
 import sys
 import tempfile
-from concurrent.futures import ThreadPoolExecutor
+import time
 from dataclasses import dataclass
 from pathlib import Path
 
-HERE = Path(__file__).resolve().parent
-PACKAGE = HERE.parent / "safebound_sql"
-ROOT = HERE.parents[1]
-WANTS_SERVERS = ("OnPostgres", "OfPostgres", "test_cluster")
+from side_by_side import PASSED_OVER, Done, Result, tests
+
+PACKAGE = Path(__file__).resolve().parents[1] / "safebound_sql"
 
 
 @dataclass
 class Edit:
-    """What goes wrong, in which file, by which edit, and the test that fails."""
+    """What goes wrong, in which file, by which edit, and the test that fails.
+
+    The gate tries those with which a bound could be too low or a row wrong, where no other one of them is like it.
+    """
 
     name: str
     file: str
     old: str
     new: str
     test: str
+    gate: bool = False
 
 
 EDITS = [
@@ -33,13 +35,13 @@ EDITS = [
          "test_meaning.Counted.test_null_is_no_value"),
     Edit("an equality of a number with a text is an edge", "meaning.py",
          "one.column.kind is None or one.column.kind != other.column.kind", "one.column.kind is None",
-         "test_meaning.EdgesOfSqlite.test_numbers_meet_texts"),
+         "test_meaning.EdgesOfSqlite.test_numbers_meet_texts", gate=True),
     Edit("columns of different types are an edge", "meaning.py",
          "one.column.kind is None or one.column.kind != other.column.kind", "one.column.kind is None",
-         "test_meaning.EdgesOfPostgres.test_which_columns_meet"),
+         "test_meaning.EdgesOfPostgres.test_which_columns_meet", gate=True),
     Edit("collations aren't looked at", "sqlite.py",
          "(affinity(declared, strict), collation) if collation", "affinity(declared, strict) if collation",
-         "test_meaning.EdgesOfSqlite.test_which_columns_meet"),
+         "test_meaning.EdgesOfSqlite.test_which_columns_meet", gate=True),
     Edit("ANY of a strict table is numeric", "sqlite.py", ' or (strict and name == "ANY")', "",
          "test_meaning.EdgesOfSqlite.test_any_of_a_strict_table"),
     Edit("the histogram is of values without the entry's own condition", "counting.py",
@@ -49,7 +51,7 @@ EDITS = [
     Edit("an OR over two entries is an edge", "reading.py",
          '        if word.says("OR"):\n            return [condition]\n',
          '        if word.says("OR"):\n            parts.append([])\n            continue\n',
-         "test_meaning.Edges.test_or_over_two_entries"),
+         "test_meaning.Edges.test_or_over_two_entries", gate=True),
     Edit("OR binds more than AND", "reading.py",
          '        if word.says("OR"):\n            return [condition]\n', "", "test_meaning.Edges.test_or_over_two_entries"),
     Edit("an ON condition of an entry is lost", "reading.py",
@@ -58,7 +60,7 @@ EDITS = [
     Edit("a self-join's aliases are mixed", "names.py",
          "{entry.name: entry.number for entry in self.entries}",
          "{entry.name: max(other.number for other in self.entries if other.table == entry.table) for entry in self.entries}",
-         "test_meaning.Counted.test_a_table_joined_with_itself"),
+         "test_meaning.Counted.test_a_table_joined_with_itself", gate=True),
     Edit("the order of the SQL isn't the planned one", "writing.py",
          "joined = writing.below_the_outputs(plan.shape)",
          "joined = writing.below_the_outputs(__import__('functools').reduce(lambda a, b: (a, b), range(len(self.query.entries))))",
@@ -77,31 +79,31 @@ EDITS = [
     Edit("a column without values has one", "levels.py", "if runs else proved.NO_VALUES", "if runs else [(1, 1)]",
          "test_meaning.Counted.test_a_column_without_values"),
     Edit("counts of two snapshots, in SQLite", "sqlite.py", '        self.connection.execute("BEGIN")\n', "",
-         "test_meaning.Snapshots.test_rows_that_come_between"),
+         "test_meaning.Snapshots.test_rows_that_come_between", gate=True),
     Edit("counts of two snapshots, in PostgreSQL", "postgres.py", "IsolationLevel.REPEATABLE_READ", "IsolationLevel.READ_COMMITTED",
-         "test_meaning.SnapshotsOnPostgres.test_rows_that_come_between"),
+         "test_meaning.SnapshotsOnPostgres.test_rows_that_come_between", gate=True),
     Edit("rows are joined that weren't counted", "writing.py", "if reduce else Parts()", "if False else Parts()",
-         "test_meaning.Reduced.test_the_counted_rows_are_joined"),
+         "test_meaning.Reduced.test_the_counted_rows_are_joined", gate=True),
     Edit("functions that answer anew are taken", "meaning.py", "for name, why in engine.fickle(set(asked)).items():", "for name, why in ():",
-         "test_refusals.Refusals.test_random"),
+         "test_refusals.Refusals.test_random", gate=True),
     Edit("views aren't looked into", "meaning.py", "for name, why in _fickle_views(set(tables), engine):", "for name, why in ():",
          "test_refusals.Refusals.test_views"),
     Edit("subqueries may name entries", "names.py", "            if why:\n", "            if False:\n",
-         "test_refusals.Refusals.test_subqueries"),
+         "test_refusals.Refusals.test_subqueries", gate=True),
     Edit("a word of the language is a column", "names.py",
          " or self.key(token) in self.engine.reserved", "",
          "test_meaning.EdgesOfPostgres.test_a_word_of_the_language_is_no_column"),
     Edit("a merged name is any entry's, above the join", "meaning.py", "query.frame = list(_frame(frame))", "query.frame = []",
-         "test_corners.NamesOnPostgres.test_aliases_like_columns_over_using"),
+         "test_corners.NamesOnPostgres.test_aliases_like_columns_over_using", gate=True),
     Edit("USING always takes the left column", "postgres.py", "        return 0 if plain[0] else 1 if plain[1] else 0 if common == own[0] else None",
-         "        return 0", "test_corners.CornersOfPostgres.test_using_across_types"),
+         "        return 0", "test_corners.CornersOfPostgres.test_using_across_types", gate=True),
     Edit("a merged column goes by its name twice, in SQLite", "meaning.py",
          "query.renamed = {named for named in names.merged_away if self.engine.key(named.column.name, True) in bare}", "query.renamed = set()",
          "test_corners.Names.test_aliases_like_columns_over_using"),
     Edit("rows of two parts are mixed", "writing.py", " ON {alias}.{numbered} = {part}.{numbered}", "",
-         "test_corners.Names.test_aliases_like_columns_in_trees"),
+         "test_corners.Names.test_aliases_like_columns_in_trees", gate=True),
     Edit("views may number rows that tie", "choosing.py", "if frames or not (function and function.says(*WINDOWS_WITH_TIES)):", "if False:",
-         "test_corners.ViewsThatChoose.test_they_are_refused"),
+         "test_corners.ViewsThatChoose.test_they_are_refused", gate=True),
     Edit("DISTINCT ON chooses nothing", "choosing.py", 'token.says("DISTINCT") and behind.says("ON")', "False",
          "test_corners.ViewsThatChooseOnPostgres.test_they_are_refused"),
     Edit("arrays have an order of their own", "choosing.py", "not _in_whole_order(pieces, at + 1)", "False",
@@ -139,13 +141,13 @@ EDITS = [
          "        if rows > level.bound:\n            raise AboveBound(number, rows, level.bound)\n", "        pass\n",
          "test_ends.EndsOfPostgres.test_rows_above_a_bound"),
     Edit("rows without a partner aren't counted", "block_plans.py", '"LEFT": matched + kinds', '"LEFT": matched',
-         "test_blocks.Blocks.test_outer_joins"),
+         "test_blocks.Blocks.test_outer_joins", gate=True),
     Edit("the right side's rows are those with a partner", "block_plans.py", '"RIGHT": matched + alone', '"RIGHT": matched',
          "test_blocks.Blocks.test_outer_joins"),
     Edit("a condition on a missing entry is its own", "block_plans.py", "settled = entries <= set(self.island) and", "settled =",
          "test_blocks.Blocks.test_outer_joins"),
     Edit("a value of a query in FROM stands there once", "block_plans.py", "[(1, rows) if once else (rows, 1)]", "[(1, rows)]",
-         "test_blocks.BlocksOnPostgres.test_queries_in_from_and_with"),
+         "test_blocks.BlocksOnPostgres.test_queries_in_from_and_with", gate=True),
     Edit("UNION has the rows of one side", "block_plans.py", 'total = sum(rows) if first == "UNION"', 'total = rows[0] if first == "UNION"',
          "test_blocks.BlocksOnPostgres.test_queries_in_from_and_with"),
     Edit("an entry of a block outside is no other's", "block_plans.py", "        outer = self._names_outside(piece)\n", "        outer = False\n",
@@ -157,7 +159,7 @@ EDITS = [
     Edit("QUALIFY is a part of a condition", "dialects.py", '"QUALIFY", ', "",
          "test_dialects.RefusedByDialects.test_rows_that_are_chosen"),
     Edit("columns of any type of a schema file meet", "schema_file.py", "return name if EQUAL_AS_GROUPED.fullmatch(name) else None",
-         'return "any"', "test_dialects.Edges.test_which_columns_meet"),
+         'return "any"', "test_dialects.Edges.test_which_columns_meet", gate=True),
     Edit("whole numbers and texts of a schema file meet", "schema_file.py", 'return "a whole number"', 'return "a text"',
          "test_dialects.Edges.test_which_columns_meet"),
     Edit("a collation of a schema file isn't looked at", "schema_file.py", 'any(token.says("COLLATE") for token in item[end:])', "False",
@@ -198,7 +200,7 @@ EDITS = [
          "answer = [line for line in answer if self.meaning.names.by_alias[line[0]] not in taken]\n"
          "        answer += [(self.query.entries[number].name, \"\", table.rows, 1) for number, table in taken.items()]\n"
          "        rows = {entry: degree for entry, column, degree, _ in answer if column == \"\"}",
-         "test_kept.Taken.test_rows_that_came_later"),
+         "test_kept.Taken.test_rows_that_came_later", gate=True),
     Edit("degrees of new rows stand beside the old ones", "kept.py", "proved.append(old, new)", "sorted(old + new, reverse=True)",
          "test_kept.Taken.test_rows_that_are_appended"),
     Edit("NULLs of several servers are counted as one value", "servers.py", "SELECT COUNT({value}) AS n", "SELECT COUNT(*) AS n",
@@ -207,7 +209,7 @@ EDITS = [
          "SELECT CAST(SUM(n) AS BIGINT) AS d FROM ({counts}) AS servers GROUP BY v", "SELECT n AS d FROM ({counts}) AS servers",
          "test_cluster.OtherTables.test_a_value_of_two_servers"),
     Edit("a server isn't asked", "servers.py", "return spread.parts if spread", "return spread.parts[:1] if spread",
-         "test_cluster.OtherTables.test_a_value_of_two_servers"),
+         "test_cluster.OtherTables.test_a_value_of_two_servers", gate=True),
     Edit("the rows of a table are fetched to be counted", "servers.py", "            return \"COUNT(*)\", self._rows(*self._tables())\n",
          "            return \"COUNT(*)\", self._rows(*self._tables())\n        return \"COUNT(*)\", self._rows(self.entry.table)\n",
          "test_cluster.TheShop.test_no_whole_table_is_fetched"),
@@ -240,43 +242,34 @@ EDITS = [
 ]
 
 
-def tried(edit: Edit) -> str:
-    """What became of an edit: caught, not caught, or no such text."""
+def tried(edit: Edit) -> Done:
+    """Whether its test fails, in this process, in which nothing of safebound_sql is loaded."""
+    begin = time.monotonic()
     with tempfile.TemporaryDirectory() as folder:
-        copy = Path(shutil.copytree(PACKAGE, Path(folder) / "safebound_sql"))
-        text = (copy / edit.file).read_text()
-        if text.count(edit.old) != 1:
-            return f"stands {text.count(edit.old)} times"
-        (copy / edit.file).write_text(text.replace(edit.old, edit.new))
-        program = shutil.copy(PACKAGE.parent / "safebound-sql", folder)
-        path = os.pathsep.join([folder, str(HERE), str(HERE.parent / "servers"), *filter(None, [os.environ.get("PYTHONPATH")]), str(ROOT / "python")])
-        ran = subprocess.run(
-            [sys.executable, "-B", "-m", "unittest", edit.test], cwd=HERE, env={**os.environ, "PYTHONPATH": path, "SAFEBOUND_SQL_PROGRAM": program},
-            capture_output=True, text=True,
-        )
-    if "ImportError" in ran.stderr or "SyntaxError" in ran.stderr:
-        return "doesn't run"
-    return "caught" if ran.returncode else "not caught"
+        stands = _edited(edit, Path(folder))
+        if stands != 1:
+            return _answer(edit, begin, f"its text stands {stands} times")
+        os.environ["SAFEBOUND_SQL_PROGRAM"] = shutil.copy(PACKAGE.parent / "safebound-sql", folder)
+        sys.path.insert(0, folder)
+        results = tests([edit.test]).results
+    said = "\n".join(result.said for result in results)
+    if "ImportError" in said or "SyntaxError" in said:
+        return _answer(edit, begin, f"doesn't run: {said}")
+    if all(result.outcome == PASSED_OVER for result in results):
+        return Done([Result(edit.name, 0, 0, PASSED_OVER, said)])
+    return _answer(edit, begin, "" if any(result.outcome == "failed" for result in results) else f"not caught by {edit.test}")
 
 
-def result_of(edit: Edit) -> str:
-    if any(word in edit.test for word in WANTS_SERVERS) and not os.environ.get("SAFEBOUND_SQL_POSTGRES"):
-        return "passed over"
-    result = tried(edit)
-    print(f"{result:<12} {edit.name}", flush=True)
-    return result
+def _edited(edit: Edit, folder: Path) -> int:
+    """Makes a package that has the edited file, and all others from the program's own. Answers how often the text stands there."""
+    text = (PACKAGE / edit.file).read_text()
+    package = folder / PACKAGE.name
+    package.mkdir()
+    (package / edit.file).write_text(text.replace(edit.old, edit.new))
+    (package / "__init__.py").write_text(f"__path__.append({str(PACKAGE)!r})\n")
+    return text.count(edit.old)
 
 
-def main() -> int:
-    """Those on SQLite are tried beside those on the servers, which share their tables and so follow each other."""
-    on_servers = [edit for edit in EDITS if any(word in edit.test for word in WANTS_SERVERS)]
-    others = [edit for edit in EDITS if edit not in on_servers]
-    with ThreadPoolExecutor(1) as servers, ThreadPoolExecutor(max(1, (os.cpu_count() or 2) - 1)) as files:
-        results = [*servers.map(result_of, on_servers), *files.map(result_of, others)]
-    wrong = sum(result not in ("caught", "passed over") for result in results)
-    print(f"{len(EDITS)} wrong bodies, {wrong} of them not caught")
-    return 1 if wrong else 0
-
-
-if __name__ == "__main__":
-    sys.exit(main())
+def _answer(edit: Edit, begin: float, wrong: str) -> Done:
+    took = time.monotonic() - begin, sum(os.times()[:4])
+    return Done([Result(f"wrong body: {edit.name}", *took, "failed" if wrong else "ok", wrong)])
