@@ -226,6 +226,7 @@ class Block:
 
     def planned(self) -> BlockPlan:
         """Counts the block's entries and plans its joins."""
+        self.engine.joins(entry.about for entry in self.query.entries)
         counts = self._counted()
         proved = library()
         names = [entry.name for entry in self.query.entries]

@@ -109,6 +109,9 @@ class Engine(ABC):
         """Those of the names that are tables whose rows may be others in each statement, and why."""
         return {}
 
+    def joins(self, tables: Iterable[Table]) -> None:
+        """Sets what statements that join these tables need, from here on."""
+
     @abstractmethod
     def keep_order(self) -> None:
         """Makes the engine keep the order of joins in what follows."""

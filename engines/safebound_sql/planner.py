@@ -49,6 +49,7 @@ class Planner:
         self.progress = progress or Progress()
         self.meaning = Meaning(text, engine)
         self.query = self.meaning.query
+        engine.joins(entry.about for entry in self.query.entries)
         self.prefix = prefix_for([text])
         self.note = self._fits()
         self.reduce = self.reduce and not self.note

@@ -6,7 +6,7 @@ import codecs
 import contextlib
 import functools
 import json
-from typing import Iterator
+from typing import Iterable, Iterator
 
 from .engine import Engine, one_line, with_names
 from .faults import EngineFault, Missing, Refused
@@ -176,16 +176,18 @@ class Postgres(Engine):
         return Table(columns, {column.name: column for column in columns}, f"{self.cluster} {found[1]}", spread, tuple(found[2]))
 
     def _spread(self, table: int) -> Spread | None:
+        found = self.connection.execute(SPREAD, {"table": table}).fetchone()
+        return Spread(tuple(found[0]), found[1]) if found else None
+
+    def joins(self, tables: Iterable[Table]) -> None:
         """PostgreSQL takes the values that go along for ten, and would join by nested loops what it takes for few rows.
 
         Where there is no other way it still does, at a price that it would compile the statement for.
         """
-        found = self.connection.execute(SPREAD, {"table": table}).fetchone()
-        if found is None:
-            return None
-        self.connection.execute("SET LOCAL enable_nestloop = off; SET LOCAL jit = off")
-        self.keeps_order = f"{Postgres.keeps_order}; SET enable_nestloop = off; SET jit = off"
-        return Spread(tuple(found[0]), found[1])
+        if any(table.spread for table in tables):
+            with self._told():
+                self.connection.execute("SET LOCAL enable_nestloop = off; SET LOCAL jit = off")
+            self.keeps_order = f"{Postgres.keeps_order}; SET enable_nestloop = off; SET jit = off"
 
     def described(self, sql: str) -> list[Column]:
         """Nothing is run for it. A text's collation isn't told, so that texts have no kind."""

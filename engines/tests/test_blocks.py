@@ -113,9 +113,23 @@ class Blocks(InBlocks):
             ("SELECT a.p FROM a JOIN (b LEFT JOIN c ON b.y = c.y) ON a.x = b.x LEFT JOIN k ON k.x = a.x", "in parentheses"),
             ("SELECT a.p FROM a LEFT JOIN b USING (x)", "write out its columns with ON"),
             ("SELECT a.p FROM a LEFT JOIN b ON a.x = b.x, (VALUES (1)) AS v", "only a SELECT"),
+            ("SELECT a.p FROM a LEFT JOIN (b JOIN c ON b.y = c.y) ON a.x = b.x", "aren't bounded on this side"),
+            ("SELECT a.p FROM a, b RIGHT JOIN c ON b.y = c.y", "write the comma as CROSS JOIN"),
+            ("SELECT a.p FROM a, (SELECT x FROM b)", "a query in FROM needs an alias"),
+            ("WITH q AS (VALUES (1)) SELECT a.p FROM a, q", "VALUES at line 1, column 12: a query begins with SELECT"),
         ):
             done = self.tried("plan", text=text)
             self.assertIn(words, done.stdout + done.stderr)
+        if self.base.engine == "postgres":
+            done = self.tried("plan", text="SELECT s.n FROM (SELECT generate_series(1, p) AS n FROM a) AS s, b")
+            self.assertIn("s at line 1, column 61: its rows aren't bounded", done.stdout + done.stderr)
+
+    def test_what_is_for_queries_of_one_block(self) -> None:
+        text = "SELECT k.x FROM k LEFT JOIN b ON k.x = b.x"
+        for words in (["plan", "--tree"], ["plan", "--kept", "/nowhere"], ["counts"], ["export", "/nowhere/at/all"]):
+            done = self.tried(*words, text=text)
+            self.assertEqual((done.returncode, done.stdout), (5, ""), done.stderr)
+            self.assertIn("queries of one block", done.stderr)
 
     def test_together(self) -> None:
         self.bounds("SELECT x FROM k UNION ALL SELECT y FROM c ORDER BY 1", [3], [12])
@@ -150,6 +164,7 @@ class Blocks(InBlocks):
         self.assertIn("the query, UNION: at most", done.stdout)
         done = self.tried("run", "--budget", "1000", text=whole)
         self.assertEqual((done.returncode, done.stdout), (5, ""), done.stderr)
+        self.assertIn("refused: not all blocks are bounded: WITH RECURSIVE at line 1, column 6", done.stderr)
 
     def test_bounds_past_all_numbers(self) -> None:
         """Twelve entries without an equality are too many for any number; a block over such a one isn't bounded either."""

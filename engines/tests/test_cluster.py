@@ -19,6 +19,7 @@ from safebound_sql.command import opened
 from safebound_sql.counting import Counts, counts_of
 from safebound_sql.kept import Kept
 from safebound_sql.planner import Planner
+from safebound_sql.tokens import tokens
 
 
 class OnCluster(OnEachEngine):
@@ -219,6 +220,14 @@ CREATE TABLE b (z INTEGER, x INTEGER, y INTEGER, v VARCHAR(9), t TEXT)"""
         self.base.alone.script("CREATE TABLE deep AS SELECT z, x FROM here")
         self.checked("SELECT * FROM deep d JOIN a ON a.x = d.x WHERE a.y < 3")
         self.checked("SELECT * FROM deep d JOIN deep e ON e.z = d.z WHERE d.x = 1")
+
+    def test_a_look_at_a_table_sets_nothing(self) -> None:
+        engine = opened(self.base.url, None)
+        self.addCleanup(engine.close)
+        self.assertEqual(len(engine.table(tokens("b", engine.rules)).spread.parts), 2)
+        self.assertEqual(engine.rows("SELECT current_setting('enable_nestloop'), current_setting('jit')"), [("on", "on")])
+        engine = self.opened("SELECT 1 FROM a JOIN b ON a.x = b.x").engine
+        self.assertEqual(engine.rows("SELECT current_setting('enable_nestloop'), current_setting('jit')"), [("off", "off")])
 
     def test_one_part_alone(self) -> None:
         engine = opened(self.base.url, None)

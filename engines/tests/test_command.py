@@ -187,12 +187,19 @@ class Commands(OnEachEngine, Process):
                 self.assertEqual(sorted(rows.stdout.splitlines()[1:]), sorted(self.done("run", "--budget", "9").splitlines()[1:]))
 
     def test_what_isnt_exported(self) -> None:
+        if self.base.engine == "postgres":
+            self.base.script('CREATE TABLE "o-d" ("a" INTEGER, "A" INTEGER); CREATE TABLE cased ("a" INTEGER, "A" INTEGER)')
+        else:
+            self.base.script('CREATE TABLE "o-d" (a INTEGER); CREATE TABLE twice (price REAL)')
         with tempfile.TemporaryDirectory() as folder:
             for text, words in (
                 (self.text + "ORDER BY 1", "ORDER at line 3, column 1"),
                 ("SELECT count(*) FROM trip", "count at line 1, column 8"),
                 ("SELECT guide FROM trip WHERE city LIKE 'L%'", "LIKE at line 1, column 35"),
                 ("SELECT city FROM trip", "safebound_cli has no NULL"),
+                ('SELECT q."a", q."A" FROM "o-d" q' if self.base.engine == "postgres" else 'SELECT a FROM "o-d"', "a file can't be named so"),
+                ("SELECT cased.\"a\", cased.\"A\" FROM cased", "upper and lower case alone") if self.base.engine == "postgres" else
+                ("SELECT price FROM twice", "twice.price: safebound_cli has no REAL"),
             ):
                 with self.subTest(text):
                     self.assertIn(words, self.done("export", os.path.join(folder, "new"), text=text, status=5))

@@ -240,6 +240,12 @@ class RefusedByDialects(Dialects):
             self.refused(dialect, "SELECT 1 FROM a AS s, s.c AS c WHERE s.x = c.x", "a schema too")
             self.refused(dialect, "SELECT 1 FROM a LATERAL VIEW explode(a.t) e AS q")
 
+    def test_what_isnt_there(self) -> None:
+        for dialect in DIALECTS:
+            self.refused(dialect, "SELECT q.* FROM a", "q at line 1, column 8", "no entry of FROM is called so")
+            self.refused(dialect, "SELECT a.q FROM a", "a.q at line 1, column 8", "the table has no such column")
+            self.refused(dialect, "SELECT a.x FROM a WHERE a.x = = 1", f"isn't read as {DIALECTS[dialect].title}'s SQL by sqlglot")
+
     def test_rows_that_are_chosen(self) -> None:
         for dialect in DIALECTS:
             for tail in ("QUALIFY row_number() OVER (ORDER BY a.x) = 1", "USING SAMPLE 5", "SORT BY a.x", "START WITH x = 1",
