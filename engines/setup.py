@@ -1,4 +1,5 @@
-"""The package has the library's version, and needs that one: a release has one number, which stands in python/safebound."""
+"""The package has the library's version, and needs that one: a release has one number, which stands in
+python/safebound."""
 
 import runpy
 from pathlib import Path

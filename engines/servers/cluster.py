@@ -1,7 +1,7 @@
 """A cluster on this machine: a coordinator, and servers that hold the rows of its tables.
 
-Each table of the coordinator is partitioned by the hash of its first column, and each part is a table of another server,
-reached by postgres_fdw. Plans join and count part by part.
+Each table of the coordinator is partitioned by the hash of its first column, and each part is a table of another
+server, reached by postgres_fdw. Plans join and count part by part.
 """
 
 from __future__ import annotations
@@ -23,12 +23,15 @@ OPTIONS = {"host": "127.0.0.1", "fetch_size": "10000", "batch_size": "1000", "as
 
 
 class Cluster:
-    """The cluster of a folder, by a database of its servers. It goes on running until `stop`, whichever process calls that."""
+    """The cluster of a folder, by a database of its servers. It goes on running until `stop`, whichever process calls
+    that."""
 
     def __init__(self, folder: str, database: str = "postgres") -> None:
         self.folder = folder
         self.coordinator = Server(os.path.join(folder, "coordinator"), settings=PART_BY_PART, database=database)
-        self.servers = [Server(os.path.join(folder, f"server{number}"), database=database) for number in range(1, SERVERS + 1)]
+        self.servers = [
+            Server(os.path.join(folder, f"server{number}"), database=database) for number in range(1, SERVERS + 1)
+        ]
         self.all = [self.coordinator, *self.servers]
 
     def start(self) -> None:
@@ -42,7 +45,8 @@ class Cluster:
         self._link(self.coordinator.database)
 
     def add_database(self, name: str) -> None:
-        """A database of this name on each server, those of the coordinator's reached from there. Whoever started the cluster adds it."""
+        """A database of this name on each server, those of the coordinator's reached from there. Whoever started the
+        cluster adds it."""
         at_once((lambda server=server: server.add_database(name)) for server in self.all)
         self._link(name)
 
@@ -52,7 +56,9 @@ class Cluster:
             for number, server in enumerate(self.servers, 1):
                 there = {**OPTIONS, "dbname": database, "port": server.port}
                 options = ", ".join(f"{name} '{value}'" for name, value in there.items())
-                coordinator.execute(f"CREATE SERVER server{number} FOREIGN DATA WRAPPER postgres_fdw OPTIONS ({options})")
+                coordinator.execute(
+                    f"CREATE SERVER server{number} FOREIGN DATA WRAPPER postgres_fdw OPTIONS ({options})"
+                )
                 mapping = f"OPTIONS (user 'postgres', password '{self.password}')"
                 coordinator.execute(f"CREATE USER MAPPING FOR postgres SERVER server{number} {mapping}")
 
@@ -87,7 +93,9 @@ class Cluster:
 
     def on_servers(self, statement: str) -> None:
         """Runs a statement on each server. It may name {number} of {servers}, from 0."""
-        texts = [statement.replace("{number}", str(number)).replace("{servers}", str(SERVERS)) for number in range(SERVERS)]
+        texts = [
+            statement.replace("{number}", str(number)).replace("{servers}", str(SERVERS)) for number in range(SERVERS)
+        ]
         at_once((lambda server=server, text=text: _executed(server, text)) for server, text in zip(self.servers, texts))
 
 

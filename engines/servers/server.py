@@ -1,4 +1,5 @@
-"""A PostgreSQL of our own: its data in a folder, reached by a socket there, or by a port of this machine and a password."""
+"""A PostgreSQL of our own: its data in a folder, reached by a socket there, or by a port of this machine and a
+password."""
 
 from __future__ import annotations
 
@@ -57,7 +58,9 @@ def connected_by(url: str) -> Iterator:
 class Server:
     """A server in a folder of its own, which no other user may look into."""
 
-    def __init__(self, folder: str, port: int | None = None, settings: tuple[str, ...] = (), database: str = "postgres") -> None:
+    def __init__(
+        self, folder: str, port: int | None = None, settings: tuple[str, ...] = (), database: str = "postgres"
+    ) -> None:
         self.folder, self.port, self.settings, self.database = folder, port, SETTINGS + settings, database
         self.data = os.path.join(folder, "data")
 

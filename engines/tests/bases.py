@@ -17,7 +17,8 @@ from safebound_sql.planner import Planner
 ROOT = Path(__file__).resolve().parents[2]
 POSTGRES = os.environ.get("SAFEBOUND_SQL_POSTGRES")
 CLUSTER = os.environ.get("SAFEBOUND_SQL_CLUSTER")
-# The database of this process. What all databases of a server share, as roles and names of databases, is called after it.
+# The database of this process. What all databases of a server share, as roles and names of databases, is called after
+# it.
 DATABASE = os.environ.get("SAFEBOUND_SQL_DATABASE", "postgres")
 GATE = bool(os.environ.get("SAFEBOUND_SQL_GATE"))
 # What tests count, for the end of a run.
@@ -25,7 +26,8 @@ COUNTED: Counter[str] = Counter()
 
 
 class SqliteBase:
-    """A file in a temporary folder. It keeps a log for writers beside readers, so that a snapshot can be told from none."""
+    """A file in a temporary folder. It keeps a log for writers beside readers, so that a snapshot can be told from
+    none."""
 
     engine = "sqlite"
 
@@ -177,7 +179,7 @@ def on_postgres(test: type[OnEachEngine]) -> type[OnEachEngine]:
 def on_cluster(test: type[OnEachEngine]) -> type[OnEachEngine]:
     """The same tests on the cluster, passed over where there is none."""
     return unittest.skipUnless(CLUSTER, "no cluster")(
-        type(test.__name__ + "OnCluster", (test,), {"base_class": ClusterBase, "__module__": test.__module__})
+        type(test.__name__ + "OnCluster", (test,), {"base_class": ClusterBase, "__module__": "test_cluster"})
     )
 
 

@@ -19,7 +19,8 @@ PASSED_OVER = "passed over"
 
 @dataclass(frozen=True)
 class Result:
-    """What became of a test: nothing to say, that it was passed over, or how it failed. Processor time is without the servers'."""
+    """What became of a test: nothing to say, that it was passed over, or how it failed. Processor time is without the
+    servers'."""
 
     name: str
     seconds: float
@@ -108,7 +109,9 @@ class Told(unittest.TestResult):
         failed = [(test, "failed", text) for test, text in self.failures + self.errors]
         failed += [(test, "failed", "succeeded, and shouldn't") for test in self.unexpectedSuccesses]
         over = [(test, PASSED_OVER, why) for test, why in self.skipped]
-        wrong = [Result(test.id(), *self.took.get(test.id(), (0, 0)), outcome, text) for test, outcome, text in failed + over]
+        wrong = [
+            Result(test.id(), *self.took.get(test.id(), (0, 0)), outcome, text) for test, outcome, text in failed + over
+        ]
         names = {result.name for result in wrong}
         return wrong + [Result(name, *took) for name, took in self.took.items() if name not in names]
 
@@ -127,7 +130,8 @@ def tests(names: list[str]) -> Done:
 
 
 def found(names: list[str], processes: int) -> list[tuple[str, list[str]]]:
-    """The tests of these names, or all, in pieces: those of a class together, or where they may be apart in a few pieces."""
+    """The tests of these names, or all, in pieces: those of a class together, or where they may be apart in a few
+    pieces."""
     loader = unittest.defaultTestLoader
     suite = loader.loadTestsFromNames(names) if names else loader.discover(os.getcwd(), "test_*.py")
     classes: dict[str, list[str]] = {}

@@ -218,11 +218,15 @@ class KeptCommands(WithKept, Process):
     def test_from_keeping_to_appending(self) -> None:
         self.assertEqual(self.done("counts", "--keep", self.file), "a: 6 rows, x\nb: 6 rows, x\n")
         shown = self.done("plan", "--kept", self.file).splitlines()
-        self.assertRegex(shown[-1], r"^counts of \d{4}-\d\d-\d\d \d\d:\d\d:\d\d UTC are taken for a, b: bounds hold for")
+        self.assertRegex(
+            shown[-1], r"^counts of \d{4}-\d\d-\d\d \d\d:\d\d:\d\d UTC are taken for a, b: bounds hold for"
+        )
         self.assertIn("bound / rows", self.done("audit", "--kept", self.file))
         self.assertEqual(self.done("sql", "--kept", self.file), self.done("sql", "--no-reduce"))
         self.base.fill("a", [(1, 100)])
-        self.assertIn("\na: 6 rows were kept, and 7 are there now; counted anew\n", self.done("plan", "--kept", self.file))
+        self.assertIn(
+            "\na: 6 rows were kept, and 7 are there now; counted anew\n", self.done("plan", "--kept", self.file)
+        )
         told = json.loads(self.done("plan", "--json", "--kept", self.file))
         self.assertEqual((list(told["kept"]), told["counted anew"]), (["b"], ["a"]))
         line = [PROGRAM, "append", "--db", self.base.url, "--kept", self.file, "--where", "y = 100", "a"]
@@ -237,8 +241,17 @@ class KeptCommands(WithKept, Process):
         self.done("counts", "--keep", "/nowhere/kept.json", status=3)
         self.done("counts", "--keep", self.file)
         right = Path(self.file).read_text()
-        for old, new in (("[", ""), ("counts 1", "counts 2"), ('"rows": ', '"rows": -'), ('"x": [[', '"x": [[1, 1], ['),
-                         ('"types"', '"kinds"'), ('"x": [[', '"x": [["q", 1], ['), (right, "[]"), (right, "{}"), (right, "")):
+        for old, new in (
+            ("[", ""),
+            ("counts 1", "counts 2"),
+            ('"rows": ', '"rows": -'),
+            ('"x": [[', '"x": [[1, 1], ['),
+            ('"types"', '"kinds"'),
+            ('"x": [[', '"x": [["q", 1], ['),
+            (right, "[]"),
+            (right, "{}"),
+            (right, ""),
+        ):
             self.assertIn(old, right)
             Path(self.file).write_text(right.replace(old, new))
             with self.subTest(new), self.assertRaises(WrongCounts):

@@ -1,4 +1,5 @@
-"""Random queries on both engines: no level is above its bound, and the rows of the planned SQL are those of the query."""
+"""Random queries on both engines: no level is above its bound, and the rows of the planned SQL are those of the
+query."""
 
 from __future__ import annotations
 
@@ -94,7 +95,11 @@ class RandomOutputs(OnEachEngine):
         planner, plan = self.planned(text, choose((True, True, False)), choose((1, 8)), choose((False, False, True)))
         self.never_under(planner, plan, text)
         planner.engine.keep_order()
-        self.assertEqual(list(map(repr, planner.engine.rows(planner.sql(plan)))), list(map(repr, self.base.rows(text))), planner.sql(plan))
+        self.assertEqual(
+            list(map(repr, planner.engine.rows(planner.sql(plan)))),
+            list(map(repr, self.base.rows(text))),
+            planner.sql(plan),
+        )
         planner.engine.close()
 
 
