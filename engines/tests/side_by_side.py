@@ -134,15 +134,16 @@ def found(names: list[str], processes: int) -> list[tuple[str, list[str]]]:
     pieces."""
     loader = unittest.defaultTestLoader
     suite = loader.loadTestsFromNames(names) if names else loader.discover(os.getcwd(), "test_*.py")
-    classes: dict[str, list[str]] = {}
+    classes: dict[str, dict[str, None]] = {}
     apart = set()
     for test in _each(suite):
         name = test.id().rpartition(".")[0]
-        classes.setdefault(name, []).append(test.id())
+        classes.setdefault(name, {})[test.id()] = None
         if getattr(type(test), "apart", False):
             apart.add(name)
     pieces = []
-    for name, own in classes.items():
+    for name, ids in classes.items():
+        own = list(ids)
         size = -(-len(own) // (2 * processes)) if name in apart else len(own)
         pieces += [(name, own[at : at + size]) for at in range(0, len(own), size)]
     return pieces

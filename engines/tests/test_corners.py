@@ -454,6 +454,7 @@ class Texts(Corners):
 
 for test in (Names, ViewsThatChoose, Texts):
     globals()[test.__name__ + "OnPostgres"] = on_postgres(test)
+del test
 CornersOfPostgres = unittest.skipUnless(POSTGRES, "no PostgreSQL")(CornersOfPostgres)
 del Corners
 

@@ -398,6 +398,7 @@ class Snapshots(OnEachEngine):
 
 for test in (Counted, Edges, Orders, Trees, Reduced, Snapshots):
     globals()[test.__name__ + "OnPostgres"] = on_postgres(test)
+del test
 EdgesOfPostgres = unittest.skipUnless(POSTGRES, "no PostgreSQL")(EdgesOfPostgres)
 
 if __name__ == "__main__":
