@@ -4,15 +4,18 @@ from __future__ import annotations
 
 import csv
 import hashlib
+import importlib.util
 import io
 import json
 import os
 import pty
+import shutil
 import subprocess
+import sys
 import tempfile
 import unittest
 
-from bases import ROOT, OnEachEngine, on_postgres
+from bases import ROOT, OnEachEngine, in_full, on_postgres
 from process import PROGRAM, Process
 
 CLI = ROOT / "crates" / "safebound_cli" / "out" / "safebound_cli"
@@ -239,6 +242,26 @@ class Commands(OnEachEngine, Process):
             ):
                 with self.subTest(text):
                     self.assertIn(words, self.done("export", os.path.join(folder, "new"), text=text, status=5))
+
+
+class Installed(unittest.TestCase):
+    """pip lays the package and its command, which are those of the tree."""
+
+    @in_full
+    @unittest.skipUnless(all(map(importlib.util.find_spec, ("setuptools", "pip"))), "no pip or no setuptools")
+    def test_by_pip(self) -> None:
+        with tempfile.TemporaryDirectory() as folder:
+            for part in ("engines", "python"):
+                shutil.copytree(ROOT / part, f"{folder}/{part}", ignore=shutil.ignore_patterns("tests", "__pycache__"))
+            words = ["--quiet", "--no-index", "--no-build-isolation", "--no-deps", "--target", f"{folder}/site"]
+            pip = [sys.executable, "-m", "pip", "install", *words, f"{folder}/engines"]
+            done = subprocess.run(pip, capture_output=True, text=True)
+            self.assertEqual(done.returncode, 0, done.stderr)
+            environment = {**os.environ, "PYTHONPATH": f"{folder}/site:{ROOT / 'python'}"}
+            line = [f"{folder}/site/bin/safebound-sql", "plan", "--db", "sqlite:/nowhere/at/all.db", "-"]
+            told = subprocess.run(line, input="SELECT 1", env=environment, cwd=folder, capture_output=True, text=True)
+            self.assertEqual((told.returncode, told.stdout), (12, ""), told.stderr)
+            self.assertEqual(told.stderr, "safebound-sql: engine: there is no file /nowhere/at/all.db\n")
 
 
 CommandsOnPostgres = on_postgres(Commands)
