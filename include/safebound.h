@@ -71,7 +71,7 @@ enum {
     SAFEBOUND_BAD_ACCURACY = 17,   /* the accuracy */
     SAFEBOUND_BAD_RUN = 18,        /* an element of `runs` */
     SAFEBOUND_BAD_OTHER_RUN = 19,  /* an element of `others` */
-    SAFEBOUND_BAD_SUM = 20,        /* the sum of two lists */
+    SAFEBOUND_BAD_SUM = 20,        /* the sum of what two lists make */
     SAFEBOUND_BAD_ENTRIES = 21,    /* the number of entries */
     SAFEBOUND_BAD_ROWS = 22,       /* an element of `rows` */
     SAFEBOUND_BAD_EQUALITIES = 23, /* the number of equalities */
@@ -170,7 +170,8 @@ safebound_status safebound_compress(const safebound_run *runs, size_t runs_lengt
                                     safebound_run *into, size_t room, uint64_t *detail);
 
 /* The rank-wise sum of two lists: that of a column with rows that came later. Rank by rank it is the sum of both
-   degrees, so it dominates the old and the new rows together, whichever values repeat.
+   degrees, so it dominates the old and the new rows together, whichever values repeat. Of a list of the rows that satisfy
+   one condition and a list of those that satisfy another one it makes a list of the rows that satisfy at least one (OR).
 
    SAFEBOUND_BAD_RUN          `detail` is the element of `runs`
    SAFEBOUND_BAD_OTHER_RUN    `detail` is the element of `others`
@@ -184,6 +185,53 @@ safebound_status safebound_compress(const safebound_run *runs, size_t runs_lengt
        safebound_status status = safebound_append(old, 2, later, 1, both, 3, &detail); */
 safebound_status safebound_append(const safebound_run *runs, size_t runs_length, const safebound_run *others,
                                   size_t others_length, safebound_run *into, size_t room, uint64_t *detail);
+
+/* The lesser of two lists. Of a list of the rows that satisfy one condition and a list of those that satisfy another one it
+   makes a list of the rows that satisfy both (AND). At each rank its degrees sum, from the first on, to the lesser of what
+   those of the two lists sum to. The lesser degree at each rank would be too low.
+
+   SAFEBOUND_BAD_RUN          `detail` is the element of `runs`
+   SAFEBOUND_BAD_OTHER_RUN    `detail` is the element of `others`
+   SAFEBOUND_NO_MEMORY
+   SAFEBOUND_ROOM             at most three times as many as both lists have
+   SAFEBOUND_OK
+
+   Example: (3, 2) and (4, 1), (1, 2) give (3, 1), (2, 1), (1, 1).
+
+       safebound_status status = safebound_lesser(red, 1, circles, 2, both, 9, &detail); */
+safebound_status safebound_lesser(const safebound_run *runs, size_t runs_length, const safebound_run *others,
+                                  size_t others_length, safebound_run *into, size_t room, uint64_t *detail);
+
+/* The greater of two lists, rank by rank. Of a list of the rows that have one value in a column and a list of those that have
+   another one it makes a list that dominates either: that of the rows of any one of these values, whichever it is. For the
+   rows of both values together take safebound_append.
+
+   SAFEBOUND_BAD_RUN          `detail` is the element of `runs`
+   SAFEBOUND_BAD_OTHER_RUN    `detail` is the element of `others`
+   SAFEBOUND_BAD_SUM          the greater degrees sum to more than 2^48; `detail` is that sum
+   SAFEBOUND_NO_MEMORY
+   SAFEBOUND_ROOM             at most as many as both lists have
+   SAFEBOUND_OK
+
+   Example: (3, 1), (1, 1) and (2, 2), (1, 1) give (3, 1), (2, 1), (1, 1).
+
+       safebound_status status = safebound_greater(red, 2, blue, 2, any, 4, &detail); */
+safebound_status safebound_greater(const safebound_run *runs, size_t runs_length, const safebound_run *others,
+                                   size_t others_length, safebound_run *into, size_t room, uint64_t *detail);
+
+/* A list that is cut at a number of rows: what is known of at most so many rows that the list dominates. Its degrees are
+   those of the list as far as they sum to that number, and then what is left of it.
+
+   SAFEBOUND_BAD_RUN      `detail` is the element of `runs`
+   SAFEBOUND_NO_MEMORY
+   SAFEBOUND_ROOM         at most one more than `runs` has
+   SAFEBOUND_OK           no elements where `rows` is 0
+
+   Example: (5, 1), (4, 1) cut at 7 rows gives (5, 1), (2, 1).
+
+       safebound_status status = safebound_cut(runs, 2, 7, few, 3, &detail); */
+safebound_status safebound_cut(const safebound_run *runs, size_t runs_length, uint64_t rows, safebound_run *into,
+                               size_t room, uint64_t *detail);
 
 /* The bounds of all sets of entries, in rows. A set is the number whose bit i is 1 where entry i is in it: of the n
    entries there are 2^n sets, `into[set]` is its bound, and `into[0]` is 1.

@@ -1,7 +1,8 @@
 /* Makes the calls that it reads, one a line, as C makes them, and writes one line for each: status, detail, elements.
 
-     degrees ROOM N KEY..             append ROOM N (DEGREE KEYS).. M (DEGREE KEYS)..
-     compress ACCURACY ROOM N (DEGREE KEYS)..
+     degrees ROOM N KEY..
+     append, lesser or greater, and ROOM N (DEGREE KEYS).. M (DEGREE KEYS)..
+     compress ACCURACY ROOM N (DEGREE KEYS)..                                cut ROWS ROOM N (DEGREE KEYS)..
      bounds ROOM QUERY                bounds_within LIMIT ROOM QUERY         set_bound SET ROOM QUERY
        with a QUERY of N ROWS.. N (4 NUMBERS).. N (4 NUMBERS).. N (DEGREE KEYS)..
      order BUDGET ROOM N BOUND..      tree BUDGET ROOM N BOUND..      version ROOM
@@ -136,12 +137,29 @@ static void compress(uint64_t *detail) {
     tell(safebound_compress(runs, n, accuracy, (safebound_run *)into.bytes, room, detail), detail, &into, sizeof(safebound_run));
 }
 
-static void append(uint64_t *detail) {
+static void cut(uint64_t *detail) {
+    uint64_t rows = number();
+    size_t room = number(), n;
+    array into = array_of(room * sizeof(safebound_run));
+    const safebound_run *runs = elements(&n, 2, 0);
+    tell(safebound_cut(runs, n, rows, (safebound_run *)into.bytes, room, detail), detail, &into, sizeof(safebound_run));
+}
+
+typedef safebound_status of_two_lists(const safebound_run *, size_t, const safebound_run *, size_t, safebound_run *, size_t,
+                                      uint64_t *);
+
+static void of_both(of_two_lists *call, uint64_t *detail) {
     size_t room = number(), n, m;
     array into = array_of(room * sizeof(safebound_run));
     const safebound_run *runs = elements(&n, 2, 0), *others = elements(&m, 2, 0);
-    tell(safebound_append(runs, n, others, m, (safebound_run *)into.bytes, room, detail), detail, &into, sizeof(safebound_run));
+    tell(call(runs, n, others, m, (safebound_run *)into.bytes, room, detail), detail, &into, sizeof(safebound_run));
 }
+
+static void append(uint64_t *detail) { of_both(safebound_append, detail); }
+
+static void lesser(uint64_t *detail) { of_both(safebound_lesser, detail); }
+
+static void greater(uint64_t *detail) { of_both(safebound_greater, detail); }
 
 typedef struct {
     const uint64_t *rows;
@@ -222,6 +240,7 @@ static const struct {
     const char *name;
     void (*call)(uint64_t *detail);
 } CALLS[] = {{"degrees", degrees}, {"compress", compress},           {"append", append},
+             {"lesser", lesser},   {"greater", greater},             {"cut", cut},
              {"bounds", bounds},   {"bounds_within", bounds_within}, {"set_bound", set_bound},
              {"order", order},     {"tree", tree},                   {"version", version}};
 

@@ -24,10 +24,10 @@ UNTOUCHED = 0xA5A5A5A5A5A5A5A5
 
 NUMBER, BYTE = ctypes.c_uint64, ctypes.c_char
 QUERY = [NUMBER, _library.Equality, _library.List, _library.Run]
-ELEMENTS = {"degrees": _library.Run, "compress": _library.Run, "append": _library.Run, "bounds": NUMBER, "bounds_within": NUMBER,
-            "set_bound": NUMBER, "order": _library.Level, "tree": _library.Join, "version": BYTE}
-ARRAYS = {"degrees": [NUMBER], "compress": [_library.Run], "append": [_library.Run] * 2, "bounds": QUERY, "bounds_within": QUERY,
-          "set_bound": QUERY, "order": [NUMBER], "tree": [NUMBER], "version": []}
+ELEMENTS = {"degrees": _library.Run, "compress": _library.Run, "append": _library.Run, "lesser": _library.Run, "greater": _library.Run,
+            "cut": _library.Run, "bounds": NUMBER, "bounds_within": NUMBER, "set_bound": NUMBER, "order": _library.Level, "tree": _library.Join, "version": BYTE}
+ARRAYS = {"degrees": [NUMBER], "compress": [_library.Run], "append": [_library.Run] * 2, "lesser": [_library.Run] * 2,
+          "greater": [_library.Run] * 2, "cut": [_library.Run], "bounds": QUERY, "bounds_within": QUERY, "set_bound": QUERY, "order": [NUMBER], "tree": [NUMBER], "version": []}
 WITHOUT_ROOM = {"set_bound"}
 
 
@@ -38,7 +38,7 @@ class Answer(NamedTuple):
 
 
 class Call(NamedTuple):
-    """A call's name, its arrays, the room for its answer, and the accuracy, the budget, the limit or the set."""
+    """A call's name, its arrays, the room for its answer, and the accuracy, the rows, the budget, the limit or the set."""
 
     name: str
     arrays: list

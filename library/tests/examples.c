@@ -51,6 +51,37 @@ static void rows_that_came_later(void) {
     is_run(both[2], 1, 1);
 }
 
+static void rows_of_two_conditions(void) {
+    safebound_run red[] = {{3, 2}}, circles[] = {{4, 1}, {1, 2}}, both[9];
+    uint64_t detail;
+    CHECK(safebound_lesser(red, 1, circles, 2, both, 9, &detail) == SAFEBOUND_OK);
+    CHECK(detail == 3);
+    is_run(both[0], 3, 1);
+    is_run(both[1], 2, 1);
+    is_run(both[2], 1, 1);
+}
+
+static void rows_of_one_of_two_values(void) {
+    safebound_run red[] = {{3, 1}, {1, 1}}, blue[] = {{2, 2}, {1, 1}}, any[4];
+    uint64_t detail;
+    CHECK(safebound_greater(red, 2, blue, 2, any, 4, &detail) == SAFEBOUND_OK);
+    CHECK(detail == 3);
+    is_run(any[0], 3, 1);
+    is_run(any[1], 2, 1);
+    is_run(any[2], 1, 1);
+}
+
+static void few_rows(void) {
+    safebound_run runs[] = {{5, 1}, {4, 1}}, few[3];
+    uint64_t detail;
+    CHECK(safebound_cut(runs, 2, 7, few, 3, &detail) == SAFEBOUND_OK);
+    CHECK(detail == 2);
+    is_run(few[0], 5, 1);
+    is_run(few[1], 2, 1);
+    CHECK(safebound_cut(runs, 2, 0, few, 3, &detail) == SAFEBOUND_OK);
+    CHECK(detail == 0);
+}
+
 static void bounds_of_two_entries(void) {
     uint64_t rows[] = {6, 5}, bounds[4], detail;
     safebound_equality equalities[] = {{0, 0, 1, 0}};
@@ -152,6 +183,9 @@ static void *all(void *times) {
         degrees_of_a_column();
         few_runs();
         rows_that_came_later();
+        rows_of_two_conditions();
+        rows_of_one_of_two_values();
+        few_rows();
         bounds_of_two_entries();
         bounds_within_a_limit();
         bound_of_one_set();

@@ -56,12 +56,58 @@ class Lists(unittest.TestCase):
             made.append((Call("append", [runs_of(one), runs_of(other)], 24), reading.by_rank(sum, [one, other])))
         self.check(made)
 
+    def test_lesser_and_greater(self):
+        made = []
+        for seed in range(RUNS):
+            pick = random.Random(seed)
+            lists = [random_degrees(pick), random_degrees(pick)]
+            runs = [runs_of(degrees) for degrees in lists]
+            made.append((Call("lesser", runs, 72), reading.least_sums(lists)))
+            made.append((Call("greater", runs, 24), reading.by_rank(max, lists)))
+        self.check(made)
+
+    def test_cut(self):
+        made = []
+        for seed in range(RUNS):
+            pick = random.Random(seed)
+            degrees = random_degrees(pick)
+            rows = pick.choice([0, 1, pick.randint(0, sum(degrees)), sum(degrees), sum(degrees) + 1, 2**64 - 1])
+            made.append((Call("cut", [runs_of(degrees)], 13, rows), reading.cut(degrees, rows)))
+        self.check(made)
+
+    def test_lists_of_conditions_dominate(self):
+        """Over rows with a key, a colour and a size: what the calls make of lists of these is never below true counts."""
+        calls, keys = [], []
+        for seed in range(RUNS):
+            pick = random.Random(seed)
+            rows = [(pick.choice(range(6)), pick.choice("rgb"), pick.choice("SML")) for _ in range(pick.randint(0, 60))]
+            red, small, green = ([key for key, *rest in rows if value in rest] for value in "rSg")
+            lists = [runs_of(reading.falling(some)) for some in (red, small, green)]
+            calls.append(Call("lesser", lists[:2], 99))
+            keys.append([key for key, *rest in rows if rest == ["r", "S"]])
+            calls.append(Call("append", lists[:2], 99))
+            keys.append([key for key, colour, size in rows if colour == "r" or size == "S"])
+            calls.append(Call("greater", [lists[0], lists[2]], 99))
+            keys.append(pick.choice([red, green]))
+            few = pick.sample(red, pick.randint(0, len(red)))
+            calls.append(Call("cut", [lists[0]], 99, len(few)))
+            keys.append(few)
+        for call, some, answer in zip(calls, keys, answers(calls)):
+            self.assertEqual(answer.status, Status.OK)
+            bound, true = (list(itertools.accumulate(degrees)) for degrees in (degrees_of(answer.elements), reading.falling(some)))
+            for rank, rows in enumerate(true):
+                self.assertLessEqual(rows, bound[min(rank, len(bound) - 1)], call)
+
     def test_numbers_at_the_limit(self):
         most = 2**48
         self.check_runs([
             (Call("compress", [[(most, 1)]], 2, 64), [(most, 1)]),
             (Call("compress", [[(2, 1), (1, most - 2)]], 3, 1), [(2, most // 2)]),
             (Call("append", [[(1, most - 1)], [(1, 1)]], 2), [(2, 1), (1, most - 2)]),
+            (Call("lesser", [[(most, 1)], [(1, most)]], 1), [(1, most)]),
+            (Call("greater", [[(most, 1)], [(most, 1)]], 1), [(most, 1)]),
+            (Call("greater", [[(most - 1, 1)], [(1, 2)]], 2), [(most - 1, 1), (1, 1)]),
+            (Call("cut", [[(1, most)]], 1, most - 1), [(1, most - 1)]),
         ])
 
     def test_ten_billion_rows(self):

@@ -51,9 +51,14 @@ class Errors(unittest.TestCase):
             self.raises(safebound.BadAccuracy, number, lambda: safebound.compress([(1, 1)], number))
         for wrong in [(0, 1), (1, 0), (-1, 1), (1, -1), (2**64 + 1, 1), (1, 2**64 + 1), (6, 1)]:
             self.raises(safebound.BadRun, 1, lambda: safebound.compress([(5, 1), wrong], 1))
-            self.raises(safebound.BadRun, 1, lambda: safebound.append([(5, 1), wrong], []))
-            self.raises(safebound.BadOtherRun, 1, lambda: safebound.append([], [(5, 1), wrong]))
+            self.raises(safebound.BadRun, 1, lambda: safebound.cut([(5, 1), wrong], 3))
+            for of_both in (safebound.append, safebound.lesser, safebound.greater):
+                self.raises(safebound.BadRun, 1, lambda: of_both([(5, 1), wrong], []))
+                self.raises(safebound.BadOtherRun, 1, lambda: of_both([], [(5, 1), wrong]))
         self.raises(safebound.BadSum, 2**48 + 1, lambda: safebound.append([(2**48, 1)], [(1, 1)]))
+        self.raises(safebound.BadSum, 2**48 + 1, lambda: safebound.greater([(2**48, 1)], [(1, 2)]))
+        for number in (-1, 2**64):
+            self.raises(safebound.BadRows, number, lambda: safebound.cut([(5, 1)], number))
 
     def test_queries(self):
         one, other = ("r", "x"), ("s", "x")

@@ -4,7 +4,7 @@ from __future__ import annotations
 
 from typing import Dict, FrozenSet, List, Literal, NewType, Optional, Tuple
 
-from safebound import Bounds, Join, Order, Plan, Query, Run, Tree, append, compress, degree_sequence, plan_stats, run
+from safebound import Bounds, Join, Order, Plan, Query, Run, Tree, append, compress, cut, degree_sequence, greater, lesser, plan_stats, run
 
 entries: List[str] = ["r", "s"]
 equalities: List[Tuple[Tuple[str, str], Tuple[str, str]]] = [(("r", "x"), ("s", "x"))]
@@ -35,6 +35,7 @@ texts: Tuple[str, ...] = (order.explain(), tree.explain(), query.explain(), quer
 maker: Optional[Query] = order.query
 known: int = query.row_bounds["r"]
 both: List[Run] = append(lists["r", "x"], [(3, 2)])
+few: List[Run] = cut(lesser(both, greater(both, [(3, 2)])), 7)
 files: Dict[str, bytes] = {"schema.sql": b""}
 status: int = run(["plan", b"schema.sql"], files).status
 plan: Plan = plan_stats("", b"", b"", budget=3)

@@ -53,7 +53,7 @@ statuses! {
     SAFEBOUND_BAD_ACCURACY = 17, "`detail` is the accuracy.";
     SAFEBOUND_BAD_RUN = 18, "`detail` is an element of `runs`.";
     SAFEBOUND_BAD_OTHER_RUN = 19, "`detail` is an element of `others`.";
-    SAFEBOUND_BAD_SUM = 20, "`detail` is the sum of two lists.";
+    SAFEBOUND_BAD_SUM = 20, "`detail` is the sum of what two lists make.";
     SAFEBOUND_BAD_ENTRIES = 21, "`detail` is the number of entries.";
     SAFEBOUND_BAD_ROWS = 22, "`detail` is an element of `rows`.";
     SAFEBOUND_BAD_EQUALITIES = 23, "`detail` is the number of equalities.";
@@ -165,6 +165,38 @@ extern "C" {
         runs_length: usize,
         others: *const safebound_run,
         others_length: usize,
+        into: *mut safebound_run,
+        room: usize,
+        detail: *mut u64,
+    ) -> safebound_status;
+
+    /// The lesser of two lists.
+    pub fn safebound_lesser(
+        runs: *const safebound_run,
+        runs_length: usize,
+        others: *const safebound_run,
+        others_length: usize,
+        into: *mut safebound_run,
+        room: usize,
+        detail: *mut u64,
+    ) -> safebound_status;
+
+    /// The greater of two lists, rank by rank.
+    pub fn safebound_greater(
+        runs: *const safebound_run,
+        runs_length: usize,
+        others: *const safebound_run,
+        others_length: usize,
+        into: *mut safebound_run,
+        room: usize,
+        detail: *mut u64,
+    ) -> safebound_status;
+
+    /// A list that is cut at a number of rows.
+    pub fn safebound_cut(
+        runs: *const safebound_run,
+        runs_length: usize,
+        rows: u64,
         into: *mut safebound_run,
         room: usize,
         detail: *mut u64,

@@ -40,6 +40,6 @@ pub use calls::version;
 #[cfg(feature = "command")]
 pub use command::{Command, Output};
 pub use errors::{Column, Error, WrongEquality, WrongList, WrongRun};
-pub use lists::{append, compress, degree_sequence, degree_sequence_of_keys, Run};
+pub use lists::{append, compress, cut, degree_sequence, degree_sequence_of_keys, greater, lesser, Run};
 pub use plans::{Join, Order, Shape, Tree};
 pub use query::Query;

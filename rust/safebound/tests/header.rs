@@ -1,6 +1,8 @@
 //! The header's examples, its statuses, and what a query's names may be.
 
-use safebound::{append, compress, degree_sequence, degree_sequence_of_keys, Bound, Error, Join, Query, Run};
+use safebound::{
+    append, compress, cut, degree_sequence, degree_sequence_of_keys, greater, lesser, Bound, Error, Join, Query, Run,
+};
 use std::path::Path;
 
 fn runs<const N: usize>(pairs: [(u64, u64); N]) -> Vec<Run> {
@@ -21,6 +23,10 @@ fn lists() -> Result<(), Error> {
     assert_eq!(degree_sequence_of_keys(&[8, 8, 8, 8, 8, 2, 2, 2, 5])?, runs([(5, 1), (3, 1), (1, 1)]));
     assert_eq!(compress(&runs([(5, 1), (4, 1), (3, 1), (1, 1)]), 1)?, runs([(5, 2), (3, 1)]));
     assert_eq!(append(&runs([(3, 1), (1, 2)]), &runs([(2, 2)]))?, runs([(5, 1), (3, 1), (1, 1)]));
+    assert_eq!(lesser(&runs([(3, 2)]), &runs([(4, 1), (1, 2)]))?, runs([(3, 1), (2, 1), (1, 1)]));
+    assert_eq!(greater(&runs([(3, 1), (1, 1)]), &runs([(2, 2), (1, 1)]))?, runs([(3, 1), (2, 1), (1, 1)]));
+    assert_eq!(cut(&runs([(5, 1), (4, 1)]), 7)?, runs([(5, 1), (2, 1)]));
+    assert_eq!(cut(&runs([(5, 1), (4, 1)]), 0)?, []);
     assert_eq!(degree_sequence_of_keys(&[])?, []);
     assert_eq!(compress(&[], 1)?, []);
     assert_eq!(append(&[], &[])?, []);
