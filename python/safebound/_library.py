@@ -46,8 +46,8 @@ class Status:
     """The numbers of safebound.h."""
 
     OK, ROOM, NO_MEMORY, BUDGET, PAST_BITS, WORK = range(6)
-    (BAD_KEYS, BAD_ACCURACY, BAD_RUN, BAD_OTHER_RUN, BAD_SUM, BAD_ENTRIES, BAD_ROWS, BAD_EQUALITIES, BAD_EQUALITY, BAD_LIST,
-     MISSING_LIST, BAD_BOUNDS, BAD_BUDGET, BAD_LEVELS, BAD_LEVEL, BAD_JOINS, BAD_JOIN, BAD_SET) = range(16, 34)
+    (BAD_KEYS, BAD_ACCURACY, BAD_RUN, BAD_OTHER_RUN, BAD_SUM, BAD_ENTRIES, BAD_ROWS, BAD_EQUALITIES, BAD_EQUALITY,
+     BAD_LIST, MISSING_LIST, BAD_BOUNDS, BAD_BUDGET, BAD_LEVELS, BAD_LEVEL, BAD_JOINS, BAD_JOIN, BAD_SET) = range(16, 34)
 
 
 WRONG = {
@@ -139,11 +139,21 @@ def _library() -> ctypes.CDLL:
         "version": [ctypes.c_char_p, size, detail],
     }
     for name, form in forms.items():
-        function = getattr(found, "safebound_" + name)
-        function.argtypes, function.restype = form, ctypes.c_uint32
+        # A library of the last release lacks the calls that came since.
+        function = getattr(found, "safebound_" + name, None)
+        if function is not None:
+            function.argtypes, function.restype = form, ctypes.c_uint32
     text, told = ctypes.create_string_buffer(64), _Number()
     if found.safebound_version(text, 64, ctypes.byref(told)) != Status.OK or text.value.decode() != VERSION:
         raise errors.LibraryNotFound(f"{path()} isn't of version {VERSION}")
+    return found
+
+
+def _function(name: str) -> Any:
+    """A call of the library."""
+    found = getattr(_library(), "safebound_" + name, None)
+    if found is None:
+        raise errors.LibraryNotFound(f"{path()} has no call safebound_{name}: it is older than this package")
     return found
 
 
@@ -161,7 +171,7 @@ def array_of(element: Any, parts: Sequence[Any]) -> Any:
 
 def call(name: str, given: list[Any], element: Any, room: int) -> tuple[int, int, Any]:
     """Calls with so much room for elements, and with more where more is needed. Its status, detail and room."""
-    function = getattr(_library(), "safebound_" + name)
+    function = _function(name)
     while True:
         into, detail = (element * room)(), _Number()
         status = function(*given, into, room, ctypes.byref(detail))
@@ -173,7 +183,7 @@ def call(name: str, given: list[Any], element: Any, room: int) -> tuple[int, int
 def ask(name: str, given: list[Any]) -> tuple[int, int]:
     """Calls what answers a number. Its status and the number."""
     detail = _Number()
-    status = getattr(_library(), "safebound_" + name)(*given, ctypes.byref(detail))
+    status = _function(name)(*given, ctypes.byref(detail))
     return status, detail.value
 
 

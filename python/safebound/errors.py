@@ -104,7 +104,7 @@ class BadOtherRun(BadRun):
 
 
 class BadSum(WrongValue):
-    """Two lists together have more than 2**48 rows. `place` is how many."""
+    """What two lists make has more than 2**48 rows. `place` is how many."""
 
 
 class BadEntries(WrongValue):

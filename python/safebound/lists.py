@@ -76,7 +76,8 @@ def compress(runs: Runs, accuracy: SupportsIndex) -> list[Run]:
 def append(runs: Runs, others: Runs) -> list[Run]:
     """The rank-wise sum of two lists: a list of a column's old rows and of rows that came later.
 
-    It is also the list of the rows that satisfy at least one of two conditions (OR), from a list of those that satisfy each.
+    It is also the list of the rows that satisfy at least one of two conditions (OR), from a list of those that satisfy
+    each.
 
     Args:
         runs: pairs of a degree and a number of keys, as for `compress`.
@@ -99,8 +100,8 @@ def append(runs: Runs, others: Runs) -> list[Run]:
 def lesser(runs: Runs, others: Runs) -> list[Run]:
     """The list of the rows that satisfy two conditions (AND), from a list of those that satisfy each.
 
-    At each rank its degrees sum, from the first on, to the lesser of what those of the two lists sum to. The lesser degree at
-    each rank would be too low.
+    At each rank its degrees sum, from the first on, to the lesser of what those of the two lists sum to. The lesser
+    degree at each rank would be too low.
 
     Args:
         runs: pairs of a degree and a number of keys, as for `compress`.

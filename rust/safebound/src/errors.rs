@@ -136,7 +136,7 @@ pub enum Error {
         /// What is wrong with it.
         why: WrongRun,
     },
-    /// Two lists together have more than 2^48 rows.
+    /// What two lists make has more than 2^48 rows.
     BadSum {
         /// How many.
         sum: u64,
