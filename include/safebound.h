@@ -84,7 +84,17 @@ enum {
     SAFEBOUND_BAD_LEVEL = 30,      /* an element of `levels` */
     SAFEBOUND_BAD_JOINS = 31,      /* the number of joins */
     SAFEBOUND_BAD_JOIN = 32,       /* an element of `joins` */
-    SAFEBOUND_BAD_SET = 33         /* the set */
+    SAFEBOUND_BAD_SET = 33,        /* the set */
+    SAFEBOUND_BAD_JOIN_KIND = 34   /* the kind of a join */
+};
+
+/* The kinds of joins of safebound_joined_rows. */
+enum {
+    SAFEBOUND_LEFT_JOIN = 1,  /* LEFT OUTER JOIN */
+    SAFEBOUND_RIGHT_JOIN = 2, /* RIGHT OUTER JOIN */
+    SAFEBOUND_FULL_JOIN = 3,  /* FULL OUTER JOIN */
+    SAFEBOUND_SEMI_JOIN = 4,  /* the rows of the left side that are joined, as EXISTS keeps them */
+    SAFEBOUND_ANTI_JOIN = 5   /* the rows of the left side that are not, as NOT EXISTS keeps them */
 };
 
 /* So many keys stand in `degree` rows each.
@@ -315,6 +325,27 @@ safebound_status safebound_bounds_within(const uint64_t *rows, size_t entries, c
 safebound_status safebound_set_bound(const uint64_t *rows, size_t entries, const safebound_equality *equalities,
                                      size_t equalities_length, const safebound_list *lists, size_t lists_length,
                                      const safebound_run *runs, size_t runs_length, uint64_t set, uint64_t *detail);
+
+/* How many rows an outer join, a semi-join or an anti-join has at most. `inner` is a bound of the inner join of both sides by
+   the same condition; `left` and `right` are bounds of the sides. A side counts with all its rows: an outer join and an
+   anti-join keep rows that their own condition (ON) leaves out, also where it names that side alone. At SAFEBOUND_OK
+   `detail` is
+
+       SAFEBOUND_LEFT_JOIN     inner + left
+       SAFEBOUND_RIGHT_JOIN    inner + right
+       SAFEBOUND_FULL_JOIN     inner + left + right
+       SAFEBOUND_SEMI_JOIN     the lesser of inner and left
+       SAFEBOUND_ANTI_JOIN     left
+
+   A number that is SAFEBOUND_NO_BOUND or more is SAFEBOUND_NO_BOUND. As an argument it says that no bound is known.
+
+   SAFEBOUND_BAD_JOIN_KIND     none of these; `detail` is the kind
+   SAFEBOUND_OK
+
+   Example: where 6 rows and 5 rows have an inner join of at most 12, the left join has at most 18.
+
+       safebound_status status = safebound_joined_rows(SAFEBOUND_LEFT_JOIN, 12, 6, 5, &detail); */
+safebound_status safebound_joined_rows(uint64_t kind, uint64_t inner, uint64_t left, uint64_t right, uint64_t *detail);
 
 /* The best left-deep order over bounds of all sets, as safebound_bounds gives them: 2^n numbers, of which the first, that
    of no entry, isn't looked at.

@@ -27,6 +27,7 @@ const char *safebound_status_text(safebound_status status) {
     case SAFEBOUND_BAD_JOINS: return "there is not one join less than entries";
     case SAFEBOUND_BAD_JOIN: return "a join is of a node that doesn't stand before it";
     case SAFEBOUND_BAD_SET: return "the set has an entry that isn't there";
+    case SAFEBOUND_BAD_JOIN_KIND: return "no join has this number";
     default: return "no status of this library";
     }
 }

@@ -6,6 +6,7 @@
      bounds ROOM QUERY                bounds_within LIMIT ROOM QUERY         set_bound SET ROOM QUERY
        with a QUERY of N ROWS.. N (4 NUMBERS).. N (4 NUMBERS).. N (DEGREE KEYS)..
      order BUDGET ROOM N BOUND..      tree BUDGET ROOM N BOUND..      version ROOM
+     joined_rows KIND ROOM 3 INNER LEFT RIGHT
 
    Before a call `refuse N` lets its Nth request for memory fail. Each array ends where its page ends, and the next page
    can't be touched, so that a step past a length ends the program. After a call nothing that was given has changed, no
@@ -223,6 +224,15 @@ static void tree(uint64_t *detail) {
     tell(safebound_tree(given_bounds, n, budget, (safebound_join *)into.bytes, room, detail), detail, &into, sizeof(safebound_join));
 }
 
+static void joined_rows(uint64_t *detail) {
+    uint64_t kind = number();
+    array into = array_of(number() * 8);
+    size_t n;
+    const uint64_t *rows = elements(&n, 1, 0);
+    if (n != 3) stop("there are three bounds");
+    tell(safebound_joined_rows(kind, rows[0], rows[1], rows[2], detail), detail, &into, 0);
+}
+
 static void version(uint64_t *detail) {
     size_t room = number();
     array into = array_of(room);
@@ -242,7 +252,8 @@ static const struct {
 } CALLS[] = {{"degrees", degrees}, {"compress", compress},           {"append", append},
              {"lesser", lesser},   {"greater", greater},             {"cut", cut},
              {"bounds", bounds},   {"bounds_within", bounds_within}, {"set_bound", set_bound},
-             {"order", order},     {"tree", tree},                   {"version", version}};
+             {"order", order},     {"tree", tree},                   {"joined_rows", joined_rows},
+             {"version", version}};
 
 static void make_call(void) {
     requests = 0;

@@ -119,10 +119,22 @@ static void bound_of_one_set(void) {
     CHECK(detail == 4);
 }
 
+static void rows_of_joined_tables(void) {
+    uint64_t detail, expected[] = {18, 17, 23, 6, 6};
+    for (uint64_t kind = SAFEBOUND_LEFT_JOIN; kind <= SAFEBOUND_ANTI_JOIN; kind++) {
+        CHECK(safebound_joined_rows(kind, 12, 6, 5, &detail) == SAFEBOUND_OK);
+        CHECK(detail == expected[kind - SAFEBOUND_LEFT_JOIN]);
+    }
+    CHECK(safebound_joined_rows(SAFEBOUND_FULL_JOIN, SAFEBOUND_NO_BOUND, 6, 5, &detail) == SAFEBOUND_OK);
+    CHECK(detail == SAFEBOUND_NO_BOUND);
+    CHECK(safebound_joined_rows(6, 12, 6, 5, &detail) == SAFEBOUND_BAD_JOIN_KIND);
+    CHECK(detail == 6);
+}
+
 /* Each status has a text of its own, and nothing else has one. */
 static void texts_of_statuses(void) {
-    const char *none = safebound_status_text(SAFEBOUND_BAD_SET + 1);
-    for (safebound_status status = SAFEBOUND_OK; status <= SAFEBOUND_BAD_SET; status++) {
+    const char *none = safebound_status_text(SAFEBOUND_BAD_JOIN_KIND + 1);
+    for (safebound_status status = SAFEBOUND_OK; status <= SAFEBOUND_BAD_JOIN_KIND; status++) {
         int is_status = status <= SAFEBOUND_WORK || status >= SAFEBOUND_BAD_KEYS;
         CHECK(is_status == (strcmp(safebound_status_text(status), none) != 0));
         for (safebound_status other = SAFEBOUND_OK; is_status && other < status; other++)
@@ -189,6 +201,7 @@ static void *all(void *times) {
         bounds_of_two_entries();
         bounds_within_a_limit();
         bound_of_one_set();
+        rows_of_joined_tables();
         texts_of_statuses();
         best_order();
         best_tree();

@@ -95,6 +95,10 @@ class WrongValues(unittest.TestCase):
         query = bounds_of().arrays
         self.check([(Call("set_bound", query, 0, set), Status.BAD_SET, set) for set in (8, 9, 2**16, 2**32, 2**63, 2**64 - 1)])
 
+    def test_kind_of_join(self):
+        for kind in (0, 6, 2**32 + 1, 2**64 - 1):
+            self.check([(Call("joined_rows", [[12, 6, 5]], 0, kind), Status.BAD_JOIN_KIND, kind)])
+
     def test_work(self):
         query = bounds_of().arrays
         (refused,) = answers([Call("bounds_within", query, 8, 0)])

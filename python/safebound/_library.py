@@ -47,7 +47,8 @@ class Status:
 
     OK, ROOM, NO_MEMORY, BUDGET, PAST_BITS, WORK = range(6)
     (BAD_KEYS, BAD_ACCURACY, BAD_RUN, BAD_OTHER_RUN, BAD_SUM, BAD_ENTRIES, BAD_ROWS, BAD_EQUALITIES, BAD_EQUALITY,
-     BAD_LIST, MISSING_LIST, BAD_BOUNDS, BAD_BUDGET, BAD_LEVELS, BAD_LEVEL, BAD_JOINS, BAD_JOIN, BAD_SET) = range(16, 34)
+     BAD_LIST, MISSING_LIST, BAD_BOUNDS, BAD_BUDGET, BAD_LEVELS, BAD_LEVEL, BAD_JOINS, BAD_JOIN, BAD_SET,
+     BAD_JOIN_KIND) = range(16, 35)
 
 
 WRONG = {
@@ -136,6 +137,7 @@ def _library() -> ctypes.CDLL:
         "tree": [numbers, size, _Number, ctypes.POINTER(Join), size, detail],
         "memory": [numbers, size, ctypes.POINTER(Level), size, detail],
         "tree_memory": [numbers, size, ctypes.POINTER(Join), size, detail],
+        "joined_rows": [_Number] * 4 + [detail],
         "version": [ctypes.c_char_p, size, detail],
     }
     for name, form in forms.items():

@@ -147,6 +147,10 @@ class BadLimit(WrongValue):
     """The limit of work isn't from 0 to 2**64 - 1. `place` is the limit."""
 
 
+class BadJoinKind(WrongValue):
+    """There is no such kind of join. `place` is what was given for one."""
+
+
 class Refused(SafeBoundError):
     """The program refuses a text or a file. docs/ERRORS.md says why by the status and the line.
 

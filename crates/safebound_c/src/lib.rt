@@ -5,12 +5,14 @@
 #![tactic(auto)]
 
 mod bounding;
+mod joining;
 mod listing;
 mod planning;
 mod status;
 mod version;
 
 pub use bounding::{safebound_bounds, safebound_bounds_within, safebound_set_bound};
+pub use joining::safebound_joined_rows;
 pub use listing::{
     safebound_append, safebound_compress, safebound_cut, safebound_degrees, safebound_greater,
     safebound_lesser,

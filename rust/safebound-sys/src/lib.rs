@@ -67,7 +67,19 @@ statuses! {
     SAFEBOUND_BAD_JOINS = 31, "`detail` is the number of joins.";
     SAFEBOUND_BAD_JOIN = 32, "`detail` is an element of `joins`.";
     SAFEBOUND_BAD_SET = 33, "`detail` is the set.";
+    SAFEBOUND_BAD_JOIN_KIND = 34, "`detail` is the kind of a join.";
 }
+
+/// The left outer join, of [`safebound_joined_rows`].
+pub const SAFEBOUND_LEFT_JOIN: u64 = 1;
+/// The right outer join.
+pub const SAFEBOUND_RIGHT_JOIN: u64 = 2;
+/// The full outer join.
+pub const SAFEBOUND_FULL_JOIN: u64 = 3;
+/// The rows of the left side that are joined.
+pub const SAFEBOUND_SEMI_JOIN: u64 = 4;
+/// The rows of the left side that are not joined.
+pub const SAFEBOUND_ANTI_JOIN: u64 = 5;
 
 /// So many keys stand in `degree` rows each.
 #[repr(C)]
@@ -246,6 +258,9 @@ extern "C" {
         set: u64,
         detail: *mut u64,
     ) -> safebound_status;
+
+    /// How many rows an outer join, a semi-join or an anti-join has at most.
+    pub fn safebound_joined_rows(kind: u64, inner: u64, left: u64, right: u64, detail: *mut u64) -> safebound_status;
 
     /// The best left-deep order over bounds of all sets.
     pub fn safebound_order(

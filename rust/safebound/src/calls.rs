@@ -181,6 +181,14 @@ pub(crate) fn set_bound(query: &Numbers, set: u64) -> Result<u64, Refusal> {
     }
 }
 
+pub(crate) fn joined_rows(kind: u64, inner: u64, left: u64, right: u64) -> Result<u64, Refusal> {
+    let mut detail = 0;
+    match unsafe { sys::safebound_joined_rows(kind, inner, left, right, &mut detail) } {
+        sys::SAFEBOUND_OK => Ok(detail),
+        status => Err(Refusal { status, detail }),
+    }
+}
+
 pub(crate) fn order(bounds: &[u64], budget: u64) -> Result<Vec<sys::safebound_level>, Refusal> {
     unsafe {
         answer(sys::SAFEBOUND_MOST_ENTRIES, |into, room, detail| {

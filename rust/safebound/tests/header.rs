@@ -1,7 +1,8 @@
 //! The header's examples, its statuses, and what a query's names may be.
 
 use safebound::{
-    append, compress, cut, degree_sequence, degree_sequence_of_keys, greater, lesser, Bound, Error, Join, Query, Run,
+    append, compress, cut, degree_sequence, degree_sequence_of_keys, greater, joined_rows, lesser, Bound, Error, Join,
+    JoinKind, Query, Run,
 };
 use std::path::Path;
 
@@ -30,6 +31,19 @@ fn lists() -> Result<(), Error> {
     assert_eq!(degree_sequence_of_keys(&[])?, []);
     assert_eq!(compress(&[], 1)?, []);
     assert_eq!(append(&[], &[])?, []);
+    Ok(())
+}
+
+#[test]
+fn joined_tables() -> Result<(), Error> {
+    let [inner, left, right] = [12, 6, 5].map(Bound::Rows);
+    for (kind, most) in
+        [(JoinKind::Left, 18), (JoinKind::Right, 17), (JoinKind::Full, 23), (JoinKind::Semi, 6), (JoinKind::Anti, 6)]
+    {
+        assert_eq!(joined_rows(kind, inner, left, right)?, Bound::Rows(most));
+    }
+    assert_eq!(joined_rows(JoinKind::Full, Bound::NoBound, left, right)?, Bound::NoBound);
+    assert_eq!(joined_rows(JoinKind::Semi, Bound::NoBound, left, right)?, left);
     Ok(())
 }
 
@@ -144,14 +158,24 @@ fn version_is_this_one() -> Result<(), Error> {
 }
 
 #[test]
-fn statuses_are_those_of_the_header() {
+fn numbers_are_those_of_the_header() {
     let header = Path::new(env!("CARGO_MANIFEST_DIR")).join("../../include/safebound.h");
     let text = std::fs::read_to_string(header).expect("the header");
+    let kinds = [
+        ("SAFEBOUND_LEFT_JOIN", safebound_sys::SAFEBOUND_LEFT_JOIN),
+        ("SAFEBOUND_RIGHT_JOIN", safebound_sys::SAFEBOUND_RIGHT_JOIN),
+        ("SAFEBOUND_FULL_JOIN", safebound_sys::SAFEBOUND_FULL_JOIN),
+        ("SAFEBOUND_SEMI_JOIN", safebound_sys::SAFEBOUND_SEMI_JOIN),
+        ("SAFEBOUND_ANTI_JOIN", safebound_sys::SAFEBOUND_ANTI_JOIN),
+    ];
     for (name, number) in safebound_sys::STATUSES {
+        assert!(text.contains(&format!("    {name} = {number}")), "{name}");
+    }
+    for (name, number) in kinds {
         assert!(text.contains(&format!("    {name} = {number}")), "{name}");
     }
     assert_eq!(
         text.lines().filter(|line| line.starts_with("    SAFEBOUND_") && line.contains(" = ")).count(),
-        safebound_sys::STATUSES.len()
+        safebound_sys::STATUSES.len() + kinds.len()
     );
 }
