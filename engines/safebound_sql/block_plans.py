@@ -121,8 +121,7 @@ class Block:
         )
         if self.statement.usings:
             raise self.statement.refuse(
-                self.statement.usings[0].names[0],
-                "USING of one of several blocks isn't read; write it with ON",
+                self.statement.usings[0].names[0], "USING of one of several blocks isn't read; write it with ON",
                 "USING",
             )
         self.outside = plans.aliases_outside(core)
@@ -293,9 +292,7 @@ class Block:
         some = {names[number] for number in self.island}
         within = [(one, other) for one, other in equalities if one[0] in some and other[0] in some]
         known = proved.Query(
-            [names[number] for number in self.island],
-            within,
-            {name: counts.rows[name] for name in some},
+            [names[number] for number in self.island], within, {name: counts.rows[name] for name in some},
             {column: list_ for column, list_ in lists.items() if any(column in pair for pair in within)},
         )
         best = known.best_order(MOST_BUDGET)

@@ -93,11 +93,7 @@ def _plan_words(command: argparse.ArgumentParser, name: str) -> None:
     )
     command.add_argument("--tree", action="store_true", help="the best join tree of any shape")
     command.add_argument(
-        "--budget",
-        type=number(0, MOST_BUDGET),
-        required=name == "run",
-        default=MOST_BUDGET,
-        metavar="N",
+        "--budget", type=number(0, MOST_BUDGET), required=name == "run", default=MOST_BUDGET, metavar="N",
         help="the most rows that a bound of the plan may say",
     )
     if name == "run":

@@ -54,11 +54,7 @@ DIALECTS = {
     ),
     "trino": Dialect("Trino", '"', dialect_rules(DOUBLE_QUOTES), ("SET SESSION join_reordering_strategy = 'NONE'",)),
     "duckdb": Dialect(
-        "DuckDB",
-        '"',
-        dialect_rules(DOUBLE_QUOTES),
-        ("SET disabled_optimizers = 'join_order'",),
-        "AS MATERIALIZED",
+        "DuckDB", '"', dialect_rules(DOUBLE_QUOTES), ("SET disabled_optimizers = 'join_order'",), "AS MATERIALIZED",
         ("=", "=="),
     ),
     "snowflake": Dialect("Snowflake", '"', dialect_rules(DOUBLE_QUOTES, comments="//"), folds_up=True),

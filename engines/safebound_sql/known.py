@@ -5,8 +5,7 @@ from __future__ import annotations
 # What asks for the time or the user; two statements of one script may get two answers.
 TIMES = (
     "CURRENT_DATE", "CURRENT_TIME", "CURRENT_TIMESTAMP", "CURRENT_DATETIME", "LOCALTIME", "LOCALTIMESTAMP",
-    "CURRENT_USER", "CURRENT_ROLE", "CURRENT_CATALOG", "CURRENT_SCHEMA", "CURRENT_TIMEZONE", "SESSION_USER",
-    "SYSDATE",
+    "CURRENT_USER", "CURRENT_ROLE", "CURRENT_CATALOG", "CURRENT_SCHEMA", "CURRENT_TIMEZONE", "SESSION_USER", "SYSDATE",
 )
 
 # Words that are never a column's name.

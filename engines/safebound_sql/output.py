@@ -3,7 +3,7 @@
 from __future__ import annotations
 
 import json
-from typing import Any, Iterable
+from typing import Iterable
 
 from .block_plans import BlockPlan
 from .engine import Engine
@@ -67,10 +67,7 @@ def blocks_document(plans: Iterable[BlockPlan], unbounded: list[str], engine: En
                 "not used for bounds": plan.notes,
                 "levels": [
                     {
-                        "joined": level.joined,
-                        "of": level.of,
-                        "scan": level.scan,
-                        "bound": level.bound,
+                        "joined": level.joined, "of": level.of, "scan": level.scan, "bound": level.bound,
                         "rows": level.rows,
                     }
                     for level in plan.levels
@@ -106,14 +103,19 @@ def _row(plan: Plan, number: int, level: Level) -> list[str]:
 
 def _joined(plan: Plan, shape: Shape) -> list[str]:
     """What a level joins: the entry that is new, its table and its scan; or both sides of a tree's join."""
+    if isinstance(shape, int):
+        return _scan(plan, shape)
+    last = shape[1]
+    if isinstance(last, int) and not plan.tree:
+        return _scan(plan, last)
     entries = plan.query.entries
-    last = shape if isinstance(shape, int) else None if plan.tree else shape[1]
-    if isinstance(last, int):
-        new = entries[last]
-        return [new.name, new.table, str(plan.counts.rows[new.name])]
-    assert not isinstance(shape, int)
     left, right = (", ".join(entries[number].name for number in entries_of(side)) for side in shape)
     return [f"({left}) with ({right})", "", ""]
+
+
+def _scan(plan: Plan, number: int) -> list[str]:
+    new = plan.query.entries[number]
+    return [new.name, new.table, str(plan.counts.rows[new.name])]
 
 
 def _times(factor: float) -> str:
@@ -136,9 +138,7 @@ def document(plan: Plan, engine: Engine, sql: str, true_rows: list[int] | None =
     told = {
         "entries": [
             {
-                "name": entry.name,
-                "table": entry.table,
-                "conditions": list(map(str, entry.own)),
+                "name": entry.name, "table": entry.table, "conditions": list(map(str, entry.own)),
                 "scan": plan.counts.rows[entry.name],
             }
             for entry in query.entries
@@ -158,7 +158,7 @@ def document(plan: Plan, engine: Engine, sql: str, true_rows: list[int] | None =
     return json.dumps(told, indent=2, ensure_ascii=False) + "\n"
 
 
-def _level(query: Query, level: Level) -> dict[str, Any]:
+def _level(query: Query, level: Level) -> dict[str, object]:
     names = [query.entries[number].name for number in entries_of(level.shape)]
     return {"entries": names, "bound": level.bound, "expected": level.expected, "factor": level.factor}
 
@@ -167,5 +167,5 @@ def _column(query: Query, named: Named) -> dict[str, str]:
     return {"entry": query.entries[named.entry].name, "column": named.column.name}
 
 
-def _shape(query: Query, shape: Shape) -> Any:
+def _shape(query: Query, shape: Shape) -> object:
     return query.entries[shape].name if isinstance(shape, int) else [_shape(query, side) for side in shape]

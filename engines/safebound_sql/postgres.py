@@ -7,7 +7,7 @@ import codecs
 import contextlib
 import functools
 import json
-from typing import Any, Iterable, Iterator
+from typing import Any, Iterable, Iterator, Sequence
 
 from .engine import Engine, one_line, with_names
 from .faults import EngineFault, Missing, Refused
@@ -123,8 +123,8 @@ WHY_SETTINGS = (
 TYPES = "SELECT t, format_type(t, NULL) FROM unnest(%s::oid[]) AS t"
 
 COMMON = """
-SELECT pg_typeof(coalesce(CAST(NULL AS {0}), CAST(NULL AS {1}))), pg_typeof(CAST(NULL AS {0})), pg_typeof(CAST(NULL
-    AS {1}))
+SELECT pg_typeof(coalesce(CAST(NULL AS {0}), CAST(NULL AS {1}))),
+       pg_typeof(CAST(NULL AS {0})), pg_typeof(CAST(NULL AS {1}))
 """
 
 TABLE = """
@@ -228,7 +228,7 @@ class Postgres(Engine):
         called = [self.spelled(token) for token, behind in zip(pieces, pieces[1:]) if token.names and behind.says("(")]
         return bool(self.rows_given("SELECT FROM pg_proc WHERE proretset AND proname = ANY(%s) LIMIT 1", [called]))
 
-    def rows_given(self, sql: str, given: list[Any]) -> list[Row]:
+    def rows_given(self, sql: str, given: Sequence[object]) -> list[Row]:
         with self._told():
             return self.connection.execute(sql, given).fetchall()
 
@@ -329,17 +329,19 @@ class Postgres(Engine):
         return column.type == "text" or column.type.startswith("character varying")
 
     def _folds(self, column: Column) -> bool:
-        collation = int(column.kind.split()[1])
-        return not self.rows(f"SELECT collisdeterministic FROM pg_collation WHERE oid = {collation}")[0][0]
+        [[exact]] = self.rows(f"SELECT collisdeterministic FROM pg_collation WHERE oid = {_collation(column)}")
+        return not exact
 
     def plain_order(self, column: Column) -> bool:
-        return bool(
-            self.rows(
-                f"SELECT FROM pg_collation WHERE oid = {int(column.kind.split()[1])} AND collname IN ('C', 'POSIX')"
-            )
-        )
+        plain = f"SELECT FROM pg_collation WHERE oid = {_collation(column)} AND collname IN ('C', 'POSIX')"
+        return bool(self.rows(plain))
 
     def close(self) -> None:
         if self.connection.info.transaction_status == psycopg.pq.TransactionStatus.ACTIVE:
             self.connection.cancel()
         self.connection.close()
+
+
+def _collation(column: Column) -> int:
+    """The number of a column's collation, which is the second word of its kind."""
+    return int(str(column.kind).split()[1])

@@ -3,7 +3,7 @@
 from __future__ import annotations
 
 from dataclasses import dataclass, field
-from typing import Any, Callable, NamedTuple, Tuple
+from typing import Any, Callable, Hashable, NamedTuple, Tuple
 
 # What an engine answers.
 Row = Tuple[Any, ...]
@@ -17,7 +17,7 @@ class Column(NamedTuple):
 
     name: str
     type: str
-    kind: Any
+    kind: Hashable | None
 
 
 class Spread(NamedTuple):

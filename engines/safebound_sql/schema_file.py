@@ -82,8 +82,7 @@ def _table(text: str, pieces: Tokens, engine: Keys) -> tuple[Tokens, Table]:
         at += 1
     if not (pieces[0].says("CREATE") and at < len(pieces) and pieces[at].says("TABLE")):
         raise _wrong(
-            text,
-            pieces[0],
+            text, pieces[0],
             "it has CREATE TABLE and nothing else; a view is written as the table that it is to a query",
         )
     at += 1

@@ -14,17 +14,8 @@ from typing import Iterable
 from .engine import Engine
 from .query import Column, Entry, Query
 from .reducing import (
-    Joined,
-    Parts,
-    along_a_tree,
-    around_a_cycle,
-    closes_a_cycle,
-    components,
-    own_conditions,
-    partners,
-    reduced,
-    semi_join,
-    where,
+    Joined, Parts, along_a_tree, around_a_cycle, closes_a_cycle, components, own_conditions, partners, reduced,
+    semi_join, where,
 )
 
 

@@ -250,7 +250,7 @@ class Sqlite(Engine):
         return column.kind in (("INTEGER", "BINARY"), ("TEXT", "BINARY"))
 
     def whole_numbers(self, column: Column) -> bool:
-        return bool(column.kind[0] == "INTEGER")
+        return isinstance(column.kind, tuple) and column.kind[0] == "INTEGER"
 
     def plain_order(self, column: Column) -> bool:
         return True

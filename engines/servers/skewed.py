@@ -52,25 +52,16 @@ MADE = Made(
 
 # What is joined with what: a table and its column, on both sides.
 EDGES = [
-    ("casting", "title", "title", "id"),
-    ("casting", "person", "person", "id"),
-    ("keyword", "title", "title", "id"),
-    ("rating", "title", "title", "id"),
-    ("rating", "person", "person", "id"),
-    ("award", "person", "person", "id"),
-    ("award", "title", "title", "id"),
-    ("title", "studio", "studio", "id"),
-    ("casting", "title", "keyword", "title"),
-    ("casting", "title", "award", "title"),
-    ("casting", "person", "award", "person"),
+    ("casting", "title", "title", "id"), ("casting", "person", "person", "id"), ("keyword", "title", "title", "id"),
+    ("rating", "title", "title", "id"), ("rating", "person", "person", "id"), ("award", "person", "person", "id"),
+    ("award", "title", "title", "id"), ("title", "studio", "studio", "id"), ("casting", "title", "keyword", "title"),
+    ("casting", "title", "award", "title"), ("casting", "person", "award", "person"),
     ("keyword", "title", "award", "title"),
 ]
 CONDITIONS = {
     "title": ("{a}.year BETWEEN {year} AND {year} + {few}", "{a}.kind = {small}", "{a}.year >= {late}"),
     "person": (
-        "{a}.country = {small}",
-        "{a}.born < {year} - 60 AND {a}.country < 9",
-        "{a}.born BETWEEN 1970 AND 1970 + {few}",
+        "{a}.country = {small}", "{a}.born < {year} - 60 AND {a}.country < 9", "{a}.born BETWEEN 1970 AND 1970 + {few}",
     ),
     "studio": ("{a}.country = {small}", "{a}.country BETWEEN {few} AND {few} + 4"),
     "casting": ("{a}.role = {small}", "{a}.role IN ({small}, {few})"),
@@ -92,11 +83,8 @@ def query(number: int) -> str:
         conditions.append(f"e{len(entries) - 1}.{theirs} = e{at}.{mine}")
     for at in sorted(chosen.sample(range(len(entries)), chosen.randint(2, len(entries)))):
         values = {
-            "a": f"e{at}",
-            "small": chosen.randrange(4),
-            "few": chosen.randrange(1, 8),
-            "year": chosen.randrange(1950, 2024),
-            "late": chosen.randrange(2000, 2024),
+            "a": f"e{at}", "small": chosen.randrange(4), "few": chosen.randrange(1, 8),
+            "year": chosen.randrange(1950, 2024), "late": chosen.randrange(2000, 2024),
         }
         conditions.append(chosen.choice(CONDITIONS[entries[at]]).format(**values))
     sources = ", ".join(f"{table} e{at}" for at, table in enumerate(entries))

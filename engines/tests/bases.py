@@ -9,6 +9,7 @@ import tempfile
 import unittest
 from collections import Counter
 from pathlib import Path
+from typing import Callable
 
 from safebound_sql.command import opened
 from safebound_sql.levels import MOST_BUDGET
@@ -183,7 +184,7 @@ def on_cluster(test: type[OnEachEngine]) -> type[OnEachEngine]:
     )
 
 
-def in_full(test):
+def in_full(test: Callable[..., None]) -> Callable[..., None]:
     """A test that `engines/test --gate` leaves out."""
     return unittest.skipIf(GATE, "not in the gate")(test)
 

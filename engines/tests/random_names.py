@@ -81,8 +81,7 @@ class RandomNames:
         left, right = self._operand(), self._operand()
         return self.random.choice(
             (
-                f"{left} IS NOT NULL",
-                f"coalesce(CAST({left} AS TEXT), '') <= coalesce(CAST({right} AS TEXT), 'b')",
+                f"{left} IS NOT NULL", f"coalesce(CAST({left} AS TEXT), '') <= coalesce(CAST({right} AS TEXT), 'b')",
                 f"{left} = {left}",
             )
         )
@@ -122,8 +121,7 @@ class RandomNames:
         by = self._output()
         outputs = ", ".join(
             (
-                self._named(by, aliases[0]),
-                self._named("count(*)", aliases[1]),
+                self._named(by, aliases[0]), self._named("count(*)", aliases[1]),
                 self._named(f"max({self._operand()})", aliases[2]),
             )
         )

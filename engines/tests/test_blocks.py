@@ -126,6 +126,8 @@ class Blocks(InBlocks):
         self.bounds("SELECT s.n, k.x FROM (SELECT count(*) AS n FROM b, c WHERE b.y = c.y) AS s, k", [12, 60], [1, 3])
 
     def test_what_isnt_read(self) -> None:
+        postgres = self.base.engine == "postgres"
+        without_alias = "subquery in FROM must have an alias" if postgres else "a query in FROM needs an alias"
         for text, words in (
             (
                 "SELECT a.p FROM a, (SELECT b.x FROM b LEFT JOIN (c LEFT JOIN k ON k.x = c.y) ON b.y = c.y) AS s",
@@ -138,12 +140,12 @@ class Blocks(InBlocks):
             ("SELECT a.p FROM a LEFT JOIN b USING (x)", "write out its columns with ON"),
             ("SELECT a.p FROM a LEFT JOIN b ON a.x = b.x, (VALUES (1)) AS v", "only a SELECT"),
             ("SELECT a.p FROM a LEFT JOIN (b JOIN c ON b.y = c.y) ON a.x = b.x", "aren't bounded on this side"),
-            ("SELECT a.p FROM a LEFT JOIN c ON a.p = c.w, (SELECT x FROM b)", "a query in FROM needs an alias"),
+            ("SELECT a.p FROM a LEFT JOIN c ON a.p = c.w, (SELECT x FROM b)", without_alias),
             ("WITH q AS (VALUES (1)) SELECT a.p FROM a, q", "VALUES at line 1, column 12: a query begins with SELECT"),
         ):
             done = self.tried("plan", text=text)
             self.assertIn(words, done.stdout + done.stderr)
-        if self.base.engine == "postgres":
+        if postgres:
             done = self.tried("plan", text="SELECT s.n FROM (SELECT generate_series(1, p) AS n FROM a) AS s, b")
             self.assertIn("s at line 1, column 61: its rows aren't bounded", done.stdout + done.stderr)
             done = self.tried("plan", text="SELECT a.p FROM a, b RIGHT JOIN c ON b.y = c.y")
@@ -269,14 +271,8 @@ class Archive(InBlocks):
             "package",
             [
                 (
-                    n,
-                    name,
-                    f"s{n % 9}",
-                    pick.randrange(1, 6),
-                    pick.choice(sections),
-                    "optional",
-                    pick.choice((1000, 200_000, 200_000_000)),
-                    pick.randrange(5000),
+                    n, name, f"s{n % 9}", pick.randrange(1, 6), pick.choice(sections), "optional",
+                    pick.choice((1000, 200_000, 200_000_000)), pick.randrange(5000),
                 )
                 for n, name in enumerate(names, 1)
             ],

@@ -128,7 +128,7 @@ class TheShop(OnCluster, Process):
     def test_the_command(self) -> None:
         """It starts, fills, plans, audits, runs, looks what comes, and stops."""
         done = subprocess.run(
-            [ROOT / "engines" / "cluster", "--times", "1/10"], text=True, capture_output=True, timeout=120
+            [ROOT / "engines" / "cluster", "--times", "1/10"], text=True, capture_output=True, timeout=600
         )
         self.assertEqual(done.returncode, 0, done.stderr)
         self.assertIn("filling 67,000 rows", done.stdout)

@@ -37,11 +37,7 @@ class Commands(OnEachEngine, Process):
         cls.base.fill("city", [("Lyon", "FR"), ("Paris, capital", "FR"), ("Oslo", "NO")])
         cls.base.fill("guide", [(1, "Ada"), (2, "Ben"), (3, "Cleo")])
         trips = [
-            ("Lyon", 1, 80),
-            ("Lyon", 2, 95),
-            ("Paris, capital", 3, 90),
-            ("Oslo", 1, 20),
-            ("Lyon", 3, 200),
+            ("Lyon", 1, 80), ("Lyon", 2, 95), ("Paris, capital", 3, 90), ("Oslo", 1, 20), ("Lyon", 3, 200),
             (None, 1, 3),
         ]
         cls.base.fill("trip", trips)
@@ -117,9 +113,7 @@ class Commands(OnEachEngine, Process):
 
     def test_databases_that_arent_there(self) -> None:
         for db, status in (
-            ("sqlite:/nowhere/at/all.db", 12),
-            ("postgresql://nobody@/none?host=/nowhere", 12),
-            ("mysql:x", 2),
+            ("sqlite:/nowhere/at/all.db", 12), ("postgresql://nobody@/none?host=/nowhere", 12), ("mysql:x", 2),
         ):
             ended = self.tried("plan", text=self.text, db=db)
             self.assertEqual((ended.returncode, ended.stdout), (status, ""), ended.stderr)
@@ -139,12 +133,7 @@ class Commands(OnEachEngine, Process):
             with open(file) as out:
                 lines = out.readlines()
             for wrong in (
-                lines[1:],
-                lines[:-1],
-                lines + lines[-1:],
-                lines[:1],
-                lines + ["z,y,1,1\n"],
-                lines + ["t,city,-1,1\n"],
+                lines[1:], lines[:-1], lines + lines[-1:], lines[:1], lines + ["z,y,1,1\n"], lines + ["t,city,-1,1\n"],
             ):
                 with open(file, "w") as out:
                     out.writelines(wrong)

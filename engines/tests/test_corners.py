@@ -133,12 +133,7 @@ class Names(Corners):
         )
 
     def test_names_that_are_words_elsewhere(self) -> None:
-        words = (
-            ("offset", "window", "fetch", "limit", "order")
-            if self.base.engine == "sqlite"
-            else ("offset", "window", "fetch", "limit", "order")
-        )
-        columns = ", ".join(f'"{word}" INTEGER' for word in words)
+        columns = ", ".join(f'"{word}" INTEGER' for word in ("offset", "window", "fetch", "limit", "order"))
         self.base.script(
             f"DROP TABLE IF EXISTS odd; CREATE TABLE odd (id INTEGER, {columns}); INSERT INTO odd VALUES (3, 1, 2, 3,"
             " 4, 5)"
@@ -255,8 +250,7 @@ class CornersOfPostgres(Corners):
             " current_setting('jit') $$"
         )
         for condition in (
-            "a.y > current_setting('join_collapse_limit')::int",
-            "EXISTS (SELECT 1 FROM pg_settings)",
+            "a.y > current_setting('join_collapse_limit')::int", "EXISTS (SELECT 1 FROM pg_settings)",
             "hidden() = 'on'",
         ):
             self.refused(f"SELECT a.x FROM a, e WHERE a.x = e.x AND {condition}", "settings")
@@ -378,11 +372,8 @@ class CornersOfSqlite(Corners):
     def test_dates(self) -> None:
         why = "may ask for the time"
         for condition in (
-            'a.d < datetime("now")',
-            "a.d < datetime('n'||'ow')",
-            "a.d < date(coalesce(a.d, 'now'))",
-            "a.d < [date](\"now\")",
-            "a.x IN (SELECT x FROM n WHERE date(d) > '2000-01-01')",
+            'a.d < datetime("now")', "a.d < datetime('n'||'ow')", "a.d < date(coalesce(a.d, 'now'))",
+            "a.d < [date](\"now\")", "a.x IN (SELECT x FROM n WHERE date(d) > '2000-01-01')",
         ):
             self.refused(f"SELECT a.x FROM a, b WHERE a.x = b.x AND {condition}", why)
         self.refused("SELECT n.x FROM n, b WHERE n.x = b.x AND date(n.d) < '2024-01-01'", why)
@@ -396,8 +387,7 @@ class CornersOfSqlite(Corners):
 
     def test_aliases_as_texts(self) -> None:
         self.refused(
-            "SELECT a.y + 1 AS 'w' FROM a, b WHERE a.x = b.x AND w > 2",
-            "w at line 1, column 53",
+            "SELECT a.y + 1 AS 'w' FROM a, b WHERE a.x = b.x AND w > 2", "w at line 1, column 53",
             "the name of an output",
         )
         self.right(

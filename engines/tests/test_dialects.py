@@ -261,8 +261,7 @@ class RefusedByDialects(Dialects):
             self.refused(dialect, "SELECT q.* FROM a", "q at line 1, column 8", "no entry of FROM is called so")
             self.refused(dialect, "SELECT a.q FROM a", "a.q at line 1, column 8", "the table has no such column")
             self.refused(
-                dialect,
-                "SELECT a.x FROM a WHERE a.x = = 1",
+                dialect, "SELECT a.x FROM a WHERE a.x = = 1",
                 f"isn't read as {DIALECTS[dialect].title}'s SQL by sqlglot",
             )
 
@@ -302,9 +301,7 @@ class RefusedByDialects(Dialects):
     def test_texts_that_engines_read_in_their_own_ways(self) -> None:
         for dialect in DIALECTS:
             for text in (
-                r"'a\' OR 1 = 1 --'",
-                r"r'a'",
-                "b'a'", "'''a'''", "$$a$$", "/* /* */ */ 1", ":a", "?", "@a", "{a}",
+                r"'a\' OR 1 = 1 --'", r"r'a'", "b'a'", "'''a'''", "$$a$$", "/* /* */ */ 1", ":a", "?", "@a", "{a}",
             ):
                 self.refused(dialect, f"SELECT 1 FROM a WHERE a.t = {text}")
         self.planner("spark", "SELECT 1 FROM a WHERE a.t = \"it's\" AND a.x < 1L")

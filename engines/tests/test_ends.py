@@ -29,9 +29,7 @@ class Ends(OnEachEngine, Process):
 
     def test_null_and_the_empty_text(self) -> None:
         for words, null, word in (
-            ((), "", "NULL"),
-            (("--null", "NULL"), "NULL", '"NULL"'),
-            (("--null", "\\N"), "\\N", "NULL"),
+            ((), "", "NULL"), (("--null", "NULL"), "NULL", '"NULL"'), (("--null", "\\N"), "\\N", "NULL"),
         ):
             ended = self.tried("run", "--budget", "99", *words, text=self.text)
             empty = '""' if null == "" else ""
@@ -67,11 +65,8 @@ class Ends(OnEachEngine, Process):
         for command, *words in (["plan"], ["sql"], ["run", "--budget", "99"], ["audit", "--json"]):
             with open("/dev/full", "w") as full:
                 ended = subprocess.run(
-                    [PROGRAM, command, "--db", self.base.url, *words, "-"],
-                    input=self.text,
-                    stdout=full,
-                    stderr=subprocess.PIPE,
-                    text=True,
+                    [PROGRAM, command, "--db", self.base.url, *words, "-"], input=self.text, stdout=full,
+                    stderr=subprocess.PIPE, text=True,
                 )
             self.assertEqual(ended.returncode, 10, ended.stderr)
             self.assertIn("standard output: No space left on device", ended.stderr)
@@ -105,8 +100,7 @@ class EndsOfPostgres(OnEachEngine, Process):
     def test_conditions_of_all_kinds_are_counted(self) -> None:
         """Each is of one entry, so that its rows alone are counted."""
         for condition in (
-            "a.m = 'sad'::mood",
-            "(b.s, b.e) OVERLAPS (date '2020-01-05', date '2020-03-01')",
+            "a.m = 'sad'::mood", "(b.s, b.e) OVERLAPS (date '2020-01-05', date '2020-03-01')",
             "a.y OPERATOR(pg_catalog.>) 0",
         ):
             planner, _ = self.planned(f"SELECT a.x FROM a, b WHERE a.x = b.x AND {condition}")

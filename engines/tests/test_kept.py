@@ -242,15 +242,8 @@ class KeptCommands(WithKept, Process):
         self.done("counts", "--keep", self.file)
         right = Path(self.file).read_text()
         for old, new in (
-            ("[", ""),
-            ("counts 1", "counts 2"),
-            ('"rows": ', '"rows": -'),
-            ('"x": [[', '"x": [[1, 1], ['),
-            ('"types"', '"kinds"'),
-            ('"x": [[', '"x": [["q", 1], ['),
-            (right, "[]"),
-            (right, "{}"),
-            (right, ""),
+            ("[", ""), ("counts 1", "counts 2"), ('"rows": ', '"rows": -'), ('"x": [[', '"x": [[1, 1], ['),
+            ('"types"', '"kinds"'), ('"x": [[', '"x": [["q", 1], ['), (right, "[]"), (right, "{}"), (right, ""),
         ):
             self.assertIn(old, right)
             Path(self.file).write_text(right.replace(old, new))

@@ -149,26 +149,10 @@ class EdgesOfPostgres(OnEachEngine):
 
     def test_which_columns_meet(self) -> None:
         for left, right, edge in (
-            ("i", "i", True),
-            ("i", "b", False),
-            ("i", "n", False),
-            ("n", "n", True),
-            ("f", "f", True),
-            ("f", "n", False),
-            ("t", "t", True),
-            ("t", "v", False),
-            ("v", "v", True),
-            ("c", "c", True),
-            ("d", "d", True),
-            ("d", "s", False),
-            ("m", "m", True),
-            ("w", "w", True),
-            ("w", "t", True),
-            ("k", "k", True),
-            ("k", "t", False),
-            ("u", "u", True),
-            ("r", "r", False),
-            ("x", "x", False),
+            ("i", "i", True), ("i", "b", False), ("i", "n", False), ("n", "n", True), ("f", "f", True),
+            ("f", "n", False), ("t", "t", True), ("t", "v", False), ("v", "v", True), ("c", "c", True),
+            ("d", "d", True), ("d", "s", False), ("m", "m", True), ("w", "w", True), ("w", "t", True), ("k", "k", True),
+            ("k", "t", False), ("u", "u", True), ("r", "r", False), ("x", "x", False),
         ):
             with self.subTest(f"{left} = {right}"):
                 text = f"SELECT a.i FROM a, b WHERE a.{left} = b.{right}"

@@ -96,8 +96,7 @@ class RandomOutputs(OnEachEngine):
         self.never_under(planner, plan, text)
         planner.engine.keep_order()
         self.assertEqual(
-            list(map(repr, planner.engine.rows(planner.sql(plan)))),
-            list(map(repr, self.base.rows(text))),
+            list(map(repr, planner.engine.rows(planner.sql(plan)))), list(map(repr, self.base.rows(text))),
             planner.sql(plan),
         )
         planner.engine.close()

@@ -13,57 +13,29 @@ from decimal import Decimal
 SCHEMA = """
 CREATE TABLE region (r_regionkey INTEGER PRIMARY KEY, r_name CHAR(25), r_comment VARCHAR(152));
 CREATE TABLE nation (n_nationkey INTEGER PRIMARY KEY, n_name CHAR(25), n_regionkey INTEGER, n_comment VARCHAR(152));
-CREATE TABLE part (p_partkey INTEGER PRIMARY KEY, p_name VARCHAR(55), p_mfgr CHAR(25), p_brand CHAR(10), p_type
-    VARCHAR(25),
-    p_size INTEGER, p_container CHAR(10), p_retailprice NUMERIC(15, 2), p_comment VARCHAR(23));
+CREATE TABLE part (p_partkey INTEGER PRIMARY KEY, p_name VARCHAR(55), p_mfgr CHAR(25), p_brand CHAR(10),
+    p_type VARCHAR(25), p_size INTEGER, p_container CHAR(10), p_retailprice NUMERIC(15, 2), p_comment VARCHAR(23));
 CREATE TABLE supplier (s_suppkey INTEGER PRIMARY KEY, s_name CHAR(25), s_address VARCHAR(40), s_nationkey INTEGER,
-    s_phone CHAR(15),
-    s_acctbal NUMERIC(15, 2), s_comment VARCHAR(101));
+    s_phone CHAR(15), s_acctbal NUMERIC(15, 2), s_comment VARCHAR(101));
 CREATE TABLE partsupp (ps_partkey INTEGER, ps_suppkey INTEGER, ps_availqty INTEGER, ps_supplycost NUMERIC(15, 2),
-    ps_comment VARCHAR(199),
-    PRIMARY KEY (ps_partkey, ps_suppkey));
+    ps_comment VARCHAR(199), PRIMARY KEY (ps_partkey, ps_suppkey));
 CREATE TABLE customer (c_custkey INTEGER PRIMARY KEY, c_name VARCHAR(25), c_address VARCHAR(40), c_nationkey INTEGER,
-    c_phone CHAR(15),
-    c_acctbal NUMERIC(15, 2), c_mktsegment CHAR(10), c_comment VARCHAR(117));
-CREATE TABLE orders (o_orderkey INTEGER PRIMARY KEY, o_custkey INTEGER, o_orderstatus CHAR(1), o_totalprice
-    NUMERIC(15, 2),
-    o_orderdate DATE, o_orderpriority CHAR(15), o_clerk CHAR(15), o_shippriority INTEGER, o_comment VARCHAR(79));
-CREATE TABLE lineitem (l_orderkey INTEGER, l_partkey INTEGER, l_suppkey INTEGER, l_linenumber INTEGER, l_quantity
-    NUMERIC(15, 2),
-    l_extendedprice NUMERIC(15, 2), l_discount NUMERIC(15, 2), l_tax NUMERIC(15, 2), l_returnflag CHAR(1),
-        l_linestatus CHAR(1),
-    l_shipdate DATE, l_commitdate DATE, l_receiptdate DATE, l_shipinstruct CHAR(25), l_shipmode CHAR(10), l_comment
-        VARCHAR(44),
-    PRIMARY KEY (l_orderkey, l_linenumber));
+    c_phone CHAR(15), c_acctbal NUMERIC(15, 2), c_mktsegment CHAR(10), c_comment VARCHAR(117));
+CREATE TABLE orders (o_orderkey INTEGER PRIMARY KEY, o_custkey INTEGER, o_orderstatus CHAR(1),
+    o_totalprice NUMERIC(15, 2), o_orderdate DATE, o_orderpriority CHAR(15), o_clerk CHAR(15), o_shippriority INTEGER,
+    o_comment VARCHAR(79));
+CREATE TABLE lineitem (l_orderkey INTEGER, l_partkey INTEGER, l_suppkey INTEGER, l_linenumber INTEGER,
+    l_quantity NUMERIC(15, 2), l_extendedprice NUMERIC(15, 2), l_discount NUMERIC(15, 2), l_tax NUMERIC(15, 2),
+    l_returnflag CHAR(1), l_linestatus CHAR(1), l_shipdate DATE, l_commitdate DATE, l_receiptdate DATE,
+    l_shipinstruct CHAR(25), l_shipmode CHAR(10), l_comment VARCHAR(44), PRIMARY KEY (l_orderkey, l_linenumber));
 """
 
 REGIONS = ("AFRICA", "AMERICA", "ASIA", "EUROPE", "MIDDLE EAST")
 NATIONS = (
-    ("ALGERIA", 0),
-    ("ARGENTINA", 1),
-    ("BRAZIL", 1),
-    ("CANADA", 1),
-    ("EGYPT", 4),
-    ("ETHIOPIA", 0),
-    ("FRANCE", 3),
-    ("GERMANY", 3),
-    ("INDIA", 2),
-    ("INDONESIA", 2),
-    ("IRAN", 4),
-    ("IRAQ", 4),
-    ("JAPAN", 2),
-    ("JORDAN", 4),
-    ("KENYA", 0),
-    ("MOROCCO", 0),
-    ("MOZAMBIQUE", 0),
-    ("PERU", 1),
-    ("CHINA", 2),
-    ("ROMANIA", 3),
-    ("SAUDI ARABIA", 4),
-    ("VIETNAM", 2),
-    ("RUSSIA", 3),
-    ("UNITED KINGDOM", 3),
-    ("UNITED STATES", 1),
+    ("ALGERIA", 0), ("ARGENTINA", 1), ("BRAZIL", 1), ("CANADA", 1), ("EGYPT", 4), ("ETHIOPIA", 0), ("FRANCE", 3),
+    ("GERMANY", 3), ("INDIA", 2), ("INDONESIA", 2), ("IRAN", 4), ("IRAQ", 4), ("JAPAN", 2), ("JORDAN", 4), ("KENYA", 0),
+    ("MOROCCO", 0), ("MOZAMBIQUE", 0), ("PERU", 1), ("CHINA", 2), ("ROMANIA", 3), ("SAUDI ARABIA", 4), ("VIETNAM", 2),
+    ("RUSSIA", 3), ("UNITED KINGDOM", 3), ("UNITED STATES", 1),
 )
 COLOURS = ("forest", "green", "blue", "red", "ivory")
 TYPES = (
@@ -94,27 +66,16 @@ def rows(seed: int = 1) -> dict[str, list[tuple]]:
     }
     tables["part"] = [
         (
-            n,
-            f"{pick.choice(COLOURS)} {pick.choice(COLOURS)}",
-            f"Manufacturer#{n % 5 + 1}",
-            pick.choice(("Brand#12", "Brand#23", "Brand#34", "Brand#45")),
-            pick.choice(TYPES),
-            pick.choice((1, 3, 9, 14, 15, 19, 23, 36, 45, 49)),
-            pick.choice(CONTAINERS),
-            money(900, 1000),
-            "",
+            n, f"{pick.choice(COLOURS)} {pick.choice(COLOURS)}", f"Manufacturer#{n % 5 + 1}",
+            pick.choice(("Brand#12", "Brand#23", "Brand#34", "Brand#45")), pick.choice(TYPES),
+            pick.choice((1, 3, 9, 14, 15, 19, 23, 36, 45, 49)), pick.choice(CONTAINERS), money(900, 1000), "",
         )
         for n in range(1, 61)
     ]
     suppliers = [(n, n % 25) for n in range(1, 51)]
     tables["supplier"] = [
         (
-            n,
-            f"Supplier#{n:09}",
-            "",
-            nation,
-            phone(nation),
-            money(-900, 9000),
+            n, f"Supplier#{n:09}", "", nation, phone(nation), money(-900, 9000),
             pick.choice(("", "Customer slow Complaints")),
         )
         for n, nation in suppliers
@@ -131,15 +92,8 @@ def rows(seed: int = 1) -> dict[str, list[tuple]]:
         day = FIRST_DAY + datetime.timedelta(pick.randrange(2400))
         tables["orders"].append(
             (
-                n,
-                pick.randrange(1, 61),
-                pick.choice("FOP"),
-                money(1000, 400000),
-                day,
-                pick.choice(PRIORITIES),
-                "Clerk#1",
-                0,
-                pick.choice(("", "special packages requests", "quickly")),
+                n, pick.randrange(1, 61), pick.choice("FOP"), money(1000, 400000), day, pick.choice(PRIORITIES),
+                "Clerk#1", 0, pick.choice(("", "special packages requests", "quickly")),
             )
         )
         for line in range(1, pick.choice((1, 3, 7)) + 1):
@@ -147,22 +101,11 @@ def rows(seed: int = 1) -> dict[str, list[tuple]]:
             ship = day + datetime.timedelta(pick.randrange(1, 122))
             tables["lineitem"].append(
                 (
-                    n,
-                    part,
-                    supplier,
-                    line,
-                    Decimal(pick.choice((2, 5, 15, 25, 45, 50))),
-                    money(900, 90000),
-                    Decimal(pick.randrange(11)) / 100,
-                    Decimal(pick.randrange(9)) / 100,
-                    pick.choice("RAN"),
-                    pick.choice("OF"),
-                    ship,
-                    day + datetime.timedelta(pick.randrange(30, 91)),
-                    ship + datetime.timedelta(pick.randrange(1, 31)),
-                    pick.choice(("DELIVER IN PERSON", "NONE")),
-                    pick.choice(MODES),
-                    "",
+                    n, part, supplier, line, Decimal(pick.choice((2, 5, 15, 25, 45, 50))), money(900, 90000),
+                    Decimal(pick.randrange(11)) / 100, Decimal(pick.randrange(9)) / 100, pick.choice("RAN"),
+                    pick.choice("OF"), ship, day + datetime.timedelta(pick.randrange(30, 91)),
+                    ship + datetime.timedelta(pick.randrange(1, 31)), pick.choice(("DELIVER IN PERSON", "NONE")),
+                    pick.choice(MODES), "",
                 )
             )
     return tables
@@ -170,10 +113,10 @@ def rows(seed: int = 1) -> dict[str, list[tuple]]:
 
 QUERIES = {
     1: """SELECT l_returnflag, l_linestatus, sum(l_quantity) AS sum_qty, sum(l_extendedprice) AS sum_base_price,
-            sum(l_extendedprice * (1 - l_discount)) AS sum_disc_price, sum(l_extendedprice * (1 - l_discount) * (1 +
-                l_tax)) AS sum_charge,
-            avg(l_quantity) AS avg_qty, avg(l_extendedprice) AS avg_price, avg(l_discount) AS avg_disc, count(*) AS
-                count_order
+            sum(l_extendedprice * (1 - l_discount)) AS sum_disc_price,
+            sum(l_extendedprice * (1 - l_discount) * (1 + l_tax)) AS sum_charge,
+            avg(l_quantity) AS avg_qty, avg(l_extendedprice) AS avg_price, avg(l_discount) AS avg_disc,
+            count(*) AS count_order
         FROM lineitem WHERE l_shipdate <= date '1998-12-01' - interval '90' day
         GROUP BY l_returnflag, l_linestatus ORDER BY l_returnflag, l_linestatus""",
     2: """SELECT s_acctbal, s_name, n_name, p_partkey, p_mfgr, s_address, s_phone, s_comment
@@ -218,8 +161,8 @@ QUERIES = {
                 AND l_shipdate BETWEEN date '1995-01-01' AND date '1996-12-31') AS shipping
         GROUP BY supp_nation, cust_nation, l_year ORDER BY supp_nation, cust_nation, l_year""",
     8: """SELECT o_year, sum(CASE WHEN nation = 'BRAZIL' THEN volume ELSE 0 END) / sum(volume) AS mkt_share FROM (
-            SELECT extract(year FROM o_orderdate) AS o_year, l_extendedprice * (1 - l_discount) AS volume, n2.n_name
-                AS nation
+            SELECT extract(year FROM o_orderdate) AS o_year, l_extendedprice * (1 - l_discount) AS volume,
+                n2.n_name AS nation
             FROM part, supplier, lineitem, orders, customer, nation n1, nation n2, region
             WHERE p_partkey = l_partkey AND s_suppkey = l_suppkey AND l_orderkey = o_orderkey AND o_custkey = c_custkey
                 AND c_nationkey = n1.n_nationkey AND n1.n_regionkey = r_regionkey AND r_name = 'AMERICA'
@@ -249,8 +192,8 @@ QUERIES = {
         ORDER BY value DESC""",
     12: """SELECT l_shipmode, sum(CASE WHEN o_orderpriority = '1-URGENT'
         OR o_orderpriority = '2-HIGH' THEN 1 ELSE 0 END) AS high_line_count,
-            sum(CASE WHEN o_orderpriority <> '1-URGENT' AND o_orderpriority <> '2-HIGH' THEN 1 ELSE 0 END) AS
-                low_line_count
+            sum(CASE WHEN o_orderpriority <> '1-URGENT' AND o_orderpriority <> '2-HIGH' THEN 1 ELSE 0 END)
+                AS low_line_count
         FROM orders, lineitem
         WHERE o_orderkey = l_orderkey AND l_shipmode IN ('MAIL', 'SHIP') AND l_commitdate < l_receiptdate
             AND l_shipdate < l_commitdate
