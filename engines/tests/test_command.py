@@ -175,7 +175,7 @@ class Commands(OnEachEngine, Process):
         ours, theirs = pty.openpty()
         line = [PROGRAM, "plan", "--db", self.base.url, "-"]
         running = subprocess.Popen(line, stdin=subprocess.PIPE, stdout=subprocess.DEVNULL, stderr=theirs)
-        running.communicate(self.text.encode(), timeout=60)
+        running.communicate(self.text.encode(), timeout=600)
         os.close(theirs)
         seen = b""
         try:

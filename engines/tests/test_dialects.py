@@ -343,7 +343,7 @@ class DialectCommands(unittest.TestCase):
             out.write("entry,column,degree,keys\na,,3,1\na,x,1,3\nb,,5,1\nb,x,4,1\nb,x,1,1\n")
 
     def done(self, *words: str, status: int = 0) -> str:
-        ended = subprocess.run([PROGRAM, *words, "-"], input=JOINED, text=True, capture_output=True, timeout=60)
+        ended = subprocess.run([PROGRAM, *words, "-"], input=JOINED, text=True, capture_output=True, timeout=600)
         self.assertEqual(ended.returncode, status, ended.stderr)
         return ended.stderr if status else ended.stdout
 

@@ -49,7 +49,7 @@ class Ends(OnEachEngine, Process):
                     seen += os.read(ours, 4096)
                 time.sleep(1)
                 running.send_signal(number)
-                self.assertEqual(running.wait(timeout=60), status)
+                self.assertEqual(running.wait(timeout=600), status)
             finally:
                 running.kill()
                 os.close(ours), os.close(theirs)

@@ -230,7 +230,7 @@ class KeptCommands(WithKept, Process):
         told = json.loads(self.done("plan", "--json", "--kept", self.file))
         self.assertEqual((list(told["kept"]), told["counted anew"]), (["b"], ["a"]))
         line = [PROGRAM, "append", "--db", self.base.url, "--kept", self.file, "--where", "y = 100", "a"]
-        ended = subprocess.run(line, capture_output=True, text=True, timeout=60)
+        ended = subprocess.run(line, capture_output=True, text=True, timeout=600)
         self.assertEqual((ended.returncode, ended.stdout), (0, "a: 7 rows, 1 of them new\n"), ended.stderr)
         told = json.loads(self.done("plan", "--json", "--kept", self.file))
         self.assertEqual((sorted(told["kept"]), told["counted anew"]), (["a", "b"], []))
@@ -255,7 +255,7 @@ class KeptCommands(WithKept, Process):
         self.done("run", "--budget", "9", "--kept", self.file, status=2)
         self.assertIn("either", self.done("plan", "--kept", self.file, "--counts", self.file, status=2))
         line = [PROGRAM, "counts", "--dialect", "trino", "--schema", "/dev/null", "--keep", self.file, "-"]
-        ended = subprocess.run(line, input=JOINED, capture_output=True, text=True, timeout=60)
+        ended = subprocess.run(line, input=JOINED, capture_output=True, text=True, timeout=600)
         self.assertEqual(ended.returncode, 2, ended.stderr)
 
 
