@@ -147,7 +147,7 @@ class Blocks(InBlocks):
             self.assertIn(words, done.stdout + done.stderr)
         if postgres:
             done = self.tried("plan", text="SELECT s.n FROM (SELECT generate_series(1, p) AS n FROM a) AS s, b")
-            self.assertIn("s at line 1, column 61: its rows aren't bounded", done.stdout + done.stderr)
+            self.assertIn("s at line 1, column 63: its rows aren't bounded", done.stdout + done.stderr)
             done = self.tried("plan", text="SELECT a.p FROM a, b RIGHT JOIN c ON b.y = c.y")
             self.assertIn("RIGHT JOIN at line 1, column 22: behind a comma it isn't bounded", done.stdout + done.stderr)
 
