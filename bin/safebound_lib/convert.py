@@ -3,6 +3,7 @@ import codecs
 import csv
 import io
 import os
+import shlex
 import tempfile
 from dataclasses import dataclass
 
@@ -33,7 +34,8 @@ class Sheet:
 def convert(line: Line) -> int:
     files = places(line.words[1:])
     if len(files) != 1:
-        raise Misused("convert takes one file: safebound convert FILE")
+        one = shlex.quote(files[0]) if files else "FILE"
+        raise Misused(f"convert takes one file{' at a time' * (len(files) > 1)}:\n    safebound convert {plain(one)}")
     file, data = files[0], read(files[0])
     encoding = line.own.get(ENCODING.word) or encoding_of(data)
     text = decoded(file, data, encoding)
@@ -52,12 +54,24 @@ def read(file: str) -> bytes:
     try:
         with open(file, "rb") as f:
             data = f.read()
+    except IsADirectoryError:
+        raise Misused(of_folder(file)) from None
     except OSError as fault:
         raise Misused(f"{plain(file)}: {fault.strerror}") from None
-    for start, says in PACKED:
-        if data.startswith(start):
-            raise Misused(f"{plain(file)} {says}")
+    if packed(data):
+        raise Misused(f"{plain(file)} {packed(data)}")
     return data
+
+
+def packed(data: bytes) -> str:
+    """What a file is that holds no text, and what to do; nothing of others."""
+    return next((says for start, says in PACKED if data.startswith(start)), "")
+
+
+def of_folder(folder: str) -> str:
+    tables = sorted(name for name in os.listdir(folder) if name.lower().endswith((".csv", ".txt", ".tsv")))
+    file = os.path.join(folder, tables[0]) if tables else "FILE"
+    return f"{plain(folder)} is a folder, and convert takes one file at a time:\n    safebound convert {plain(shlex.quote(file))}"
 
 
 def encoding_of(data: bytes) -> str:

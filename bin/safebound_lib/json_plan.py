@@ -12,9 +12,9 @@ def show(path, line):
     """Runs the command, and writes JSON on standard output in the place of its texts. A fault stays as it is."""
     status, out, notes = program.answer(path, line.words)
     if status:
-        from .main import explain
+        from .main import explain, is_explained
         program.say(notes.decode("utf-8", "surrogateescape"))
-        if "--explain" in line.own or program.is_terminal(2):
+        if is_explained(line):
             explain(path, line, status, notes)
         return status
     plan = read_plan(notes.decode())

@@ -54,7 +54,18 @@ def enter(line):
         line.before = os.getcwd()
         os.chdir(folder)
     except OSError as fault:
-        raise Misused(f"{DATA.word} {folder}: {fault.strerror}") from None
+        raise Misused(f"{DATA.word} {folder}: {no_folder(folder) or fault.strerror}") from None
+
+
+def no_folder(folder):
+    """Why a folder isn't one, and which may be meant."""
+    if os.path.isfile(folder):
+        return f"this is a file, and the option takes its folder: {DATA.word} {os.path.dirname(folder) or '.'}"
+    above = os.path.dirname(folder) or "."
+    if os.path.exists(folder) or not os.path.isdir(above):
+        return ""
+    from .near import hint
+    return f"there is no folder {folder}.{hint(os.path.basename(folder), [name for name in os.listdir(above) if os.path.isdir(os.path.join(above, name))])}"
 
 
 def with_schema(line, run):
@@ -72,7 +83,7 @@ def run_program(line, is_last):
     if JSON.word in line.own:
         from .json_plan import show
         return show(path, line)
-    explains = EXPLAIN.word in line.own or program.is_terminal(2)
+    explains = is_explained(line)
     if is_last and not explains:
         program.become(path, line.words)
     status, notes = program.run_and_read(path, line.words)
@@ -81,11 +92,19 @@ def run_program(line, is_last):
     return status
 
 
+def is_explained(line):
+    """Whether a fault is explained: on a terminal, where a person left the schema out, and where that is asked for, rightly spelled or not."""
+    from .near import nearest
+    command = BY_WORD.get(line.command)
+    strange = [word for word in options(line.words[1:]) if command and word not in {option.word for option in command.options}]
+    return EXPLAIN.word in line.own or line.is_proposed or program.is_terminal(2) or any(nearest(word, [EXPLAIN.word], 0.8) for word in strange)
+
+
 def explain(path, line, status, notes):
     """What stands below the line of a fault; below a plan only that entries aren't connected."""
     from .explain import Run, explained, not_connected
     from .faults import fault_of
-    run = Run(line.words, path, line.before)
+    run = Run(line.words, path, line.before, line.is_proposed)
     fault = fault_of(notes) if status else None
     program.say(explained(fault, run) if fault else not_connected(run) if status == 0 else "")
 

@@ -10,18 +10,19 @@ FIELD_END = re.compile(r"[,\r\n]|$(?![\r\n])")
 LINE_END = re.compile(r"\r\n|\r|\n")
 
 
-def records(data):
-    """Pairs of a line and the fields of the record that begins there. Lines without characters are no records."""
+def records(data, first=0):
+    """Pairs of a line and the fields of the record that begins there, from the record `first` on. Lines without characters are no records."""
     csv.field_size_limit(sys.maxsize)
-    reader = csv.reader(io.StringIO(text_of(data), newline=""))
+    reader, number = csv.reader(io.StringIO(text_of(data), newline="")), 0
     while True:
         line = reader.line_num + 1
         try:
             fields = next(reader)
         except StopIteration:
             return
-        if fields:
+        if fields and number >= first:
             yield line, fields
+        number += bool(fields)
 
 
 def chosen(data, *numbers):

@@ -14,6 +14,7 @@ class Line:
     words: list = field(default_factory=list)
     own: dict = field(default_factory=dict)
     before: str = None
+    is_proposed: bool = False
 
     @property
     def command(self):

@@ -6,18 +6,25 @@ import textwrap
 
 from .. import terminal
 from ..plans import option_of
+from ..spot import plain
 from ..table import STATS
 from ..words import places
 
 PARTS = {"usage": "usage", "read": "reads", "schema": "schemas", "query": "queries", "table": "tables", "limit": "limits",
          "stats": "statistics", "budget": "budgets", "past-bits": "budgets", "write": "streams", "memory": "streams", "memory-limit": "buffers"}
 
+PROPOSING = ("run", "plan", "audit", "stats", "picture")
+# How a line begins that is there to be pasted: it stays whole.
+TO_PASTE = ("    safebound ", "    mv ")
+
 
 class Run:
-    """A run that ended: its words, the program (nothing where there is none at hand), and where `--data` was given, the folder that was left."""
+    """A run that ended: its words, the program (nothing where there is none at hand), where `--data` was given the folder that was left, and
+    whether its schema was proposed.
+    """
 
-    def __init__(self, words, program=None, before=None):
-        self.words, self.program, self.before = words, program, before
+    def __init__(self, words, program=None, before=None, is_proposed=False):
+        self.words, self.program, self.before, self.is_proposed = words, program, before, is_proposed
         self.command = words[0] if words else ""
         found = places(words[1:])
         self.schema_file, self.query_file = (found + ["", ""])[:2] if self.command != "demo" else ("schema.sql", "query.sql")
@@ -35,6 +42,11 @@ class Run:
     def path_of(self, file):
         """A file's name as a word of a command line in the folder where the user is."""
         return shlex.quote(os.path.relpath(file, self.before) if self.before else file)
+
+    def line_without_schema(self, query=None):
+        """A line of its own, to paste: the command with a query alone, and the folder where the user is."""
+        command = self.command if self.command in PROPOSING else "run"
+        return f"\n    safebound {command} {plain(shlex.quote(query or self.query_file))} --data {plain(self.path_of('.'))}"
 
     @property
     def named(self):
@@ -69,7 +81,7 @@ def laid_out(blocks):
 
 def wrapped(line):
     width, indent = terminal.columns(), " " * (len(line) - len(line.lstrip()))
-    if len(line) <= width:
+    if len(line) <= width or line.startswith(TO_PASTE):
         return line
     return "\n".join(textwrap.wrap(line.strip(), width, initial_indent=indent, subsequent_indent=indent and indent + "    ", break_long_words=False, break_on_hyphens=False))
 

@@ -1,7 +1,11 @@
 """`error query CAUSE AT`: what is wrong with a query text at that place."""
+import os
+
 from . import read
 from .query_advice import CERTAIN, GUESSES
+from .reads import missing_table
 from .texts import accented, advised, bad_character, marked, no_text, place_of, quotes_for
+from ..convert import packed
 from ..near import hint, listed, nearest
 from ..query import Literal, Reference, meant, visible
 from ..spot import plain
@@ -11,12 +15,49 @@ from ..tokens import LEAST_NUMBER, MOST_NUMBER
 def explain(fault, run):
     data, query, at = read(run.query_file), run.query, fault["at"]
     says = {"syntax": syntax, "name": name, "kind": kind}[fault["cause"]]
-    other = no_text(run.query_file, data, at, run)
+    other = no_text(run.query_file, data, at, run) or no_query(run, data)
     if other:
         return other
     schema, name_there = run.schema, accented(data, query.tokens, at)
-    said = [quotes_for(name_there, names_of(schema))] if name_there else says(query, schema, at)
+    said = [quotes_for(name_there, names_of(schema))] if name_there else of_a_proposal(fault, query, schema, run) or says(query, schema, at)
     return [marked(run.query_file, data, query, at, length(query, at)), *said]
+
+
+def no_query(run, data):
+    """Where a table's file stands in the place of the query's."""
+    if not run.query_file.lower().endswith(".csv"):
+        return []
+    if packed(data):
+        return [f"{plain(run.query_file)} {packed(data)}."]
+    table = os.path.basename(run.query_file)[:-4].upper()
+    return [f"{plain(run.query_file)} is a table's file, and here the query's has to stand. All its rows are asked for by a text in a file of its own, as query.sql: SELECT * FROM {plain(table)}",
+            f"Then this runs it:{run.line_without_schema('query.sql')}"]
+
+
+def of_a_proposal(fault, query, schema, run):
+    """What is wrong for the reason that a schema was proposed: a table without its file, and a column that one value made a text."""
+    if not run.is_proposed:
+        return []
+    at = fault["at"]
+    table = next((e.table for e in query.entries if e.table.start == at and schema.table(e.table.name) is None), None) if fault["cause"] == "name" else None
+    if table:
+        return missing_table(table.name, run)
+    return odd_value(query, schema, at) if fault["cause"] == "kind" else []
+
+
+def odd_value(query, schema, at):
+    """Where a number is compared with a column that nearly all values would make a number: the value that doesn't."""
+    from ..sheets import of_values, sheet_of, written
+    test = next(t for t in query.tests if any(o.token.start == at for o in t.operands[1:]))
+    other = next(o for o in test.operands[1:] if o.token.start == at)
+    literal, beside = (other, test.operands[0]) if isinstance(other, Literal) else (test.operands[0], other)
+    if not isinstance(literal, Literal) or not literal.is_number or not isinstance(beside, Reference):
+        return []
+    entry, table, column = meant(query, beside, schema)
+    found = next((c for c in sheet_of(table.file, table.file).columns if c.name == written(column.name)), None)
+    if found is None or found.odd is None and not found.has_gaps:
+        return []
+    return [f"{side(query, beside, schema)}, and {side(query, literal, schema)}.", f"{plain(table.file)}: {of_values(found)[0]}"]
 
 
 def names_of(schema):
@@ -38,7 +79,31 @@ def syntax(query, schema, at):
     literal = next((o for o in query.literals if o.token.start == at), None)
     if literal and not literal.fits:
         return [f"A number is from {LEAST_NUMBER:,} to {MOST_NUMBER:,} (64 bits), and this one isn't."]
+    place.outs = outputs(query, schema)
     return advised(place, CERTAIN, GUESSES)
+
+
+def outputs(query, schema):
+    """The output columns of a query: the names by which ORDER BY may call each, and whether it is a number."""
+    end = next((i for i, token in enumerate(query.tokens) if token.is_one("FROM")), 0)
+    found, item = [], []
+    for token in query.tokens[1:end + 1]:
+        if not token.is_one(",", "FROM"):
+            item.append(token)
+            continue
+        found += output(query, schema, item)
+        item = []
+    return tuple(found)
+
+
+def output(query, schema, item):
+    """The columns of one item: those of all entries or of one for a *, else one."""
+    names = {token.name for token in item if token.is_name}
+    entries = [entry for entry in query.entries if schema.table(entry.table.name) and (item[-1:] and not item[-1].is_one("*") or len(item) == 1 or entry.name in names)]
+    columns = [column for entry in entries for column in schema.table(entry.table.name).columns]
+    if item[-1:] and item[-1].is_one("*"):
+        return [({column.name}, column.is_number) for column in columns]
+    return [(names, any(column.is_number for column in columns if column.name in names))]
 
 
 def name(query, schema, at):
@@ -110,8 +175,21 @@ def unknown_column(query, reference, schema):
     near = nearest(token.name, {name.split(".", 1)[1] for name in every})
     near = next((name for name in every if name.split(".", 1)[1] == near), None)
     each = "".join(f"\n    {plain(entry)}: {listed(map(plain, columns(table)))}" for entry, table in tables.items())
+    words = two_words(query, token, [column for table in tables.values() for column in columns(table)])
+    if words:
+        return [f"No entry has a column {plain(token.name)}. A name with a blank stands in double quotes: {words}."]
     as_text = f" A text takes single quotes: '{plain(token.source)}'." if is_compared(query, reference) and not near else ""
     return [f"No entry has a column {plain(token.name)}." + (f" Did you mean {near}?" if near else "") + as_text, f"The columns are:{each}"]
+
+
+def two_words(query, token, names):
+    """A column's name of several words of which this token is the first, in double quotes, or nothing."""
+    at = query.tokens.index(token)
+    for name in names:
+        behind = [t.source.upper() for t in query.tokens[at:at + len(name.split())]]
+        if " " in name and name.upper().split() == behind:
+            return f'"{plain(name)}"'
+    return ""
 
 
 def is_compared(query, reference):

@@ -1,9 +1,10 @@
 """What to write in place of what isn't part of the language of queries."""
 import re
 
+from .texts import NO_ARITHMETIC_THERE, is_in_select
 from ..near import nearest
 from ..spot import plain
-from ..tokens import RESERVED
+from ..tokens import RESERVED, Token
 
 SUBQUERY = "Subqueries aren't part of the language: join the table in FROM, with the condition in WHERE."
 SETS = "isn't part of the language: a query text is one SELECT. Run one for each part; conditions on the same tables can be joined by OR."
@@ -101,12 +102,44 @@ def wrong_quotes(place):
     """A text where a name has to stand, and a name where a text has to."""
     token, tested = place.token(), place.tested
     wants_name = [what for what in tested if what in ("a table", "a column", "an alias", "a name for it")]
+    if token.kind == "text" and wants_name and token.source.lower().endswith(".csv'"):
+        return of_file(token.source[1:-1])
     if token.kind == "text" and wants_name:
         return f"In single quotes stands a text, and here {wants_name[0]} has to stand: write {plain(token.source[1:-1])} without quotes."
     if "a text in single quotes" in tested and "a column" not in tested and token.is_name:
         text = plain(token.name if token.kind == "quoted" else token.source).replace("'", "''")
         return f"Here a text or a number has to stand, and {plain(token.source)} is a name{' in double quotes' if token.kind == 'quoted' else ''}. A text takes single quotes: '{text}'."
     return None
+
+
+def order(place):
+    """ORDER BY, with the columns that it names as the words of sort."""
+    if place.word() != "ORDER" or place.word(1) != "BY":
+        return None
+    keys, item = [], []
+    for token in [*place.tokens[place.at + 2:], Token("symbol", -1, -1, ";")]:
+        if not token.is_one(",", ";"):
+            item.append(token)
+            continue
+        keys.append(sort_key(item, place.outs))
+        item = []
+    missing = next((name for name, key in keys if not key), None)
+    if missing:
+        return f"ORDER BY isn't part of the language: rows come in the order of the plan. Take {plain(missing)} into SELECT, and sort by it behind the command: safebound run .. | (sed -u 1q; sort -t, -kN,N), where N counts the columns."
+    return WORDS["ORDER"].replace("-k1,1", " ".join(key for _, key in keys))
+
+
+def sort_key(item, outs):
+    """The name that stands in ORDER BY, and the words of sort for it: nothing where no output column has it."""
+    down = any(token.word == "DESC" for token in item)
+    named = [token for token in item if token.is_name or token.kind == "number"]
+    if not named:
+        return "the column", ""
+    last = named[-1]
+    at = int(last.source) - 1 if last.kind == "number" and len(last.source) < 5 else next((i for i, (names, _) in enumerate(outs) if last.is_name and last.name in names), -1)
+    if not 0 <= at < len(outs):
+        return last.source, ""
+    return last.source, f"-k{at + 1},{at + 1}{'n' * outs[at][1]}{'r' * down}"
 
 
 def by_word(place):
@@ -119,6 +152,8 @@ def by_word(place):
 def grouped(place):
     """A comma within a number: `5,000`."""
     if place.token().is_one(",") and place.token(-1).kind == "number" and place.token(1).kind == "number" and "AND" in place.tested:
+        if len(place.token(1).source) != 3:
+            return DECIMALS.replace("6050 in the place of 60.50", f"{place.token(-1).source}{place.token(1).source} in the place of {place.token(-1).source},{place.token(1).source}")
         return f"A number is written in digits alone: {place.token(-1).source}{place.token(1).source}."
     return None
 
@@ -134,9 +169,16 @@ def half_a_comparison(place):
 
 def qualified(place):
     """A name of a schema or a database before a table's."""
+    if place.token().is_one(".") and place.word(1) == "CSV":
+        return of_file(f"{place.token(-1).source}.{place.token(1).source}")
     if place.token().is_one(".") and "an alias" in place.tested and place.token(-2).is_one("FROM", "JOIN", ","):
         return "A table has one name: there are no names of schemas or databases before it."
     return None
+
+
+def of_file(name):
+    """What to write in the place of a table file's name."""
+    return f"{plain(name)} is a file's name, and a query names the table: FROM {plain(name[:-4].upper())}."
 
 
 def doubled(place):
@@ -147,9 +189,20 @@ def doubled(place):
     return None
 
 
+def unquoted(place):
+    """A date or a code that begins with a digit, without its quotes."""
+    token, before = place.token(), place.token(-1)
+    if before.kind == "number" and token.kind == "word" and token.start == before.end:
+        return f"A text takes single quotes: '{plain(before.source + token.source)}'."
+    parts = [place.token(ahead).source for ahead in range(-1, 4)]
+    if token.is_one("-") and re.fullmatch("[0-9]{4}-[0-9]{2}-[0-9]{2}", "".join(parts)):
+        return f"This is read as a number less another. A date is a text, and takes single quotes: '{''.join(parts)}'."
+    return None
+
+
 def arithmetic(place):
     if place.token().is_one("+", "-", "*") and (place.token(-1).is_name or place.token(-1).kind in ("number", "text") or place.token(-1).is_one(")")):
-        return ARITHMETIC
+        return NO_ARITHMETIC_THERE if is_in_select(place) else ARITHMETIC
     return None
 
 
@@ -203,5 +256,5 @@ def no_condition(place):
     return None
 
 
-CERTAIN = (swapped, second_query, subquery, call, dated, decimal, alias_word, two_nots, wrong_quotes, by_word, doubled, grouped, half_a_comparison, qualified, arithmetic, star)
+CERTAIN = (swapped, second_query, subquery, call, dated, decimal, unquoted, alias_word, two_nots, wrong_quotes, order, by_word, doubled, grouped, half_a_comparison, qualified, arithmetic, star)
 GUESSES = (comma_too_many, reserved, no_condition, misspelled, comma_missing)

@@ -2,8 +2,10 @@
 import os
 
 from .texts import convert_line
+from .usage import is_query
 from ..near import listed, nearest
 from ..spot import plain
+from ..tokens import tokens_of
 
 OF_TEXTS, OF_SHEETS = (".txt", ".tsv", ".tab", ".dat"), (".xlsx", ".xls", ".ods")
 
@@ -12,7 +14,38 @@ def explain(fault, run):
     file = fault["file"]
     if not file:
         return ["The name of the file is empty."]
-    return [why(file), *where(file, run)]
+    if is_one_query(file):
+        return [f"Here stands the text of a query, {plain(file)[:60]}, and the name of a file has to. Write the text into a file, as query.sql, and name that."]
+    return [why(file), *where(file, run), *without_schema(file, run)]
+
+
+def is_one_query(words):
+    return not os.path.exists(words) and any(token.is_one("SELECT") for token in tokens_of(os.fsencode(words))[:1]) and " " in words
+
+
+def without_schema(file, run):
+    """Where a schema isn't there but its tables and its query are: the line that needs none."""
+    is_able = file == run.schema_file and not run.is_proposed and is_query(run.query_file) and any(name.endswith(".csv") for name in names_in("."))
+    return [f"Without a schema, one is proposed from the tables:{run.line_without_schema()}"] if is_able and not near_file(file, os.path.dirname(file) or ".", run) else []
+
+
+def missing_table(name, run):
+    """Where a schema was proposed: why it has no table of this name."""
+    file, folder = name.lower() + ".csv", run.path_of(".")
+    if os.path.isfile(file):
+        return no_table(file, run)
+    near = near_file(file, ".", run)
+    return [f"There is no file {plain(file)} in {plain(folder)}, so there is no table {plain(name)}.", near or alike(file, ".")]
+
+
+def no_table(file, run):
+    """Why a file that is there gives no table."""
+    from ..sheets import NoTable, sheet_of
+    try:
+        sheet_of(file, run.path_of(file))
+    except NoTable as why_not:
+        return [f"{plain(file)}: no table is proposed. {why_not}"]
+    return []
 
 
 def why(file):
@@ -54,7 +87,9 @@ def working():
 def folder_with(file, run, is_table):
     """A sentence on a folder near by that has the file."""
     if run.before and os.path.exists(os.path.join(run.before, file)):
-        return f"With --data every file is looked up in that folder, the schema and the query too. To take the one where you are, write {plain(os.path.join(run.before, file))}."
+        whole = os.path.join(run.before, file)
+        inside = os.path.relpath(whole)
+        return f"With --data every file is looked up in that folder, the schema and the query too. To take the one where you are, write {plain(whole if inside.startswith('..') else inside)}."
     beside = [os.path.dirname(f) for f in (run.schema_file, run.query_file) if os.path.dirname(f)] if is_table else []
     try:
         below = sorted(entry.name for entry in os.scandir(".") if entry.is_dir() and not entry.name.startswith("."))
@@ -83,17 +118,27 @@ def near_file(file, folder, run):
     name, names = os.path.basename(file), names_in(folder)
     for other in names:
         if other.casefold() == name.casefold():
-            return f"{plain(other)} is there: upper and lower case count. Rename it to {plain(name)}."
+            return f"{plain(other)} is there: upper and lower case count. Rename it to {plain(name)}.{rename(other, file, run)}"
+        if other.casefold() in (name.casefold() + ending for ending in OF_TEXTS):
+            return f"{plain(other)} is there: its name has one ending too many. This renames it:{rename(other, file, run)}"
         if other.casefold().startswith(name.casefold() + "."):
             return f"{plain(other)} is there: unpack it, or rename it, to {plain(name)}."
     for other in names:
         stem, ending = os.path.splitext(other)
         if stem.casefold() + ".csv" == name.casefold() and ending.casefold() in OF_TEXTS:
-            return f"{plain(other)} is there. This writes it as {plain(name)}: {convert_line(os.path.join(folder, other) if os.path.dirname(file) else other, run)}"
+            return f"{plain(other)} is there. This writes it as {plain(name)}:{convert_line(os.path.join(folder, other) if os.path.dirname(file) else other, run)}"
         if stem.casefold() + ".csv" == name.casefold() and ending.casefold() in OF_SHEETS:
             return f"{plain(other)} is there, a workbook: save its sheet as CSV (in Excel: CSV UTF-8), under the name {plain(name)}."
-    other = nearest(name, names, 0.75)
+    other = nearest(name, [name for name in names if not name.endswith(".original")], 0.75)
+    if other and run.is_proposed and other.endswith(".csv"):
+        return f"{plain(other)} is there. Did you mean {plain(other.removesuffix('.csv').upper())}?"
     return f"{plain(other)} is there. Is it that one?" if other else ""
+
+
+def rename(other, file, run):
+    """The command line that gives the other file this file's name."""
+    words = [run.path_of(os.path.join(os.path.dirname(file), other)), run.path_of(file)]
+    return f"\n    mv {' '.join(map(plain, words))}"
 
 
 def alike(file, folder):

@@ -11,12 +11,19 @@ def explain(fault, run):
     data, schema, at = read(run.schema_file), run.schema, fault["at"]
     token = next((t for t in tokens_of(data) if t.start == at and t.kind != "bad"), None)
     says = {"syntax": syntax, "name": name, "nullable": nullable}[fault["cause"]]
-    other = no_text(run.schema_file, data, at, run)
+    other = no_text(run.schema_file, data, at, run) or no_schema(run)
     if other:
         return other
     name_there = accented(data, schema.tokens, at)
     said = [quotes_for(name_there, [])] if name_there else says(schema, at)
     return [marked(run.schema_file, data, schema, at, token.end - at if token else 1), *said]
+
+
+def no_schema(run):
+    """Where a table's file stands in the place of the schema's."""
+    if not run.schema_file.lower().endswith(".csv"):
+        return []
+    return [f"{plain(run.schema_file)} is a table's file, and here the schema's has to stand. Leave it out, and a schema is proposed:{run.line_without_schema()}"]
 
 
 def syntax(schema, at):

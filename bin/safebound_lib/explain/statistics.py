@@ -1,13 +1,20 @@
 """`error stats CAUSE AT`: a statistics file that isn't one, or that lacks what the query needs or the table that gets new rows."""
+import shlex
+
 from ..near import hint, listed
 from ..spot import plain
 
-ANEW = "Make it anew: safebound stats {schema} {query} > {stats}"
+
+def made_anew(run):
+    """The line that makes the file, to paste where the user is."""
+    texts = [run.query_file or "QUERY"] if run.is_proposed else [run.schema_file, run.query_file or "QUERY"]
+    data = f" --data {run.path_of('.')}" if run.before else ""
+    return plain(f"safebound stats {' '.join(map(shlex.quote, texts))}{data} > {run.path_of(run.stats_file or '')}")
 
 
 def explain(fault, run):
     file, at = plain(run.stats_file or ""), fault["at"]
-    anew = ANEW.format(schema=plain(run.schema_file), query=plain(run.query_file or "QUERY"), stats=file)
+    anew = f"Make it anew:\n    {made_anew(run)}"
     if fault["cause"] == "missing" and run.command == "append":
         return without_section(file, run)
     if fault["cause"] == "missing":
@@ -25,7 +32,7 @@ def without_section(file, run):
         return [f"The schema has no table {plain(run.table)}. Its tables are {listed(names)}.{hint(run.table, names)}"]
     table = plain(run.table)
     return [f"{file} has no statistics of the table {table}: it was made for a query that doesn't name it. `append` adds rows to the tables that are in the file, and no table.",
-            f"Put the new rows into the table's own file, and make the statistics anew with a query that names {table}: safebound stats {plain(run.schema_file)} QUERY > {file}"]
+            f"Put the new rows into the table's own file, and make the statistics anew with a query that names {table}:\n    {made_anew(run)}"]
 
 
 def lacking(run, entry):

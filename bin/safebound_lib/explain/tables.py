@@ -3,6 +3,7 @@ import re
 
 from . import read
 from .texts import convert_line, how_to_convert
+from ..convert import packed
 from ..near import listed, nearest
 from ..records import chosen, column_place, left_open, records, same
 from ..spot import cut, plain, spot
@@ -18,7 +19,26 @@ def explain(fault, run):
     is_it = (lambda t: t.name.upper() == run.table.upper()) if run.command == "append" else (lambda t: t.file == fault["file"])
     table = next(filter(is_it, schema.tables))
     says = {"utf8": utf8, "header": header, "width": width, "field": field, "key": key}[fault["cause"]]
-    return says(table, fault, read(fault["file"]), run)
+    data = read(fault["file"])
+    if packed(data):
+        return [f"{fault['file']} {packed(data)}."]
+    return says(table, fault, data, run)
+
+
+def all_differ(data):
+    """A sentence where all rows have one number of fields, and the header another; nothing else."""
+    found = records(data)
+    wide, widths, ends, rows = len(next(found, (0, []))[1]), set(), set(), 0
+    for rows, (_, fields) in enumerate(found, 1):
+        widths.add(len(fields))
+        ends.add(fields[-1])
+    if len(widths) != 1 or widths == {wide} or rows < 2 or left_open(data, rows) is not None:
+        return ""
+    each = widths.pop()
+    first = f"Each row has {each} fields, and the header has {wide}: "
+    if each == wide + 1 and ends == {""}:
+        return first + "all rows end in a comma. Name the column behind it, or take it away."
+    return first + ("a name is missing in the header. Write one for each field." if each > wide else "the header has a name too many, or the rows lack a field.")
 
 
 def quoted(value):
@@ -53,7 +73,7 @@ def why_no_header(found, wanted, column, count, convert):
     """What the header that was found looks like."""
     separator = next((s for s in SEPARATORS if len(found) == 1 and s in found[0]), None)
     if separator:
-        return f"The file looks separated by {SEPARATORS[separator]}, as spreadsheets in many countries write it. This writes it with commas: {convert}"
+        return f"The file looks separated by {SEPARATORS[separator]}, as spreadsheets in many countries write it. This writes it with commas:{convert}"
     if count:
         return ""
     if any(re.fullmatch(r"[+-]?[0-9]+", name) for name in found) or not any(same(name) in map(same, wanted) for name in found) and len(found) == len(wanted) > 1 and not any(nearest(w, found) for w in wanted):
@@ -72,10 +92,13 @@ def width(table, fault, data, run):
     opened = left_open(data, fault["record"])
     if opened is not None:
         return [first, spot(fault["file"], data, opened), 'The quote here isn\'t closed: a " is missing behind it, and the field goes on to the end of the file. A " within a field in quotes is written twice.']
+    whole = all_differ(data)
+    if whole:
+        return [first + shown, whole]
     if len(fields) > len(head):
         return [first + shown, 'An unquoted comma is often the cause: a value with a comma stands in double quotes, as "Paris, capital".']
     separator = next((s for s in SEPARATORS if s in "".join(fields)), None)
-    looks = f"The record looks separated by {SEPARATORS[separator]}, and the header isn't: write it with commas. Where the whole file is separated so: {convert_line(fault['file'], run)}" if separator else "A field is missing, or a line is cut. An empty field keeps its comma."
+    looks = f"The record looks separated by {SEPARATORS[separator]}, and the header isn't: write it with commas. Where the whole file is separated so, this does it:{convert_line(fault['file'], run)}" if separator else "A field is missing, or a line is cut. An empty field keeps its comma."
     return [first + shown, looks]
 
 
@@ -93,8 +116,8 @@ def over_lines(value, line):
     return f'The value begins with a " on line {line}, and has {ends} line ends. Where a " is missing that closes it on that line, write it there.' if ends else ""
 
 
-def number_expected(value):
-    """What a field of a number has to be, and what this one is instead."""
+def number_expected(value, of_words="For texts declare the column as VARCHAR(n)."):
+    """What a field of a number has to be, and what this one is instead; `of_words` is said of any other value."""
     expected = "A number is digits, with - or + before them where there is a sign."
     if re.fullmatch(r"[+-]?[0-9]+", value, re.ASCII):
         return f"A number is from {LEAST_NUMBER:,} to {MOST_NUMBER:,} (64 bits), and this one is {'smaller' if number_of(value) < 0 else 'larger'}."
@@ -108,7 +131,7 @@ def number_expected(value):
         return f"{expected} Without the marks between thousands it is {re.sub('[^0-9+-]', '', value)}; a decimal is stored as an integer of the smallest unit, as cents."
     if re.fullmatch(r"[+-]?[0-9]*[.,][0-9]*", value):
         return f"{expected} Decimals are stored as integers of the smallest unit, as cents in the place of euros; 5.0 is written 5."
-    return f"{expected} For texts declare the column as VARCHAR(n)."
+    return f"{expected} {of_words}"
 
 
 def text_expected(value, most):
@@ -124,7 +147,7 @@ def key(table, fault, data, run):
             break
     return [f"{at_record(fault, line)}: {values} stands in the key {names} already, on line {earlier} (record {fault['earlier']}).\n"
             f"    line {earlier}: {cut(','.join(before), columns() - 20)}\n    line {line}: {cut(','.join(fields), columns() - 20)}",
-            f"No two records have the same values in a PRIMARY KEY or UNIQUE. Remove one of the two, or the key from the schema."]
+            "No two records have the same values in a PRIMARY KEY or UNIQUE. Remove one of the two, or the key from the schema."]
 
 
 def is_same(table, token, one, other):

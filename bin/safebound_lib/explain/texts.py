@@ -2,6 +2,7 @@
 import unicodedata
 from dataclasses import dataclass
 
+from ..convert import packed
 from ..near import hint, listed
 from ..spot import plain, spot
 from ..tokens import Token
@@ -25,6 +26,9 @@ CHARACTERS = {
 }
 
 
+NO_ARITHMETIC_THERE = "There is no arithmetic in SELECT: take the column itself, and compute behind the command, or store the result as a column."
+
+
 @dataclass
 class Place:
     """Where the tokens of a text go wrong: the token there, those around it, and what may stand there."""
@@ -33,6 +37,8 @@ class Place:
     tested: tuple
     # Where the text goes wrong, and at which token the grammar alone does.
     is_grammar: bool = True
+    # The output columns of a query, for ORDER BY: the names of each, and whether it is a number.
+    outs: tuple = ()
 
     def token(self, ahead=0):
         at = self.at + ahead
@@ -40,6 +46,11 @@ class Place:
 
     def word(self, ahead=0):
         return self.token(ahead).word
+
+
+def is_in_select(place):
+    """Whether a place lies between SELECT and FROM."""
+    return any(token.is_one("SELECT") for token in place.tokens[:place.at]) and not any(token.is_one("FROM") for token in place.tokens[:place.at])
 
 
 def place_of(read, at):
@@ -102,14 +113,16 @@ def no_text(file, data, at, run):
 
 def how_to_convert(data, file, run):
     """The command that writes a file in UTF-8."""
+    if packed(data):
+        return f"The file {packed(data)}."
     is_wide = data[:2] in (b"\xff\xfe", b"\xfe\xff")
     looks = "The file looks like UTF-16, as Excel writes its Unicode texts" if is_wide else "The file may be Latin-1 or Windows-1252, as older programs write it"
-    return f"{looks}. This writes it in UTF-8: {convert_line(file, run)}"
+    return f"{looks}. This writes it in UTF-8:{convert_line(file, run)}"
 
 
 def convert_line(file, run):
-    """The command line that converts a file."""
-    return f"safebound convert {plain(run.path_of(file))}"
+    """The command line that converts a file, on a line of its own."""
+    return f"\n    safebound convert {plain(run.path_of(file))}"
 
 
 def bad_character(place):
@@ -122,6 +135,8 @@ def bad_character(place):
         return f'Here is {WITHIN_NAMES[first]} within a name in double quotes. A name stands on one line, and has no control characters: take it away, or close the name before it by a ".'
     if token.source.startswith("/*"):
         return "A comment begins with -- and goes to the end of its line; there is no /* */."
+    if first in "/%" and is_in_select(place):
+        return NO_ARITHMETIC_THERE
     if first == "/":
         return "There is no arithmetic in conditions: compute the value, and write that."
     if first in INVISIBLE:

@@ -1,14 +1,17 @@
 """`error usage`: which word of the command line is wrong, and what it may be."""
+import os
 import re
 import shlex
 
 from ..near import hint, listed
 from ..pages import entry, places_of
 from ..spot import plain
-from ..table import ACCURACY, BUDGET, BUSHY, BY_WORD, COMMANDS, KEYS, MOST_BUDGET_OF_A_TREE, MOST_SEED, REDUCE, STATS, TEXTS, program_options
+from ..table import ACCURACY, BUDGET, BUSHY, BY_WORD, COMMANDS, DATA, KEYS, MOST_BUDGET_OF_A_TREE, MOST_SEED, REDUCE, STATS, TEXTS, program_options
 from ..terminal import columns
 from ..tokens import tokens_of
+from ..words import options, places
 
+FOLDERS = ("--dir", "--directory", "--folder", "--path", "--input", "--tables", "-d", "-D")
 OUTPUTS = ("--out", "--output", "--outfile", "--outpath", "-o")
 MOST_LOOKED_AT = 4096
 DIGITS = re.compile(r"[0-9]+", re.ASCII)
@@ -17,9 +20,27 @@ DIGITS = re.compile(r"[0-9]+", re.ASCII)
 def explain(fault, run):
     command = BY_WORD.get(run.command)
     if command is None or command.is_own:
-        return wrong_command(run.command)
+        return wrong_command(run)
     return [first_wrong(command, run.words[1:]) or "These words are no command.", f"It is: safebound {command.spelled}",
-            f"`safebound help {command.word}` says more."]
+            f"`safebound help {command.word}` says more.", line_meant(command, run)]
+
+
+def line_meant(command, run):
+    """The line that was meant where a schema was left out: with the one query here, or with one in a folder below."""
+    files = places(run.words[1:])
+    if command.places != TEXTS or len(files) > 1 or first_strange(command, run):
+        return ""
+    if not files:
+        found = [name for name in os.listdir(".") if is_query(name)] if run.before else []
+        return f"Without a schema, one is proposed from the tables:{run.line_without_schema(found[0])}" if len(found) == 1 else ""
+    below = sorted(entry.name for entry in os.scandir(".") if entry.is_dir() and is_query(os.path.join(entry.name, files[0]))) if not os.path.exists(files[0]) and not run.before else []
+    if len(below) == 1:
+        return f"{plain(files[0])} is in {plain(below[0])}. Without a schema, one is proposed from the tables there:\n    safebound {command.word} {plain(shlex.quote(files[0]))} --data {plain(shlex.quote(below[0]))}"
+    return ""
+
+
+def first_strange(command, run):
+    return [word for word in options(run.words[1:]) if word not in {option.word for option in command.options}]
 
 
 def overview():
@@ -27,8 +48,13 @@ def overview():
     return [f"The commands are:\n{commands}", "`safebound help COMMAND` says more, with examples."]
 
 
-def wrong_command(word):
-    words = [c.word for c in COMMANDS]
+def wrong_command(run):
+    word, words = run.command, [c.word for c in COMMANDS]
+    files = places(run.words)
+    if 0 < len(files) < 3 and files[0] == word and all(file.lower().endswith(".sql") for file in files):
+        alone = len(files) == 1 and is_query(word)
+        line = run.line_without_schema(word) if alone else f"\n    safebound run {' '.join(plain(shlex.quote(file)) for file in files)}"
+        return [f"There is no command {plain(word)}. The command comes first:{line}", "`safebound help` lists them."]
     if word.startswith("-"):
         return [f"The command comes first, and then its options: {plain(word)} stands before one."] + overview()
     return [f"There is no command {plain(word)}.{hint(word, words)}"] + overview()
@@ -66,6 +92,8 @@ def unknown(command, word, behind):
     if word in OUTPUTS:
         return f"{command.word} has no option {plain(word)}: what it prints goes into a file behind a >, as in safebound {command.word} .. > {plain(shlex.quote(behind))}"
     may = f"Its options are {listed(o.spelled for o in command.options)}."
+    if word in FOLDERS and DATA in command.options:
+        return f"{command.word} has no option {plain(word)}. Did you mean --data? {may}"
     if word in {o.word for c in COMMANDS for o in c.options}:
         return f"{command.word} has no option {plain(word)}. {may}"
     return f"There is no option {plain(word)}.{hint(word, [o.word for o in command.options])} {may} A file whose name begins with - stands behind the word --."
