@@ -9,7 +9,7 @@ from . import places
 
 TICK = 0.25
 NO_PROGRAM = """safebound: the proved program isn't here. In the repository, `make build` proves and builds it;
-`make run DATA=FOLDER` tries a folder of yours within a minute, with nothing proved.
+`make run DATA=FOLDER COMPILE=yes` tries a folder of yours within a minute, with nothing proved.
 SAFEBOUND_PROGRAM names a program that lies elsewhere."""
 
 
