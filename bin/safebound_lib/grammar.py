@@ -1,4 +1,12 @@
 """Reading tokens by a grammar, rule by rule, and what could have stood where that goes wrong."""
+from __future__ import annotations
+
+from collections.abc import Callable
+from typing import Any, TYPE_CHECKING
+
+if TYPE_CHECKING:
+    from .tokens import Token
+
 
 
 class Wrong(Exception):
@@ -8,14 +16,14 @@ class Wrong(Exception):
 class Reader:
     """Goes along the tokens. It remembers the furthest place that it tested, and all that it tested for there."""
 
-    def __init__(self, tokens):
+    def __init__(self, tokens: list[Token]) -> None:
         self.tokens, self.at, self.furthest, self.tested = tokens, 0, 0, []
 
     @property
-    def token(self):
+    def token(self) -> Token | None:
         return self.tokens[self.at] if self.at < len(self.tokens) else None
 
-    def test(self, passes, what):
+    def test(self, passes: Callable[..., Any], what: str) -> bool:
         """Whether the next token passes; `what` it was tested for is remembered."""
         if self.at > self.furthest:
             self.furthest, self.tested = self.at, []
@@ -23,33 +31,33 @@ class Reader:
             self.tested.append(what)
         return self.token is not None and passes(self.token)
 
-    def has(self, *sources):
+    def has(self, *sources: str) -> bool:
         return self.test(lambda token: token.is_one(*sources), " or ".join(sources))
 
-    def maybe(self, *sources):
+    def maybe(self, *sources: str) -> Token | None:
         """Takes the next token where it is one of these words or symbols."""
         return self.next() if self.has(*sources) else None
 
-    def take(self, *sources):
+    def take(self, *sources: str) -> Token | None:
         return self.maybe(*sources) or self.wrong()
 
-    def has_kind(self, kind, what):
+    def has_kind(self, kind: str, what: str) -> bool:
         return self.test(lambda token: token.kind == kind, what)
 
-    def has_name(self, what):
+    def has_name(self, what: str) -> bool:
         return self.test(lambda token: token.is_name, what)
 
-    def take_name(self, what):
+    def take_name(self, what: str) -> Token | None:
         return self.next() if self.has_name(what) else self.wrong()
 
-    def next(self):
+    def next(self) -> Token:
         self.at += 1
         return self.tokens[self.at - 1]
 
-    def wrong(self):
+    def wrong(self) -> None:
         raise Wrong()
 
-    def many(self, rule, separator=","):
+    def many(self, rule: Callable[..., Any], separator: str = ",") -> list[Any] | None:
         """A list of what a rule reads, with separators between."""
         found = [rule()]
         while self.maybe(separator):

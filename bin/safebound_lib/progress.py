@@ -1,4 +1,7 @@
-"""What a program that runs is doing, as the system tells it: which table it has come to, and how much it has written."""
+"""What a program that runs is doing, as the system tells it: which table it has come to, and how much it has written.
+"""
+from __future__ import annotations
+
 import itertools
 import os
 import time
@@ -35,7 +38,11 @@ def tables_of(words: list) -> list:
     """The files of the tables that a query names, each with its size; none where that can't be told."""
     try:
         run = Run(words)
-        files = dict.fromkeys(entry.table.name.lower() + ".csv" for entry in run.query.entries) if run.stats_file is None else ()
+        files = (
+            dict.fromkeys(entry.table.name.lower() + ".csv" for entry in run.query.entries)
+            if run.stats_file is None
+            else ()
+        )
         return [(file, os.path.getsize(file)) for file in files]
     except Exception:
         # Whatever goes wrong here, the run goes on.
@@ -45,7 +52,7 @@ def tables_of(words: list) -> list:
 class Progress:
     """A line on the terminal, from a second on."""
 
-    def __init__(self, pid: int, words: list):
+    def __init__(self, pid: int, words: list) -> None:
         self.pid, self.words, self.began, self.tables, self.is_shown = pid, words, time.monotonic(), None, False
 
     def show(self, notes: int, shows_rows: bool) -> None:

@@ -1,4 +1,6 @@
-"""`safebound schema`, and runs without a schema: a schema text that is proposed from the headers and values of table files."""
+"""`safebound schema`, and runs without a schema: a schema text that is proposed from the headers and values of table
+files.
+"""
 import contextlib
 import os
 import re
@@ -35,14 +37,26 @@ class Proposal:
     @property
     def text(self) -> str:
         """The schema text."""
-        head = f"-- Proposed from {len(self.sheets)} file{'s' * (len(self.sheets) != 1)}. Look at it: types, keys and references are what the rows there happen to show.\n-- A query may write these names in upper or lower case, but for those in double quotes.\n"
+        head = (
+            f"-- Proposed from {len(self.sheets)} file{'s' * (len(self.sheets) != 1)}. Look at it: types, keys and"
+            " references are what the rows there happen to show.\n-- A query may write these names in upper or lower"
+            " case, but for those in double quotes.\n"
+        )
         return head + "\n".join(table_text(sheet, self.sheets) for sheet in self.sheets)
 
     def short(self, files: list[str], target: str) -> str:
-        """The schema text in a line for each table, and how to keep it: `files` and `target` are words of the user's command line."""
+        """The schema text in a line for each table, and how to keep it: `files` and `target` are words of the user's
+        command line.
+        """
         room = columns() if program.is_terminal(2) else None
-        lines = [re.sub(r"\s+", " ", table_text(sheet, self.sheets)).replace("( ", "(").replace(" )", ")") for sheet in self.sheets]
-        head = f"-- This schema is proposed from the rows. To keep it, and edit it:\n--     safebound schema {' '.join(map(plain, files))} --output {plain(target)}\n"
+        lines = [
+            re.sub(r"\s+", " ", table_text(sheet, self.sheets)).replace("( ", "(").replace(" )", ")")
+            for sheet in self.sheets
+        ]
+        head = (
+            "-- This schema is proposed from the rows. To keep it, and edit it:\n--     safebound schema"
+            f" {' '.join(map(plain, files))} --output {plain(target)}\n"
+        )
         return head + "".join(f"{cut(line.strip(), room) if room else line.strip()}\n" for line in lines)
 
 
@@ -71,7 +85,9 @@ def word_of(file: str, before: Optional[str]) -> str:
 
 def table_text(sheet: Sheet, sheets: list[Sheet]) -> str:
     primary = primary_of(sheet)
-    lines = [f"  {column.name} {column_type(column)}{rules(column, primary, sheet, sheets)}" for column in sheet.columns]
+    lines = [
+        f"  {column.name} {column_type(column)}{rules(column, primary, sheet, sheets)}" for column in sheet.columns
+    ]
     return f"CREATE TABLE {sheet.name} (\n" + ",\n".join(lines) + "\n);\n"
 
 
@@ -109,9 +125,19 @@ def singular(name: str) -> str:
 
 
 def referred(column: Column, sheet: Sheet, sheets: list[Sheet]) -> Optional[tuple[Sheet, Column]]:
-    """The table and the key to which a column refers: all its values are in the key, and its name names the table or the key."""
-    found = [(other, key) for other in sheets if other is not sheet for key in other.columns
-             if other.is_key(key) and column.values and key.is_number == column.is_number and column.values.keys() <= key.values.keys()]
+    """The table and the key to which a column refers: all its values are in the key, and its name names the table or
+    the key.
+    """
+    found = [
+        (other, key)
+        for other in sheets
+        if other is not sheet
+        for key in other.columns
+        if other.is_key(key)
+        and column.values
+        and key.is_number == column.is_number
+        and column.values.keys() <= key.values.keys()
+    ]
     named = [(other, key) for other, key in found if names(column, other, key)]
     return max(named, key=lambda pair: pair[1] is primary_of(pair[0])) if named else None
 
@@ -146,7 +172,9 @@ def write(text: str, to: str) -> None:
         with open(to, "x", encoding="utf-8") as f:
             f.write(text)
     except FileExistsError:
-        raise Misused(f"{to} is there already, and nothing is written over: {RESULT.word} FILE names another file") from None
+        raise Misused(
+            f"{to} is there already, and nothing is written over: {RESULT.word} FILE names another file"
+        ) from None
     except OSError as fault:
         raise Misused(f"{to}: {fault.strerror}") from None
     program.say(f"{to}: look at it, and edit what isn't so\n")
@@ -159,14 +187,19 @@ def sentences(says: list[str]) -> str:
 
 def tables_in(folder: str) -> list[str]:
     """The table files of a folder."""
-    return sorted(os.path.join(folder, name) if folder != "." else name for name in os.listdir(folder) if name.lower().endswith(".csv") and not name.startswith("."))
+    return sorted(
+        os.path.join(folder, name) if folder != "." else name
+        for name in os.listdir(folder)
+        if name.lower().endswith(".csv") and not name.startswith(".")
+    )
 
 
 @contextlib.contextmanager
 def proposed(line: Line) -> Iterator[Line]:
     """The line with a schema's file, which is proposed from the tables here.
 
-    It is shown on standard error in short, and then what a user has to know of the tables: the cause of a failure stands below it. Where the
+    It is shown on standard error in short, and then what a user has to know of the tables: the cause of a failure
+    stands below it. Where the
     query or one of its tables isn't there, it would only hide that.
     """
     query = places(line.words[1:])[0]
@@ -175,7 +208,11 @@ def proposed(line: Line) -> Iterator[Line]:
     found = proposal(wanted if is_whole else tables_in("."), line.before)
     if not found.sheets:
         folder = line.own[DATA.word]
-        raise Misused("\n".join(["no schema can be proposed.", *found.says, *([] if found.says else none_in(folder, line.before))]))
+        raise Misused(
+            "\n".join(
+                ["no schema can be proposed.", *found.says, *([] if found.says else none_in(folder, line.before))]
+            )
+        )
     if is_whole and not found.left_out:
         files = [word_of(sheet.file, line.before) for sheet in found.sheets]
         program.say(found.short(files, word_of("schema.sql", line.before)) + "\n" + sentences(found.says))
@@ -193,9 +230,15 @@ def none_in(folder: str, before: Optional[str]) -> list[str]:
     for name in sorted(os.listdir(".")):
         ending = os.path.splitext(name)[1].lower()
         if ending in OF_TEXTS and not packed_file(name):
-            says.append(f"{plain(name)} is there. This writes it as a table's file:\n    safebound convert {plain(word_of(name, before))}")
+            says.append(
+                f"{plain(name)} is there. This writes it as a table's file:\n    safebound convert"
+                f" {plain(word_of(name, before))}"
+            )
         elif ending in OF_SHEETS:
-            says.append(f"{plain(name)} is there, a workbook: save each of its sheets as CSV (in Excel: CSV UTF-8), under the name of its table.")
+            says.append(
+                f"{plain(name)} is there, a workbook: save each of its sheets as CSV (in Excel: CSV UTF-8), under the"
+                " name of its table."
+            )
     return says
 
 

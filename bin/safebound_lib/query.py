@@ -1,8 +1,16 @@
 """Query texts: entries, references and conditions, and where one goes wrong (docs/DEFINITIONS.md, "Query texts")."""
+from __future__ import annotations
+
 from dataclasses import dataclass, field
+from collections.abc import Callable
+from typing import Any, TYPE_CHECKING
 
 from .grammar import Reader, Wrong
 from .tokens import LEAST_NUMBER, MOST_NUMBER, number_of, tokens_of
+
+if TYPE_CHECKING:
+    from .schema import Column, Schema, Table
+    from .tokens import Token
 
 OPERATORS = ("=", "<>", "<", "<=", ">", ">=")
 
@@ -15,7 +23,7 @@ class Entry:
     first: int
 
     @property
-    def name(self):
+    def name(self) -> str:
         return (self.alias or self.table).name
 
 
@@ -27,11 +35,11 @@ class Reference:
     scope: range = None
 
     @property
-    def token(self):
+    def token(self) -> Token:
         return self.entry or self.column
 
     @property
-    def end(self):
+    def end(self) -> int:
         return (self.column or self.entry).end
 
 
@@ -40,19 +48,19 @@ class Literal:
     tokens: list
 
     @property
-    def token(self):
+    def token(self) -> Token:
         return self.tokens[0]
 
     @property
-    def end(self):
+    def end(self) -> int:
         return self.tokens[-1].end
 
     @property
-    def is_number(self):
+    def is_number(self) -> bool:
         return self.tokens[-1].kind == "number"
 
     @property
-    def fits(self):
+    def fits(self) -> bool:
         return not self.is_number or LEAST_NUMBER <= number_of("".join(t.source for t in self.tokens)) <= MOST_NUMBER
 
 
@@ -87,16 +95,16 @@ class Query:
     wrong: int = None
     tested: tuple = ()
 
-    def conjuncts(self):
+    def conjuncts(self) -> list[Test]:
         return [member for condition in self.conditions for member in members(condition)]
 
 
 class QueryReader(Reader):
-    def __init__(self, tokens):
+    def __init__(self, tokens: list[Token]) -> None:
         super().__init__(tokens)
         self.query = Query(tokens)
 
-    def read(self):
+    def read(self) -> None:
         self.take("SELECT")
         if not self.maybe("*"):
             self.many(self.out)
@@ -109,7 +117,7 @@ class QueryReader(Reader):
         if self.token is not None:
             self.wrong()
 
-    def out(self):
+    def out(self) -> None:
         first = self.take_name("a column")
         if not self.maybe("."):
             self.refer(None, first)
@@ -120,16 +128,16 @@ class QueryReader(Reader):
             self.refer(first, self.take_name("a column"))
         self.second_name("a name for it")
 
-    def second_name(self, what):
+    def second_name(self, what: str) -> Token | None:
         if self.maybe("AS"):
             return self.take_name(what)
         return self.next() if self.has_name(what) else None
 
-    def refer(self, entry, column):
+    def refer(self, entry: Token | None, column: Token) -> Reference:
         self.query.references.append(Reference(entry, column))
         return self.query.references[-1]
 
-    def part(self):
+    def part(self) -> None:
         first = len(self.query.entries)
         self.source(first)
         while self.has("INNER") or self.has("JOIN"):
@@ -143,23 +151,23 @@ class QueryReader(Reader):
             for reference in self.query.references[seen:]:
                 reference.scope = range(first, len(self.query.entries))
 
-    def source(self, first):
+    def source(self, first: int) -> None:
         table = self.take_name("a table")
         self.query.entries.append(Entry(table, self.second_name("an alias"), first))
 
-    def condition(self):
+    def condition(self) -> Joined | Test | None:
         return self.joined("OR", lambda: self.joined("AND", self.factor))
 
-    def joined(self, by, rule):
+    def joined(self, by: str, rule: Callable[..., Any]) -> Joined | Test | None:
         found = self.many(rule, by)
         return found[0] if len(found) == 1 else Joined(by, found, found[0].start, found[-1].end)
 
-    def factor(self):
+    def factor(self) -> Test | None:
         word = self.maybe("NOT")
         found = self.test_or_condition()
         return Joined("NOT", [found], word.start, found.end) if word else found
 
-    def test_or_condition(self):
+    def test_or_condition(self) -> Test | None:
         if not self.has("("):
             return self.predicate()
         start = self.next().start
@@ -168,7 +176,7 @@ class QueryReader(Reader):
         # With its parentheses, so that the text of it stays a condition.
         return Joined(found.by, found.members, start, end) if isinstance(found, Joined) else found
 
-    def predicate(self):
+    def predicate(self) -> Test | None:
         left = self.operand()
         negated = self.maybe("NOT")
         if self.maybe("BETWEEN"):
@@ -184,17 +192,17 @@ class QueryReader(Reader):
         operator = self.take(*OPERATORS)
         return self.tested_by(operator.source, [left, self.operand()])
 
-    def tested_by(self, operator, operands, end=None):
+    def tested_by(self, operator: str, operands: list[Literal | Reference], end: int | None = None) -> Test:
         self.query.tests.append(Test(operator, operands, operands[0].token.start, end or operands[-1].end))
         return self.query.tests[-1]
 
-    def operand(self):
+    def operand(self) -> Literal | Reference | None:
         if not self.has_name("a column"):
             return self.literal()
         first = self.next()
         return self.refer(first, self.take_name("a column")) if self.maybe(".") else self.refer(None, first)
 
-    def literal(self):
+    def literal(self) -> Literal | None:
         sign = self.maybe("+", "-")
         if self.has_kind("number", "a number") or not sign and self.has_kind("text", "a text in single quotes"):
             self.query.literals.append(Literal([sign, self.next()] if sign else [self.next()]))
@@ -202,21 +210,21 @@ class QueryReader(Reader):
         return self.wrong()
 
 
-def members(condition):
+def members(condition: Joined | Test) -> list[Test]:
     """The members of a condition at AND, through parentheses."""
     if isinstance(condition, Joined) and condition.by == "AND":
         return [found for member in condition.members for found in members(member)]
     return [condition]
 
 
-def references_of(condition):
+def references_of(condition: Test) -> list[Reference]:
     """The references in a condition."""
     if isinstance(condition, Joined):
         return [found for member in condition.members for found in references_of(member)]
     return [operand for operand in condition.operands if isinstance(operand, Reference)]
 
 
-def read_query(text):
+def read_query(text: bytes) -> Query:
     """The query of a text's bytes, or of as much of it as is right."""
     reader = QueryReader(tokens_of(text))
     try:
@@ -228,7 +236,7 @@ def read_query(text):
     return reader.query
 
 
-def visible(query, reference, schema):
+def visible(query: Query, reference: Reference, schema: Schema) -> list[tuple[Entry, Table, Column]]:
     """The entries in scope that a reference may mean, each with its table and the column."""
     found = []
     for number in reference.scope:
@@ -242,13 +250,13 @@ def visible(query, reference, schema):
     return found
 
 
-def meant(query, reference, schema):
+def meant(query: Query, reference: Reference, schema: Schema) -> tuple[Entry, Table, Column]:
     """The entry, the table and the column that a reference stands for, or nothing."""
     found = visible(query, reference, schema)
     return found[0] if len(found) == 1 else None
 
 
-def equality(query, condition, schema):
+def equality(query: Query, condition: Test, schema: Schema) -> tuple[int, int] | None:
     """The two entries of an equality between columns of two entries, by number, or nothing."""
     if not isinstance(condition, Test) or condition.operator != "=":
         return None
@@ -258,7 +266,7 @@ def equality(query, condition, schema):
     return tuple(next(i for i, entry in enumerate(query.entries) if entry is side[0]) for side in sides)
 
 
-def groups(query, schema):
+def groups(query: Query, schema: Schema) -> list[list[int]]:
     """The entries in groups that equalities connect, each group by the numbers of its entries."""
     found = [[i] for i in range(len(query.entries))]
     for condition in query.conjuncts():

@@ -1,8 +1,12 @@
 """The records of a table file, each with the line on which it begins."""
+from __future__ import annotations
+
 import csv
 import io
 import re
 import sys
+from collections.abc import Iterator
+from typing import Any
 
 # A field in quotes, what ends a field, and what ends a line.
 CLOSED = re.compile(r'"(?:[^"]|"")*"(?!")')
@@ -10,8 +14,10 @@ FIELD_END = re.compile(r"[,\r\n]|$(?![\r\n])")
 LINE_END = re.compile(r"\r\n|\r|\n")
 
 
-def records(data, first=0):
-    """Pairs of a line and the fields of the record that begins there, from the record `first` on. Lines without characters are no records."""
+def records(data: bytes, first: int = 0) -> Iterator[Any]:
+    """Pairs of a line and the fields of the record that begins there, from the record `first` on. Lines without
+    characters are no records.
+    """
     csv.field_size_limit(sys.maxsize)
     reader, number = csv.reader(io.StringIO(text_of(data), newline="")), 0
     while True:
@@ -25,7 +31,7 @@ def records(data, first=0):
         number += bool(fields)
 
 
-def chosen(data, *numbers):
+def chosen(data: bytes, *numbers: int) -> list[tuple[int, list[str]]]:
     """The records with these numbers; record 0 is the header."""
     found = {}
     for number, record in enumerate(records(data)):
@@ -36,11 +42,11 @@ def chosen(data, *numbers):
     return [found[number] for number in numbers]
 
 
-def text_of(data):
+def text_of(data: bytes) -> str:
     return data.decode("utf-8", "surrogateescape").removeprefix("\ufeff")
 
 
-def left_open(data, number):
+def left_open(data: bytes, number: int) -> int | None:
     """The place in bytes of the quote of this record that nothing closes, or nothing."""
     mark = len(data) - len(data.removeprefix(b"\xef\xbb\xbf"))
     text = data[mark:].decode("latin-1")
@@ -57,7 +63,7 @@ def left_open(data, number):
     return None
 
 
-def begin_of(text, line):
+def begin_of(text: str, line: int) -> int:
     """The place where a line begins, counted from 1. Lines end as the csv module has them: in CR, LF or both."""
     at = 0
     for _ in range(line - 1):
@@ -65,10 +71,10 @@ def begin_of(text, line):
     return at
 
 
-def same(name):
+def same(name: str) -> str:
     """A name as headers are compared: ASCII letters of either case are the same."""
     return "".join(c.upper() if c.isascii() else c for c in name)
 
 
-def column_place(header, name):
+def column_place(header: list[str], name: str) -> int:
     return [same(field) for field in header].index(same(name))

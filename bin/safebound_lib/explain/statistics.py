@@ -1,41 +1,69 @@
-"""`error stats CAUSE AT`: a statistics file that isn't one, or that lacks what the query needs or the table that gets new rows."""
+"""`error stats CAUSE AT`: a statistics file that isn't one, or that lacks what the query needs or the table that gets
+new rows.
+"""
+from __future__ import annotations
+
 import shlex
+from typing import TYPE_CHECKING
 
 from ..near import hint, listed
 from ..spot import plain
 
+if TYPE_CHECKING:
+    from . import Run
 
-def made_anew(run):
+
+def made_anew(run: Run) -> str:
     """The line that makes the file, to paste where the user is."""
     texts = [run.query_file or "QUERY"] if run.is_proposed else [run.schema_file, run.query_file or "QUERY"]
     data = f" --data {run.path_of('.')}" if run.before else ""
     return plain(f"safebound stats {' '.join(map(shlex.quote, texts))}{data} > {run.path_of(run.stats_file or '')}")
 
 
-def explain(fault, run):
+def explain(fault: dict[str, int | str], run: Run) -> list[str]:
     file, at = plain(run.stats_file or ""), fault["at"]
     anew = f"Make it anew:\n    {made_anew(run)}"
     if fault["cause"] == "missing" and run.command == "append":
         return without_section(file, run)
     if fault["cause"] == "missing":
-        return [f"{lacking(run, at)} needs statistics that {file} doesn't have: it was made for a query that doesn't name its table, or compares or joins other columns.", anew]
+        return [
+            (
+                f"{lacking(run, at)} needs statistics that {file} doesn't have: it was made for a query that doesn't"
+                " name its table, or compares or joins other columns."
+            ),
+            anew,
+        ]
     if fault["cause"] == "syntax":
         return [f"{file} is no statistics file from line {at} on: it is cut there, or was changed.", anew]
-    return [f"Line {at} of {file} can't follow those before it: it names what the schema doesn't have, or a number or a list is past its limit or out of order.",
-            "Was the file made over another schema?", anew]
+    return [
+        (
+            f"Line {at} of {file} can't follow those before it: it names what the schema doesn't have, or a number or a"
+            " list is past its limit or out of order."
+        ),
+        "Was the file made over another schema?",
+        anew,
+    ]
 
 
-def without_section(file, run):
+def without_section(file: str, run: Run) -> list[str]:
     """Which of the two is missing, the table in the schema or its statistics in the file."""
     names = [table.name for table in run.schema.tables]
     if not any(name.upper() == run.table.upper() for name in names):
         return [f"The schema has no table {plain(run.table)}. Its tables are {listed(names)}.{hint(run.table, names)}"]
     table = plain(run.table)
-    return [f"{file} has no statistics of the table {table}: it was made for a query that doesn't name it. `append` adds rows to the tables that are in the file, and no table.",
-            f"Put the new rows into the table's own file, and make the statistics anew with a query that names {table}:\n    {made_anew(run)}"]
+    return [
+        (
+            f"{file} has no statistics of the table {table}: it was made for a query that doesn't name it. `append`"
+            " adds rows to the tables that are in the file, and no table."
+        ),
+        (
+            "Put the new rows into the table's own file, and make the statistics anew with a query that names"
+            f" {table}:\n    {made_anew(run)}"
+        ),
+    ]
 
 
-def lacking(run, entry):
+def lacking(run: Run, entry: int) -> str:
     """The FROM entry with this number, by its name where the query can be read."""
     try:
         return f"The FROM entry {plain(run.query.entries[entry].name)}"
