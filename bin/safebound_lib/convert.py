@@ -7,8 +7,8 @@ import io
 import os
 import shlex
 import tempfile
+from collections.abc import Iterator
 from dataclasses import dataclass
-from typing import Any
 
 from . import program
 from .near import listed
@@ -53,7 +53,7 @@ class Sheet:
     """A text of records: how its fields are separated, how many lines stand before them, and its records."""
     separator: str
     lines_before: int
-    records: list
+    records: list[list[str]]
 
 
 def convert(line: Line) -> int:
@@ -64,20 +64,20 @@ def convert(line: Line) -> int:
     file, data = files[0], read(files[0])
     encoding = line.own.get(ENCODING.word) or encoding_of(data)
     text = decoded(file, data, encoding)
-    is_sql = file.lower().endswith(".sql")
-    sheet = None if is_sql else sheet_of(text)
+    sheet = None if file.lower().endswith(".sql") else sheet_of(text)
+    commas = " with commas" if sheet else ""
     output = line.own.get(OUTPUT.word)
-    if output is None and encoding == "utf-8" and (is_sql or sheet.separator == "," and not sheet.lines_before):
-        program.write(1, f"{plain(file)}: is UTF-8{'' if is_sql else ' with commas'} already; nothing was written\n")
+    if output is None and encoding == "utf-8" and (not sheet or sheet.separator == "," and not sheet.lines_before):
+        program.write(1, f"{plain(file)}: is UTF-8{commas} already; nothing was written\n")
         return 0
-    new = (text if is_sql else written(sheet)).encode()
-    was = SPOKEN.get(encoding, encoding) + ("" if is_sql else f", separated by {SEPARATORS[sheet.separator]}")
+    new = (written(sheet) if sheet else text).encode()
+    was = SPOKEN.get(encoding, encoding) + (f", separated by {SEPARATORS[sheet.separator]}" if sheet else "")
     return laid(
         file,
         data,
         new,
         output,
-        f"{was}; now it is UTF-8{'' if is_sql else ' with commas'}",
+        f"{was}; now it is UTF-8{commas}",
         ragged(sheet) if sheet else "",
     )
 
@@ -151,12 +151,12 @@ def sheet_of(text: str) -> Sheet:
     return Sheet(separator, 0, list(parsed(text, separator)))
 
 
-def parsed(text: str, separator: str) -> Any:
+def parsed(text: str, separator: str) -> Iterator[list[str]]:
     csv.field_size_limit(2**31 - 1)
     return (record for record in csv.reader(io.StringIO(text, newline=""), delimiter=separator) if record)
 
 
-def evenness(text: str, separator: str) -> Any:
+def evenness(text: str, separator: str) -> tuple[bool, int, int]:
     """How well a separator fits: whether it is in the header, how many records then have as many fields, and how many
     fields.
     """
@@ -179,7 +179,7 @@ def ragged(sheet: Sheet) -> str:
     return f"The header has {wide} fields, and {said} has another number.\n" if found else ""
 
 
-def laid(file: str, old: bytes, new: bytes, output: str, says: str, warning: str) -> int:
+def laid(file: str, old: bytes, new: bytes, output: str | None, says: str, warning: str) -> int:
     """Writes what came out. No file is written over: one that keeps its name is kept under another name first."""
     folder, base = os.path.split(file)
     target = output or os.path.join(
@@ -199,7 +199,7 @@ def laid(file: str, old: bytes, new: bytes, output: str, says: str, warning: str
         replace(target, new, os.stat(file).st_mode & 0o777)
     except FileExistsError:
         raise Misused(
-            f"{plain(kept)} is there already, and nothing is written over: give that file another name"
+            f"{plain(kept or target)} is there already, and nothing is written over: give that file another name"
         ) from None
     except OSError as fault:
         raise Misused(f"{plain(fault.filename or target)}: {fault.strerror}") from None

@@ -2,6 +2,7 @@
 from __future__ import annotations
 
 import re
+from typing import Any
 
 # What is wrong with a table's file. Its name has no blank, but that of a file of new rows may have some.
 OF_TABLES = (
@@ -31,7 +32,7 @@ FORMS = [
 NUMBERS = {"at", "record", "found", "earlier", "least"}
 
 
-def fault_of(notes: bytes) -> dict[str, int | str]:
+def fault_of(notes: bytes) -> dict[str, Any] | None:
     """The fault that standard error tells, as a dictionary, or nothing. A fault stands alone, but for one of a stream
     behind the plan.
     """

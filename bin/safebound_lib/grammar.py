@@ -2,11 +2,12 @@
 from __future__ import annotations
 
 from collections.abc import Callable
-from typing import Any, TYPE_CHECKING
+from typing import NoReturn, TYPE_CHECKING, TypeVar
 
 if TYPE_CHECKING:
     from .tokens import Token
 
+Read = TypeVar("Read")
 
 
 class Wrong(Exception):
@@ -17,13 +18,14 @@ class Reader:
     """Goes along the tokens. It remembers the furthest place that it tested, and all that it tested for there."""
 
     def __init__(self, tokens: list[Token]) -> None:
-        self.tokens, self.at, self.furthest, self.tested = tokens, 0, 0, []
+        self.tokens, self.at, self.furthest = tokens, 0, 0
+        self.tested: list[str] = []
 
     @property
     def token(self) -> Token | None:
         return self.tokens[self.at] if self.at < len(self.tokens) else None
 
-    def test(self, passes: Callable[..., Any], what: str) -> bool:
+    def test(self, passes: Callable[[Token], bool], what: str) -> bool:
         """Whether the next token passes; `what` it was tested for is remembered."""
         if self.at > self.furthest:
             self.furthest, self.tested = self.at, []
@@ -38,7 +40,7 @@ class Reader:
         """Takes the next token where it is one of these words or symbols."""
         return self.next() if self.has(*sources) else None
 
-    def take(self, *sources: str) -> Token | None:
+    def take(self, *sources: str) -> Token:
         return self.maybe(*sources) or self.wrong()
 
     def has_kind(self, kind: str, what: str) -> bool:
@@ -47,17 +49,17 @@ class Reader:
     def has_name(self, what: str) -> bool:
         return self.test(lambda token: token.is_name, what)
 
-    def take_name(self, what: str) -> Token | None:
+    def take_name(self, what: str) -> Token:
         return self.next() if self.has_name(what) else self.wrong()
 
     def next(self) -> Token:
         self.at += 1
         return self.tokens[self.at - 1]
 
-    def wrong(self) -> None:
+    def wrong(self) -> NoReturn:
         raise Wrong()
 
-    def many(self, rule: Callable[..., Any], separator: str = ",") -> list[Any] | None:
+    def many(self, rule: Callable[[], Read], separator: str = ",") -> list[Read]:
         """A list of what a rule reads, with separators between."""
         found = [rule()]
         while self.maybe(separator):

@@ -73,7 +73,7 @@ def page(shown: Shown, lists: dict[str, list[tuple[str, str, list[tuple[int, int
 
 
 def steps(shown: Shown) -> int:
-    return len(shown.plan.nodes if shown.plan.is_tree else shown.plan.levels)
+    return len(shown.plan.nodes) if shown.plan.is_tree else len(shown.plan.levels)
 
 
 def bound_of(shown: Shown, at: int) -> int:
@@ -142,7 +142,9 @@ def step_part(shown: Shown, at: int) -> str:
     )
 
 
-def entry_part(shown: Shown, alias: str, lists: dict[str, list[tuple[str, str, list[tuple[int, int]]]]], flags: list[str]) -> str:
+def entry_part(
+    shown: Shown, alias: str, lists: dict[str, list[tuple[str, str, list[tuple[int, int]]]]], flags: list[str]
+) -> str:
     conditions = "".join(f"<li><code>{safe(words)}</code></li>" for words in shown.own.get(alias, []))
     said = (
         f'<section id="{shown.entry_id(alias)}"><h2>{named(shown, alias)}</h2><p>At most'

@@ -7,12 +7,12 @@ from typing import Any, TYPE_CHECKING
 from . import program
 from .explain import Run, read
 from .plans import option_of, read_audit, read_plan
-from .query import meant, references_of
+from .query import found_of, references_of
 from .table import ACCURACY, BUDGET, KEYS, REDUCE, USUAL_BUDGET
 
 if TYPE_CHECKING:
     from .plans import Plan
-    from .query import Query, Test
+    from .query import Joined, Query, Test
     from .schema import Schema
     from .words import Line
 
@@ -32,7 +32,7 @@ def show(path: str, line: Line) -> int:
     return 0
 
 
-def conditions_of(run: Run, plan: Plan) -> list[dict[str, int | list[str] | str]]:
+def conditions_of(run: Run, plan: Plan) -> list[dict[str, Any]]:
     """The conditions of the query of a run, each with the first level or node of the plan at which it holds."""
     text, query, schema = read(run.query_file), run.query, run.schema
     steps = (
@@ -43,7 +43,7 @@ def conditions_of(run: Run, plan: Plan) -> list[dict[str, int | list[str] | str]
     return [one_condition(text, query, schema, conjunct, steps, plan) for conjunct in query.conjuncts()]
 
 
-def as_json(run: Run, plan: Plan, rows: list[int] | None) -> dict[str, int | list[dict[str, int | list[str] | str]] | str | None]:
+def as_json(run: Run, plan: Plan, rows: list[int] | None) -> dict[str, Any]:
     query, conditions = run.query, conditions_of(run, plan)
     return {
         "command": run.command,
@@ -86,11 +86,11 @@ def of_levels(plan: Plan) -> list[set[str]]:
     return [set(order[:k + 1]) for k in range(len(order))]
 
 
-def at_step(conditions: list[dict[str, int | list[str] | str]], name: str, number: int) -> list[str]:
+def at_step(conditions: list[dict[str, Any]], name: str, number: int) -> list[str]:
     return [c["text"] for c in conditions if c[name] == number and len(c["entries"]) > 1]
 
 
-def levels_of(plan: Plan, rows: list[int] | None, conditions: list[dict[str, int | list[str] | str]]) -> list[dict[str, int | list[str] | str]]:
+def levels_of(plan: Plan, rows: list[int] | None, conditions: list[dict[str, Any]]) -> list[dict[str, Any]]:
     return [
         {
             "level": k,
@@ -103,17 +103,19 @@ def levels_of(plan: Plan, rows: list[int] | None, conditions: list[dict[str, int
     ]
 
 
-def nodes_of(plan: Plan, rows: list[int], conditions: list[dict[str, int | list[str] | str]]) -> list[dict[str, int | list[str]]]:
+def nodes_of(plan: Plan, rows: list[int] | None, conditions: list[dict[str, Any]]) -> list[dict[str, Any]]:
     return [{"node": k, "left": node.left, "right": node.right, "entries": plan.leaves(k), "bound": node.bound,
              **({"rows": rows[k - len(plan.scans)]} if rows else {}), "conditions": at_step(conditions, "node", k)}
             for k, node in enumerate(plan.nodes, len(plan.scans))]
 
 
-def one_condition(text: bytes, query: Query, schema: Schema, conjunct: Test, steps: list[set[str]], plan: Plan) -> dict[str, int | list[str] | str]:
+def one_condition(
+    text: bytes, query: Query, schema: Schema, conjunct: Joined | Test, steps: list[set[str]], plan: Plan
+) -> dict[str, Any]:
     """A condition as it is written, the entries that it names, and the first level at which it holds, or the first
     node.
     """
-    named = {meant(query, reference, schema)[0].name for reference in references_of(conjunct)}
+    named = {found_of(query, reference, schema)[0].name for reference in references_of(conjunct)}
     entries = [entry.name for entry in query.entries if entry.name in named]
     first = next(number for number, step in enumerate(steps) if named <= step)
     return {"text": " ".join(text[conjunct.start:conjunct.end].decode().split()), "entries": entries,

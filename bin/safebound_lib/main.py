@@ -80,7 +80,7 @@ def no_folder(folder: str) -> str:
     return f"there is no folder {folder}.{hint(os.path.basename(folder), beside)}"
 
 
-def with_schema(line: Line, run: Callable[..., Any]) -> int | None:
+def with_schema(line: Line, run: Callable[[Line], int]) -> int:
     """Runs a line, or where it lacks a schema, the line with one that is proposed."""
     if not lacks_schema(line):
         return run(line)
@@ -132,7 +132,7 @@ def explain(path: str, line: Line, status: int, notes: bytes) -> None:
     program.say(explained(fault, run) if fault else not_connected(run) if status == 0 else "")
 
 
-def own_command(line: Line) -> int | None:
+def own_command(line: Line) -> int:
     from . import own
     if line.command == "convert":
         from .convert import convert
@@ -140,16 +140,17 @@ def own_command(line: Line) -> int | None:
     if line.command == "schema":
         from .propose import schema
         return schema(line)
-    return {
+    does: dict[str, Callable[[], int]] = {
         "help": lambda: show_help(line.words[1:]),
         "new": lambda: own.new(line.words[1:]),
         "check": lambda: own.check(program.found(), line),
         "picture": lambda: own.picture(program.found(), line),
         "completion": lambda: own.completion(line.words[1:]),
-    }[line.command]()
+    }
+    return does[line.command]()
 
 
-def show_overview() -> Any:
+def show_overview() -> int:
     """Where no command is given the help stands on standard error, in the place of a line that says so."""
     from . import pages
     program.say(pages.overview(2))
@@ -178,7 +179,7 @@ def show_version() -> int:
     return 0
 
 
-def run(words: list[str]) -> Any:
+def run(words: list[str]) -> int:
     """The exit status of the command, with Python's own interruptions as a shell expects them."""
     try:
         return program.end_as(main(words))

@@ -75,7 +75,7 @@ def check(path: str, line: Line) -> int:
     return tell(notes, fault, Run(["plan", "--", *files], path, line.before), dict(zip(absolute, files)), status)
 
 
-def tell(notes: bytes, fault: dict[str, int | str], run: Run, names: dict[Any, Any], status: int) -> int:
+def tell(notes: bytes, fault: dict[str, Any] | None, run: Run, names: dict[str, str], status: int) -> int:
     """The line of the fault, with the file's name as it was given, and its explanation."""
     if fault and fault.get("file") in names:
         fault["file"] = names[fault["file"]]
@@ -107,20 +107,22 @@ def picture(path: str, line: Line) -> int:
     words = ["audit", *line.words[1:]]
     run = Run(words, path, line.before)
     status, out, notes = program.answer(path, words)
-    budget = option_of(words, BUDGET.word)
+    given_budget = option_of(words, BUDGET.word)
+    budget = int(given_budget) if given_budget else None
+    rows: list[int] | None = None
     if status:
         tell(notes, fault_of(notes), run, {}, status)
-        plan, rows, budget = refused(run, fault_of(notes)), None, int(budget or USUAL_BUDGET)
+        plan, budget = refused(run, fault_of(notes)), budget or USUAL_BUDGET
         if plan is None:
             return status
     else:
         plan = read_plan(notes.decode())
-        rows, budget = read_audit(out.decode(), plan), int(budget) if budget else None
+        rows = read_audit(out.decode(), plan)
     to = line.own.get(OUTPUT.word, "plan.svg")
     return save(drawn(run, shown_of(run, plan, rows, budget), to), to, run) or status
 
 
-def refused(run: Run, fault: dict[str, int | str]) -> Plan:
+def refused(run: Run, fault: dict[str, Any] | None) -> Plan | None:
     """The plan that a budget refuses, where the greatest budget lets it be seen, or nothing."""
     if not fault or fault["kind"] != "budget" or fault["least"] > most_of(run):
         return None
@@ -142,7 +144,8 @@ def lists_beside(run: Run) -> dict[str, list[tuple[str, str, list[tuple[int, int
     """
     accuracy = option_of(run.words, ACCURACY.word)
     status, text, _ = program.answer(
-        run.program, ["stats", *([ACCURACY.word, accuracy] if accuracy else []), "--", run.schema_file, run.query_file]
+        run.program or "",
+        ["stats", *([ACCURACY.word, accuracy] if accuracy else []), "--", run.schema_file, run.query_file],
     )
     return lists_of(run.query, run.schema, text.decode()) if status == 0 else {}
 

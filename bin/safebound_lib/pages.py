@@ -166,11 +166,11 @@ def roff(text: str) -> Any:
     return re.sub(r"^([.'])", r"\\&\1", text.replace("\\", "\\e").replace("-", "\\-"))
 
 
-def topic(name: str) -> str:
+def topic(name: str) -> str | None:
     """The page of a topic, or nothing."""
     if name in BY_WORD:
         return of_command(BY_WORD[name])
-    return {"errors": errors, "man": man}.get(name, lambda: None)()
+    return errors() if name == "errors" else man() if name == "man" else None
 
 
 TOPICS = tuple(BY_WORD) + ("errors", "man")

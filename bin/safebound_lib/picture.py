@@ -11,7 +11,7 @@ from __future__ import annotations
 import math
 import textwrap
 from xml.sax.saxutils import escape, quoteattr
-from typing import TYPE_CHECKING
+from typing import Any, TYPE_CHECKING
 
 from .spot import plain
 
@@ -43,7 +43,9 @@ def width_of(words: str, size: int) -> float:
 class Picture:
     def __init__(self, shown: Shown, wide: int, is_linked: bool) -> None:
         plan = shown.plan
-        self.shown, self.is_linked, self.foot, self.parts, self.numbers = shown, is_linked, TOP + HEIGHT, [], []
+        self.shown, self.is_linked, self.foot = shown, is_linked, TOP + HEIGHT
+        self.parts: list[str] = []
+        self.numbers: list[Any] = []
         self.decades = max(1, math.ceil(math.log10(max([*plan.scans.values(), *plan.bounds, shown.budget or 1]))))
         self.width = math.ceil(
             max(LEFT + wide + RIGHT, LEFT + self.legend(), LEFT + width_of(shown.title, 15) + RIGHT, 620)
@@ -55,7 +57,16 @@ class Picture:
         """A foot of a few points, so that a bar of 1 is seen; none for 0."""
         return 0 if value == 0 else 8 + (HEIGHT - 8) * math.log10(value) / self.decades
 
-    def text(self, x: float, y: float, words: str, size: int = 12, anchor: str = "middle", ink: str = INK, weight: str = "normal") -> None:
+    def text(
+        self,
+        x: float,
+        y: float,
+        words: str,
+        size: int = 12,
+        anchor: str = "middle",
+        ink: str = INK,
+        weight: str = "normal",
+    ) -> None:
         self.parts.append(
             f'<text x="{x:.1f}" y="{y:.1f}" font-size="{size}" text-anchor="{anchor}" fill="{ink}"'
             f' font-weight="{weight}" stroke="white" stroke-width="3" paint-order="stroke">{safe(words)}</text>'
@@ -90,7 +101,8 @@ class Picture:
 
     def legend(self) -> float:
         """Draws what the colours mean, and gives its width."""
-        shown, step, x = self.shown, self.shown.step, LEFT
+        shown, step = self.shown, self.shown.step
+        x: float = LEFT
         has_steps, past = bool(shown.plan.levels or shown.plan.nodes), any(
             shown.is_past(bound) for bound in shown.plan.bounds
         )

@@ -3,7 +3,6 @@ from __future__ import annotations
 
 import os
 import platform
-from typing import Any
 
 LIB = os.path.dirname(os.path.realpath(__file__))
 TOP = os.path.dirname(os.path.dirname(LIB))
@@ -16,7 +15,7 @@ RELEASE = os.path.join(TOP, "dist", "RELEASE")
 RELEASED = os.path.join(TOP, "dist", "safebound_cli")
 
 
-def program() -> str:
+def program() -> str | None:
     """The path of the proved program, or nothing where there is none. SAFEBOUND_PROGRAM names another one.
 
     The release's is the last choice: it may be older than the other files of the repository.

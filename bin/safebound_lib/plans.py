@@ -20,9 +20,9 @@ class Plan:
     entry and its bound, or the
     inner nodes of a join tree. Nodes have numbers: the entries theirs in FROM order, from 0 on, and behind them the
     inner nodes."""
-    scans: dict
-    levels: list
-    nodes: list
+    scans: dict[str, int]
+    levels: list[tuple[str, int]]
+    nodes: list[Node]
 
     @property
     def is_tree(self) -> bool:
@@ -54,9 +54,11 @@ def read_plan(text: str) -> Plan:
     if lines and re.fullmatch("memory [0-9]+", lines[-1]):
         # With --memory the bytes of the plan's buffers stand last.
         lines.pop()
-    scans = [re.fullmatch(r"scan (.*) ([0-9]+)", line) for line in lines if line.startswith("scan ")]
-    levels = [re.fullmatch(r"level [0-9]+ (.*) ([0-9]+)", line) for line in lines if line.startswith("level ")]
-    nodes = [
+    scans: list[Any] = [re.fullmatch(r"scan (.*) ([0-9]+)", line) for line in lines if line.startswith("scan ")]
+    levels: list[Any] = [
+        re.fullmatch(r"level [0-9]+ (.*) ([0-9]+)", line) for line in lines if line.startswith("level ")
+    ]
+    nodes: list[Any] = [
         re.fullmatch(r"node ([0-9]+) ([0-9]+) ([0-9]+) ([0-9]+)", line) for line in lines if line.startswith("node ")
     ]
     is_whole = scans and None not in scans + levels + nodes and len(scans) + len(levels) + len(nodes) == len(lines)

@@ -44,7 +44,9 @@ def become(path: str, words: list[str]) -> None:
         sys.exit(f"safebound: {path} can't be run: {fault.strerror}")
 
 
-def answer(path: str, words: list[str], folder: str | None = None, seconds: int | None = None) -> tuple[int, bytes, bytes]:
+def answer(
+    path: str, words: list[str], folder: str | None = None, seconds: int | None = None
+) -> tuple[int, bytes, bytes]:
     """The exit status, standard output and standard error of a run that nobody sees."""
     done = subprocess.run([path, *words], cwd=folder, stdin=subprocess.DEVNULL, capture_output=True, timeout=seconds)
     return done.returncode, done.stdout, done.stderr
@@ -53,8 +55,9 @@ def answer(path: str, words: list[str], folder: str | None = None, seconds: int 
 class Relay:
     """Hands bytes on to one of our own streams until that fails."""
 
-    def __init__(self, stream: Any, to: Any) -> None:
-        self.stream, self.to, self.kept, self.is_open = stream, to, [], True
+    def __init__(self, stream: Any, to: int) -> None:
+        self.stream, self.to, self.is_open = stream, to, True
+        self.kept: list[bytes] = []
         os.set_blocking(stream.fileno(), False)
 
     def hand_on(self) -> None:
@@ -81,7 +84,7 @@ class Relay:
         return True
 
 
-def run_and_read(path: str, words: list[str]) -> Any:
+def run_and_read(path: str, words: list[str]) -> tuple[int, bytes]:
     """Runs the program on our streams. The exit status, below 0 where a signal ended it, and what it wrote on standard
     error.
 
@@ -111,7 +114,7 @@ def run_and_read(path: str, words: list[str]) -> Any:
     return child.wait(), b"".join(notes.kept)
 
 
-def end_as(status: int) -> Any:
+def end_as(status: int) -> int:
     """The status as it is; a program that a signal ended is followed by that signal."""
     if status < 0:
         if -status not in (signal.SIGKILL, signal.SIGSTOP):

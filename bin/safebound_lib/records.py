@@ -6,7 +6,6 @@ import io
 import re
 import sys
 from collections.abc import Iterator
-from typing import Any
 
 # A field in quotes, what ends a field, and what ends a line.
 CLOSED = re.compile(r'"(?:[^"]|"")*"(?!")')
@@ -14,7 +13,7 @@ FIELD_END = re.compile(r"[,\r\n]|$(?![\r\n])")
 LINE_END = re.compile(r"\r\n|\r|\n")
 
 
-def records(data: bytes, first: int = 0) -> Iterator[Any]:
+def records(data: bytes, first: int = 0) -> Iterator[tuple[int, list[str]]]:
     """Pairs of a line and the fields of the record that begins there, from the record `first` on. Lines without
     characters are no records.
     """
@@ -57,7 +56,7 @@ def left_open(data: bytes, number: int) -> int | None:
             if not closed:
                 return mark + at
             at = closed.end()
-        at = FIELD_END.search(text, at).end()
+        at = end_of(FIELD_END, text, at)
         if text[at - 1:at] in ("\r", "\n"):
             return None
     return None
@@ -67,8 +66,14 @@ def begin_of(text: str, line: int) -> int:
     """The place where a line begins, counted from 1. Lines end as the csv module has them: in CR, LF or both."""
     at = 0
     for _ in range(line - 1):
-        at = LINE_END.search(text, at).end()
+        at = end_of(LINE_END, text, at)
     return at
+
+
+def end_of(pattern: re.Pattern[str], text: str, at: int) -> int:
+    """Where the next match ends; without one the text's end."""
+    found = pattern.search(text, at)
+    return found.end() if found else len(text)
 
 
 def same(name: str) -> str:

@@ -16,9 +16,9 @@ NUMBERS = ("INT", "INTEGER", "SMALLINT", "BIGINT")
 
 @dataclass
 class Column:
-    token: object
+    token: Token
     type: str
-    length: int = None
+    length: int | None = None
     is_whole: bool = False
 
     @property
@@ -32,18 +32,18 @@ class Column:
 
 @dataclass
 class Reference:
-    target: object
-    columns: list
-    of: list
+    target: Token
+    columns: list[Token]
+    of: list[Token]
 
 
 @dataclass
 class Table:
-    token: object
-    columns: list = field(default_factory=list)
-    keys: list = field(default_factory=list)
-    primary: list = field(default_factory=list)
-    references: list = field(default_factory=list)
+    token: Token
+    columns: list[Column] = field(default_factory=list)
+    keys: list[list[Token]] = field(default_factory=list)
+    primary: list[tuple[Token, list[Token]]] = field(default_factory=list)
+    references: list[Reference] = field(default_factory=list)
 
     @property
     def name(self) -> str:
@@ -60,10 +60,10 @@ class Table:
 @dataclass
 class Schema:
     """What was read of a schema text: all of it where `tested` is empty, else what lies before the token `wrong`."""
-    tables: list
-    tokens: list
-    wrong: int = None
-    tested: tuple = ()
+    tables: list[Table]
+    tokens: list[Token]
+    wrong: int | None = None
+    tested: tuple[str, ...] = ()
 
     def table(self, name: str) -> Table | None:
         return next((table for table in self.tables if table.name == name), None)
@@ -72,7 +72,7 @@ class Schema:
 class SchemaReader(Reader):
     def __init__(self, tokens: list[Token]) -> None:
         super().__init__(tokens)
-        self.tables = []
+        self.tables: list[Table] = []
 
     def schema(self) -> None:
         self.table()
@@ -93,12 +93,15 @@ class SchemaReader(Reader):
         self.many(self.element)
         self.take(")")
 
-    def element(self) -> bool | None:
+    def element(self) -> None:
         table = self.tables[-1]
         if self.maybe("CONSTRAINT"):
             self.take_name("a rule's name")
-            return self.table_rule(table) or self.wrong()
-        return self.table_rule(table) or self.column(table)
+            if not self.table_rule(table):
+                self.wrong()
+            return
+        if not self.table_rule(table):
+            self.column(table)
 
     def table_rule(self, table: Table) -> bool:
         if self.has("PRIMARY"):

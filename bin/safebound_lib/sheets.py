@@ -20,6 +20,7 @@ WORD, TABLE_NAME = re.compile(r"[A-Za-z][A-Za-z0-9_]*"), re.compile(r"[A-Za-z0-9
 # A number that loses nothing when it is printed as one: no leading zeros, no sign +.
 NUMBER = re.compile(r"0|-?[1-9][0-9]*")
 LIKE_A_VALUE = re.compile(r"[+-]?[0-9][0-9.,:/ -]*|\d{4}-\d{2}-\d{2}.*")
+NO_RECORD: tuple[int, list[str]] = (0, [])
 
 
 class NoTable(Exception):
@@ -108,7 +109,7 @@ def sheet_of(file: str, word: str) -> Sheet:
         )
     data = bytes_of(file, word)
     found = records(data)
-    line, header = next(found, (0, []))
+    line, header = next(found, NO_RECORD)
     refuse_header(word, header)
     refuse_title(data, header)
     add_columns(sheet, header)
@@ -234,7 +235,7 @@ def refuse_header(word: str, header: list[str]) -> None:
 def refuse_title(data: bytes, header: list[str]) -> None:
     """A title above the names: one field of the first line is filled, and all of the second one are, none by a value.
     """
-    line, second = next(records(data, 1), (0, []))
+    line, second = next(records(data, 1), NO_RECORD)
     named = sum(name != "" for name in header)
     if (
         named == 1 < len(header) - 1

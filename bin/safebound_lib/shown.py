@@ -22,11 +22,11 @@ class Shown:
     """
     title: str
     plan: Plan
-    rows: list = None
-    budget: int = None
-    tables: dict = field(default_factory=dict)
-    own: dict = field(default_factory=dict)
-    at: dict = None
+    rows: list[int] | None = None
+    budget: int | None = None
+    tables: dict[str, str] = field(default_factory=dict)
+    own: dict[str, list[str]] = field(default_factory=dict)
+    at: dict[int, list[str]] | None = None
 
     @property
     def step(self) -> str:
@@ -90,8 +90,9 @@ class Shown:
 def shown_of(run: Run, plan: Plan, rows: list[int] | None, budget: int | None) -> Shown:
     """What is shown of a plan whose texts are those of a run."""
     from .json_plan import conditions_of
-    conditions, own, at = conditions_of(run, plan), {}, {}
-    for condition in conditions:
+    own: dict[str, list[str]] = {}
+    at: dict[int, list[str]] = {}
+    for condition in conditions_of(run, plan):
         if len(condition["entries"]) == 1:
             own.setdefault(condition["entries"][0], []).append(condition["text"])
         else:

@@ -33,11 +33,13 @@ def spot(file: str, data: bytes, at: int, length: int = 1) -> str:
     end = data.find(b"\n", at)
     line = data[start:len(data) if end < 0 else end].rstrip(b"\r")
     number = data.count(b"\n", 0, at) + 1
-    text = lambda part: part.decode("utf-8", "surrogateescape").replace("\ufeff", "")
-    before, marked, behind = (
-        text(part) for part in (line[: at - start], line[at - start : at - start + length], line[at - start + length :])
-    )
+    head, tail = at - start, at - start + length
+    before, marked, behind = map(without_mark, (line[:head], line[head:tail], line[tail:]))
     return f"{plain(file)}, line {number}, column {len(before) + 1}\n" + marked_line(before, marked, behind)
+
+
+def without_mark(part: bytes) -> str:
+    return part.decode("utf-8", "surrogateescape").replace("\ufeff", "")
 
 
 def cut(text: str, most: int, at_front: bool = False) -> str:

@@ -12,10 +12,10 @@ class Option:
     runs.
     """
     word: str
-    value: str
+    value: str | None
     help: str
-    least: int = None
-    most: int = None
+    least: int | None = None
+    most: int | None = None
     is_own: bool = False
 
     @property
@@ -26,11 +26,11 @@ class Option:
 @dataclass(frozen=True)
 class Command:
     word: str
-    places: tuple
+    places: tuple[str, ...]
     help: str
-    options: tuple = ()
+    options: tuple[Option, ...] = ()
     more: str = ""
-    examples: tuple = ()
+    examples: tuple[str, ...] = ()
     is_own: bool = False
     optional: int = 0
 

@@ -3,15 +3,14 @@ from __future__ import annotations
 
 import re
 from dataclasses import dataclass
-from typing import Any
 
 MARK = b"\xef\xbb\xbf"
-RESERVED = frozenset(
-    """ALL AND ANY AS ASC BETWEEN BIGINT BY CASE CAST CHAR CHARACTER CHECK CONSTRAINT CREATE CROSS DEFAULT DELETE
-DESC DISTINCT EXCEPT EXISTS FOREIGN FROM FULL GROUP HAVING IN INNER INT INTEGER INTERSECT IS JOIN LEFT LIKE NATURAL NOT NULL ON
-OR ORDER OUTER PRIMARY REFERENCES RIGHT SELECT SET SMALLINT TABLE UNION UNIQUE UPDATE USING VALUES VARCHAR
-VARYING WHERE""".split()
-)
+RESERVED = frozenset("""
+ALL AND ANY AS ASC BETWEEN BIGINT BY CASE CAST CHAR CHARACTER CHECK CONSTRAINT CREATE CROSS DEFAULT DELETE DESC
+DISTINCT EXCEPT EXISTS FOREIGN FROM FULL GROUP HAVING IN INNER INT INTEGER INTERSECT IS JOIN LEFT LIKE NATURAL NOT
+NULL ON OR ORDER OUTER PRIMARY REFERENCES RIGHT SELECT SET SMALLINT TABLE UNION UNIQUE UPDATE USING VALUES VARCHAR
+VARYING WHERE
+""".split())
 BETWEEN_TOKENS = re.compile(rb"(?:[ \t\r\n]+|--[^\n]*)*")
 TOKEN = re.compile(
     rb"(?P<word>[A-Za-z][A-Za-z0-9_]*)|(?P<quoted>\"(?:[^\"]|\"\")+\"(?!\"))|(?P<number>[0-9]+)"
@@ -49,9 +48,11 @@ class Token:
 
 def tokens_of(text: bytes) -> list[Token]:
     """The tokens of a text's bytes, up to its end or to the first place that begins no token."""
-    found, at = [], len(MARK) if text.startswith(MARK) else 0
+    found: list[Token] = []
+    at = len(MARK) if text.startswith(MARK) else 0
     while True:
-        at = BETWEEN_TOKENS.match(text, at).end()
+        between = BETWEEN_TOKENS.match(text, at)
+        at = between.end() if between else at
         if at == len(text):
             return found
         match = TOKEN.match(text, at)
@@ -59,7 +60,7 @@ def tokens_of(text: bytes) -> list[Token]:
         if control or not match:
             at += control.start() if control else 0
             return found + [Token("bad", at, at + 1, shown(text[at:at + 40]))]
-        found.append(Token(match.lastgroup, at, match.end(), shown(match[0])))
+        found.append(Token(match.lastgroup or "", at, match.end(), shown(match[0])))
         at = match.end()
 
 

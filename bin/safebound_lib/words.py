@@ -2,7 +2,7 @@
 from __future__ import annotations
 
 from dataclasses import dataclass, field
-from typing import TYPE_CHECKING
+from typing import Any, TYPE_CHECKING
 
 from .table import BY_WORD, DATA, TEXTS, own_options, valued
 
@@ -17,9 +17,9 @@ class Misused(Exception):
 @dataclass
 class Line:
     """The words that are left for the program, the own options by word, and the folder that `--data` left."""
-    words: list = field(default_factory=list)
-    own: dict = field(default_factory=dict)
-    before: str = None
+    words: list[str] = field(default_factory=list)
+    own: dict[str, Any] = field(default_factory=dict)
+    before: str | None = None
     is_proposed: bool = False
 
     @property
@@ -79,7 +79,8 @@ def add_own(line: Line, option: Option, value: str | None, left: list[str]) -> N
 
 def places(words: list[str]) -> list[str]:
     """The place words among those behind the command: what is no option and no option's value."""
-    found, left, with_value = [], list(words), valued()
+    found: list[str] = []
+    left, with_value = list(words), valued()
     while left:
         word = left.pop(0)
         if word == "--":

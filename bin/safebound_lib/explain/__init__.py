@@ -5,7 +5,7 @@ import importlib
 import os
 import shlex
 import textwrap
-from typing import TYPE_CHECKING
+from typing import Any, TYPE_CHECKING
 
 from .. import terminal
 from ..plans import option_of
@@ -43,7 +43,9 @@ class Run:
     whether its schema was proposed.
     """
 
-    def __init__(self, words: list[str], program: str | None = None, before: str | None = None, is_proposed: bool = False) -> None:
+    def __init__(
+        self, words: list[str], program: str | None = None, before: str | None = None, is_proposed: bool = False
+    ) -> None:
         self.words, self.program, self.before, self.is_proposed = words, program, before, is_proposed
         self.command = words[0] if words else ""
         found = places(words[1:])
@@ -89,7 +91,7 @@ def read(file: str) -> bytes:
         return f.read()
 
 
-def explained(fault: dict[str, int | str], run: Run) -> str:
+def explained(fault: dict[str, Any], run: Run) -> str:
     """The explanation of a fault, ended by a line end."""
     part = importlib.import_module(f".{PARTS[fault['kind']]}", __name__)
     try:

@@ -2,7 +2,7 @@
 from __future__ import annotations
 
 import subprocess
-from typing import TYPE_CHECKING
+from typing import Any, TYPE_CHECKING
 
 from . import read
 from ..near import listed
@@ -22,7 +22,7 @@ SECONDS = 60
 CLOSER = "8"
 
 
-def explain(fault: dict[str, int | str], run: Run) -> list[str]:
+def explain(fault: dict[str, Any], run: Run) -> list[str]:
     budget, most = int(option_of(run.words, BUDGET.word) or USUAL_BUDGET), most_of(run)
     least, (shape, step) = fault.get("least"), ("join tree", "node") if has(run, BUSHY) else ("order", "level")
     if least is None:
@@ -65,12 +65,12 @@ def not_connected(run: Run) -> str:
 def several_equalities(run: Run) -> list[str]:
     """A sentence for each pair of entries that several equalities join, as those of a key of two columns do."""
     query, schema, text = run.query, run.schema, read(run.query_file)
-    found = {}
+    found: dict[tuple[int, int], list[str]] = {}
     for condition in query.conjuncts():
         pair = equality(query, condition, schema)
         if pair:
-            found.setdefault(tuple(sorted(pair)), []).append(
-                " ".join(text[condition.start : condition.end].decode().split())
+            found.setdefault((min(pair), max(pair)), []).append(
+                " ".join(text[condition.start:condition.end].decode().split())
             )
     names = [entry.name for entry in query.entries]
     return [
@@ -81,7 +81,7 @@ def several_equalities(run: Run) -> list[str]:
     ]
 
 
-def with_words(run: Run, words: list[str]) -> int | Plan:
+def with_words(run: Run, words: list[str]) -> int | Plan | None:
     """What `plan` says with further words: its levels, or the least budget, or nothing."""
     if run.program is None or run.command == "demo":
         return None
@@ -93,7 +93,7 @@ def with_words(run: Run, words: list[str]) -> int | Plan:
     if status == 0:
         return read_plan(notes.decode("utf-8", "replace"))
     fault = fault_of(notes)
-    return fault["least"] if fault and fault["kind"] == "budget" else None
+    return int(fault["least"]) if fault and fault["kind"] == "budget" else None
 
 
 def planned_words(words: list[str]) -> list[str]:
@@ -112,7 +112,7 @@ def planned_words(words: list[str]) -> list[str]:
     return found
 
 
-def at_fault(run: Run, least: int, budget: int) -> str:
+def at_fault(run: Run, least: int | None, budget: int) -> str:
     """Which level or node is past the budget, where the least budget shows the plan."""
     if least is None or least > most_of(run):
         return ""
@@ -120,9 +120,9 @@ def at_fault(run: Run, least: int, budget: int) -> str:
     if plan is None or isinstance(plan, int):
         return ""
     if plan.is_tree:
-        past = [(number, node.bound) for number, node in enumerate(plan.nodes, len(plan.scans)) if node.bound > budget]
-        said = listed(f"node {number} ({listed(plan.leaves(number))}), of {bound:,} rows" for number, bound in past)
-        return f"Past the budget: {said}." if past else ""
+        nodes = [(number, node.bound) for number, node in enumerate(plan.nodes, len(plan.scans)) if node.bound > budget]
+        said = listed(f"node {number} ({listed(plan.leaves(number))}), of {bound:,} rows" for number, bound in nodes)
+        return f"Past the budget: {said}." if nodes else ""
     past = [(number + 1, alias, bound) for number, (alias, bound) in enumerate(plan.levels) if bound > budget]
     if not past:
         return ""
@@ -158,7 +158,7 @@ def refers(run: Run) -> bool:
 def tried(run: Run, budget: int, apart: str) -> list[str]:
     """What the other options come to, and what else there is to do."""
     is_close = int(option_of(run.words, ACCURACY.word) or 1) >= int(CLOSER)
-    ways = []
+    ways: list[tuple[str, dict[str, Any]]] = []
     if not has(run, REDUCE):
         ways.append((f"With {REDUCE.word}", dict(flag=REDUCE)))
     if not is_close:
@@ -175,7 +175,7 @@ def tried(run: Run, budget: int, apart: str) -> list[str]:
     return (["What other options come to:\n" + "\n".join(found)] if found else []) + [rest]
 
 
-def said_of(found: int | Plan, budget: int) -> str:
+def said_of(found: int | Plan | None, budget: int) -> str | None:
     if found is None:
         return None
     if isinstance(found, int):

@@ -1,7 +1,7 @@
 """`error memory-limit BYTES`: what the buffers of the plan take."""
 from __future__ import annotations
 
-from typing import TYPE_CHECKING
+from typing import Any, TYPE_CHECKING
 
 from ..plans import option_of
 from ..table import BUSHY, KEYS, MEMORY, REDUCE
@@ -10,12 +10,12 @@ if TYPE_CHECKING:
     from . import Run
 
 
-def explain(fault: dict[str, int | str], run: Run) -> list[str]:
+def explain(fault: dict[str, Any], run: Run) -> list[str]:
     limit = option_of(run.words, MEMORY.word)
     others = [option.word for option in (REDUCE, BUSHY) if not {option.word, KEYS.word} & set(run.words)]
     first = (
-        f"The buffers of the plan take {fault['found']:,} bytes, and the limit is {int(limit):,}. The least limit is"
-        f" {MEMORY.word} {fault['found']}."
+        f"The buffers of the plan take {fault['found']:,} bytes, and the limit is {int(limit or 0):,}. The least limit"
+        f" is {MEMORY.word} {fault['found']}."
     )
     return [
         first,

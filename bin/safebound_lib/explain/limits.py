@@ -1,7 +1,7 @@
 """`error limit WHICH FOUND`: the limit, and what stands beyond it."""
 from __future__ import annotations
 
-from typing import TYPE_CHECKING
+from typing import Any, TYPE_CHECKING
 
 from ..spot import plain
 
@@ -30,7 +30,7 @@ SAYS = {
 BYTES_OF_TEXT, BYTES_OF_TABLE, ROWS = 1_048_576, 67_108_864, 4_000_000
 
 
-def explain(fault: dict[str, int | str], run: Run) -> list[str]:
+def explain(fault: dict[str, Any], run: Run) -> list[str]:
     file = plain(fault.get("file") or "")
     if fault["cause"] == "rows" and run.command == "append":
         return [

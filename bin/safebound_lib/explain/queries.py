@@ -2,7 +2,8 @@
 from __future__ import annotations
 
 import os
-from typing import TYPE_CHECKING
+from collections.abc import Iterable
+from typing import Any, TYPE_CHECKING, cast
 
 from . import read
 from .query_advice import CERTAIN, GUESSES
@@ -10,7 +11,7 @@ from .reads import missing_table
 from .texts import accented, advised, bad_character, marked, no_text, place_of, quotes_for
 from ..convert import packed
 from ..near import hint, listed, nearest
-from ..query import Literal, Reference, meant, visible
+from ..query import Literal, Reference, found_of, visible
 from ..spot import plain
 from ..tokens import LEAST_NUMBER, MOST_NUMBER
 
@@ -21,7 +22,7 @@ if TYPE_CHECKING:
     from ..tokens import Token
 
 
-def explain(fault: dict[str, int | str], run: Run) -> list[str]:
+def explain(fault: dict[str, Any], run: Run) -> list[str]:
     data, query, at = read(run.query_file), run.query, fault["at"]
     says = {"syntax": syntax, "name": name, "kind": kind}[fault["cause"]]
     other = no_text(run.query_file, data, at, run) or no_query(run, data)
@@ -52,7 +53,7 @@ def no_query(run: Run, data: bytes) -> list[str]:
     ]
 
 
-def of_a_proposal(fault: dict[str, int | str], query: Query, schema: Schema, run: Run) -> list[str]:
+def of_a_proposal(fault: dict[str, Any], query: Query, schema: Schema, run: Run) -> list[str]:
     """What is wrong for the reason that a schema was proposed: a table without its file, and a column that one value
     made a text.
     """
@@ -77,7 +78,7 @@ def odd_value(query: Query, schema: Schema, at: int) -> list[str]:
     literal, beside = (other, test.operands[0]) if isinstance(other, Literal) else (test.operands[0], other)
     if not isinstance(literal, Literal) or not literal.is_number or not isinstance(beside, Reference):
         return []
-    entry, table, column = meant(query, beside, schema)
+    entry, table, column = found_of(query, beside, schema)
     found = next((c for c in sheet_of(table.file, table.file).columns if c.name == written(column.name)), None)
     if found is None or found.odd is None and not found.has_gaps:
         return []
@@ -134,7 +135,8 @@ def output(query: Query, schema: Schema, item: list[Token]) -> list[tuple[set[st
         if schema.table(entry.table.name)
         and (item[-1:] and not item[-1].is_one("*") or len(item) == 1 or entry.name in names)
     ]
-    columns = [column for entry in entries for column in schema.table(entry.table.name).columns]
+    tables = [schema.table(entry.table.name) for entry in entries]
+    columns = [column for table in tables if table for column in table.columns]
     if item[-1:] and item[-1].is_one("*"):
         return [({column.name}, column.is_number) for column in columns]
     return [(names, any(column.is_number for column in columns if column.name in names))]
@@ -160,7 +162,7 @@ def unknown_table(token: Token, schema: Schema) -> str:
     )
 
 
-def case(token: Token, names: list[str]) -> str:
+def case(token: Token, names: Iterable[str]) -> str:
     """Where a name in double quotes is there but for its case."""
     if token.kind == "quoted" and token.name.upper() in names:
         return f" A name in double quotes keeps its case: write {token.name.upper()} without quotes."
@@ -173,19 +175,19 @@ def twice(entry: Entry) -> str:
     return f"{plain(entry.name)} is the name of two entries. {how}, and write its columns with it."
 
 
-def columns(table: Table) -> list[str]:
-    return [column.name for column in table.columns]
+def columns(table: Table | None) -> list[str]:
+    return [column.name for column in table.columns] if table else []
 
 
 def unknown_entry(query: Query, reference: Reference, schema: Schema) -> list[str]:
     """`entry.column`, of which one of the two isn't there."""
-    wanted, scope = reference.entry.name, [query.entries[i] for i in reference.scope]
+    wanted, scope = reference.token.name, [query.entries[i] for i in reference.scope]
     entry = next((e for e in scope if e.name == wanted), None)
     if entry is None:
         return [no_entry(query, reference, scope)]
     table = schema.table(entry.table.name)
-    called = plain(entry.name) + (f" (table {plain(table.name)})" if entry.alias else "")
-    missing = reference.column
+    called = plain(entry.name) + (f" (table {plain(entry.table.name)})" if entry.alias else "")
+    missing = cast("Token", reference.column)
     return [
         f"{called} has no column {plain(missing.name)}. Its columns are"
         f" {listed(columns(table))}.{hint(missing.name, columns(table))}{case(missing, columns(table))}"
@@ -193,7 +195,7 @@ def unknown_entry(query: Query, reference: Reference, schema: Schema) -> list[st
 
 
 def no_entry(query: Query, reference: Reference, scope: list[Entry]) -> str:
-    wanted, names = reference.entry.name, [entry.name for entry in scope]
+    wanted, names = reference.token.name, [entry.name for entry in scope]
     if any(entry.name == wanted for entry in query.entries):
         return (
             f"{plain(wanted)} can't be named in this ON: there only the entries of its own JOIN, up to the one just"
@@ -210,7 +212,7 @@ def no_entry(query: Query, reference: Reference, scope: list[Entry]) -> str:
 
 def unknown_column(query: Query, reference: Reference, schema: Schema) -> list[str]:
     """A column without an entry: several entries have it, or none has."""
-    token, found = reference.column, visible(query, reference, schema)
+    token, found = reference.token, visible(query, reference, schema)
     if found:
         having = [
             f"{plain(entry.name)} (table {plain(table.name)})" if entry.alias else plain(entry.name)
@@ -254,7 +256,7 @@ def is_compared(query: Query, reference: Reference) -> bool:
     return any(reference in test.operands[1:] for test in query.tests)
 
 
-def quoted(token: Token, tables: dict[str, Table]) -> list[str]:
+def quoted(token: Token, tables: dict[str, Table | None]) -> list[str]:
     """A name in double quotes that no entry has: mostly a text was meant."""
     names = {column for table in tables.values() for column in columns(table)}
     if token.name.upper() in names:
@@ -282,11 +284,11 @@ def side(query: Query, operand: Literal | Reference, schema: Schema) -> str:
     if isinstance(operand, Literal):
         shown = "".join(plain(token.source) for token in operand.tokens)
         return f"{shown} is a number" if operand.is_number else f"{shown} is a text"
-    entry, _, column = meant(query, operand, schema)
+    entry, _, column = found_of(query, operand, schema)
     return f"{plain(entry.name)}.{plain(column.name)} is {column.type}"
 
 
-def mended(query: Query, left: Reference, other: Literal | Reference, schema: Schema) -> list[str]:
+def mended(query: Query, left: Literal | Reference, other: Literal | Reference, schema: Schema) -> list[str]:
     """How the literal of the two is written as the other one's kind."""
     if isinstance(left, Reference) and isinstance(other, Reference):
         return [of_the_kind(query, left, other, schema)]
@@ -303,7 +305,7 @@ def mended(query: Query, left: Reference, other: Literal | Reference, schema: Sc
 
 def of_the_kind(query: Query, left: Reference, other: Reference, schema: Schema) -> str:
     """The columns of the right entry that can be compared with the left one."""
-    (_, _, column), (entry, table, _) = meant(query, left, schema), meant(query, other, schema)
+    (_, _, column), (entry, table, _) = found_of(query, left, schema), found_of(query, other, schema)
     fitting = [f"{plain(entry.name)}.{plain(c.name)}" for c in table.columns if c.is_number == column.is_number]
     kind_there = "numbers" if column.is_number else "texts"
     return (

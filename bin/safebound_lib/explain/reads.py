@@ -16,7 +16,7 @@ if TYPE_CHECKING:
 OF_TEXTS, OF_SHEETS = (".txt", ".tsv", ".tab", ".dat"), (".xlsx", ".xls", ".ods")
 
 
-def explain(fault: dict[str, str], run: Run) -> list[str]:
+def explain(fault: dict[str, Any], run: Run) -> list[str]:
     file = fault["file"]
     if not file:
         return ["The name of the file is empty."]
@@ -63,7 +63,7 @@ def missing_table(name: str, run: Run) -> list[str]:
     ]
 
 
-def no_table(file: str, run: Run) -> Any:
+def no_table(file: str, run: Run) -> list[str]:
     """Why a file that is there gives no table."""
     from ..sheets import NoTable, sheet_of
     try:
@@ -108,7 +108,7 @@ def where(file: str, run: Run) -> list[str]:
     return found + [alike(file, folder)]
 
 
-def working() -> str:
+def working() -> str | None:
     try:
         return os.getcwd()
     except OSError:
@@ -180,10 +180,10 @@ def near_file(file: str, folder: str, run: Run) -> str:
                 f"{plain(other)} is there, a workbook: save its sheet as CSV (in Excel: CSV UTF-8), under the name"
                 f" {plain(name)}."
             )
-    other = nearest(name, [name for name in names if not name.endswith(".original")], 0.75)
-    if other and run.is_proposed and other.endswith(".csv"):
-        return f"{plain(other)} is there. Did you mean {plain(other.removesuffix('.csv').upper())}?"
-    return f"{plain(other)} is there. Is it that one?" if other else ""
+    near = nearest(name, [name for name in names if not name.endswith(".original")], 0.75)
+    if near and run.is_proposed and near.endswith(".csv"):
+        return f"{plain(near)} is there. Did you mean {plain(near.removesuffix('.csv').upper())}?"
+    return f"{plain(near)} is there. Is it that one?" if near else ""
 
 
 def rename(other: str, file: str, run: Run) -> str:

@@ -16,7 +16,7 @@ if TYPE_CHECKING:
     from ..tokens import Token
 
 
-def explain(fault: dict[str, int | str], run: Run) -> list[str]:
+def explain(fault: dict[str, Any], run: Run) -> list[str]:
     data, schema, at = read(run.schema_file), run.schema, fault["at"]
     token = next((t for t in tokens_of(data) if t.start == at and t.kind != "bad"), None)
     says = {"syntax": syntax, "name": name, "nullable": nullable}[fault["cause"]]

@@ -4,7 +4,7 @@ new rows.
 from __future__ import annotations
 
 import shlex
-from typing import TYPE_CHECKING
+from typing import Any, TYPE_CHECKING
 
 from ..near import hint, listed
 from ..spot import plain
@@ -20,7 +20,7 @@ def made_anew(run: Run) -> str:
     return plain(f"safebound stats {' '.join(map(shlex.quote, texts))}{data} > {run.path_of(run.stats_file or '')}")
 
 
-def explain(fault: dict[str, int | str], run: Run) -> list[str]:
+def explain(fault: dict[str, Any], run: Run) -> list[str]:
     file, at = plain(run.stats_file or ""), fault["at"]
     anew = f"Make it anew:\n    {made_anew(run)}"
     if fault["cause"] == "missing" and run.command == "append":

@@ -9,7 +9,7 @@ if TYPE_CHECKING:
     from . import Run
 
 
-def explain(fault: dict[str, Any], run: Run) -> Any:
+def explain(fault: dict[str, Any], run: Run) -> list[str]:
     if fault["kind"] == "memory":
         return [
             (
@@ -27,7 +27,7 @@ def explain(fault: dict[str, Any], run: Run) -> Any:
     ]
 
 
-def wanting(number: int) -> Any:
+def wanting(number: int) -> str:
     try:
         mode = os.fstat(number).st_mode
     except OSError:

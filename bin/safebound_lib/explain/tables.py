@@ -2,7 +2,7 @@
 from __future__ import annotations
 
 import re
-from typing import TYPE_CHECKING
+from typing import Any, TYPE_CHECKING
 
 from . import read
 from .texts import convert_line, how_to_convert
@@ -22,7 +22,7 @@ SEPARATORS = {";": "semicolons", "\t": "tabs", "|": "bars"}
 MOST_OF_VALUE, MOST_FIELDS = 60, 20
 
 
-def explain(fault: dict[str, int | str], run: Run) -> list[str]:
+def explain(fault: dict[str, Any], run: Run) -> list[str]:
     schema = run.schema
     is_it = (
         (lambda t: t.name.upper() == run.table.upper())
@@ -62,17 +62,17 @@ def quoted(value: str) -> str:
     return f"`{plain(value[:MOST_OF_VALUE])}{'...' if len(value) > MOST_OF_VALUE else ''}`"
 
 
-def at_record(fault: dict[str, int | str], line: int) -> str:
+def at_record(fault: dict[str, Any], line: int) -> str:
     return f"{fault['file']}, line {line}, record {fault['record']}"
 
 
-def utf8(table: Table, fault: dict[str, int | str], data: bytes, run: Run) -> list[str]:
+def utf8(table: Table, fault: dict[str, Any], data: bytes, run: Run) -> list[str]:
     at = fault["at"]
     byte = f"The byte 0x{data[at]:02X} here is no UTF-8." if at < len(data) else "The file ends within a character."
     return [spot(fault["file"], data, at), f"{byte} {how_to_convert(data, fault['file'], run)}"]
 
 
-def header(table: Table, fault: dict[str, str], data: bytes, run: Run) -> list[str]:
+def header(table: Table, fault: dict[str, Any], data: bytes, run: Run) -> list[str]:
     found = next((fields for _, fields in records(data)), None)
     wanted = [column.name for column in table.columns]
     if found is None:
@@ -118,7 +118,7 @@ def why_no_header(found: list[str], wanted: list[str], column: str, count: int, 
     return f"Is it {quoted(near)}? Give it the column's name." if near else ""
 
 
-def width(table: Table, fault: dict[str, int | str], data: bytes, run: Run) -> list[str]:
+def width(table: Table, fault: dict[str, Any], data: bytes, run: Run) -> list[str]:
     (_, head), (line, fields) = chosen(data, 0, fault["record"])
     first = (
         f"{at_record(fault, line)}: this record has {fault['found']} field{'' if fault['found'] == '1' else 's'}, and"
@@ -156,7 +156,7 @@ def width(table: Table, fault: dict[str, int | str], data: bytes, run: Run) -> l
     return [first + shown, looks]
 
 
-def field(table: Table, fault: dict[str, int | str], data: bytes, run: Run) -> list[str]:
+def field(table: Table, fault: dict[str, Any], data: bytes, run: Run) -> list[str]:
     (_, head), (line, fields) = chosen(data, 0, fault["record"])
     column = next(c for c in table.columns if c.name == fault["column"])
     value = fields[column_place(head, column.name)]
@@ -166,7 +166,7 @@ def field(table: Table, fault: dict[str, int | str], data: bytes, run: Run) -> l
     )
     return [
         first,
-        number_expected(value) if column.is_number else text_expected(value, column.length),
+        number_expected(value) if column.is_number else text_expected(value, column.length or 0),
         over_lines(value, line),
     ]
 
@@ -218,7 +218,7 @@ def text_expected(value: str, most: int) -> str:
     )
 
 
-def key(table: Table, fault: dict[str, int | str], data: bytes, run: Run) -> list[str]:
+def key(table: Table, fault: dict[str, Any], data: bytes, run: Run) -> list[str]:
     (_, head), (line, fields), (earlier, before) = chosen(data, 0, fault["record"], fault["earlier"])
     for tokens in table.keys:
         at = [column_place(head, token.name) for token in tokens]
@@ -242,4 +242,9 @@ def key(table: Table, fault: dict[str, int | str], data: bytes, run: Run) -> lis
 
 def is_same(table: Table, token: Token, one: str, other: str) -> bool:
     """Whether two fields spell one value: 7 and 007 are one number."""
-    return one == other or table.column(token.name).is_number and number_of(one) == number_of(other)
+    return one == other or is_of_numbers(table, token) and number_of(one) == number_of(other)
+
+
+def is_of_numbers(table: Table, token: Token) -> bool:
+    column = table.column(token.name)
+    return column is not None and column.is_number

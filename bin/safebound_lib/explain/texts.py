@@ -60,13 +60,13 @@ NO_ARITHMETIC_THERE = (
 @dataclass
 class Place:
     """Where the tokens of a text go wrong: the token there, those around it, and what may stand there."""
-    tokens: list
+    tokens: list[Token]
     at: int
-    tested: tuple
+    tested: tuple[str, ...]
     # Where the text goes wrong, and at which token the grammar alone does.
     is_grammar: bool = True
     # The output columns of a query, for ORDER BY: the names of each, and whether it is a number.
-    outs: tuple = ()
+    outs: tuple[tuple[set[str], bool], ...] = ()
 
     def token(self, ahead: int = 0) -> Token:
         at = self.at + ahead
@@ -95,8 +95,9 @@ def marked(file: str, data: bytes, read: Query | Schema, at: int, length: int) -
     if name:
         return spot(file, data, at - name.offset, name.length)
     last = read.tokens[-1] if read.tokens else None
-    behind = last is not None and last.kind != "bad" and at >= last.end
-    return spot(file, data, last.end if behind else at, length)
+    if last is not None and last.kind != "bad" and at >= last.end:
+        at = last.end
+    return spot(file, data, at, length)
 
 
 @dataclass
@@ -246,7 +247,9 @@ def first_said(rules: tuple[Callable[..., Any], ...], place: Place) -> str:
     return next((said for rule in rules for said in [rule(place)] if said), "")
 
 
-def advised(place: Place, certain: tuple[Callable[..., Any], ...], guesses: tuple[Callable[..., Any], ...]) -> list[str]:
+def advised(
+    place: Place, certain: tuple[Callable[..., Any], ...], guesses: tuple[Callable[..., Any], ...]
+) -> list[str]:
     """What was read, and what to do: where that is a guess, also what may stand there."""
     said = first_said(certain, place)
     return [stands(place), said] if said else [stands(place), first_said(guesses, place), may_stand(place)]

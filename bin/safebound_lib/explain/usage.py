@@ -38,7 +38,7 @@ MOST_LOOKED_AT = 4096
 DIGITS = re.compile(r"[0-9]+", re.ASCII)
 
 
-def explain(fault: dict[str, str], run: Run) -> list[str]:
+def explain(fault: dict[str, Any], run: Run) -> list[str]:
     command = BY_WORD.get(run.command)
     if command is None or command.is_own:
         return wrong_command(run)
@@ -98,7 +98,7 @@ def wrong_command(run: Run) -> list[str]:
     return [f"There is no command {plain(word)}.{hint(word, words)}"] + overview()
 
 
-def first_wrong(command: Command, words: list[str]) -> str:
+def first_wrong(command: Command, words: list[str]) -> str | None:
     """The first word that can't stand where it stands, as a sentence."""
     options = {o.word: o for o in program_options(command)}
     found, seen, left, budget = [], set(), list(words), None
@@ -107,7 +107,7 @@ def first_wrong(command: Command, words: list[str]) -> str:
         if word == "--":
             found += left
             break
-        head, equals, value = word.partition("=")
+        head, equals, behind = word.partition("=")
         if not word.startswith("-") or word == "-":
             found.append(word)
             continue
@@ -115,8 +115,8 @@ def first_wrong(command: Command, words: list[str]) -> str:
             found.append(word)
             continue
         if head not in options:
-            return unknown(command, head, (value if equals else "".join(left[:1])) or "FILE")
-        value = value if equals else left.pop(0) if options[head].value and left else None
+            return unknown(command, head, (behind if equals else "".join(left[:1])) or "FILE")
+        value = behind if equals else left.pop(0) if options[head].value and left else None
         wrong = wrong_option(options[head], head in seen, value)
         if wrong:
             return wrong
@@ -147,7 +147,7 @@ def unknown(command: Command, word: str, behind: str) -> str:
     )
 
 
-def wrong_beside(seen: set[str]) -> str:
+def wrong_beside(seen: set[str]) -> str | None:
     """Which options can't stand beside each other, if some do."""
     others = [option.word for option in (ACCURACY, REDUCE, BUSHY, KEYS) if option.word in seen]
     if STATS.word in seen and others:
@@ -161,7 +161,7 @@ def wrong_beside(seen: set[str]) -> str:
     return None
 
 
-def wrong_budget(value: str) -> Any:
+def wrong_budget(value: str) -> str | None:
     """What is wrong with the budget of a join tree."""
     if int(value[-4000:]) <= MOST_BUDGET_OF_A_TREE:
         return None
@@ -177,7 +177,7 @@ def wrong_option(option: Option, is_again: bool, value: str | None) -> str | Non
         return f"{option.word} stands twice; it may stand once."
     if not option.value:
         return f"{option.word} takes no value." if value is not None else None
-    if option.least is None:
+    if option.least is None or option.most is None:
         return wrong_file(option, value)
     between = f"a number from {option.least:,} to {option.most:,}, in digits alone: {option.spelled}"
     if value is None:
@@ -191,7 +191,7 @@ def wrong_option(option: Option, is_again: bool, value: str | None) -> str | Non
     return None
 
 
-def wrong_file(option: Option, value: str) -> str | None:
+def wrong_file(option: Option, value: str | None) -> str | None:
     """What is wrong with a file's name as a value, or nothing."""
     if value is None:
         return f"{option.word} lacks its value, the name of a file: {option.spelled}."
