@@ -72,14 +72,7 @@ def convert(line: Line) -> int:
         return 0
     new = (written(sheet) if sheet else text).encode()
     was = SPOKEN.get(encoding, encoding) + (f", separated by {SEPARATORS[sheet.separator]}" if sheet else "")
-    return laid(
-        file,
-        data,
-        new,
-        output,
-        f"{was}; now it is UTF-8{commas}",
-        ragged(sheet) if sheet else "",
-    )
+    return laid(file, data, new, output, f"{was}; now it is UTF-8{commas}", ragged(sheet) if sheet else "")
 
 
 def read(file: str) -> bytes:
@@ -157,9 +150,7 @@ def parsed(text: str, separator: str) -> Iterator[list[str]]:
 
 
 def evenness(text: str, separator: str) -> tuple[bool, int, int]:
-    """How well a separator fits: whether it is in the header, how many records then have as many fields, and how many
-    fields.
-    """
+    """How well a separator fits: whether the header has it, how many records then are as wide, and how wide."""
     widths = [len(record) for _, record in zip(range(LOOKED_AT), parsed(text, separator))]
     wide = widths[0] if widths else 1
     return wide > 1, widths.count(wide), wide

@@ -1,7 +1,7 @@
 """`error schema CAUSE AT`: what is wrong with a schema text at that place."""
 from __future__ import annotations
 
-from typing import Any, TYPE_CHECKING
+from typing import TYPE_CHECKING
 
 from . import read
 from .schema_advice import CERTAIN, GUESSES
@@ -11,15 +11,16 @@ from ..spot import plain
 from ..tokens import tokens_of
 
 if TYPE_CHECKING:
+    from ..faults import Fault
     from . import Run
     from ..schema import Column, Reference, Schema, Table
     from ..tokens import Token
 
 
-def explain(fault: dict[str, Any], run: Run) -> list[str]:
-    data, schema, at = read(run.schema_file), run.schema, fault["at"]
+def explain(fault: Fault, run: Run) -> list[str]:
+    data, schema, at = read(run.schema_file), run.schema, fault.at
     token = next((t for t in tokens_of(data) if t.start == at and t.kind != "bad"), None)
-    says = {"syntax": syntax, "name": name, "nullable": nullable}[fault["cause"]]
+    says = {"syntax": syntax, "name": name, "nullable": nullable}[fault.cause]
     other = no_text(run.schema_file, data, at, run) or no_schema(run)
     if other:
         return other
@@ -58,8 +59,7 @@ def name(schema: Schema, at: int) -> list[str]:
     for table in schema.tables:
         said = (
             of_table(schema, table, at)
-            or next((s for c in table.columns for s in [of_column(table, c, at)] if s), None)
-            or of_keys(table, at)
+            or next((s for c in table.columns for s in [of_column(table, c, at)] if s), None) or of_keys(table, at)
             or of_references(schema, table, at)
         )
         if said:
@@ -107,8 +107,7 @@ def of_list(table: Table, tokens: list[Token], at: int) -> str | None:
     if token.name in names:
         return (
             f"{plain(token.name)} stands twice in this list."
-            if any(t.name == token.name and t.start < at for t in tokens)
-            else None
+            if any(t.name == token.name and t.start < at for t in tokens) else None
         )
     return (
         f"{plain(table.name)} has no column {plain(token.name)}. Its columns are"
@@ -126,7 +125,7 @@ def of_references(schema: Schema, table: Table, at: int) -> str | None:
     return None
 
 
-def of_target(schema: Schema, reference: Reference, target: Any) -> str:
+def of_target(schema: Schema, reference: Reference, target: Table | None) -> str:
     names = [table.name for table in schema.tables]
     if target is None:
         return (
