@@ -1,9 +1,13 @@
 """`safebound convert`: a file in another encoding or with other separators, written as the program reads it."""
+from __future__ import annotations
+
 import codecs
 import csv
 import io
 import os
+import shlex
 import tempfile
+from collections.abc import Iterator
 from dataclasses import dataclass
 
 from . import program
@@ -14,12 +18,34 @@ from .words import Line, Misused, places
 
 SEPARATORS = {",": "commas", ";": "semicolons", "\t": "tabs", "|": "bars"}
 LOOKED_AT = 100
-MARKS = ((codecs.BOM_UTF8, "utf-8-sig"), (codecs.BOM_UTF32_LE, "utf-32"), (codecs.BOM_UTF32_BE, "utf-32"), (codecs.BOM_UTF16_LE, "utf-16"), (codecs.BOM_UTF16_BE, "utf-16"))
-SPOKEN = {"utf-8": "UTF-8", "utf-8-sig": "UTF-8 with a byte order mark", "cp1252": "Windows-1252 (Latin-1)", "latin-1": "Latin-1",
-          "utf-16": "UTF-16", "utf-16-le": "UTF-16", "utf-16-be": "UTF-16", "utf-32": "UTF-32"}
-PACKED = ((b"PK\x03\x04", "is a workbook or an archive, and no text. Save its sheet as CSV (in Excel: CSV UTF-8), and take that"),
-          (b"\xd0\xcf\x11\xe0", "is a workbook of an old Excel, and no text. Save its sheet as CSV (in Excel: CSV UTF-8), and take that"),
-          (b"\x1f\x8b", "is packed: unpack it first (gunzip)"))
+MARKS = (
+    (codecs.BOM_UTF8, "utf-8-sig"),
+    (codecs.BOM_UTF32_LE, "utf-32"),
+    (codecs.BOM_UTF32_BE, "utf-32"),
+    (codecs.BOM_UTF16_LE, "utf-16"),
+    (codecs.BOM_UTF16_BE, "utf-16"),
+)
+SPOKEN = {
+    "utf-8": "UTF-8",
+    "utf-8-sig": "UTF-8 with a byte order mark",
+    "cp1252": "Windows-1252 (Latin-1)",
+    "latin-1": "Latin-1",
+    "utf-16": "UTF-16",
+    "utf-16-le": "UTF-16",
+    "utf-16-be": "UTF-16",
+    "utf-32": "UTF-32",
+}
+PACKED = (
+    (
+        b"PK\x03\x04",
+        "is a workbook or an archive, and no text. Save its sheet as CSV (in Excel: CSV UTF-8), and take that",
+    ),
+    (
+        b"\xd0\xcf\x11\xe0",
+        "is a workbook of an old Excel, and no text. Save its sheet as CSV (in Excel: CSV UTF-8), and take that",
+    ),
+    (b"\x1f\x8b", "is packed: unpack it first (gunzip)"),
+)
 
 
 @dataclass
@@ -27,37 +53,53 @@ class Sheet:
     """A text of records: how its fields are separated, how many lines stand before them, and its records."""
     separator: str
     lines_before: int
-    records: list
+    records: list[list[str]]
 
 
 def convert(line: Line) -> int:
     files = places(line.words[1:])
     if len(files) != 1:
-        raise Misused("convert takes one file: safebound convert FILE")
+        one = shlex.quote(files[0]) if files else "FILE"
+        raise Misused(f"convert takes one file{' at a time' * (len(files) > 1)}:\n    safebound convert {plain(one)}")
     file, data = files[0], read(files[0])
     encoding = line.own.get(ENCODING.word) or encoding_of(data)
     text = decoded(file, data, encoding)
-    is_sql = file.lower().endswith(".sql")
-    sheet = None if is_sql else sheet_of(text)
+    sheet = None if file.lower().endswith(".sql") else sheet_of(text)
+    commas = " with commas" if sheet else ""
     output = line.own.get(OUTPUT.word)
-    if output is None and encoding == "utf-8" and (is_sql or sheet.separator == "," and not sheet.lines_before):
-        program.write(1, f"{plain(file)}: is UTF-8{'' if is_sql else ' with commas'} already; nothing was written\n")
+    if output is None and encoding == "utf-8" and (not sheet or sheet.separator == "," and not sheet.lines_before):
+        program.write(1, f"{plain(file)}: is UTF-8{commas} already; nothing was written\n")
         return 0
-    new = (text if is_sql else written(sheet)).encode()
-    was = SPOKEN.get(encoding, encoding) + ("" if is_sql else f", separated by {SEPARATORS[sheet.separator]}")
-    return laid(file, data, new, output, f"{was}; now it is UTF-8{'' if is_sql else ' with commas'}", ragged(sheet) if sheet else "")
+    new = (written(sheet) if sheet else text).encode()
+    was = SPOKEN.get(encoding, encoding) + (f", separated by {SEPARATORS[sheet.separator]}" if sheet else "")
+    return laid(file, data, new, output, f"{was}; now it is UTF-8{commas}", ragged(sheet) if sheet else "")
 
 
 def read(file: str) -> bytes:
     try:
         with open(file, "rb") as f:
             data = f.read()
+    except IsADirectoryError:
+        raise Misused(of_folder(file)) from None
     except OSError as fault:
         raise Misused(f"{plain(file)}: {fault.strerror}") from None
-    for start, says in PACKED:
-        if data.startswith(start):
-            raise Misused(f"{plain(file)} {says}")
+    if packed(data):
+        raise Misused(f"{plain(file)} {packed(data)}")
     return data
+
+
+def packed(data: bytes) -> str:
+    """What a file is that holds no text, and what to do; nothing of others."""
+    return next((says for start, says in PACKED if data.startswith(start)), "")
+
+
+def of_folder(folder: str) -> str:
+    tables = sorted(name for name in os.listdir(folder) if name.lower().endswith((".csv", ".txt", ".tsv")))
+    file = os.path.join(folder, tables[0]) if tables else "FILE"
+    return (
+        f"{plain(folder)} is a folder, and convert takes one file at a time:\n    safebound convert"
+        f" {plain(shlex.quote(file))}"
+    )
 
 
 def encoding_of(data: bytes) -> str:
@@ -85,7 +127,9 @@ def decoded(file: str, data: bytes, encoding: str) -> str:
     try:
         return data.decode(encoding).removeprefix("\ufeff")
     except LookupError:
-        raise Misused(f"there is no encoding {plain(encoding)}; some are utf-8, latin-1, cp1252, cp850, utf-16") from None
+        raise Misused(
+            f"there is no encoding {plain(encoding)}; some are utf-8, latin-1, cp1252, cp850, utf-16"
+        ) from None
     except UnicodeError:
         raise Misused(f"{plain(file)} is not in {plain(encoding)}: give another {ENCODING.word}") from None
 
@@ -100,13 +144,13 @@ def sheet_of(text: str) -> Sheet:
     return Sheet(separator, 0, list(parsed(text, separator)))
 
 
-def parsed(text: str, separator: str):
+def parsed(text: str, separator: str) -> Iterator[list[str]]:
     csv.field_size_limit(2**31 - 1)
     return (record for record in csv.reader(io.StringIO(text, newline=""), delimiter=separator) if record)
 
 
-def evenness(text: str, separator: str):
-    """How well a separator fits: whether it is in the header, how many records then have as many fields, and how many fields."""
+def evenness(text: str, separator: str) -> tuple[bool, int, int]:
+    """How well a separator fits: whether the header has it, how many records then are as wide, and how wide."""
     widths = [len(record) for _, record in zip(range(LOOKED_AT), parsed(text, separator))]
     wide = widths[0] if widths else 1
     return wide > 1, widths.count(wide), wide
@@ -126,22 +170,28 @@ def ragged(sheet: Sheet) -> str:
     return f"The header has {wide} fields, and {said} has another number.\n" if found else ""
 
 
-def laid(file: str, old: bytes, new: bytes, output: str, says: str, warning: str) -> int:
+def laid(file: str, old: bytes, new: bytes, output: str | None, says: str, warning: str) -> int:
     """Writes what came out. No file is written over: one that keeps its name is kept under another name first."""
     folder, base = os.path.split(file)
-    target = output or os.path.join(folder, base.lower() if base.lower().endswith((".csv", ".sql")) else os.path.splitext(base)[0].lower() + ".csv")
+    target = output or os.path.join(
+        folder, base.lower() if base.lower().endswith((".csv", ".sql")) else os.path.splitext(base)[0].lower() + ".csv"
+    )
     kept = f"{file}.original" if os.path.exists(target) and os.path.samefile(file, target) else None
     if target == "-":
         program.write(1, new.decode())
         return 0
     if os.path.exists(target) and not kept:
-        raise Misused(f"{plain(target)} is there already, and nothing is written over: {OUTPUT.word} FILE names another file")
+        raise Misused(
+            f"{plain(target)} is there already, and nothing is written over: {OUTPUT.word} FILE names another file"
+        )
     try:
         if kept:
             write_new(kept, old)
         replace(target, new, os.stat(file).st_mode & 0o777)
     except FileExistsError:
-        raise Misused(f"{plain(kept)} is there already, and nothing is written over: give that file another name") from None
+        raise Misused(
+            f"{plain(kept or target)} is there already, and nothing is written over: give that file another name"
+        ) from None
     except OSError as fault:
         raise Misused(f"{plain(fault.filename or target)}: {fault.strerror}") from None
     was = f"The file as it was is {plain(kept)}." if kept else f"{plain(file)} is as it was."

@@ -1,0 +1,531 @@
+"""The first hour of somebody who has five CSV files of a school and writes no schema: ten questions, and the mistakes
+of that hour.
+
+What each mistake has to be told was written before any of them was run. The files lie in a folder `folder` below the
+one where the user is.
+"""
+import io
+import zipfile
+from collections.abc import Iterable
+from typing import Optional
+
+from faults import Fault
+from mistakes import Mistake, placed
+
+# What sqlite3 makes of the files, for the answers.
+TABLES = """
+CREATE TABLE pupils (id INTEGER, name TEXT, class TEXT, born TEXT);
+CREATE TABLE teachers (id INTEGER, name TEXT, subject TEXT);
+CREATE TABLE rooms (nr INTEGER, floor INTEGER, seats INTEGER);
+CREATE TABLE lessons (id INTEGER, teacher INTEGER, room INTEGER, class TEXT, weekday TEXT, hour INTEGER);
+CREATE TABLE marks (pupil INTEGER, lesson INTEGER, mark INTEGER, day TEXT);
+"""
+QUESTIONS = (
+    "SELECT name, born FROM pupils WHERE class = '5A'",
+    "SELECT name FROM pupils WHERE born >= '2013-06-01'",
+    "SELECT p.name, m.mark FROM pupils p JOIN marks m ON m.pupil = p.id",
+    "SELECT p.name, m.mark, m.day FROM pupils p, marks m WHERE m.pupil = p.id AND m.mark >= 5",
+    "SELECT l.weekday, l.hour, r.seats FROM lessons l JOIN rooms r ON l.room = r.nr WHERE r.floor = 1",
+    "SELECT t.name, l.weekday FROM teachers t, lessons l WHERE l.teacher = t.id AND l.weekday IN ('Monday', 'Friday')",
+    (
+        "SELECT p.name, t.name, m.mark FROM pupils p, marks m, lessons l, teachers t WHERE m.pupil = p.id AND m.lesson"
+        " = l.id AND l.teacher = t.id AND t.subject = 'Maths'"
+    ),
+    (
+        "SELECT p.name, t.name, r.nr FROM pupils p, marks m, lessons l, teachers t, rooms r WHERE m.pupil = p.id"
+        " AND m.lesson = l.id AND l.teacher = t.id AND l.room = r.nr AND m.mark BETWEEN 5 AND 6"
+    ),
+    "SELECT a.name, b.name FROM pupils a, pupils b WHERE a.class = b.class AND a.born < b.born",
+    "SELECT p.name, l.id FROM pupils p, lessons l WHERE p.class = l.class AND NOT l.weekday = 'Monday'",
+)
+
+
+def asked(
+    line: Optional[str], files: Optional[dict] = None, words: Iterable[str] = ("run", "query.sql", "--data", "folder")
+) -> Mistake:
+    """A mistake of that hour: the program's line (None: it doesn't come to that), files in the place of the school's,
+    and the words.
+    """
+    return Mistake(line, (), files or {}, tuple(words))
+
+
+def query(text: str, cause: str) -> Mistake:
+    data, at = placed(text)
+    return asked(f"error query {cause} {at}", {"query.sql": data})
+
+
+def workbook() -> bytes:
+    """The first bytes of what a spreadsheet saves: an archive."""
+    data = io.BytesIO()
+    with zipfile.ZipFile(data, "w") as archive:
+        archive.writestr("xl/workbook.xml", "<workbook/>")
+    return data.getvalue()
+
+
+PUPILS = "id,name,class,born\r\n"
+ALL_PUPILS = "SELECT * FROM pupils"
+HEAD_OF_ROOMS = "nr,floor,seats\r\n"
+ROOMS = "101,1,28\r\n102,1,30\r\n201,2,24\r\n"
+
+
+def rooms(text: str, line: Optional[str] = None, of: str = "SELECT nr, floor FROM rooms WHERE seats > 25") -> Mistake:
+    return asked(line, {"rooms.csv": text.encode(), "query.sql": of.encode()})
+
+
+OF_TABLES = [
+    Fault(
+        "a table without its file",
+        asked(None, {"teachers.csv": None, "query.sql": b"SELECT name FROM teachers"}),
+        ("no file teachers.csv",),
+        ("TEACHERS", "pupils.csv"),
+        ("folder",),
+    ),
+    Fault(
+        "a table whose file ends in .txt",
+        asked(
+            None,
+            {
+                "teachers.csv": None,
+                "teachers.txt": b"id\tname\r\n1\tIna\r\n",
+                "query.sql": b"SELECT name FROM teachers",
+            },
+        ),
+        ("no file teachers.csv", "teachers.txt is there"),
+        ("safebound convert folder/teachers.txt",),
+        ("folder",),
+    ),
+    Fault(
+        "a table whose file is in upper case",
+        asked(
+            None,
+            {"teachers.csv": None, "Teachers.csv": b"id,name\r\n1,Ina\r\n", "query.sql": b"SELECT name FROM teachers"},
+        ),
+        ("Teachers.csv is there", "upper and lower case"),
+        ("mv folder/Teachers.csv folder/teachers.csv",),
+        ("folder",),
+    ),
+    Fault(
+        "a table whose file has two endings",
+        asked(
+            None,
+            {
+                "teachers.csv": None,
+                "teachers.csv.txt": b"id,name\r\n1,Ina\r\n",
+                "query.sql": b"SELECT name FROM teachers",
+            },
+        ),
+        ("teachers.csv.txt is there",),
+        ("mv folder/teachers.csv.txt folder/teachers.csv",),
+        ("folder",),
+    ),
+    Fault(
+        "a table in the singular",
+        query("SELECT name FROM §pupil", "name"),
+        ("no file pupil.csv", "pupils.csv is there"),
+        ("PUPILS?|FROM PUPILS",),
+        ("query.sql, line 1, column 18",),
+    ),
+    Fault(
+        "a table with its ending",
+        query("SELECT * FROM pupils§.csv", "syntax"),
+        ("a file's name",),
+        ("FROM PUPILS",),
+        ("query.sql, line 1, column 21",),
+    ),
+    Fault(
+        "a file in quotes",
+        query("SELECT * FROM §'pupils.csv'", "syntax"),
+        ("a file's name",),
+        ("FROM PUPILS",),
+        ("query.sql, line 1, column 15",),
+    ),
+    Fault(
+        "semicolons, with the folder",
+        asked(None, {"lessons.csv": b"id;room\r\n1;101\r\n", "query.sql": b"SELECT room FROM lessons"}),
+        ("semicolons",),
+        ("safebound convert folder/lessons.csv",),
+        ("lessons.csv",),
+    ),
+    Fault(
+        "Latin-1, with the folder",
+        asked(
+            None, {"teachers.csv": "id,name\r\n1,Næss\r\n".encode("latin-1"), "query.sql": b"SELECT name FROM teachers"}
+        ),
+        ("isn't in UTF-8",),
+        ("safebound convert folder/teachers.csv",),
+        ("teachers.csv",),
+    ),
+    Fault(
+        "a workbook called .csv",
+        asked(None, {"teachers.csv": workbook(), "query.sql": b"SELECT name FROM teachers"}),
+        ("workbook",),
+        ("CSV UTF-8",),
+        ("teachers.csv",),
+    ),
+    Fault(
+        "a workbook alone",
+        asked(
+            None,
+            {
+                **dict.fromkeys(("pupils.csv", "teachers.csv", "rooms.csv", "lessons.csv", "marks.csv")),
+                "school.xlsx": workbook(),
+            },
+        ),
+        ("school.xlsx is there", "workbook"),
+        ("CSV UTF-8",),
+        ("folder",),
+    ),
+    Fault(
+        "a workbook for a table with a schema",
+        asked(
+            None,
+            {
+                "rooms.csv": workbook(),
+                "schema.sql": b"CREATE TABLE ROOMS (NR INTEGER PRIMARY KEY)",
+                "query.sql": b"SELECT nr FROM rooms",
+            },
+            ("run", "schema.sql", "query.sql", "--data", "folder"),
+        ),
+        ("workbook",),
+        ("CSV UTF-8",),
+        ("rooms.csv",),
+    ),
+]
+OF_CELLS = [
+    Fault(
+        "one decimal among whole numbers",
+        rooms(HEAD_OF_ROOMS + ROOMS + '301,3,"12,50"\r\n'),
+        ("`12,50`", "SEATS", "text"),
+        ("cents",),
+        ("line 5",),
+    ),
+    Fault(
+        "one word among numbers",
+        rooms(HEAD_OF_ROOMS + ROOMS + "301,3,many\r\n"),
+        ("`many`", "SEATS", "text"),
+        ("number",),
+        ("line 5",),
+    ),
+    Fault(
+        "a line of totals",
+        rooms(HEAD_OF_ROOMS + ROOMS + "Total,,82\r\n", None, "SELECT seats FROM rooms WHERE nr > 101"),
+        ("`Total`", "NR", "text"),
+        ("leave the record out|leave that line out",),
+        ("line 5",),
+    ),
+    Fault(
+        "thousands with a blank",
+        rooms(HEAD_OF_ROOMS + ROOMS + "301,3,1 200\r\n"),
+        ("`1 200`", "SEATS"),
+        ("1200",),
+        ("line 5",),
+    ),
+    Fault(
+        "a sign of a currency",
+        rooms(HEAD_OF_ROOMS + ROOMS + "301,3,€60\r\n"),
+        ("`€60`", "SEATS"),
+        ("digits",),
+        ("line 5",),
+    ),
+    Fault(
+        "a header that is a field short",
+        rooms("nr,floor\r\n" + ROOMS, None, "SELECT nr FROM rooms"),
+        ("3 fields", "header has 2|header 2"),
+        ("name is missing in the header",),
+        ("rooms.csv",),
+    ),
+    Fault(
+        "a header that is a field long",
+        rooms("nr,floor,seats,note\r\n" + ROOMS, None, "SELECT nr FROM rooms"),
+        ("3 fields", "header has 4|header 4"),
+        ("a name too many",),
+        ("rooms.csv",),
+    ),
+    Fault(
+        "rows that end in a comma",
+        rooms(HEAD_OF_ROOMS + "101,1,28,\r\n102,1,30,\r\n"),
+        ("4 fields", "end in a comma"),
+        ("take it away",),
+        ("rooms.csv",),
+    ),
+    Fault(
+        "a quote that takes in rows",
+        asked(
+            None,
+            {
+                "pupils.csv": (
+                    PUPILS
+                    + '1,"Ada,5A,2013-04-02\r\n2,Bo,5A,2013-11-30\r\n3,Cleo",5B,2012-12-24\r\n4,Dina,5B,2013-06-17\r\n'
+                ).encode(),
+                "query.sql": b"SELECT name, class FROM pupils WHERE nme = 'X'",
+            },
+        ),
+        ("line ends and commas", "NAME"),
+        ('a " is missing|closes',),
+        ("line 2",),
+    ),
+    Fault(
+        "an id that repeats",
+        asked(
+            None,
+            {
+                "pupils.csv": (
+                    PUPILS + "1,Ada,5A,2013-04-02\r\n2,Bo,5A,2013-11-30\r\n2,Cleo,5B,2012-12-24\r\n"
+                ).encode(),
+                "query.sql": b"SELECT nme FROM pupils",
+            },
+        ),
+        ("ID", "`2`", "no key"),
+        ("Give one of the two another|remove one",),
+        ("lines 3 and 4",),
+    ),
+    Fault(
+        "a title above the header",
+        rooms("Rooms of 2024,,\r\n" + HEAD_OF_ROOMS + ROOMS, None, "SELECT nr FROM rooms"),
+        ("first line names 1 of its 3 columns",),
+        ("delete|Delete|Remove|remove",),
+        ("rooms.csv",),
+    ),
+    Fault(
+        "blanks in a header",
+        rooms("nr, floor, seats\r\n" + ROOMS, "error query name 11"),
+        ("blank",),
+        ("take them away|Take them away",),
+        ("header",),
+    ),
+    Fault(
+        "a name of two words",
+        asked(
+            "error query name 7",
+            {
+                "pupils.csv": b"id,first name,class\r\n1,Ada,5A\r\n2,Bo,5A\r\n",
+                "query.sql": b"SELECT first name FROM pupils",
+            },
+        ),
+        ("no column FIRST|No entry has a column FIRST",),
+        ('"first name"',),
+        ("query.sql, line 1, column 8",),
+    ),
+]
+OF_QUERIES = [
+    Fault(
+        "a decimal with a comma",
+        query("SELECT nr FROM rooms WHERE seats > 12§,50", "syntax"),
+        ("integers",),
+        ("1250", "cents"),
+        ("query.sql, line 1, column 38",),
+    ),
+    Fault(
+        "arithmetic in SELECT",
+        query("SELECT seats §* 2 FROM rooms", "syntax"),
+        ("arithmetic in SELECT",),
+        ("behind the command|column",),
+        ("query.sql, line 1, column 14",),
+    ),
+    Fault(
+        "a quotient in SELECT",
+        query("SELECT seats §/ 2 FROM rooms", "syntax"),
+        ("arithmetic in SELECT",),
+        ("behind the command|column",),
+        ("query.sql, line 1, column 14",),
+    ),
+    Fault(
+        "ORDER BY another column",
+        query("SELECT floor, nr, seats FROM rooms §ORDER BY seats DESC", "syntax"),
+        ("ORDER BY",),
+        ("sort -t, -k3,3nr",),
+        ("query.sql, line 1, column 36",),
+    ),
+    Fault(
+        "ORDER BY a column of *",
+        query("SELECT * FROM pupils §ORDER BY born", "syntax"),
+        ("ORDER BY",),
+        ("sort -t, -k4,4",),
+        ("query.sql, line 1, column 22",),
+    ),
+    Fault(
+        "ORDER BY what isn't selected",
+        query("SELECT name FROM pupils §ORDER BY born", "syntax"),
+        ("ORDER BY",),
+        ("BORN|born", "SELECT"),
+        ("query.sql, line 1, column 25",),
+    ),
+    Fault(
+        "a date without quotes",
+        query("SELECT name FROM pupils WHERE born > 2013§-06-01", "syntax"),
+        ("date",),
+        ("'2013-06-01'",),
+        ("query.sql, line 1, column 42",),
+    ),
+    Fault(
+        "a code without quotes",
+        query("SELECT name FROM pupils WHERE class = 5§A", "syntax"),
+        ("text",),
+        ("'5A'",),
+        ("query.sql, line 1, column 40",),
+    ),
+    Fault(
+        "a text in double quotes",
+        query('SELECT name FROM pupils WHERE name = §"Ada Berg"', "name"),
+        ("a name",),
+        ("'Ada Berg'",),
+        ("query.sql, line 1, column 38",),
+    ),
+    Fault(
+        "a column of the other table",
+        query("SELECT p.name FROM pupils p, marks m WHERE p.id = §m.pupils", "name"),
+        ("no column PUPILS",),
+        ("PUPIL?",),
+        ("query.sql, line 1, column 51",),
+    ),
+    Fault(
+        "a number in quotes",
+        query("SELECT nr FROM rooms WHERE seats > §'25'", "kind"),
+        ("is a text",),
+        ("25, without quotes",),
+        ("query.sql, line 1, column 36",),
+    ),
+    Fault(
+        "an empty query",
+        asked("error query syntax 0", {"query.sql": b""}),
+        ("holds nothing",),
+        ("SELECT",),
+        ("query.sql",),
+    ),
+    Fault(
+        "a query in UTF-16",
+        asked("error query syntax 0", {"query.sql": ALL_PUPILS.encode("utf-16")}),
+        ("UTF-16",),
+        ("safebound convert folder/query.sql",),
+        ("query.sql",),
+    ),
+    Fault(
+        "COUNT of a group",
+        query("SELECT class, COUNT§(*) FROM pupils GROUP BY class", "syntax"),
+        ("COUNT", "aggregates"),
+        ("another program|audit",),
+        ("query.sql, line 1, column 20",),
+    ),
+]
+OF_LINES = [
+    Fault(
+        "a table given as a query",
+        asked("error query syntax 0", words=("run", "pupils.csv", "--data", "folder")),
+        ("a table's file",),
+        ("SELECT * FROM PUPILS", "query.sql"),
+        ("pupils.csv",),
+    ),
+    Fault(
+        "a table given as a schema",
+        asked("error schema syntax 0", words=("run", "pupils.csv", "query.sql", "--data", "folder")),
+        ("a table's file",),
+        ("safebound run query.sql --data folder",),
+        ("pupils.csv",),
+    ),
+    Fault(
+        "the text of a query in place of its file",
+        asked(None, words=("run", "SELECT name FROM pupils", "--data", "folder")),
+        ("text of a query",),
+        ("query.sql",),
+        ("SELECT name FROM pupils",),
+    ),
+    Fault(
+        "the folder forgotten",
+        asked("error usage", words=("run", "query.sql")),
+        ("lacks", "query.sql is in folder"),
+        ("safebound run query.sql --data folder",),
+        ("run",),
+    ),
+    Fault(
+        "the folder twice",
+        asked(None, words=("run", "folder/query.sql", "--data", "folder")),
+        ("With --data every file is looked up in that folder",),
+        ("safebound run query.sql --data folder|write query.sql",),
+        ("folder/query.sql",),
+    ),
+    Fault(
+        "the command forgotten",
+        asked("error usage", words=("query.sql", "--data", "folder")),
+        ("command",),
+        ("safebound run query.sql --data folder",),
+        ("query.sql",),
+    ),
+    Fault(
+        "the query forgotten",
+        asked("error usage", words=("run", "--data", "folder")),
+        ("lacks",),
+        ("safebound run query.sql --data folder",),
+        ("run",),
+    ),
+    Fault(
+        "a file in place of the folder",
+        asked(None, words=("run", "query.sql", "--data", "folder/pupils.csv")),
+        ("is a file", "folder"),
+        ("--data folder",),
+        ("folder/pupils.csv",),
+    ),
+    Fault(
+        "a folder that isn't there",
+        asked(None, words=("run", "query.sql", "--data", "foldr")),
+        ("no folder",),
+        ("folder?",),
+        ("--data foldr",),
+    ),
+    Fault(
+        "another word for --data",
+        asked("error usage", words=("run", "query.sql", "--dir", "folder")),
+        ("no option --dir",),
+        ("--data folder|--data?",),
+        ("--dir",),
+    ),
+    Fault(
+        "a query with two endings",
+        asked(None, {"query.sql": None, "query.sql.txt": ALL_PUPILS.encode()}),
+        ("query.sql.txt is there",),
+        ("mv folder/query.sql.txt folder/query.sql",),
+        ("looked for in|folder",),
+    ),
+    Fault(
+        "a schema that isn't there",
+        asked("error read schema.sql", words=("run", "schema.sql", "query.sql", "--data", "folder")),
+        ("no file schema.sql",),
+        ("safebound run query.sql --data folder",),
+        ("looked for in",),
+    ),
+    Fault(
+        "a folder given to convert",
+        asked(None, words=("convert", "folder")),
+        ("is a folder",),
+        ("safebound convert folder/",),
+        ("folder",),
+    ),
+    Fault(
+        "several files given to convert",
+        asked(None, words=("convert", "folder/rooms.csv", "folder/marks.csv")),
+        ("one file",),
+        ("safebound convert folder/rooms.csv",),
+        ("convert",),
+    ),
+    Fault(
+        "a query given to schema",
+        asked(None, words=("schema", "folder/query.sql")),
+        ("a query",),
+        ("folder/pupils.csv|safebound schema folder",),
+        ("query.sql",),
+    ),
+]
+FIRST_HOUR = OF_TABLES + OF_CELLS + OF_QUERIES + OF_LINES
+# Those whose remedy is a line to paste: behind it the same run ends well.
+PASTED = (
+    "a table whose file ends in .txt",
+    "a table whose file is in upper case",
+    "a table whose file has two endings",
+    "semicolons, with the folder",
+    "Latin-1, with the folder",
+    "a query in UTF-16",
+    "a query with two endings",
+    "the folder forgotten",
+    "the command forgotten",
+    "the query forgotten",
+    "a schema that isn't there",
+)
