@@ -84,7 +84,7 @@ test:
 	.ci/run
 
 # What the gate does behind its proofs, side by side, the longest first: each reads what was built, and writes into folders of its own.
-CHECKS := engines library command install friendly browser differential process pages cases examples memory-there release
+CHECKS := engines library command install friendly browser differential process pages cases examples memory-there python release
 FEATURES := run,plan,audit,stats,append,many-entries,filters,words,accuracy,reduce,bushy,keys
 
 .PHONY: $(CHECKS:%=check-%)
@@ -116,6 +116,8 @@ check-install: library command
 	library/test-install
 check-engines: library
 	engines/test --gate
+check-python:
+	tools/check-python
 check-release:
 	tools/release --check
 
