@@ -514,7 +514,45 @@ OF_LINES = [
         ("query.sql",),
     ),
 ]
-FIRST_HOUR = OF_TABLES + OF_CELLS + OF_QUERIES + OF_LINES
+JOBS = 'id,hours,Unit Price\r\n1,8.5,"18,75"\r\n2,10,"7,00"\r\n3,12.25,"10,5"\r\n4,9,"100,00"\r\n5,9.5,"7,00"\r\n'
+
+
+def jobs(of: str, cause: str) -> Mistake:
+    data, at = placed(of)
+    return asked(f"error query {cause} {at}", {"jobs.csv": JOBS.encode(), "query.sql": data})
+
+
+OF_DECIMALS = [
+    Fault(
+        "a column of decimals",
+        jobs("SELECT §wages FROM jobs", "name"),
+        ("HOURS", "`8.5`", "decimals", "text"),
+        ("safebound convert folder/jobs.csv --cents HOURS", "850"),
+        ("line 2",),
+    ),
+    Fault(
+        "decimals beside a whole number",
+        jobs("SELECT id FROM jobs WHERE hours > §9", "kind"),
+        ("HOURS has decimals", "text"),
+        ("safebound convert folder/jobs.csv --cents HOURS", "HOURS_CENTS > 900"),
+        ("query.sql, line 1, column 35",),
+    ),
+    Fault(
+        "decimals beside a decimal",
+        jobs("SELECT id FROM jobs WHERE hours > 9§.5", "syntax"),
+        ("HOURS has decimals", "text"),
+        ("safebound convert folder/jobs.csv --cents HOURS", "HOURS_CENTS > 950"),
+        ("query.sql, line 1, column 36",),
+    ),
+    Fault(
+        "decimals with a comma",
+        jobs('SELECT id FROM jobs WHERE "Unit Price" > §10', "kind"),
+        ('"Unit Price" has decimals', "text"),
+        ("safebound convert folder/jobs.csv --cents 'Unit Price'", '"Unit Price cents" > 1000'),
+        ("query.sql, line 1, column 42",),
+    ),
+]
+FIRST_HOUR = OF_TABLES + OF_CELLS + OF_QUERIES + OF_LINES + OF_DECIMALS
 # Those whose remedy is a line to paste: behind it the same run ends well.
 PASTED = (
     "a table whose file ends in .txt",

@@ -8,6 +8,7 @@ from functools import cached_property
 from typing import Optional
 
 from .convert import SEPARATORS, encoding_of, packed
+from .decimals import of_decimals
 from .explain.tables import all_differ, number_expected, quoted as marked
 from .near import listed
 from .records import left_open, records, same
@@ -116,7 +117,9 @@ def sheet_of(file: str, word: str) -> Sheet:
     with saying(f"looking at {plain(file)} .."):
         fill(sheet, found, len(header), data)
     for column in sheet.columns:
-        sheet.says += of_values(column) + of_repeats(sheet, column, data)
+        decimals = of_decimals(column.name, column.values, word)
+        sheet.says += [decimals] if decimals else of_values(column)
+        sheet.says += of_repeats(sheet, column, data)
     if sheet.rows == 0 and next(records(data, 1), None) is None:
         sheet.says.append("There are no rows: types and lengths are guesses.")
     return sheet

@@ -6,6 +6,7 @@ from collections.abc import Iterable
 from typing import Any, TYPE_CHECKING, cast
 
 from . import read
+from .decimals import of_decimals
 from .query_advice import CERTAIN, GUESSES
 from .reads import missing_table
 from .texts import accented, advised, bad_character, marked, no_text, place_of, quotes_for
@@ -32,7 +33,9 @@ def explain(fault: dict[str, Any], run: Run) -> list[str]:
     said = (
         [quotes_for(name_there, names_of(schema))]
         if name_there
-        else of_a_proposal(fault, query, schema, run) or says(query, schema, at)
+        else of_decimals(fault["cause"], query, schema, at, run)
+        or of_a_proposal(fault, query, schema, run)
+        or says(query, schema, at)
     )
     return [marked(run.query_file, data, query, at, length(query, at)), *said]
 
