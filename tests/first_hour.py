@@ -552,7 +552,53 @@ OF_DECIMALS = [
         ("query.sql, line 1, column 42",),
     ),
 ]
-FIRST_HOUR = OF_TABLES + OF_CELLS + OF_QUERIES + OF_LINES + OF_DECIMALS
+CUSTOMERS = b"Customer No,Full Name,Town\r\n1,Ada Berg,Bonn\r\n2,Karin O'Brien,Ulm\r\n3,Cleo Rand,Bonn\r\n"
+CARS = b"id,Owner,Make\r\n10,1,Audi\r\n11,2,Opel\r\n12,2,Audi\r\n"
+
+
+def garage(text: str, cause: str) -> Mistake:
+    data, at = placed(text)
+    return asked(f"error query {cause} {at}", {"customers.csv": CUSTOMERS, "cars.csv": CARS, "query.sql": data})
+
+
+OF_NAMES = [
+    Fault(
+        "a name of two words that begins with a reserved one",
+        garage('SELECT §Full Name, Make FROM customers, cars WHERE Owner = "Customer No"', "syntax"),
+        ('"Full Name"',),
+        ("double quotes",),
+        ("query.sql, line 1, column 8",),
+    ),
+    Fault(
+        "a comma missing between tables",
+        garage('SELECT "Full Name", §Make FROM customers cars WHERE Owner = "Customer No"', "name"),
+        ("cars is read here as another name of customers", "cars.csv is there"),
+        ("FROM customers, cars",),
+        ("query.sql, line 1, column 21",),
+    ),
+    Fault(
+        "a name in double quotes in lower case",
+        garage('SELECT "Full Name", Make FROM customers, cars WHERE Owner = §"customer no"', "name"),
+        ("upper and lower case",),
+        ('Did you mean "Customer No"?',),
+        ("query.sql, line 1, column 61",),
+    ),
+    Fault(
+        "rows of each group",
+        garage("SELECT Town, COUNT§(*) FROM customers GROUP BY Town", "syntax"),
+        ("COUNT", "aggregates"),
+        ("| tail -n +2 | sort | uniq -c", "in the place of COUNT(*)"),
+        ("query.sql, line 1, column 19",),
+    ),
+    Fault(
+        "a quote within a text",
+        garage("SELECT Town FROM customers WHERE \"Full Name\" = 'Karin O'Brien§'", "syntax"),
+        ("O'Brien",),
+        ("'Karin O''Brien'",),
+        ("query.sql, line 1, column 62",),
+    ),
+]
+FIRST_HOUR = OF_TABLES + OF_CELLS + OF_QUERIES + OF_LINES + OF_DECIMALS + OF_NAMES
 # Those whose remedy is a line to paste: behind it the same run ends well.
 PASTED = (
     "a table whose file ends in .txt",
