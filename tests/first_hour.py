@@ -598,7 +598,78 @@ OF_NAMES = [
         ("query.sql, line 1, column 62",),
     ),
 ]
-FIRST_HOUR = OF_TABLES + OF_CELLS + OF_QUERIES + OF_LINES + OF_DECIMALS + OF_NAMES
+SCHOOL = (
+    b"CREATE TABLE PUPILS (ID INTEGER PRIMARY KEY, NAME VARCHAR(20) NOT NULL, CLASS VARCHAR(5) NOT NULL,"
+    b" BORN VARCHAR(10) NOT NULL);\n"
+)
+OF_FOLDERS = [
+    Fault(
+        "no query yet",
+        asked("error usage", {"query.sql": None}, ("run", "--data", "folder")),
+        ("There is no query in folder",),
+        ("SELECT * FROM LESSONS", "safebound run query.sql --data folder"),
+        ("run",),
+    ),
+    Fault(
+        "a query in the folder of its tables",
+        asked("error usage", words=("run", "folder/query.sql")),
+        ("lacks SCHEMA", "a query"),
+        ("safebound run query.sql --data folder",),
+        ("folder/query.sql",),
+    ),
+    Fault(
+        "tables named behind the query",
+        asked("error usage", words=("run", "folder/query.sql", "folder/pupils.csv", "folder/marks.csv")),
+        ("no line names tables",),
+        ("safebound run query.sql --data folder",),
+        ("folder/pupils.csv and folder/marks.csv",),
+    ),
+    Fault(
+        "one table named behind the query",
+        asked("error schema syntax 0", words=("run", "folder/query.sql", "folder/pupils.csv")),
+        ("no line names tables",),
+        ("safebound run query.sql --data folder",),
+        ("folder/pupils.csv",),
+    ),
+    Fault(
+        "query and schema in the other order",
+        asked("error schema syntax 0", {"schema.sql": SCHOOL}, ("run", "query.sql", "schema.sql", "--data", "folder")),
+        ("query.sql is a query, and schema.sql a schema",),
+        ("safebound run schema.sql query.sql --data folder",),
+        ("query.sql",),
+    ),
+    Fault(
+        "a schema that is there and isn't used",
+        asked(None, {"schema.sql": SCHOOL}),
+        (),
+        (),
+        ("folder/schema.sql is there, and isn't used", "safebound run schema.sql query.sql --data folder"),
+    ),
+    Fault(
+        "a title and an empty line above the header",
+        rooms("Rooms of 2024\r\n\r\n" + HEAD_OF_ROOMS + ROOMS, None, "SELECT nr FROM rooms"),
+        ("Line 1 looks like a title",),
+        ("Delete the lines above the header",),
+        ("rooms.csv", "line 3"),
+    ),
+    Fault(
+        "a quote that closes lines later",
+        asked(
+            "error table pupils.csv width 2 5",
+            {
+                "pupils.csv": (
+                    PUPILS + '1,Ada,5A,2013-04-02\r\n2,"Bo,5A,2013-11-30\r\n3,Cleo,5B,2012-12-24\r\n'
+                    '4,"Smith, Jr.",5B,2013-06-17\r\n'
+                ).encode(),
+                "query.sql": ALL_PUPILS.encode(),
+            },
+        ),
+        ("opens on line 3", "closed only on line 5"),
+        ('Write the " that is missing on line 3',),
+        ("pupils.csv, line 3",),
+    ),
+]
+FIRST_HOUR = OF_TABLES + OF_CELLS + OF_QUERIES + OF_LINES + OF_DECIMALS + OF_NAMES + OF_FOLDERS
 # Those whose remedy is a line to paste: behind it the same run ends well.
 PASTED = (
     "a table whose file ends in .txt",
@@ -612,4 +683,8 @@ PASTED = (
     "the command forgotten",
     "the query forgotten",
     "a schema that isn't there",
+    "a query in the folder of its tables",
+    "tables named behind the query",
+    "one table named behind the query",
+    "query and schema in the other order",
 )

@@ -9,7 +9,7 @@ from typing import Optional
 
 from .convert import SEPARATORS, encoding_of, packed
 from .decimals import of_decimals
-from .explain.tables import all_differ, number_expected, quoted as marked
+from .explain.tables import all_differ, closed_late, number_expected, quoted as marked
 from .near import listed
 from .records import left_open, records, same
 from .spot import plain
@@ -240,16 +240,24 @@ def refuse_title(data: bytes, header: list[str]) -> None:
     """
     line, second = next(records(data, 1), NO_RECORD)
     named = sum(name != "" for name in header)
+    if len(header) == 1 < len(second) and (line > 2 or " " in header[0]) and is_header(second):
+        raise NoTable(
+            f"Line 1 looks like a title, and line {line} like the header. Delete the lines above the header."
+        )
     if (
         named == 1 < len(header) - 1
         and len(second) == len(header)
-        and all(second)
-        and not any(map(LIKE_A_VALUE.fullmatch, second))
+        and is_header(second)
     ):
         raise NoTable(
             f"The first line names 1 of its {len(header)} columns, and line {line} looks like the header. Delete what"
             " stands above that."
         )
+
+
+def is_header(names: list[str]) -> bool:
+    """Whether fields look like the names of columns."""
+    return all(names) and not any(map(LIKE_A_VALUE.fullmatch, names))
 
 
 def add_columns(sheet: Sheet, header: list[str]) -> None:
@@ -317,6 +325,9 @@ def ragged_records(ragged: int, first: tuple[int, int, int], wide: int, data: by
     whole = all_differ(data)
     if whole:
         return f"{whole} A run will refuse the file until then."
+    late = closed_late(data, number)
+    if late:
+        return f"{late} A run will refuse the file until then."
     others = f", and {ragged - 1} more records differ too" if ragged > 1 else ""
     why = (
         "A quote of that record isn't closed."

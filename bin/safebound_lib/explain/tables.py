@@ -57,6 +57,19 @@ def all_differ(data: bytes) -> str:
     )
 
 
+def closed_late(data: bytes, number: int) -> str:
+    """A sentence where a field of this record goes over lines, since a quote closes lines later than it should."""
+    ((line, fields),) = chosen(data, number)
+    place = next((i for i, value in enumerate(fields) if "\n" in value and "," in value), None)
+    if place is None:
+        return ""
+    begins = line + sum(value.count("\n") for value in fields[:place])
+    return (
+        f'The quote that opens on line {begins} is closed only on line {begins + fields[place].count(chr(10))}, so the'
+        f' lines between are one value. Write the " that is missing on line {begins}, or take away the one there.'
+    )
+
+
 def quoted(value: str) -> str:
     """A value as it stands in the file, between marks."""
     return f"`{plain(value[:MOST_OF_VALUE])}{'...' if len(value) > MOST_OF_VALUE else ''}`"
@@ -141,6 +154,9 @@ def width(table: Table, fault: dict[str, Any], data: bytes, run: Run) -> list[st
     whole = all_differ(data)
     if whole:
         return [first + shown, whole]
+    late = closed_late(data, fault["record"])
+    if late:
+        return [first + shown, late]
     if len(fields) > len(head):
         return [
             first + shown,
