@@ -71,20 +71,14 @@ def convert(line: Line) -> int:
     commas = " with commas" if sheet else ""
     output = line.own.get(OUTPUT.word)
     cents = in_cents(line, file, sheet)
-    if output is None and not cents and encoding == "utf-8" and (not sheet or sheet.separator == "," and not sheet.lines_before):
+    is_right = encoding == "utf-8" and (not sheet or sheet.separator == "," and not sheet.lines_before)
+    if output is None and not cents and is_right:
         program.write(1, f"{plain(file)}: is UTF-8{commas} already; nothing was written\n")
         return 0
     new = (written(sheet) if sheet else text).encode()
     was = SPOKEN.get(encoding, encoding) + (f", separated by {SEPARATORS[sheet.separator]}" if sheet else "")
-    return laid(
-        file,
-        data,
-        new,
-        output,
-        f"{was}; now it is UTF-8{commas}{cents}",
-        ragged(sheet) if sheet else "",
-        bool(cents),
-    )
+    says = f"{was}; now it is UTF-8{commas}{cents}"
+    return laid(file, data, new, output, says, ragged(sheet) if sheet else "", bool(cents))
 
 
 def in_cents(line: Line, file: str, sheet: Sheet | None) -> str:
@@ -172,9 +166,7 @@ def parsed(text: str, separator: str) -> Iterator[list[str]]:
 
 
 def evenness(text: str, separator: str) -> tuple[bool, int, int]:
-    """How well a separator fits: whether it is in the header, how many records then have as many fields, and how many
-    fields.
-    """
+    """How well a separator fits: whether the header has it, how many records then are as wide, and how wide."""
     widths = [len(record) for _, record in zip(range(LOOKED_AT), parsed(text, separator))]
     wide = widths[0] if widths else 1
     return wide > 1, widths.count(wide), wide

@@ -2,6 +2,7 @@
 from __future__ import annotations
 
 import re
+from dataclasses import dataclass
 from typing import Any
 
 # What is wrong with a table's file. Its name has no blank, but that of a file of new rows may have some.
@@ -32,14 +33,26 @@ FORMS = [
 NUMBERS = {"at", "record", "found", "earlier", "least"}
 
 
-def fault_of(notes: bytes) -> dict[str, Any] | None:
-    """The fault that standard error tells, as a dictionary, or nothing. A fault stands alone, but for one of a stream
-    behind the plan.
-    """
+@dataclass
+class Fault:
+    """The words of a fault's line. Those that a kind of fault doesn't have are empty, and its numbers 0."""
+    kind: str
+    cause: str = ""
+    file: str = ""
+    column: str = ""
+    at: int = 0
+    record: int = 0
+    earlier: int = 0
+    found: int = 0
+    least: int = 0
+
+
+def fault_of(notes: bytes) -> Fault | None:
+    """The fault that standard error tells, or nothing. It stands alone, but for one of a stream behind the plan."""
     text = notes.decode("utf-8", "surrogateescape")
     line = text if text.startswith("error ") else text[text.rstrip("\n").rfind("\n") + 1:]
-    for form in FORMS:
-        match = form.fullmatch(line.removesuffix("\n"))
-        if match:
-            return {name: int(value) if name in NUMBERS else value for name, value in match.groupdict().items()}
-    return None
+    match = next((match for form in FORMS for match in [form.fullmatch(line.removesuffix("\n"))] if match), None)
+    if not match:
+        return None
+    words: dict[str, Any] = match.groupdict()
+    return Fault(**{name: int(value) if name in NUMBERS else value for name, value in words.items()})

@@ -8,6 +8,7 @@ from typing import TYPE_CHECKING
 from .picture import draw, safe
 
 if TYPE_CHECKING:
+    from .lists import Listed
     from .shown import Shown
 
 MOST_RUNS = 12
@@ -38,7 +39,7 @@ NO_LISTS = {
 }
 
 
-def page(shown: Shown, lists: dict[str, list[tuple[str, str, list[tuple[int, int]]]]], flags: list[str]) -> str:
+def page(shown: Shown, lists: dict[str, list[Listed]], flags: list[str]) -> str:
     """The page of what is shown. `lists` has for each entry `(column, what of, runs)`; of `flags` some say why lists
     are missing.
     """
@@ -137,14 +138,11 @@ def step_part(shown: Shown, at: int) -> str:
     return (
         f'<section id="{shown.step_id(at)}"><h2>{safe(shown.step_name(at))}</h2>'
         f'<p>{counted(bound, rows).capitalize()}.</p>{past}<p>Joins {joined}.</p>'
-        + (f"<h3>Conditions that hold from here on</h3><ul>{conditions}</ul>" if conditions else "")
-        + "</section>"
+        + (f"<h3>Conditions that hold from here on</h3><ul>{conditions}</ul>" if conditions else "") + "</section>"
     )
 
 
-def entry_part(
-    shown: Shown, alias: str, lists: dict[str, list[tuple[str, str, list[tuple[int, int]]]]], flags: list[str]
-) -> str:
+def entry_part(shown: Shown, alias: str, lists: dict[str, list[Listed]], flags: list[str]) -> str:
     conditions = "".join(f"<li><code>{safe(words)}</code></li>" for words in shown.own.get(alias, []))
     said = (
         f'<section id="{shown.entry_id(alias)}"><h2>{named(shown, alias)}</h2><p>At most'
@@ -156,8 +154,7 @@ def entry_part(
     if found or missing:
         said += (
             f"<h3>Lists that bounds are made from</h3>{HOW_LISTS_MEET * (len(found) > 1)}"
-            + "".join(one_list(alias, *one) for one in found)
-            + "".join(f"<p>{words}</p>" for words in missing)
+            + "".join(one_list(alias, *one) for one in found) + "".join(f"<p>{words}</p>" for words in missing)
         )
     return said + "</section>"
 

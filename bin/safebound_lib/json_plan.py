@@ -2,7 +2,8 @@
 from __future__ import annotations
 
 import json
-from typing import Any, TYPE_CHECKING
+from dataclasses import dataclass
+from typing import TYPE_CHECKING
 
 from . import program
 from .explain import Run, read
@@ -32,19 +33,26 @@ def show(path: str, line: Line) -> int:
     return 0
 
 
-def conditions_of(run: Run, plan: Plan) -> list[dict[str, Any]]:
+@dataclass
+class Condition:
+    """A condition as written, the entries that it names, and the first level or node, by number, where it holds."""
+    text: str
+    entries: list[str]
+    step: int
+
+
+def conditions_of(run: Run, plan: Plan) -> list[Condition]:
     """The conditions of the query of a run, each with the first level or node of the plan at which it holds."""
     text, query, schema = read(run.query_file), run.query, run.schema
     steps = (
-        [set(plan.leaves(number)) for number in range(len(plan.scans) + len(plan.nodes))]
-        if plan.is_tree
+        [set(plan.leaves(number)) for number in range(len(plan.scans) + len(plan.nodes))] if plan.is_tree
         else of_levels(plan)
     )
     return [one_condition(text, query, schema, conjunct, steps, plan) for conjunct in query.conjuncts()]
 
 
-def as_json(run: Run, plan: Plan, rows: list[int] | None) -> dict[str, Any]:
-    query, conditions = run.query, conditions_of(run, plan)
+def as_json(run: Run, plan: Plan, rows: list[int] | None) -> dict[str, object]:
+    query, conditions, step = run.query, conditions_of(run, plan), "node" if plan.is_tree else "level"
     return {
         "command": run.command,
         "budget": int(option_of(run.words, BUDGET.word) or USUAL_BUDGET),
@@ -57,25 +65,21 @@ def as_json(run: Run, plan: Plan, rows: list[int] | None) -> dict[str, Any]:
         "stats": run.stats_file,
         "entries": [
             {
-                "entry": e.name,
-                "table": e.table.name,
-                "file": e.table.name.lower() + ".csv",
-                "bound": plan.scans[e.name],
-                "conditions": [c["text"] for c in conditions if c["entries"] == [e.name]],
+                "entry": e.name, "table": e.table.name, "file": e.table.name.lower() + ".csv",
+                "bound": plan.scans[e.name], "conditions": [c.text for c in conditions if c.entries == [e.name]],
             }
             for e in query.entries
         ],
         **(
-            {"nodes": nodes_of(plan, rows, conditions)}
-            if plan.is_tree
+            {"nodes": nodes_of(plan, rows, conditions)} if plan.is_tree
             else {"levels": levels_of(plan, rows, conditions)}
         ),
-        "conditions": conditions,
+        "conditions": [{"text": c.text, "entries": c.entries, step: c.step} for c in conditions],
         "widest": max(plan.bounds),
     }
 
 
-def accuracy_in(file: str) -> Any:
+def accuracy_in(file: str) -> int:
     """The accuracy at which a statistics file was made: the last word of its first line."""
     return int(read(file).split(b"\n", 1)[0].rpartition(b" ")[2])
 
@@ -86,37 +90,31 @@ def of_levels(plan: Plan) -> list[set[str]]:
     return [set(order[:k + 1]) for k in range(len(order))]
 
 
-def at_step(conditions: list[dict[str, Any]], name: str, number: int) -> list[str]:
-    return [c["text"] for c in conditions if c[name] == number and len(c["entries"]) > 1]
+def at_step(conditions: list[Condition], number: int) -> list[str]:
+    return [c.text for c in conditions if c.step == number and len(c.entries) > 1]
 
 
-def levels_of(plan: Plan, rows: list[int] | None, conditions: list[dict[str, Any]]) -> list[dict[str, Any]]:
+def levels_of(plan: Plan, rows: list[int] | None, conditions: list[Condition]) -> list[dict[str, object]]:
     return [
         {
-            "level": k,
-            "entry": alias,
-            "bound": bound,
-            **({"rows": rows[k - 1]} if rows else {}),
-            "conditions": at_step(conditions, "level", k),
+            "level": k, "entry": alias, "bound": bound, **({"rows": rows[k - 1]} if rows else {}),
+            "conditions": at_step(conditions, k),
         }
         for k, (alias, bound) in enumerate(plan.levels, 1)
     ]
 
 
-def nodes_of(plan: Plan, rows: list[int] | None, conditions: list[dict[str, Any]]) -> list[dict[str, Any]]:
+def nodes_of(plan: Plan, rows: list[int] | None, conditions: list[Condition]) -> list[dict[str, object]]:
     return [{"node": k, "left": node.left, "right": node.right, "entries": plan.leaves(k), "bound": node.bound,
-             **({"rows": rows[k - len(plan.scans)]} if rows else {}), "conditions": at_step(conditions, "node", k)}
+             **({"rows": rows[k - len(plan.scans)]} if rows else {}), "conditions": at_step(conditions, k)}
             for k, node in enumerate(plan.nodes, len(plan.scans))]
 
 
 def one_condition(
     text: bytes, query: Query, schema: Schema, conjunct: Joined | Test, steps: list[set[str]], plan: Plan
-) -> dict[str, Any]:
-    """A condition as it is written, the entries that it names, and the first level at which it holds, or the first
-    node.
-    """
+) -> Condition:
     named = {found_of(query, reference, schema)[0].name for reference in references_of(conjunct)}
     entries = [entry.name for entry in query.entries if entry.name in named]
     first = next(number for number, step in enumerate(steps) if named <= step)
-    return {"text": " ".join(text[conjunct.start:conjunct.end].decode().split()), "entries": entries,
-            **({"node": first} if plan.is_tree else {"level": 1 + first})}
+    written = " ".join(text[conjunct.start:conjunct.end].decode().split())
+    return Condition(written, entries, first if plan.is_tree else 1 + first)

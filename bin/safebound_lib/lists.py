@@ -18,10 +18,12 @@ OPPOSITE.update({other: one for one, other in OPPOSITE.items()})
 TURNED = {"<": ">", ">": "<", "<=": ">=", ">=": "<="}
 LEAVES = 32
 Runs = List[Tuple[int, int]]
-# The names are those of a table, a filter column and a joined column.
-Pairs = Dict[Tuple[Any, Any, Any], "Pair"]
-# A test, or `("AND", members)`, or `("OR", members)`.
-Normal = Any
+# A number or a text. Those of one column are of one kind, so that they compare.
+Value = Any
+# By the names of a table, a filter column and a joined column.
+Pairs = Dict[Tuple[str, str, str], "Pair"]
+# A joined column, what the list is of, and its runs.
+Listed = Tuple[str, str, Runs]
 
 
 @dataclass
@@ -29,17 +31,17 @@ class Pair:
     """What a file has of a filter column and a joined column: lists as their runs, `(degree, values)`."""
     whole: Runs | None = None
     rest: Runs | None = None
-    frequent: dict[Any, Runs | None] = field(default_factory=dict)
-    cuts: list[Any] = field(default_factory=list)
+    frequent: dict[Value, Runs | None] = field(default_factory=dict)
+    cuts: list[Value] = field(default_factory=list)
     nodes: list[Runs | None] = field(default_factory=list)
 
-    def of_value(self, value: Any) -> Runs | None:
+    def of_value(self, value: Value) -> Runs | None:
         return self.frequent.get(value, self.rest)
 
-    def leaf(self, value: Any) -> int:
+    def leaf(self, value: Value) -> int:
         return max([0, *(number for number, cut in enumerate(self.cuts) if cut <= value)])
 
-    def of_range(self, low: Any, high: Any) -> Runs | None:
+    def of_range(self, low: Value, high: Value) -> Runs | None:
         """The list of the least node that has the leaves of both ends."""
         if not self.nodes:
             return self.whole
@@ -51,14 +53,13 @@ class Pair:
 def read_pairs(text: str) -> Pairs:
     """The pairs of a file of statistics, by table, filter column and joined column."""
     found: Pairs = {}
-    table: Any = None
-    pair = Pair()
+    table, pair = "", Pair()
     for line in text.splitlines():
         kind, *words = line.split(" ")
         if kind == "table":
-            table = value_of(words[0])
+            table = text_of(words[0])
         elif kind == "pair":
-            pair = found[table, value_of(words[0]), value_of(words[1])] = Pair()
+            pair = found[table, text_of(words[0]), text_of(words[1])] = Pair()
         elif kind == "frequent":
             pair.frequent[value_of(words[0])] = runs(words[1:])
         elif kind == "cut":
@@ -70,11 +71,15 @@ def read_pairs(text: str) -> Pairs:
     return found
 
 
-def value_of(word: str) -> int | str:
-    return bytes.fromhex(word[1:]).decode("utf-8", "replace") if word.startswith("x") else int(word)
+def text_of(word: str) -> str:
+    return bytes.fromhex(word[1:]).decode("utf-8", "replace")
 
 
-def runs(words: list[str]) -> list[tuple[int, int]]:
+def value_of(word: str) -> Value:
+    return text_of(word) if word.startswith("x") else int(word)
+
+
+def runs(words: list[str]) -> Runs:
     pairs = [word.split("*") for word in words if word != "-"]
     return [(int(degree), int(values)) for degree, values in pairs]
 
@@ -82,34 +87,33 @@ def runs(words: list[str]) -> list[tuple[int, int]]:
 @dataclass(frozen=True)
 class Test:
     """A comparison of a column with a value, NOT moved into it. Any other comparison has no column."""
-    column: str | None = None
-    operator: str | None = None
-    value: Any = None
+    column: str = ""
+    operator: str = ""
+    value: Value = None
 
 
-def normal(condition: Joined | Comparison, is_not: bool = False) -> Normal:
-    """A condition as ("AND", members), ("OR", members) or a test."""
+@dataclass(frozen=True)
+class Group:
+    """Conditions joined by AND, or by OR."""
+    by: str
+    members: list[Test | Group]
+
+
+def normal(condition: Joined | Comparison, is_not: bool = False) -> Test | Group:
+    """A condition without NOT."""
     if isinstance(condition, Joined):
         if condition.by == "NOT":
             return normal(condition.members[0], not is_not)
-        return (
-            "OR" if is_not == (condition.by == "AND") else "AND",
-            [normal(member, is_not) for member in condition.members],
-        )
+        by = "OR" if is_not == (condition.by == "AND") else "AND"
+        return Group(by, [normal(member, is_not) for member in condition.members])
     operator = OPPOSITE[condition.operator] if is_not else condition.operator
+    is_negated = operator.startswith("NOT")
     left, *others = condition.operands
     if operator.endswith("BETWEEN"):
-        ends = ("<", ">") if operator.startswith("NOT") else (">=", "<=")
-        return (
-            "OR" if operator.startswith("NOT") else "AND",
-            [test(left, end, other) for end, other in zip(ends, others)],
-        )
+        ends = ("<", ">") if is_negated else (">=", "<=")
+        return Group("OR" if is_negated else "AND", [test(left, end, other) for end, other in zip(ends, others)])
     if operator.endswith("IN"):
-        return (
-            ("AND", [test(left, "<>", other) for other in others])
-            if operator.startswith("NOT")
-            else ("OR", [test(left, "=", other) for other in others])
-        )
+        return Group("AND" if is_negated else "OR", [test(left, "<>" if is_negated else "=", o) for o in others])
     return test(left, operator, others[0])
 
 
@@ -121,51 +125,55 @@ def test(left: Reference | Literal, operator: str, right: Reference | Literal) -
     return Test(left.column.name, operator, literal_value(right))
 
 
-def literal_value(literal: Literal) -> int | str:
+def literal_value(literal: Literal) -> Value:
     source = "".join(token.source for token in literal.tokens)
     return number_of(source) if literal.is_number else source[1:-1].replace("''", "'")
 
 
-def flat(condition: Normal) -> list[Normal]:
+@dataclass(frozen=True)
+class Asked:
+    """What is asked of a column's statistics: the list of a value, or of a range (None: it is open there)."""
+    column: str
+    low: Value
+    high: Value
+    is_value: bool = False
+
+
+def flat(condition: Test | Group) -> list[Test | Group]:
     """The members of an AND, through those of ANDs in it."""
-    if isinstance(condition, Test) or condition[0] == "OR":
+    if isinstance(condition, Test) or condition.by == "OR":
         return [condition]
-    return [found for member in condition[1] for found in flat(member)]
+    return [found for member in condition.members for found in flat(member)]
 
 
-def asked(condition: Normal) -> list[tuple[Any, ...]]:
-    """What a condition asks of statistics: `(column, low, high)`, a range, or `(column, value)`. The ranges of one AND
-    on a column are one.
-    """
-    found: list[tuple[Any, ...]] = []
-    ranges: dict[str, tuple[list[Any], list[Any]]] = {}
+def asked(condition: Test | Group) -> list[Asked]:
+    """What a condition asks of statistics. The ranges of one AND on a column are one."""
+    found: list[Asked] = []
+    ranges: dict[str, tuple[list[Value], list[Value]]] = {}
     for member in flat(condition):
         if not isinstance(member, Test):
-            found += [one for part in member[1] for one in asked(part)]
+            found += [one for part in member.members for one in asked(part)]
         elif member.operator == "=":
-            found.append((member.column, member.value))
+            found.append(Asked(member.column, member.value, member.value, is_value=True))
         elif member.operator == "<>":
-            found += [(member.column, None, member.value), (member.column, member.value, None)]
-        elif member.column is not None and member.operator is not None:
+            found += [Asked(member.column, None, member.value), Asked(member.column, member.value, None)]
+        elif member.column:
             ranges.setdefault(member.column, ([], []))[member.operator.startswith("<")].append(member.value)
-    return found + [(column, max(low, default=None), min(high, default=None)) for column, (low, high) in ranges.items()]
+    ends = ((column, max(low, default=None), min(high, default=None)) for column, (low, high) in ranges.items())
+    return found + [Asked(*one) for one in ends]
 
 
-def said(one: tuple[Any, ...]) -> str:
+def said(one: Asked) -> str:
     """What a list is of, in words."""
-    column, *ends = one
-    first, last = (None if end is None else written(end) for end in (ends[0], ends[-1]))
-    if len(ends) == 1:
-        return f"rows with {column} = {first}"
-    return (
-        "rows with"
-        f" {column} "
-        f"{f'up to {last}' if first is None else f'from {first} on' if last is None else f'from {first} to {last}'}"
-    )
+    if one.is_value:
+        return f"rows with {one.column} = {written(one.low)}"
+    if one.low is None:
+        return f"rows with {one.column} up to {written(one.high)}"
+    return f"rows with {one.column} from {written(one.low)} {'on' if one.high is None else f'to {written(one.high)}'}"
 
 
-def written(value: int | str) -> str:
-    return str(value) if isinstance(value, int) else "'" + value.replace("'", "''") + "'"
+def written(value: Value) -> str:
+    return str(value) if isinstance(value, int) else "'" + str(value).replace("'", "''") + "'"
 
 
 def joined_columns(query: Query, schema: Schema, entry: Entry) -> list[str]:
@@ -183,26 +191,22 @@ def entries_of(query: Query, schema: Schema, condition: Joined | Comparison) -> 
     return {found[0].name for r in references_of(condition) for found in [meant(query, r, schema)] if found}
 
 
-def lists_of(query: Query, schema: Schema, text: str) -> dict[str, list[tuple[str, str, Runs]]]:
-    """For each entry of a query its lists: `(joined column, what the list is of, its runs)`, those of all rows first.
-    """
+def lists_of(query: Query, schema: Schema, text: str) -> dict[str, list[Listed]]:
+    """For each entry of a query its lists, those of all rows first."""
     pairs, found = read_pairs(text), {}
     for entry in query.entries:
         own = [c for c in query.conjuncts() if entries_of(query, schema, c) == {entry.name}]
-        asks = asked(("AND", [normal(c) for c in own]))
-        found[entry.name] = [
-            line
-            for column in joined_columns(query, schema, entry)
-            for line in lines(pairs, entry.table.name, column, asks)
-        ]
+        asks = asked(Group("AND", [normal(c) for c in own]))
+        columns = joined_columns(query, schema, entry)
+        found[entry.name] = [line for column in columns for line in lines(pairs, entry.table.name, column, asks)]
     return found
 
 
-def lines(pairs: Pairs, table: str, column: str, asks: list[tuple[Any, ...]]) -> list[tuple[str, str, Runs]]:
+def lines(pairs: Pairs, table: str, column: str, asks: list[Asked]) -> list[Listed]:
     of_column = {names[1]: pair for names, pair in pairs.items() if names[0] == table and names[2] == column}
-    found = [(column, "all rows", next(iter(of_column.values())).whole)] if of_column else []
+    found = [("all rows", pair.whole) for pair in list(of_column.values())[:1]]
     for one in asks:
-        pair = of_column.get(one[0])
+        pair = of_column.get(one.column)
         if pair:
-            found.append((column, said(one), pair.of_value(one[1]) if len(one) == 2 else pair.of_range(*one[1:])))
-    return [(joined, of, runs or []) for joined, of, runs in found]
+            found.append((said(one), pair.of_value(one.low) if one.is_value else pair.of_range(one.low, one.high)))
+    return [(column, of, runs or []) for of, runs in found]

@@ -3,7 +3,7 @@ from __future__ import annotations
 
 import os
 from collections.abc import Callable
-from typing import Any, TYPE_CHECKING
+from typing import TYPE_CHECKING
 
 from . import VERSION, program
 from .table import BY_WORD, DATA, EXPLAIN, HELP, JSON, VERSION as VERSION_OPTION
@@ -44,8 +44,8 @@ def misused(text: str) -> int:
 
 
 def refuse_strange(line: Line) -> None:
-    """Own options stand only with commands that have them, and own commands have no others. What else isn't there is
-    the program's to refuse.
+    """Own options stand only with commands that have them, and own commands have no others. The program refuses the
+    rest.
     """
     command = BY_WORD.get(line.command)
     known = {option.word for option in command.options} if command else ()
@@ -116,9 +116,7 @@ def is_explained(line: Line) -> bool:
         word for word in options(line.words[1:]) if command and word not in {option.word for option in command.options}
     ]
     return (
-        EXPLAIN.word in line.own
-        or line.is_proposed
-        or program.is_terminal(2)
+        EXPLAIN.word in line.own or line.is_proposed or program.is_terminal(2)
         or any(nearest(word, [EXPLAIN.word], 0.8) for word in strange)
     )
 
@@ -141,10 +139,8 @@ def own_command(line: Line) -> int:
         from .propose import schema
         return schema(line)
     does: dict[str, Callable[[], int]] = {
-        "help": lambda: show_help(line.words[1:]),
-        "new": lambda: own.new(line.words[1:]),
-        "check": lambda: own.check(program.found(), line),
-        "picture": lambda: own.picture(program.found(), line),
+        "help": lambda: show_help(line.words[1:]), "new": lambda: own.new(line.words[1:]),
+        "check": lambda: own.check(program.found(), line), "picture": lambda: own.picture(program.found(), line),
         "completion": lambda: own.completion(line.words[1:]),
     }
     return does[line.command]()

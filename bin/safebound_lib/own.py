@@ -6,7 +6,7 @@ import shlex
 import shutil
 import sys
 import tempfile
-from typing import Any, TYPE_CHECKING
+from typing import TYPE_CHECKING
 
 from . import pages, places, program
 from .explain import Run, explained, not_connected, read
@@ -24,6 +24,8 @@ from .table import ACCURACY, BUDGET, KEYS, OUTPUT, REDUCE, SHELLS, USUAL_BUDGET
 from .words import Misused, places as places_of
 
 if TYPE_CHECKING:
+    from .lists import Listed
+    from .faults import Fault
     from .shown import Shown
     from .words import Line
 
@@ -44,13 +46,8 @@ def new(words: list[str]) -> int:
             shutil.copyfile(os.path.join(source, name), os.path.join(folder, name))
     except OSError as fault:
         raise Misused(f"{folder}: {fault.strerror}") from None
-    program.write(
-        1,
-        (
-            f"{folder}: {listed(names)}\nRun it, and then edit it:\n    {called()} run schema.sql query.sql --data"
-            f" {folder}\n"
-        ),
-    )
+    line = f"    {called()} run schema.sql query.sql --data {folder}\n"
+    program.write(1, f"{folder}: {listed(names)}\nRun it, and then edit it:\n{line}")
     return 0
 
 
@@ -62,9 +59,7 @@ def called() -> str:
 
 
 def check(path: str, line: Line) -> int:
-    """The texts alone: the program plans them where no table lies, and a table that it can't read shows that both are
-    right.
-    """
+    """The texts alone, planned where no table lies: a table that can't be read shows that both are right."""
     files = places_of(line.words[1:])
     if len(files) not in (1, 2) or len(files) != len([w for w in line.words[1:] if w != "--"]):
         raise Misused("check takes the schema and maybe the query: safebound check SCHEMA [QUERY]")
@@ -76,7 +71,7 @@ def check(path: str, line: Line) -> int:
         status, _, notes = program.answer(path, ["plan", "--", *absolute[:2]], empty)
     fault = fault_of(notes)
     is_right = fault is not None and (
-        fault["kind"] == "read" and fault["file"] not in absolute or len(files) == 1 and fault["kind"] == "query"
+        fault.kind == "read" and fault.file not in absolute or len(files) == 1 and fault.kind == "query"
     )
     if is_right:
         program.write(1, found_right(files))
@@ -84,11 +79,11 @@ def check(path: str, line: Line) -> int:
     return tell(notes, fault, Run(["plan", "--", *files], path, line.before), dict(zip(absolute, files)), status)
 
 
-def tell(notes: bytes, fault: dict[str, Any] | None, run: Run, names: dict[str, str], status: int) -> int:
+def tell(notes: bytes, fault: Fault | None, run: Run, names: dict[str, str], status: int) -> int:
     """The line of the fault, with the file's name as it was given, and its explanation."""
-    if fault and fault.get("file") in names:
-        fault["file"] = names[fault["file"]]
-        notes = notes.replace(os.fsencode(os.path.abspath(fault["file"])), os.fsencode(fault["file"]))
+    if fault and fault.file in names:
+        fault.file = names[fault.file]
+        notes = notes.replace(os.fsencode(os.path.abspath(fault.file)), os.fsencode(fault.file))
     program.say(notes.decode("utf-8", "surrogateescape") + (explained(fault, run) if fault else ""))
     return status
 
@@ -110,9 +105,7 @@ def found_right(files: list[str]) -> str:
 
 
 def picture(path: str, line: Line) -> int:
-    """One audit, and the picture of its plan and its rows; of a query that is refused by its budget, the plan's bounds
-    beside that.
-    """
+    """The picture of an audit's plan and rows; where the budget refuses the query, of its plan beside the budget."""
     words = ["audit", *line.words[1:]]
     run = Run(words, path, line.before)
     status, out, notes = program.answer(path, words)
@@ -131,11 +124,11 @@ def picture(path: str, line: Line) -> int:
     return save(drawn(run, shown_of(run, plan, rows, budget), to), to, run) or status
 
 
-def refused(run: Run, fault: dict[str, Any] | None) -> Plan | None:
+def refused(run: Run, fault: Fault | None) -> Plan | None:
     """The plan that a budget refuses, where the greatest budget lets it be seen, or nothing."""
-    if not fault or fault["kind"] != "budget" or fault["least"] > most_of(run):
+    if not fault or fault.kind != "budget" or fault.least > most_of(run):
         return None
-    plan = with_words(run, given(run, fault["least"]))
+    plan = with_words(run, given(run, fault.least))
     return plan if isinstance(plan, Plan) else None
 
 
@@ -147,10 +140,8 @@ def drawn(run: Run, shown: Shown, to: str) -> str:
     return page(shown, {} if REDUCE.word in flags else lists_beside(run), flags)
 
 
-def lists_beside(run: Run) -> dict[str, list[tuple[str, str, list[tuple[int, int]]]]]:
-    """The lists of the run's entries, from the file of statistics that the program makes of its query; none where it
-    makes no file.
-    """
+def lists_beside(run: Run) -> dict[str, list[Listed]]:
+    """The lists of the run's entries, from the program's statistics of its query; none where it makes no file."""
     accuracy = option_of(run.words, ACCURACY.word)
     status, text, _ = program.answer(
         run.program or "",

@@ -3,7 +3,7 @@ from __future__ import annotations
 
 import re
 import textwrap
-from typing import Any, TYPE_CHECKING
+from typing import TYPE_CHECKING
 
 from . import VERSION
 from .places import page
@@ -65,8 +65,7 @@ def places_of(command: Command) -> list[str]:
 def of_command(command: Command) -> str:
     wide = columns(1)
     lines = (
-        wrapped(f"safebound {command.spelled}", wide, "    ")
-        + [""]
+        wrapped(f"safebound {command.spelled}", wide, "    ") + [""]
         + wrapped(f"{command.help[0].upper()}{command.help[1:]}. {command.more}".strip(), wide)
     )
     lines += ["", "Options:", *(entry(o.spelled, described(o), wide) for o in options_of(command))]
@@ -117,32 +116,26 @@ def plain(text: str) -> str:
 
 def indented(text: str) -> list[str]:
     return textwrap.wrap(
-        text,
-        columns(1),
-        initial_indent="    ",
-        subsequent_indent="    ",
-        break_on_hyphens=False,
+        text, columns(1), initial_indent="    ", subsequent_indent="    ", break_on_hyphens=False,
         break_long_words=False,
     )
 
 
-def man() -> Any:
+def man() -> str:
     """The man page, in the macros of man(7)."""
     lines = [f'.TH SAFEBOUND 1 "" "safebound {VERSION}"', ".SH NAME", f"safebound \\- {SUMMARY}", ".SH SYNOPSIS"]
     lines += [
         part
         for c in COMMANDS
         for part in (
-            f".B safebound {roff(c.word)}",
-            roff(" ".join([*places_of(c), *(f"[{o.spelled}]" for o in c.options)])),
+            f".B safebound {roff(c.word)}", roff(" ".join([*places_of(c), *(f"[{o.spelled}]" for o in c.options)])),
             ".br",
         )
     ]
     lines += [".SH DESCRIPTION", roff(ABOUT), ".PP", roff(OWN_OPTIONS), ".SH COMMANDS"]
     for command in COMMANDS:
         lines += [
-            ".TP",
-            f".B {roff(' '.join([command.word, *places_of(command)]))}",
+            ".TP", f".B {roff(' '.join([command.word, *places_of(command)]))}",
             roff(f"{command.help[0].upper()}{command.help[1:]}. {command.more}".strip()),
         ]
     lines.append(".SH OPTIONS")
@@ -150,19 +143,13 @@ def man() -> Any:
         of = ", ".join(c.word for c in COMMANDS if option in c.options)
         lines += [".TP", f".B {roff(option.spelled)}", roff(f"{described(option)}. With {of}.")]
     lines += [
-        ".SH EXIT STATUS",
-        roff(STATUSES),
-        ".SH LIMITS",
-        roff(LIMITS),
-        ".SH EXAMPLES",
-        ".nf",
-        *(roff(e) for c in COMMANDS for e in c.examples),
-        ".fi",
+        ".SH EXIT STATUS", roff(STATUSES), ".SH LIMITS", roff(LIMITS), ".SH EXAMPLES", ".nf",
+        *(roff(e) for c in COMMANDS for e in c.examples), ".fi",
     ]
     return "\n".join(lines) + "\n"
 
 
-def roff(text: str) -> Any:
+def roff(text: str) -> str:
     return re.sub(r"^([.'])", r"\\&\1", text.replace("\\", "\\e").replace("-", "\\-"))
 
 
@@ -181,10 +168,7 @@ def completion(shell: str) -> str:
     cases = "\n".join(f"        {word}) known={options!r};;" for word, options in words.items())
     commands = " ".join([*words, HELP.word, VERSION_OPTION.word])
     return {"bash": BASH, "zsh": ZSH}[shell].format(
-        commands=commands,
-        cases=cases,
-        numbers="|".join(sorted(numbered())),
-        topics=" ".join(TOPICS),
+        commands=commands, cases=cases, numbers="|".join(sorted(numbered())), topics=" ".join(TOPICS),
         shells=" ".join(SHELLS),
     )
 

@@ -1,7 +1,6 @@
 """The picture of a plan as one SVG: its order from left to right, and each scan's and level's bound as a bar. Of a join
-tree each node has
-a bar between those of the two nodes that it joins, and the tree stands below. Behind all come the conditions, step by
-step.
+tree each node has a bar between those of the two nodes that it joins, and the tree stands below. Behind all come the
+conditions, step by step.
 
 Heights are logarithms: a step of the grid is a factor of ten. True rows stand within a bar, and the budget is a line
 that no number cuts.
@@ -11,7 +10,7 @@ from __future__ import annotations
 import math
 import textwrap
 from xml.sax.saxutils import escape, quoteattr
-from typing import Any, TYPE_CHECKING
+from typing import TYPE_CHECKING
 
 from .spot import plain
 
@@ -45,7 +44,7 @@ class Picture:
         plan = shown.plan
         self.shown, self.is_linked, self.foot = shown, is_linked, TOP + HEIGHT
         self.parts: list[str] = []
-        self.numbers: list[Any] = []
+        self.numbers: list[tuple[float, float, str]] = []
         self.decades = max(1, math.ceil(math.log10(max([*plan.scans.values(), *plan.bounds, shown.budget or 1]))))
         self.width = math.ceil(
             max(LEFT + wide + RIGHT, LEFT + self.legend(), LEFT + width_of(shown.title, 15) + RIGHT, 620)
@@ -58,13 +57,7 @@ class Picture:
         return 0 if value == 0 else 8 + (HEIGHT - 8) * math.log10(value) / self.decades
 
     def text(
-        self,
-        x: float,
-        y: float,
-        words: str,
-        size: int = 12,
-        anchor: str = "middle",
-        ink: str = INK,
+        self, x: float, y: float, words: str, size: int = 12, anchor: str = "middle", ink: str = INK,
         weight: str = "normal",
     ) -> None:
         self.parts.append(
@@ -81,9 +74,7 @@ class Picture:
         self.parts.append(f"<a href={quoteattr('#' + to)}>{drawn}</a>" if self.is_linked else drawn)
 
     def number(self, x: float, value: int) -> None:
-        """The number of a bar, above it; where the budget's line would go through it, above that. All stand in front of
-        the line.
-        """
+        """The number of a bar, above it, or above the budget's line where that would go through it."""
         y, budget = self.foot - self.height(value) - 5, self.shown.budget
         line = self.foot - self.height(budget) if budget else None
         self.numbers.append((x, line - 5 if line is not None and y - 11 <= line <= y + 4 else y, f"{value:,}"))
@@ -103,12 +94,10 @@ class Picture:
         """Draws what the colours mean, and gives its width."""
         shown, step = self.shown, self.shown.step
         x: float = LEFT
-        has_steps, past = bool(shown.plan.levels or shown.plan.nodes), any(
-            shown.is_past(bound) for bound in shown.plan.bounds
-        )
+        has_steps = bool(shown.plan.levels or shown.plan.nodes)
+        past = any(shown.is_past(bound) for bound in shown.plan.bounds)
         of_steps = (
-            [(LEVEL, f"bound of the {step}")]
-            + [(PAST, f"{step} past the budget")] * past
+            [(LEVEL, f"bound of the {step}")] + [(PAST, f"{step} past the budget")] * past
             + [(TRUE, "its true rows")] * (shown.rows is not None)
         )
         for ink, words in [(SCAN, "bound of the scan")] + of_steps * has_steps:
@@ -145,27 +134,18 @@ class Picture:
         # still.
         fits = (
             f' style="width:100%;height:auto;max-width:{self.width}px;min-width:{self.width * 3 // 4}px"'
-            if self.is_linked
-            else ""
+            if self.is_linked else ""
         )
-        return "\n".join(
-            [
-                (
-                    f'<svg xmlns="http://www.w3.org/2000/svg" width="{self.width}" height="{height}"{fits} viewBox="0 0'
-                    f' {self.width} {height}" font-family="DejaVu Sans, Verdana, sans-serif">'
-                ),
-                f"<title>{safe(self.shown.title)}</title>",
-                f'<rect width="{self.width}" height="{height}" fill="white"/>',
-                *self.parts,
-                "</svg>",
-                "",
-            ]
+        head = (
+            f'<svg xmlns="http://www.w3.org/2000/svg" width="{self.width}" height="{height}"{fits}'
+            f' viewBox="0 0 {self.width} {height}" font-family="DejaVu Sans, Verdana, sans-serif">'
         )
+        ground = f'<rect width="{self.width}" height="{height}" fill="white"/>'
+        return "\n".join([head, f"<title>{safe(self.shown.title)}</title>", ground, *self.parts, "</svg>", ""])
 
 
 def draw(shown: Shown, is_linked: bool = False) -> str:
-    """The SVG of what is shown of a plan. With links a click on a bar leads to the part of a page that says more of it.
-    """
+    """The SVG of what is shown of a plan. With links a click on a bar leads to its part of a page."""
     return (draw_tree if shown.plan.is_tree else draw_order)(shown, is_linked)
 
 
@@ -229,10 +209,9 @@ def draw_tree(shown: Shown, is_linked: bool) -> str:
     low = {number: picture.foot + 20 + STEP * depth[number] for number in columns}
     for number, node in enumerate(plan.nodes, leaves):
         for other in (node.left, node.right):
+            top = low[other] + 4 + 16 * (other < leaves)
             picture.parts.append(
-                '<path'
-                f' d="M{middle[other]:.1f} {low[other] + 4 + 16 * (other < leaves)}V{low[number]}H{middle[number]:.1f}"'
-                f' stroke="{INK}" fill="none"/>'
+                f'<path d="M{middle[other]:.1f} {top}V{low[number]}H{middle[number]:.1f}" stroke="{INK}" fill="none"/>'
             )
     for number in columns:
         draw_leaf(picture, number, middle, low) if number < leaves else draw_node(picture, number, middle, low)

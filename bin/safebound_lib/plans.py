@@ -3,7 +3,6 @@ from __future__ import annotations
 
 import re
 from dataclasses import dataclass
-from typing import Any
 
 
 @dataclass(frozen=True)
@@ -17,9 +16,9 @@ class Node:
 @dataclass
 class Plan:
     """The scans' bounds by entry, in FROM order, and behind them either the levels along the order, as pairs of an
-    entry and its bound, or the
-    inner nodes of a join tree. Nodes have numbers: the entries theirs in FROM order, from 0 on, and behind them the
-    inner nodes."""
+    entry and its bound, or the inner nodes of a join tree. Nodes have numbers: the entries theirs in FROM order, from 0
+    on, and behind them the inner nodes.
+    """
     scans: dict[str, int]
     levels: list[tuple[str, int]]
     nodes: list[Node]
@@ -45,7 +44,7 @@ class Plan:
         return self.leaves(node.left) + self.leaves(node.right)
 
 
-class NoPlan(Exception):
+class NoPlan(ValueError):
     """A text is none of a plan."""
 
 
@@ -54,24 +53,23 @@ def read_plan(text: str) -> Plan:
     if lines and re.fullmatch("memory [0-9]+", lines[-1]):
         # With --memory the bytes of the plan's buffers stand last.
         lines.pop()
-    scans: list[Any] = [re.fullmatch(r"scan (.*) ([0-9]+)", line) for line in lines if line.startswith("scan ")]
-    levels: list[Any] = [
-        re.fullmatch(r"level [0-9]+ (.*) ([0-9]+)", line) for line in lines if line.startswith("level ")
-    ]
-    nodes: list[Any] = [
-        re.fullmatch(r"node ([0-9]+) ([0-9]+) ([0-9]+) ([0-9]+)", line) for line in lines if line.startswith("node ")
-    ]
-    is_whole = scans and None not in scans + levels + nodes and len(scans) + len(levels) + len(nodes) == len(lines)
+    scans = matches(r"scan (.*) ([0-9]+)", lines)
+    levels = matches(r"level [0-9]+ (.*) ([0-9]+)", lines)
+    nodes = matches(r"node ([0-9]+) ([0-9]+) ([0-9]+) ([0-9]+)", lines)
+    is_whole = scans and len(scans) + len(levels) + len(nodes) == len(lines)
     if not is_whole or not (len(levels) == len(scans) and not nodes or not levels and is_tree(nodes, len(scans))):
         raise NoPlan("this is no plan text: " + (lines[0] if lines else "nothing"))
     return Plan(
-        {m[1]: int(m[2]) for m in scans},
-        [(m[1], int(m[2])) for m in levels],
+        {m[1]: int(m[2]) for m in scans}, [(m[1], int(m[2])) for m in levels],
         [Node(int(m[2]), int(m[3]), int(m[4])) for m in nodes],
     )
 
 
-def is_tree(nodes: list[Any], entries: int) -> bool:
+def matches(form: str, lines: list[str]) -> list[re.Match[str]]:
+    return [match for line in lines for match in [re.fullmatch(form, line)] if match]
+
+
+def is_tree(nodes: list[re.Match[str]], entries: int) -> bool:
     """Whether inner nodes make one tree of so many entries: each behind the two that it joins, and each node but the
     last joined once.
     """
@@ -83,9 +81,8 @@ def is_tree(nodes: list[Any], entries: int) -> bool:
 
 def read_audit(text: str, plan: Plan) -> list[int]:
     """The true rows of each level, or of each inner node."""
-    lines, wanted = text.split("\n")[:-1], [
-        f"level {k} {alias} {bound} " for k, (alias, bound) in enumerate(plan.levels, 1)
-    ]
+    lines = text.split("\n")[:-1]
+    wanted = [f"level {k} {alias} {bound} " for k, (alias, bound) in enumerate(plan.levels, 1)]
     wanted += [f"node {k} {node.left} {node.right} {node.bound} " for k, node in enumerate(plan.nodes, len(plan.scans))]
     if len(lines) != len(wanted) or not all(
         re.fullmatch(re.escape(start) + "[0-9]+", line) for line, start in zip(lines, wanted)

@@ -6,7 +6,7 @@ import select
 import signal
 import subprocess
 import sys
-from typing import Any
+from typing import IO
 
 from . import places
 
@@ -17,9 +17,7 @@ SAFEBOUND_PROGRAM names a program that lies elsewhere."""
 
 
 def found() -> str:
-    """The program's path; without one the command ends. A terminal is told where the release's program runs in place of
-    a built one.
-    """
+    """The program's path; without one the command ends. A terminal is told where it is the release's."""
     path = places.program()
     if path is None:
         sys.exit(NO_PROGRAM)
@@ -55,7 +53,7 @@ def answer(
 class Relay:
     """Hands bytes on to one of our own streams until that fails."""
 
-    def __init__(self, stream: Any, to: int) -> None:
+    def __init__(self, stream: IO[bytes], to: int) -> None:
         self.stream, self.to, self.is_open = stream, to, True
         self.kept: list[bytes] = []
         os.set_blocking(stream.fileno(), False)
@@ -71,7 +69,7 @@ class Relay:
                 self.is_open = False
                 self.stream.close()
 
-    def write(self, part: Any) -> Any:
+    def write(self, part: bytes) -> bool:
         if self.to == 2:
             self.kept.append(part)
         try:
@@ -85,8 +83,7 @@ class Relay:
 
 
 def run_and_read(path: str, words: list[str]) -> tuple[int, bytes]:
-    """Runs the program on our streams. The exit status, below 0 where a signal ended it, and what it wrote on standard
-    error.
+    """Runs the program on our streams. The exit status, below 0 after a signal, and what it wrote on standard error.
 
     Where both streams are terminals, rows go by us too: else they could overtake the plan that was written before them.
     """
@@ -100,8 +97,9 @@ def run_and_read(path: str, words: list[str]) -> tuple[int, bytes]:
         sys.exit(f"safebound: {path} can't be run: {fault.strerror}")
     for name in (signal.SIGTERM, signal.SIGHUP):
         signal.signal(name, lambda number, _: child.send_signal(number))
+    assert child.stderr
     notes = Relay(child.stderr, 2)
-    relays = [notes] + ([Relay(child.stdout, 1)] if rows else [])
+    relays = [notes] + ([Relay(child.stdout, 1)] if child.stdout else [])
     progress = Progress(child.pid, words) if is_terminal(2) else None
     while any(relay.is_open for relay in relays):
         ready, _, _ = select.select([r.stream for r in relays if r.is_open], [], [], TICK if progress else None)
@@ -123,7 +121,7 @@ def end_as(status: int) -> int:
     return status
 
 
-def is_terminal(number: int) -> Any:
+def is_terminal(number: int) -> bool:
     try:
         return os.isatty(number)
     except OSError:

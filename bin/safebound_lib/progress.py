@@ -1,5 +1,4 @@
-"""What a program that runs is doing, as the system tells it: which table it has come to, and how much it has written.
-"""
+"""What a running program is doing, as the system tells it: which table it has come to, how much it has written."""
 from __future__ import annotations
 
 import itertools
@@ -8,7 +7,7 @@ import time
 from typing import Optional
 
 from . import terminal
-from .explain import Run
+from .explain import UNEXPLAINED, Run
 
 AFTER = 1.0
 
@@ -38,14 +37,10 @@ def tables_of(words: list[str]) -> list[tuple[str, int]]:
     """The files of the tables that a query names, each with its size; none where that can't be told."""
     try:
         run = Run(words)
-        files = (
-            dict.fromkeys(entry.table.name.lower() + ".csv" for entry in run.query.entries)
-            if run.stats_file is None
-            else ()
-        )
+        entries = run.query.entries if run.stats_file is None else []
+        files = dict.fromkeys(entry.table.name.lower() + ".csv" for entry in entries)
         return [(file, os.path.getsize(file)) for file in files]
-    except Exception:
-        # Whatever goes wrong here, the run goes on.
+    except UNEXPLAINED:
         return []
 
 

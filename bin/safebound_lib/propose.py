@@ -45,8 +45,8 @@ class Proposal:
         return head + "\n".join(table_text(sheet, self.sheets) for sheet in self.sheets)
 
     def short(self, files: list[str], target: str, uses: str) -> str:
-        """The schema text in a line for each table, and how to keep it: `files` and `target` are words of the user's
-        command line, and `uses` is one with a schema.
+        """The schema text in a line for each table, and how to keep it; `files`, `target` and the line that `uses` a
+        kept one are words to paste.
         """
         room = columns() if program.is_terminal(2) else None
         lines = [
@@ -134,18 +134,10 @@ def singular(name: str) -> str:
 
 
 def referred(column: Column, sheet: Sheet, sheets: list[Sheet]) -> Optional[tuple[Sheet, Column]]:
-    """The table and the key to which a column refers: all its values are in the key, and its name names the table or
-    the key.
-    """
+    """The table and key to which a column refers: it has all its values, and its name names the table or the key."""
     found = [
-        (other, key)
-        for other in sheets
-        if other is not sheet
-        for key in other.columns
-        if other.is_key(key)
-        and column.values
-        and key.is_number == column.is_number
-        and column.values.keys() <= key.values.keys()
+        (other, key) for other in sheets if other is not sheet for key in other.columns if other.is_key(key)
+        and column.values and key.is_number == column.is_number and column.values.keys() <= key.values.keys()
     ]
     named = [(other, key) for other, key in found if names(column, other, key)]
     return max(named, key=lambda pair: pair[1] is primary_of(pair[0])) if named else None
@@ -198,8 +190,7 @@ def sentences(says: list[str]) -> str:
 def tables_in(folder: str) -> list[str]:
     """The table files of a folder."""
     return sorted(
-        os.path.join(folder, name) if folder != "." else name
-        for name in os.listdir(folder)
+        os.path.join(folder, name) if folder != "." else name for name in os.listdir(folder)
         if name.lower().endswith(".csv") and not name.startswith(".")
     )
 
@@ -208,9 +199,8 @@ def tables_in(folder: str) -> list[str]:
 def proposed(line: Line) -> Iterator[Line]:
     """The line with a schema's file, which is proposed from the tables here.
 
-    It is shown on standard error in short, and then what a user has to know of the tables: the cause of a failure
-    stands below it. Where the
-    query or one of its tables isn't there, it would only hide that.
+    Standard error shows it in short, and what a user has to know of the tables: the cause of a failure stands below.
+    Where the query or one of its tables isn't there, it would only hide that.
     """
     query = places(line.words[1:])[0]
     wanted = tables_of(query)

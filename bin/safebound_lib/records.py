@@ -14,9 +14,7 @@ LINE_END = re.compile(r"\r\n|\r|\n")
 
 
 def records(data: bytes, first: int = 0) -> Iterator[tuple[int, list[str]]]:
-    """Pairs of a line and the fields of the record that begins there, from the record `first` on. Lines without
-    characters are no records.
-    """
+    """Pairs of a line and the fields of the record that begins there, from one on. Empty lines are no records."""
     csv.field_size_limit(sys.maxsize)
     reader, number = csv.reader(io.StringIO(text_of(data), newline="")), 0
     while True:

@@ -3,7 +3,7 @@ from __future__ import annotations
 
 from dataclasses import dataclass, field
 from collections.abc import Callable
-from typing import Any, TYPE_CHECKING
+from typing import TYPE_CHECKING
 
 from .grammar import Reader, Wrong
 from .tokens import number_of, tokens_of
@@ -117,7 +117,7 @@ class SchemaReader(Reader):
             return False
         return True
 
-    def primary(self, table: Table, words: list[Token], columns: Callable[..., Any]) -> None:
+    def primary(self, table: Table, words: list[Token], columns: Callable[[], list[Token]]) -> None:
         self.take("KEY")
         found = columns()
         table.keys.append(found)

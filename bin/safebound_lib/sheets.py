@@ -24,15 +24,13 @@ LIKE_A_VALUE = re.compile(r"[+-]?[0-9][0-9.,:/ -]*|\d{4}-\d{2}-\d{2}.*")
 NO_RECORD: tuple[int, list[str]] = (0, [])
 
 
-class NoTable(Exception):
+class NoTable(ValueError):
     """A file from which no table is proposed: a sentence says why, and what to do."""
 
 
 @dataclass
 class Column:
-    """A column by its name as a schema has it, and the different values that stand in it, each with the line of its
-    first row.
-    """
+    """A column by its name as a schema has it, and its different values, each with the line of its first row."""
     name: str
     place: int
     values: dict[str, int] = field(default_factory=dict)
@@ -51,16 +49,13 @@ class Column:
     def has_gaps(self) -> bool:
         """Whether some fields are empty and all others are numbers."""
         return (
-            "" in self.values
-            and len(self.values) > 1
+            "" in self.values and len(self.values) > 1
             and all(NUMBER.fullmatch(value) for value in self.values if value)
         )
 
     @property
     def odd(self) -> Optional[str]:
-        """The first value that makes a text of a column whose others are nearly all numbers. Leading zeros are none:
-        they are meant.
-        """
+        """The first value that makes a text of a column of numbers. One with a leading zero is none: it is meant."""
         found = [value for value in self.values if value and not value.isdigit() and not NUMBER.fullmatch(value)]
         return found[0] if found and few(len(found), len(self.values)) else None
 
@@ -72,9 +67,7 @@ class Column:
 
 @dataclass
 class Sheet:
-    """A table file: its table's name as a schema has it, its columns, how many rows it has, and sentences on what a
-    user has to know.
-    """
+    """A table file: its table's name as a schema has it, its columns, its rows, and what a user has to know."""
     file: str
     name: str
     columns: list[Column]
@@ -152,9 +145,7 @@ def of_repeats(sheet: Sheet, column: Column, data: bytes) -> list[str]:
     """A sentence on values that repeat in a column that is named like the table's key."""
     repeats = sheet.rows - len(column.values)
     if (
-        not repeats
-        or not few(repeats, sheet.rows)
-        or not KEY_NAME.fullmatch(column.name)
+        not repeats or not few(repeats, sheet.rows) or not KEY_NAME.fullmatch(column.name)
         and not is_of(column.name, sheet.name)
     ):
         return []
@@ -236,8 +227,7 @@ def refuse_header(word: str, header: list[str]) -> None:
 
 
 def refuse_title(data: bytes, header: list[str]) -> None:
-    """A title above the names: one field of the first line is filled, and all of the second one are, none by a value.
-    """
+    """A title above the names: one field of the first line is filled, and all of the second, none by a value."""
     line, second = next(records(data, 1), NO_RECORD)
     named = sum(name != "" for name in header)
     if len(header) == 1 < len(second) and (line > 2 or " " in header[0]) and is_header(second):
@@ -245,9 +235,7 @@ def refuse_title(data: bytes, header: list[str]) -> None:
             f"Line 1 looks like a title, and line {line} like the header. Delete the lines above the header."
         )
     if (
-        named == 1 < len(header) - 1
-        and len(second) == len(header)
-        and is_header(second)
+        named == 1 < len(header) - 1 and len(second) == len(header) and is_header(second)
     ):
         raise NoTable(
             f"The first line names 1 of its {len(header)} columns, and line {line} looks like the header. Delete what"
@@ -325,7 +313,7 @@ def ragged_records(ragged: int, first: tuple[int, int, int], wide: int, data: by
     whole = all_differ(data)
     if whole:
         return f"{whole} A run will refuse the file until then."
-    late = closed_late(data, number)
+    late = "" if left_open(data, number) is not None else closed_late(data, number)
     if late:
         return f"{late} A run will refuse the file until then."
     others = f", and {ragged - 1} more records differ too" if ragged > 1 else ""
@@ -334,8 +322,7 @@ def ragged_records(ragged: int, first: tuple[int, int, int], wide: int, data: by
         if left_open(data, number) is not None
         else (
             'An unquoted comma is often the cause: a value with a comma stands in double quotes, as "Paris, capital".'
-            if has > wide
-            else "An empty field keeps its comma."
+            if has > wide else "An empty field keeps its comma."
         )
     )
     return f"Line {line} has {has} field{'s' * (has != 1)}, and the header {wide}{others}: a run will refuse it. {why}"

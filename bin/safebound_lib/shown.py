@@ -54,9 +54,7 @@ class Shown:
         return f"entry-{self.plan.entries.index(alias)}"
 
     def joined_by(self, at: int) -> list[str]:
-        """The conditions that hold from this level or inner node on. A join without any is said too, where conditions
-        are known.
-        """
+        """The conditions that hold from this level or inner node on; where they are known, also that there is none."""
         found = (self.at or {}).get(self.number(at), [])
         is_join = self.plan.is_tree or at > 0
         return found or [NO_CONDITION] * (is_join and self.at is not None)
@@ -65,19 +63,16 @@ class Shown:
         """The lines below the picture: of which step or entry, what it is of it, and the condition."""
         if self.plan.is_tree:
             lines = [
-                (f"{number}  {alias}", "its own", words)
-                for number, alias in enumerate(self.plan.entries)
+                (f"{number}  {alias}", "its own", words) for number, alias in enumerate(self.plan.entries)
                 for words in self.own.get(alias, [])
             ]
             lines += [
-                (str(self.number(at)), "joined by", words)
-                for at in range(len(self.plan.nodes))
+                (str(self.number(at)), "joined by", words) for at in range(len(self.plan.nodes))
                 for words in self.joined_by(at)
             ]
         else:
             lines = [
-                (f"{at + 1}  {alias}", kind, words)
-                for at, (alias, _) in enumerate(self.plan.levels)
+                (f"{at + 1}  {alias}", kind, words) for at, (alias, _) in enumerate(self.plan.levels)
                 for kind, found in (("its own", self.own.get(alias, [])), ("joined by", self.joined_by(at)))
                 for words in found
             ]
@@ -93,10 +88,10 @@ def shown_of(run: Run, plan: Plan, rows: list[int] | None, budget: int | None) -
     own: dict[str, list[str]] = {}
     at: dict[int, list[str]] = {}
     for condition in conditions_of(run, plan):
-        if len(condition["entries"]) == 1:
-            own.setdefault(condition["entries"][0], []).append(condition["text"])
+        if len(condition.entries) == 1:
+            own.setdefault(condition.entries[0], []).append(condition.text)
         else:
-            at.setdefault(condition["node" if plan.is_tree else "level"], []).append(condition["text"])
+            at.setdefault(condition.step, []).append(condition.text)
     tables = {entry.name: entry.table.name for entry in run.query.entries}
     return Shown(title_of(os.path.basename(run.query_file), plan, budget), plan, rows, budget, tables, own, at)
 

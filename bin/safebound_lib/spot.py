@@ -12,8 +12,7 @@ def plain(text: str) -> str:
     """Text as it may stand on a terminal: control characters, and bytes that are no UTF-8, as escapes."""
     return "".join(
         (
-            c
-            if c.isprintable()
+            c if c.isprintable()
             else f"\\x{ord(c) - 0xDC00:02x}" if "\udc80" <= c <= "\udcff" else c.encode("unicode_escape").decode()
         )
         for c in text

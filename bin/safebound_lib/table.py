@@ -8,9 +8,7 @@ MOST_BUDGET, MOST_BUDGET_OF_A_TREE, USUAL_BUDGET = 20_000_000, 4_000_000, 1_000_
 
 @dataclass(frozen=True)
 class Option:
-    """A word with a value (`value` is its name in the help), or a flag. Own options are taken out before the program
-    runs.
-    """
+    """A word with a value (`value` is its name in the help), or a flag. The program gets no own options."""
     word: str
     value: str | None
     help: str
@@ -45,27 +43,20 @@ BUDGET = Option(
     "--budget", "N", "the most rows that the bound of any level may say; 1,000,000 without it", 1, MOST_BUDGET
 )
 ACCURACY = Option(
-    "--accuracy",
-    "K",
-    "how closely lists of degrees are kept: more takes longer and mostly lowers bounds; 1 without it",
-    1,
-    64,
+    "--accuracy", "K",
+    "how closely lists of degrees are kept: more takes longer and mostly lowers bounds; 1 without it", 1, 64,
 )
 REDUCE = Option("--reduce", None, "puts rows aside that lack a partner, and makes bounds over those that are left")
 BUSHY = Option(
     "--bushy", None, "joins by the best tree of any shape and not along an order; a budget is then at most 4,000,000"
 )
 KEYS = Option(
-    "--keys",
-    None,
+    "--keys", None,
     "carries conditions on a table to those that refer to its key; stands beside neither --reduce nor --bushy",
 )
 MEMORY = Option(
-    "--memory",
-    "N",
-    "the most bytes that the buffers of the plan may take; the plan then ends with a line of its bytes",
-    1,
-    2**40,
+    "--memory", "N",
+    "the most bytes that the buffers of the plan may take; the plan then ends with a line of its bytes", 1, 2**40,
 )
 OF_PLANS = (BUDGET, ACCURACY, MEMORY, REDUCE, BUSHY, KEYS)
 STATS = Option(
@@ -99,13 +90,14 @@ OUTPUT = Option(
 )
 RESULT = Option("--output", "FILE", "writes to FILE, which may not be there yet; - is standard output", is_own=True)
 ENCODING = Option(
-    "--encoding",
-    "NAME",
-    "the encoding that the file has, as latin-1 or cp850; without it, it is found from the bytes",
+    "--encoding", "NAME", "the encoding that the file has, as latin-1 or cp850; without it, it is found from the bytes",
     is_own=True,
 )
 CENTS = Option(
-    "--cents", "COLUMN", "writes a column of decimals in whole cents, 1250 for 12.50, under a name of its own", is_own=True
+    "--cents",
+    "COLUMN",
+    "writes a column of decimals in whole cents, 1250 for 12.50, under a name of its own",
+    is_own=True,
 )
 DIGITS = Option("--digits", "N", "beside --cents: how many digits behind the point are kept; 2 without it", is_own=True)
 HELP = Option("--help", None, "this help", is_own=True)
@@ -133,23 +125,16 @@ COMMANDS = (
         (*OF_PLANS, STATS, DATA, EXPLAIN, JSON),
         "",
         (
-            "safebound plan schema.sql query.sql --accuracy 8",
-            "safebound plan schema.sql query.sql --json",
+            "safebound plan schema.sql query.sql --accuracy 8", "safebound plan schema.sql query.sql --json",
             "safebound plan schema.sql query.sql --stats trips.stats",
         ),
     ),
     Command(
-        "audit",
-        TEXTS,
-        "the plan, and beside each level's bound the number of its rows",
-        (*OF_PLANS, DATA, EXPLAIN, JSON),
-        "",
-        ("safebound audit schema.sql query.sql --reduce",),
+        "audit", TEXTS, "the plan, and beside each level's bound the number of its rows",
+        (*OF_PLANS, DATA, EXPLAIN, JSON), "", ("safebound audit schema.sql query.sql --reduce",),
     ),
     Command(
-        "stats",
-        TEXTS,
-        "the statistics file of the query's tables on standard output, for `plan --stats`",
+        "stats", TEXTS, "the statistics file of the query's tables on standard output, for `plan --stats`",
         (ACCURACY, DATA, EXPLAIN),
         "The file serves every query that compares and joins the same columns. Make it anew where rows have changed.",
         ("safebound stats schema.sql query.sql > trips.stats",),
@@ -166,12 +151,8 @@ COMMANDS = (
         ("safebound append schema.sql trips.stats TRIP new.csv > trips.new",),
     ),
     Command(
-        "demo",
-        ("NUMBER",),
-        "the audit of a query over a shop of 670,000 rows, made in memory",
-        (EXPLAIN,),
-        "NUMBER is from 0 to 4,294,967,295, and another one makes other rows.",
-        ("safebound demo 7",),
+        "demo", ("NUMBER",), "the audit of a query over a shop of 670,000 rows, made in memory", (EXPLAIN,),
+        "NUMBER is from 0 to 4,294,967,295, and another one makes other rows.", ("safebound demo 7",),
     ),
     Command(
         "schema",
@@ -197,22 +178,16 @@ COMMANDS = (
             " than .csv becomes .csv. A text of SQL only gets another encoding. Nothing is written over."
         ),
         (
-            "safebound convert city.csv",
-            "safebound convert Export.txt --output shop/city.csv",
+            "safebound convert city.csv", "safebound convert Export.txt --output shop/city.csv",
             "safebound convert city.csv --encoding cp850",
             "safebound convert shop.csv --cents PRICE",
         ),
         is_own=True,
     ),
     Command(
-        "check",
-        TEXTS,
-        "reads the two texts alone, without any table, and says what is wrong with them",
-        (DATA,),
+        "check", TEXTS, "reads the two texts alone, without any table, and says what is wrong with them", (DATA,),
         "The query may be left out. The exit status is 0 where the texts are right.",
-        ("safebound check schema.sql", "safebound check schema.sql query.sql"),
-        is_own=True,
-        optional=1,
+        ("safebound check schema.sql", "safebound check schema.sql query.sql"), is_own=True, optional=1,
     ),
     Command(
         "picture",
@@ -227,32 +202,16 @@ COMMANDS = (
         is_own=True,
     ),
     Command(
-        "new",
-        ("FOLDER",),
-        "lays a small example in a new folder, to edit",
-        (),
-        "",
-        ("safebound new trips",),
+        "new", ("FOLDER",), "lays a small example in a new folder, to edit", (), "", ("safebound new trips",),
         is_own=True,
     ),
     Command(
-        "help",
-        ("COMMAND",),
-        "this help, or that of one command; `help errors` lists every fault with what to do",
-        (),
-        "",
-        ("safebound help run", "safebound help errors"),
-        is_own=True,
-        optional=1,
+        "help", ("COMMAND",), "this help, or that of one command; `help errors` lists every fault with what to do", (),
+        "", ("safebound help run", "safebound help errors"), is_own=True, optional=1,
     ),
     Command(
-        "completion",
-        ("SHELL",),
-        "prints the completion for bash or zsh",
-        (),
-        "",
-        ("source <(safebound completion bash)",),
-        is_own=True,
+        "completion", ("SHELL",), "prints the completion for bash or zsh", (), "",
+        ("source <(safebound completion bash)",), is_own=True,
     ),
 )
 # What the table holds by name.

@@ -2,7 +2,7 @@
 from __future__ import annotations
 
 from dataclasses import dataclass, field
-from typing import Any, TYPE_CHECKING
+from typing import TYPE_CHECKING
 
 from .table import BY_WORD, DATA, TEXTS, own_options, valued
 
@@ -10,15 +10,15 @@ if TYPE_CHECKING:
     from .table import Option
 
 
-class Misused(Exception):
+class Misused(ValueError):
     """Words that the friendly command itself can't take."""
 
 
 @dataclass
 class Line:
-    """The words that are left for the program, the own options by word, and the folder that `--data` left."""
+    """The words for the program, the own options' values by word, and the folder that `--data` left."""
     words: list[str] = field(default_factory=list)
-    own: dict[str, Any] = field(default_factory=dict)
+    own: dict[str, str] = field(default_factory=dict)
     before: str | None = None
     is_proposed: bool = False
 
@@ -74,7 +74,7 @@ def add_own(line: Line, option: Option, value: str | None, left: list[str]) -> N
         value = left.pop(0)
     if option.value and not value:
         raise Misused(f"{option.word} has an empty value: {option.spelled}")
-    line.own[option.word] = value if option.value else True
+    line.own[option.word] = value or ""
 
 
 def places(words: list[str]) -> list[str]:

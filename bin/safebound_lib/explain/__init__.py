@@ -1,11 +1,12 @@
 """What stands below the line of a fault: what is wrong, where, and what to do."""
 from __future__ import annotations
 
+import csv
 import importlib
 import os
 import shlex
 import textwrap
-from typing import Any, TYPE_CHECKING
+from typing import TYPE_CHECKING
 
 from .. import terminal
 from ..plans import option_of
@@ -14,6 +15,7 @@ from ..table import STATS
 from ..words import places
 
 if TYPE_CHECKING:
+    from ..faults import Fault
     from ..query import Query
     from ..schema import Schema
 
@@ -32,15 +34,16 @@ PARTS = {
     "memory-limit": "buffers",
 }
 
+# What comes up where a file has changed since the program read it, or is too deep or too long to be read here.
+UNEXPLAINED = (OSError, LookupError, ValueError, StopIteration, RecursionError, MemoryError, csv.Error)
 PROPOSING = ("run", "plan", "audit", "stats", "picture")
 # How a line begins that is there to be pasted: it stays whole.
 TO_PASTE = ("    safebound ", "    mv ")
 
 
 class Run:
-    """A run that ended: its words, the program (nothing where there is none at hand), where `--data` was given the
-    folder that was left, and
-    whether its schema was proposed.
+    """A run that ended: its words, the program (if there is one), the folder that `--data` left, and whether its schema
+    was proposed.
     """
 
     def __init__(
@@ -91,20 +94,18 @@ def read(file: str) -> bytes:
         return f.read()
 
 
-def explained(fault: dict[str, Any], run: Run) -> str:
+def explained(fault: Fault, run: Run) -> str:
     """The explanation of a fault, ended by a line end."""
-    part = importlib.import_module(f".{PARTS[fault['kind']]}", __name__)
+    part = importlib.import_module(f".{PARTS[fault.kind]}", __name__)
     try:
         return laid_out(part.explain(fault, run))
-    except Exception:
-        # A file may have changed since. Whatever goes wrong here, the line and the exit status stay as they are.
+    except UNEXPLAINED:
+        # The line and the exit status stay as they are.
         return ""
 
 
 def laid_out(blocks: list[str]) -> str:
-    """Each line of each block, wrapped to the terminal's width below its own indentation; places of texts have their
-    colours.
-    """
+    """Each line of each block, wrapped below its own indentation; places of texts have their colours."""
     return "".join(terminal.coloured("\n".join(map(wrapped, block.split("\n")))) + "\n" for block in blocks if block)
 
 
@@ -114,12 +115,8 @@ def wrapped(line: str) -> str:
         return line
     return "\n".join(
         textwrap.wrap(
-            line.strip(),
-            width,
-            initial_indent=indent,
-            subsequent_indent=indent and indent + "    ",
-            break_long_words=False,
-            break_on_hyphens=False,
+            line.strip(), width, initial_indent=indent, subsequent_indent=indent and indent + "    ",
+            break_long_words=False, break_on_hyphens=False,
         )
     )
 
@@ -129,6 +126,5 @@ def not_connected(run: Run) -> str:
     from .budgets import not_connected as said
     try:
         return "" if run.command not in ("run", "plan", "audit") else laid_out([said(run)])
-    except Exception:
-        # As above.
+    except UNEXPLAINED:
         return ""

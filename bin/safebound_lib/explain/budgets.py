@@ -2,7 +2,7 @@
 from __future__ import annotations
 
 import subprocess
-from typing import Any, TYPE_CHECKING
+from typing import TYPE_CHECKING
 
 from . import read
 from ..near import listed
@@ -14,6 +14,7 @@ from ..table import ACCURACY, BUDGET, BUSHY, KEYS, MOST_BUDGET, MOST_BUDGET_OF_A
 from ..faults import fault_of
 
 if TYPE_CHECKING:
+    from ..faults import Fault
     from . import Run
     from ..plans import Plan
     from ..table import Option
@@ -22,10 +23,11 @@ SECONDS = 60
 CLOSER = "8"
 
 
-def explain(fault: dict[str, Any], run: Run) -> list[str]:
+def explain(fault: Fault, run: Run) -> list[str]:
     budget, most = int(option_of(run.words, BUDGET.word) or USUAL_BUDGET), most_of(run)
-    least, (shape, step) = fault.get("least"), ("join tree", "node") if has(run, BUSHY) else ("order", "level")
-    if least is None:
+    is_past_bits, least = fault.kind == "past-bits", fault.least
+    shape, step = ("join tree", "node") if has(run, BUSHY) else ("order", "level")
+    if is_past_bits:
         first = f"In every {shape} some {step} has a bound of 2^128 - 1 rows or more. No budget helps."
     elif least > most:
         first = (
@@ -40,7 +42,8 @@ def explain(fault: dict[str, Any], run: Run) -> list[str]:
     apart = not_connected(run)
     several = several_equalities(run)
     with saying("trying other options .."):
-        return [first, at_fault(run, least, budget), apart, *several, *tried(run, budget, apart)]
+        past = "" if is_past_bits else at_fault(run, least, budget)
+        return [first, past, apart, *several, *tried(run, budget, apart)]
 
 
 def most_of(run: Run) -> int:
@@ -76,8 +79,7 @@ def several_equalities(run: Run) -> list[str]:
     return [
         f"{names[one]} and {names[other]} are joined by {len(said)} equalities: {listed(said)}. A bound counts one of"
         " them alone: together they count as one, so there may be far fewer rows than it says."
-        for (one, other), said in found.items()
-        if len(said) > 1
+        for (one, other), said in found.items() if len(said) > 1
     ]
 
 
@@ -93,7 +95,7 @@ def with_words(run: Run, words: list[str]) -> int | Plan | None:
     if status == 0:
         return read_plan(notes.decode("utf-8", "replace"))
     fault = fault_of(notes)
-    return int(fault["least"]) if fault and fault["kind"] == "budget" else None
+    return fault.least if fault and fault.kind == "budget" else None
 
 
 def planned_words(words: list[str]) -> list[str]:
@@ -112,9 +114,9 @@ def planned_words(words: list[str]) -> list[str]:
     return found
 
 
-def at_fault(run: Run, least: int | None, budget: int) -> str:
+def at_fault(run: Run, least: int, budget: int) -> str:
     """Which level or node is past the budget, where the least budget shows the plan."""
-    if least is None or least > most_of(run):
+    if least > most_of(run):
         return ""
     plan = with_words(run, given(run, least))
     if plan is None or isinstance(plan, int):
@@ -132,9 +134,7 @@ def at_fault(run: Run, least: int | None, budget: int) -> str:
 
 
 def given(run: Run, budget: int, accuracy: str | None = None, flag: Option | None = None) -> list[str]:
-    """The options of the run, with these beside them. `--keys` stands beside no other flag, so the one that is tried
-    takes its place.
-    """
+    """The run's options, with these beside them. `--keys` stands alone: the flag that is tried takes its place."""
     kept = accuracy or option_of(run.words, ACCURACY.word)
     words = [BUDGET.word, str(budget)] + ([ACCURACY.word, kept] if kept else [])
     flags = [one for one in (REDUCE, BUSHY, KEYS) if has(run, one)]
@@ -158,18 +158,18 @@ def refers(run: Run) -> bool:
 def tried(run: Run, budget: int, apart: str) -> list[str]:
     """What the other options come to, and what else there is to do."""
     is_close = int(option_of(run.words, ACCURACY.word) or 1) >= int(CLOSER)
-    ways: list[tuple[str, dict[str, Any]]] = []
+    ways: list[tuple[str, tuple[str | None, Option | None]]] = []
     if not has(run, REDUCE):
-        ways.append((f"With {REDUCE.word}", dict(flag=REDUCE)))
+        ways.append((f"With {REDUCE.word}", (None, REDUCE)))
     if not is_close:
-        ways.append((f"With {ACCURACY.word} {CLOSER}", dict(accuracy=CLOSER)))
+        ways.append((f"With {ACCURACY.word} {CLOSER}", (CLOSER, None)))
     if len(ways) == 2:
-        ways.append(("With both", dict(flag=REDUCE, accuracy=CLOSER)))
+        ways.append(("With both", (CLOSER, REDUCE)))
     if not has(run, KEYS) and refers(run):
-        ways.append((f"With {KEYS.word}", dict(flag=KEYS)))
+        ways.append((f"With {KEYS.word}", (None, KEYS)))
     if not has(run, BUSHY) and len(run.query.entries) > 3 and budget <= MOST_BUDGET_OF_A_TREE:
-        ways.append((f"With {BUSHY.word}", dict(flag=BUSHY)))
-    found = [f"    {name} {said_of(with_words(run, given(run, budget, **how)), budget)}" for name, how in ways]
+        ways.append((f"With {BUSHY.word}", (None, BUSHY)))
+    found = [f"    {name} {said_of(with_words(run, given(run, budget, *how)), budget)}" for name, how in ways]
     found = [line for line in found if not line.endswith(" None")]
     rest = "" if apart else "A condition on a column of one entry lowers bounds most: = or a range."
     return (["What other options come to:\n" + "\n".join(found)] if found else []) + [rest]

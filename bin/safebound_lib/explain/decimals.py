@@ -68,7 +68,8 @@ def said(query: Query, schema: Schema, beside: Reference, number: str, sign: str
         return []
     digits = max(decimals.scale_of(found.values), decimals.digits_of(number) or 0)
     new = decimals.quoted(decimals.called(decimals.bare(found.name), digits))
-    schema_too = "" if run.is_proposed else f", and {plain(run.schema_file)} declares it: {plain(new)} INTEGER NOT NULL"
+    declared = f", and {plain(run.schema_file)} declares it: {plain(new)} INTEGER NOT NULL"
+    schema_too = "" if run.is_proposed else declared
     return [
         f"{plain(found.name)} has decimals, as `{plain(first)}` on line {found.values[first]} of {plain(table.file)},"
         f" and numbers are integers here: so it is a text, and can't be compared with {plain(number)}. Store the"

@@ -1,11 +1,12 @@
 """`error limit WHICH FOUND`: the limit, and what stands beyond it."""
 from __future__ import annotations
 
-from typing import Any, TYPE_CHECKING
+from typing import TYPE_CHECKING
 
 from ..spot import plain
 
 if TYPE_CHECKING:
+    from ..faults import Fault
     from . import Run
 
 SAYS = {
@@ -30,9 +31,9 @@ SAYS = {
 BYTES_OF_TEXT, BYTES_OF_TABLE, ROWS = 1_048_576, 67_108_864, 4_000_000
 
 
-def explain(fault: dict[str, Any], run: Run) -> list[str]:
-    file = plain(fault.get("file") or "")
-    if fault["cause"] == "rows" and run.command == "append":
+def explain(fault: Fault, run: Run) -> list[str]:
+    file = plain(fault.file)
+    if fault.cause == "rows" and run.command == "append":
         return [
             (
                 f"With the rows of {file} the table {plain(run.table)} has more than {ROWS:,} rows, which is the most"
@@ -40,14 +41,14 @@ def explain(fault: dict[str, Any], run: Run) -> list[str]:
             ),
             beyond(),
         ]
-    if fault["cause"] == "rows":
+    if fault.cause == "rows":
         return [f"{file} has more than {ROWS:,} rows, which is the most for a table.", beyond()]
-    if fault["cause"] != "file-bytes":
-        return [SAYS[fault["cause"]].format(found=fault["found"])]
-    if fault["found"] == BYTES_OF_TEXT + 1:
+    if fault.cause != "file-bytes":
+        return [SAYS[fault.cause].format(found=fault.found)]
+    if fault.found == BYTES_OF_TEXT + 1:
         return [f"{file} is longer than 1 MiB ({BYTES_OF_TEXT:,} bytes), which is the most for a schema or a query.",
                 "Is it a text of SQL at all? The words are SCHEMA and then QUERY."]
-    if run.stats_file is not None and fault.get("file") == run.stats_file:
+    if run.stats_file is not None and fault.file == run.stats_file:
         return [
             f"{file} is longer than 64 MiB ({BYTES_OF_TABLE:,} bytes), which is the most for a statistics file. With a"
             " lower --accuracy `stats` writes a shorter one."

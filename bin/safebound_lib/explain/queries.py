@@ -3,7 +3,7 @@ from __future__ import annotations
 
 import os
 from collections.abc import Iterable
-from typing import Any, TYPE_CHECKING, cast
+from typing import TYPE_CHECKING, cast
 
 from . import read
 from .decimals import of_decimals
@@ -18,24 +18,23 @@ from ..spot import plain
 from ..tokens import LEAST_NUMBER, MOST_NUMBER
 
 if TYPE_CHECKING:
+    from ..faults import Fault
     from . import Run
     from ..query import Entry, Query
     from ..schema import Schema, Table
     from ..tokens import Token
 
 
-def explain(fault: dict[str, Any], run: Run) -> list[str]:
-    data, query, at = read(run.query_file), run.query, fault["at"]
-    says = {"syntax": syntax, "name": name, "kind": kind}[fault["cause"]]
+def explain(fault: Fault, run: Run) -> list[str]:
+    data, query, at = read(run.query_file), run.query, fault.at
+    says = {"syntax": syntax, "name": name, "kind": kind}[fault.cause]
     other = no_text(run.query_file, data, at, run) or no_query(run, data)
     if other:
         return other
     schema, name_there = run.schema, accented(data, query.tokens, at)
     said = (
-        [quotes_for(name_there, names_of(schema))]
-        if name_there
-        else of_decimals(fault["cause"], query, schema, at, run)
-        or of_a_proposal(fault, query, schema, run)
+        [quotes_for(name_there, names_of(schema))] if name_there
+        else of_decimals(fault.cause, query, schema, at, run) or of_a_proposal(fault, query, schema, run)
         or says(query, schema, at)
     )
     return [marked(run.query_file, data, query, at, length(query, at)), *said]
@@ -57,21 +56,18 @@ def no_query(run: Run, data: bytes) -> list[str]:
     ]
 
 
-def of_a_proposal(fault: dict[str, Any], query: Query, schema: Schema, run: Run) -> list[str]:
-    """What is wrong for the reason that a schema was proposed: a table without its file, and a column that one value
-    made a text.
-    """
+def of_a_proposal(fault: Fault, query: Query, schema: Schema, run: Run) -> list[str]:
+    """What is wrong because the schema was proposed: a table without its file, a column that one value made a text."""
     if not run.is_proposed:
         return []
-    at = fault["at"]
+    at = fault.at
     table = (
         next((e.table for e in query.entries if e.table.start == at and schema.table(e.table.name) is None), None)
-        if fault["cause"] == "name"
-        else None
+        if fault.cause == "name" else None
     )
     if table:
         return missing_table(table.name, run)
-    return odd_value(query, schema, at) if fault["cause"] == "kind" else []
+    return odd_value(query, schema, at) if fault.cause == "kind" else []
 
 
 def odd_value(query: Query, schema: Schema, at: int) -> list[str]:
@@ -137,9 +133,7 @@ def output(query: Query, schema: Schema, item: list[Token]) -> list[tuple[set[st
     """The columns of one item: those of all entries or of one for a *, else one."""
     names = {token.name for token in item if token.is_name}
     entries = [
-        entry
-        for entry in query.entries
-        if schema.table(entry.table.name)
+        entry for entry in query.entries if schema.table(entry.table.name)
         and (item[-1:] and not item[-1].is_one("*") or len(item) == 1 or entry.name in names)
     ]
     tables = [schema.table(entry.table.name) for entry in entries]
@@ -348,7 +342,6 @@ def of_the_kind(query: Query, left: Reference, other: Reference, schema: Schema)
     fitting = [f"{plain(entry.name)}.{plain(c.name)}" for c in table.columns if c.is_number == column.is_number]
     kind_there = "numbers" if column.is_number else "texts"
     return (
-        f"Of {plain(entry.name)} these are {kind_there} too: {listed(fitting)}."
-        if fitting
+        f"Of {plain(entry.name)} these are {kind_there} too: {listed(fitting)}." if fitting
         else f"{plain(entry.name)} has no column of {kind_there}: declare both columns as one kind."
     )

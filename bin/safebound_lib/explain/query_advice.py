@@ -2,7 +2,7 @@
 from __future__ import annotations
 
 import re
-from typing import Any, TYPE_CHECKING
+from typing import TYPE_CHECKING
 
 from .texts import NO_ARITHMETIC_THERE, is_in_select
 from ..near import nearest
@@ -41,7 +41,8 @@ AGGREGATE = (
 )
 COUNT = (
     "Functions and aggregates aren't part of the language. Take a column in the place of COUNT(*), and leave GROUP BY"
-    " out. Then `safebound audit` prints how many rows there are, and this counts those of each group: safebound run .. | tail -n +2 | sort | uniq -c"
+    " out. Then `safebound audit` prints how many rows there are, and this counts those of each group:"
+    " safebound run .. | tail -n +2 | sort | uniq -c"
 )
 FUNCTION = (
     "Functions and aggregates aren't part of the language: store the value that you compare, or compute it behind the"
@@ -59,18 +60,7 @@ READS_ONLY = "A query only reads: SELECT .. FROM .. WHERE .. Rows are changed in
 AGGREGATES = ("COUNT", "SUM", "MIN", "MAX", "AVG")
 OF_DATES = ("DATE", "TIME", "TIMESTAMP", "INTERVAL")
 AS_ALIAS = (
-    "LIMIT",
-    "OFFSET",
-    "FETCH",
-    "TOP",
-    "ILIKE",
-    "REGEXP",
-    "WINDOW",
-    "QUALIFY",
-    "STRAIGHT_JOIN",
-    "ASOF",
-    "SEMI",
-    "ANTI",
+    "LIMIT", "OFFSET", "FETCH", "TOP", "ILIKE", "REGEXP", "WINDOW", "QUALIFY", "STRAIGHT_JOIN", "ASOF", "SEMI", "ANTI",
 )
 WORDS = {
     "ORDER": (
@@ -141,9 +131,7 @@ def second_query(place: Place) -> str | None:
 
 def subquery(place: Place) -> str | None:
     if (
-        place.word() == "SELECT"
-        and place.token(-1).is_one("(")
-        or place.token().is_one("(")
+        place.word() == "SELECT" and place.token(-1).is_one("(") or place.token().is_one("(")
         and place.word(1) == "SELECT"
     ):
         return SUBQUERY
@@ -243,8 +231,7 @@ def sort_key(item: list[Token], outs: tuple[tuple[set[str], bool], ...]) -> tupl
         return "the column", ""
     last = named[-1]
     at = (
-        int(last.source) - 1
-        if last.kind == "number" and len(last.source) < 5
+        int(last.source) - 1 if last.kind == "number" and len(last.source) < 5
         else next((i for i, (names, _) in enumerate(outs) if last.is_name and last.name in names), -1)
     )
     if not 0 <= at < len(outs):
@@ -262,9 +249,7 @@ def by_word(place: Place) -> str | None:
 def grouped(place: Place) -> str | None:
     """A comma within a number: `5,000`."""
     if (
-        place.token().is_one(",")
-        and place.token(-1).kind == "number"
-        and place.token(1).kind == "number"
+        place.token().is_one(",") and place.token(-1).kind == "number" and place.token(1).kind == "number"
         and "AND" in place.tested
     ):
         if len(place.token(1).source) != 3:
@@ -332,7 +317,7 @@ def arithmetic(place: Place) -> str | None:
     return None
 
 
-def star(place: Place) -> Any:
+def star(place: Place) -> str | None:
     if place.token().is_one(",") and place.token(-1).is_one("*") and place.word(-2) == "SELECT":
         return "A * stands alone. Beside columns each entry has its own: SELECT A.*, B.X."
     return None
@@ -342,8 +327,7 @@ def reserved(place: Place) -> str | None:
     """A reserved word where a name has to stand."""
     wants_name = any(what.startswith("a ") and what != "a number" for what in place.tested)
     if (
-        place.word() in RESERVED
-        and wants_name
+        place.word() in RESERVED and wants_name
         and place.word() not in ("FROM", "WHERE", "SELECT", "AND", "OR", "ON", "JOIN")
     ):
         return f'{place.word()} is a reserved word. As a name it stands in double quotes: "{place.word()}".'
@@ -390,23 +374,7 @@ def no_condition(place: Place) -> str | None:
 
 
 CERTAIN = (
-    swapped,
-    second_query,
-    subquery,
-    call,
-    dated,
-    decimal,
-    unquoted,
-    alias_word,
-    two_nots,
-    wrong_quotes,
-    order,
-    by_word,
-    doubled,
-    grouped,
-    half_a_comparison,
-    qualified,
-    arithmetic,
-    star,
+    swapped, second_query, subquery, call, dated, decimal, unquoted, alias_word, two_nots, wrong_quotes, order, by_word,
+    doubled, grouped, half_a_comparison, qualified, arithmetic, star,
 )
 GUESSES = (comma_too_many, reserved, no_condition, misspelled, comma_missing)

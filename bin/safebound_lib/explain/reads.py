@@ -2,7 +2,7 @@
 from __future__ import annotations
 
 import os
-from typing import Any, TYPE_CHECKING
+from typing import TYPE_CHECKING
 
 from .texts import convert_line
 from .usage import is_query
@@ -11,13 +11,14 @@ from ..spot import plain
 from ..tokens import tokens_of
 
 if TYPE_CHECKING:
+    from ..faults import Fault
     from . import Run
 
 OF_TEXTS, OF_SHEETS = (".txt", ".tsv", ".tab", ".dat"), (".xlsx", ".xls", ".ods")
 
 
-def explain(fault: dict[str, Any], run: Run) -> list[str]:
-    file = fault["file"]
+def explain(fault: Fault, run: Run) -> list[str]:
+    file = fault.file
     if not file:
         return ["The name of the file is empty."]
     if is_one_query(file):
@@ -30,8 +31,7 @@ def explain(fault: dict[str, Any], run: Run) -> list[str]:
 
 def is_one_query(words: str) -> bool:
     return (
-        not os.path.exists(words)
-        and any(token.is_one("SELECT") for token in tokens_of(os.fsencode(words))[:1])
+        not os.path.exists(words) and any(token.is_one("SELECT") for token in tokens_of(os.fsencode(words))[:1])
         and " " in words
     )
 
@@ -39,15 +39,12 @@ def is_one_query(words: str) -> bool:
 def without_schema(file: str, run: Run) -> list[str]:
     """Where a schema isn't there but its tables and its query are: the line that needs none."""
     is_able = (
-        file == run.schema_file
-        and not run.is_proposed
-        and is_query(run.query_file)
+        file == run.schema_file and not run.is_proposed and is_query(run.query_file)
         and any(name.endswith(".csv") for name in names_in("."))
     )
     return (
         [f"Without a schema, one is proposed from the tables:{run.line_without_schema()}"]
-        if is_able and not near_file(file, os.path.dirname(file) or ".", run)
-        else []
+        if is_able and not near_file(file, os.path.dirname(file) or ".", run) else []
     )
 
 
@@ -132,8 +129,7 @@ def folder_with(file: str, run: Run, is_table: bool) -> str:
     for folder in beside + below:
         if os.path.isfile(os.path.join(folder, file)):
             same = [
-                f
-                for f in (run.schema_file, run.query_file)
+                f for f in (run.schema_file, run.query_file)
                 if not os.path.isfile(os.path.join(folder, os.path.basename(f)))
             ]
             how = (

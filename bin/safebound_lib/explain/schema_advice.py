@@ -1,7 +1,7 @@
 """What to write in place of what isn't part of the language of schemas."""
 from __future__ import annotations
 
-from typing import Any, TYPE_CHECKING
+from typing import TYPE_CHECKING
 
 from ..near import nearest
 from ..spot import plain
@@ -21,24 +21,8 @@ BOOLEANS = "Store yes and no as INTEGER 1 and 0."
 INSTEAD = {
     **dict.fromkeys(
         (
-            "TEXT",
-            "STRING",
-            "CLOB",
-            "CHAR",
-            "CHARACTER",
-            "NCHAR",
-            "NVARCHAR",
-            "VARCHAR2",
-            "CITEXT",
-            "TINYTEXT",
-            "MEDIUMTEXT",
-            "LONGTEXT",
-            "UUID",
-            "JSON",
-            "JSONB",
-            "BLOB",
-            "BYTEA",
-            "ENUM",
+            "TEXT", "STRING", "CLOB", "CHAR", "CHARACTER", "NCHAR", "NVARCHAR", "VARCHAR2", "CITEXT", "TINYTEXT",
+            "MEDIUMTEXT", "LONGTEXT", "UUID", "JSON", "JSONB", "BLOB", "BYTEA", "ENUM",
         ),
         TEXTS,
     ),
@@ -57,17 +41,8 @@ NOT_PART = {
     "NULL": "Tables have no nulls: write NOT NULL.",
     **dict.fromkeys(
         (
-            "AUTO_INCREMENT",
-            "AUTOINCREMENT",
-            "IDENTITY",
-            "GENERATED",
-            "COLLATE",
-            "COMMENT",
-            "UNSIGNED",
-            "INDEX",
-            "KEY",
-            "ASC",
-            "DESC",
+            "AUTO_INCREMENT", "AUTOINCREMENT", "IDENTITY", "GENERATED", "COLLATE", "COMMENT", "UNSIGNED", "INDEX",
+            "KEY", "ASC", "DESC",
         ),
         "{} isn't part of the language: leave it out. " + RULES_OF_COLUMNS,
     ),
@@ -145,7 +120,7 @@ def reserved(place: Place) -> str | None:
     return None
 
 
-def qualified(place: Place) -> Any:
+def qualified(place: Place) -> str | None:
     if place.token().is_one("."):
         return "A table has one name: there are no names of schemas or databases before it."
     return None

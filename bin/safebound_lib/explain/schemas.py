@@ -3,7 +3,7 @@ from __future__ import annotations
 
 import os
 import shlex
-from typing import Any, TYPE_CHECKING
+from typing import TYPE_CHECKING
 
 from . import read
 from .schema_advice import CERTAIN, GUESSES
@@ -15,15 +15,16 @@ from ..table import BY_WORD
 from ..tokens import tokens_of
 
 if TYPE_CHECKING:
+    from ..faults import Fault
     from . import Run
     from ..schema import Column, Reference, Schema, Table
     from ..tokens import Token
 
 
-def explain(fault: dict[str, Any], run: Run) -> list[str]:
-    data, schema, at = read(run.schema_file), run.schema, fault["at"]
+def explain(fault: Fault, run: Run) -> list[str]:
+    data, schema, at = read(run.schema_file), run.schema, fault.at
     token = next((t for t in tokens_of(data) if t.start == at and t.kind != "bad"), None)
-    says = {"syntax": syntax, "name": name, "nullable": nullable}[fault["cause"]]
+    says = {"syntax": syntax, "name": name, "nullable": nullable}[fault.cause]
     other = no_text(run.schema_file, data, at, run) or no_schema(run)
     if other:
         return other
@@ -77,8 +78,7 @@ def name(schema: Schema, at: int) -> list[str]:
     for table in schema.tables:
         said = (
             of_table(schema, table, at)
-            or next((s for c in table.columns for s in [of_column(table, c, at)] if s), None)
-            or of_keys(table, at)
+            or next((s for c in table.columns for s in [of_column(table, c, at)] if s), None) or of_keys(table, at)
             or of_references(schema, table, at)
         )
         if said:
@@ -126,8 +126,7 @@ def of_list(table: Table, tokens: list[Token], at: int) -> str | None:
     if token.name in names:
         return (
             f"{plain(token.name)} stands twice in this list."
-            if any(t.name == token.name and t.start < at for t in tokens)
-            else None
+            if any(t.name == token.name and t.start < at for t in tokens) else None
         )
     return (
         f"{plain(table.name)} has no column {plain(token.name)}. Its columns are"
@@ -145,7 +144,7 @@ def of_references(schema: Schema, table: Table, at: int) -> str | None:
     return None
 
 
-def of_target(schema: Schema, reference: Reference, target: Any) -> str:
+def of_target(schema: Schema, reference: Reference, target: Table | None) -> str:
     names = [table.name for table in schema.tables]
     if target is None:
         return (

@@ -4,12 +4,13 @@ new rows.
 from __future__ import annotations
 
 import shlex
-from typing import Any, TYPE_CHECKING
+from typing import TYPE_CHECKING
 
 from ..near import hint, listed
 from ..spot import plain
 
 if TYPE_CHECKING:
+    from ..faults import Fault
     from . import Run
 
 
@@ -20,12 +21,12 @@ def made_anew(run: Run) -> str:
     return plain(f"safebound stats {' '.join(map(shlex.quote, texts))}{data} > {run.path_of(run.stats_file or '')}")
 
 
-def explain(fault: dict[str, Any], run: Run) -> list[str]:
-    file, at = plain(run.stats_file or ""), fault["at"]
+def explain(fault: Fault, run: Run) -> list[str]:
+    file, at = plain(run.stats_file or ""), fault.at
     anew = f"Make it anew:\n    {made_anew(run)}"
-    if fault["cause"] == "missing" and run.command == "append":
+    if fault.cause == "missing" and run.command == "append":
         return without_section(file, run)
-    if fault["cause"] == "missing":
+    if fault.cause == "missing":
         return [
             (
                 f"{lacking(run, at)} needs statistics that {file} doesn't have: it was made for a query that doesn't"
@@ -33,7 +34,7 @@ def explain(fault: dict[str, Any], run: Run) -> list[str]:
             ),
             anew,
         ]
-    if fault["cause"] == "syntax":
+    if fault.cause == "syntax":
         return [f"{file} is no statistics file from line {at} on: it is cut there, or was changed.", anew]
     return [
         (
@@ -67,5 +68,5 @@ def lacking(run: Run, entry: int) -> str:
     """The FROM entry with this number, by its name where the query can be read."""
     try:
         return f"The FROM entry {plain(run.query.entries[entry].name)}"
-    except Exception:
+    except (OSError, IndexError, RecursionError):
         return f"The FROM entry {entry}, counted from 0,"

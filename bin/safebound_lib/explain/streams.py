@@ -3,14 +3,15 @@ from __future__ import annotations
 
 import os
 import stat
-from typing import Any, TYPE_CHECKING
+from typing import TYPE_CHECKING
 
 if TYPE_CHECKING:
+    from ..faults import Fault
     from . import Run
 
 
-def explain(fault: dict[str, Any], run: Run) -> list[str]:
-    if fault["kind"] == "memory":
+def explain(fault: Fault, run: Run) -> list[str]:
+    if fault.kind == "memory":
         return [
             (
                 "The system gave too little memory, before anything was printed. All memory is taken before the first"
@@ -22,7 +23,7 @@ def explain(fault: dict[str, Any], run: Run) -> list[str]:
             ),
         ]
     return [
-        f"{wanting(1 if fault['cause'] == 'out' else 2)} What was written until then is a beginning of the answer."
+        f"{wanting(1 if fault.cause == 'out' else 2)} What was written until then is a beginning of the answer."
         " Nothing is wrong with the data."
     ]
 

@@ -2,7 +2,7 @@
 from __future__ import annotations
 
 import re
-from typing import Any, TYPE_CHECKING
+from typing import TYPE_CHECKING
 
 from . import read
 from .texts import convert_line, how_to_convert
@@ -14,6 +14,7 @@ from ..terminal import columns
 from ..tokens import LEAST_NUMBER, MOST_NUMBER, number_of
 
 if TYPE_CHECKING:
+    from ..faults import Fault
     from . import Run
     from ..schema import Table
     from ..tokens import Token
@@ -22,18 +23,16 @@ SEPARATORS = {";": "semicolons", "\t": "tabs", "|": "bars"}
 MOST_OF_VALUE, MOST_FIELDS = 60, 20
 
 
-def explain(fault: dict[str, Any], run: Run) -> list[str]:
+def explain(fault: Fault, run: Run) -> list[str]:
     schema = run.schema
     is_it = (
-        (lambda t: t.name.upper() == run.table.upper())
-        if run.command == "append"
-        else (lambda t: t.file == fault["file"])
+        (lambda t: t.name.upper() == run.table.upper()) if run.command == "append" else (lambda t: t.file == fault.file)
     )
     table = next(filter(is_it, schema.tables))
-    says = {"utf8": utf8, "header": header, "width": width, "field": field, "key": key}[fault["cause"]]
-    data = read(fault["file"])
+    says = {"utf8": utf8, "header": header, "width": width, "field": field, "key": key}[fault.cause]
+    data = read(fault.file)
     if packed(data):
-        return [f"{fault['file']} {packed(data)}."]
+        return [f"{fault.file} {packed(data)}."]
     return says(table, fault, data, run)
 
 
@@ -51,8 +50,7 @@ def all_differ(data: bytes) -> str:
     if each == wide + 1 and ends == {""}:
         return first + "all rows end in a comma. Name the column behind it, or take it away."
     return first + (
-        "a name is missing in the header. Write one for each field."
-        if each > wide
+        "a name is missing in the header. Write one for each field." if each > wide
         else "the header has a name too many, or the rows lack a field."
     )
 
@@ -75,35 +73,33 @@ def quoted(value: str) -> str:
     return f"`{plain(value[:MOST_OF_VALUE])}{'...' if len(value) > MOST_OF_VALUE else ''}`"
 
 
-def at_record(fault: dict[str, Any], line: int) -> str:
-    return f"{fault['file']}, line {line}, record {fault['record']}"
+def at_record(fault: Fault, line: int) -> str:
+    return f"{fault.file}, line {line}, record {fault.record}"
 
 
-def utf8(table: Table, fault: dict[str, Any], data: bytes, run: Run) -> list[str]:
-    at = fault["at"]
+def utf8(table: Table, fault: Fault, data: bytes, run: Run) -> list[str]:
+    at = fault.at
     byte = f"The byte 0x{data[at]:02X} here is no UTF-8." if at < len(data) else "The file ends within a character."
-    return [spot(fault["file"], data, at), f"{byte} {how_to_convert(data, fault['file'], run)}"]
+    return [spot(fault.file, data, at), f"{byte} {how_to_convert(data, fault.file, run)}"]
 
 
-def header(table: Table, fault: dict[str, Any], data: bytes, run: Run) -> list[str]:
+def header(table: Table, fault: Fault, data: bytes, run: Run) -> list[str]:
     found = next((fields for _, fields in records(data)), None)
     wanted = [column.name for column in table.columns]
     if found is None:
-        return [f"{fault['file']} holds nothing. Its first line names the columns: {','.join(map(plain, wanted))}"]
-    column = fault["column"]
+        return [f"{fault.file} holds nothing. Its first line names the columns: {','.join(map(plain, wanted))}"]
+    column = fault.column
     count = sum(same(name) == same(column) for name in found)
     first = (
-        f"The header of {fault['file']} names {plain(column)} {count} times; each declared column stands there once."
-        if count
-        else f"The header of {fault['file']}, its first line, has no column {plain(column)}."
+        f"The header of {fault.file} names {plain(column)} {count} times; each declared column stands there once."
+        if count else f"The header of {fault.file}, its first line, has no column {plain(column)}."
     )
     shown = (
         f"\n    found:    {cut(','.join(found), columns() - 14)}\n    expected: {cut(','.join(wanted), columns() - 14)}"
     )
     return [
-        first + shown,
-        "Columns may come in any order, and further ones are passed over.",
-        why_no_header(found, wanted, column, count, convert_line(fault["file"], run)),
+        first + shown, "Columns may come in any order, and further ones are passed over.",
+        why_no_header(found, wanted, column, count, convert_line(fault.file, run)),
     ]
 
 
@@ -119,8 +115,7 @@ def why_no_header(found: list[str], wanted: list[str], column: str, count: int, 
         return ""
     if (
         any(re.fullmatch(r"[+-]?[0-9]+", name) for name in found)
-        or not any(same(name) in map(same, wanted) for name in found)
-        and len(found) == len(wanted) > 1
+        or not any(same(name) in map(same, wanted) for name in found) and len(found) == len(wanted) > 1
         and not any(nearest(w, found) for w in wanted)
     ):
         return f"The first line looks like a row. Put the names above it: {plain(','.join(wanted))}"
@@ -131,21 +126,21 @@ def why_no_header(found: list[str], wanted: list[str], column: str, count: int, 
     return f"Is it {quoted(near)}? Give it the column's name." if near else ""
 
 
-def width(table: Table, fault: dict[str, Any], data: bytes, run: Run) -> list[str]:
-    (_, head), (line, fields) = chosen(data, 0, fault["record"])
+def width(table: Table, fault: Fault, data: bytes, run: Run) -> list[str]:
+    (_, head), (line, fields) = chosen(data, 0, fault.record)
     first = (
-        f"{at_record(fault, line)}: this record has {fault['found']} field{'' if fault['found'] == '1' else 's'}, and"
+        f"{at_record(fault, line)}: this record has {fault.found} field{'' if fault.found == 1 else 's'}, and"
         f" the header has {len(head)}."
     )
     shown = (
         f"\n    header: {cut(','.join(head), columns() - 12)}\n    record:"
         f" {cut(' | '.join(f[:MOST_OF_VALUE] for f in fields[:MOST_FIELDS]), columns() - 12)}"
     )
-    opened = left_open(data, fault["record"])
+    opened = left_open(data, fault.record)
     if opened is not None:
         return [
             first,
-            spot(fault["file"], data, opened),
+            spot(fault.file, data, opened),
             (
                 'The quote here isn\'t closed: a " is missing behind it, and the field goes on to the end of the file.'
                 ' A " within a field in quotes is written twice.'
@@ -154,7 +149,7 @@ def width(table: Table, fault: dict[str, Any], data: bytes, run: Run) -> list[st
     whole = all_differ(data)
     if whole:
         return [first + shown, whole]
-    late = closed_late(data, fault["record"])
+    late = closed_late(data, fault.record)
     if late:
         return [first + shown, late]
     if len(fields) > len(head):
@@ -165,24 +160,22 @@ def width(table: Table, fault: dict[str, Any], data: bytes, run: Run) -> list[st
     separator = next((s for s in SEPARATORS if s in "".join(fields)), None)
     looks = (
         f"The record looks separated by {SEPARATORS[separator]}, and the header isn't: write it with commas. Where the"
-        f" whole file is separated so, this does it:{convert_line(fault['file'], run)}"
-        if separator
+        f" whole file is separated so, this does it:{convert_line(fault.file, run)}" if separator
         else "A field is missing, or a line is cut. An empty field keeps its comma."
     )
     return [first + shown, looks]
 
 
-def field(table: Table, fault: dict[str, Any], data: bytes, run: Run) -> list[str]:
-    (_, head), (line, fields) = chosen(data, 0, fault["record"])
-    column = next(c for c in table.columns if c.name == fault["column"])
+def field(table: Table, fault: Fault, data: bytes, run: Run) -> list[str]:
+    (_, head), (line, fields) = chosen(data, 0, fault.record)
+    column = next(c for c in table.columns if c.name == fault.column)
     value = fields[column_place(head, column.name)]
     first = (
         f"{at_record(fault, line)}, column {plain(column.name)}: here stands {quoted(value) if value else 'nothing'},"
         f" and the column is {column.type}."
     )
     return [
-        first,
-        number_expected(value) if column.is_number else text_expected(value, column.length or 0),
+        first, number_expected(value) if column.is_number else text_expected(value, column.length or 0),
         over_lines(value, line),
     ]
 
@@ -192,9 +185,7 @@ def over_lines(value: str, line: int) -> str:
     ends = value.count("\n")
     return (
         f'The value begins with a " on line {line}, and has {ends} line ends. Where a " is missing that closes it on'
-        ' that line, write it there.'
-        if ends
-        else ""
+        ' that line, write it there.' if ends else ""
     )
 
 
@@ -234,8 +225,8 @@ def text_expected(value: str, most: int) -> str:
     )
 
 
-def key(table: Table, fault: dict[str, Any], data: bytes, run: Run) -> list[str]:
-    (_, head), (line, fields), (earlier, before) = chosen(data, 0, fault["record"], fault["earlier"])
+def key(table: Table, fault: Fault, data: bytes, run: Run) -> list[str]:
+    (_, head), (line, fields), (earlier, before) = chosen(data, 0, fault.record, fault.earlier)
     for tokens in table.keys:
         at = [column_place(head, token.name) for token in tokens]
         if [fields[i] for i in at] == [before[i] for i in at] or all(
@@ -246,7 +237,7 @@ def key(table: Table, fault: dict[str, Any], data: bytes, run: Run) -> list[str]
     return [
         (
             f"{at_record(fault, line)}: {values} stands in the key {names} already, on line {earlier} (record"
-            f" {fault['earlier']}).\n    line {earlier}: {cut(','.join(before), columns() - 20)}\n    line {line}:"
+            f" {fault.earlier}).\n    line {earlier}: {cut(','.join(before), columns() - 20)}\n    line {line}:"
             f" {cut(','.join(fields), columns() - 20)}"
         ),
         (

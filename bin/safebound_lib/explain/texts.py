@@ -7,7 +7,7 @@ import itertools
 import unicodedata
 from dataclasses import dataclass
 from collections.abc import Callable
-from typing import Any, TYPE_CHECKING
+from typing import Optional, Tuple, TYPE_CHECKING
 
 from ..convert import packed
 from ..near import hint, listed
@@ -145,8 +145,7 @@ def no_text(file: str, data: bytes, at: int, run: Run) -> list[str] | None:
     except UnicodeDecodeError as bad:
         if bad.start == at:
             return [
-                spot(file, data, at),
-                f"This byte (0x{data[at]:02X}) is no UTF-8. {how_to_convert(data, file, run)}",
+                spot(file, data, at), f"This byte (0x{data[at]:02X}) is no UTF-8. {how_to_convert(data, file, run)}",
             ]
     return None
 
@@ -157,8 +156,7 @@ def how_to_convert(data: bytes, file: str, run: Run) -> str:
         return f"The file {packed(data)}."
     is_wide = data[:2] in (b"\xff\xfe", b"\xfe\xff")
     looks = (
-        "The file looks like UTF-16, as Excel writes its Unicode texts"
-        if is_wide
+        "The file looks like UTF-16, as Excel writes its Unicode texts" if is_wide
         else "The file may be Latin-1 or Windows-1252, as older programs write it"
     )
     return f"{looks}. This writes it in UTF-8:{convert_line(file, run)}"
@@ -191,7 +189,8 @@ def bad_character(place: Place) -> str:
     if first in QUOTES:
         return "These are quotes of a word processor: texts take ' and names take \"."
     if first == "'":
-        return quote_within(place) or "This text isn't closed: a ' is missing behind it. A quote within a text is written twice: 'it''s'."
+        missing = "This text isn't closed: a ' is missing behind it. A quote within a text is written twice: 'it''s'."
+        return quote_within(place) or missing
     if first == '"':
         return bad_name(token.source)
     return CHARACTERS.get(first, f"The character {plain(first)} has no meaning here.")
@@ -250,8 +249,7 @@ def stands(place: Place) -> str:
         return f"The text ends here{behind}." if behind else "The text holds nothing."
     said = spoken(token.source)
     return (
-        f"{said[0].upper()}{said[1:]} can't stand here{behind}."
-        if token.source in SPOKEN
+        f"{said[0].upper()}{said[1:]} can't stand here{behind}." if token.source in SPOKEN
         else f"{said} can't stand here{behind}."
     )
 
@@ -261,14 +259,16 @@ def may_stand(place: Place) -> str:
     return f"Here may stand {listed(tested, 'or', 16)}." if tested else ""
 
 
-def first_said(rules: tuple[Callable[..., Any], ...], place: Place) -> str:
+# Pieces of advice: what each says of a place that it fits.
+Rules = Tuple[Callable[["Place"], Optional[str]], ...]
+
+
+def first_said(rules: Rules, place: Place) -> str:
     """The first piece of advice that fits."""
     return next((said for rule in rules for said in [rule(place)] if said), "")
 
 
-def advised(
-    place: Place, certain: tuple[Callable[..., Any], ...], guesses: tuple[Callable[..., Any], ...]
-) -> list[str]:
+def advised(place: Place, certain: Rules, guesses: Rules) -> list[str]:
     """What was read, and what to do: where that is a guess, also what may stand there."""
     said = first_said(certain, place)
     return [stands(place), said] if said else [stands(place), first_said(guesses, place), may_stand(place)]

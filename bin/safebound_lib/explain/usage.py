@@ -4,24 +4,13 @@ from __future__ import annotations
 import os
 import re
 import shlex
-from typing import Any, TYPE_CHECKING
+from typing import TYPE_CHECKING
 
 from ..near import hint, listed
 from ..pages import entry, places_of
 from ..spot import plain
 from ..table import (
-    ACCURACY,
-    BUDGET,
-    BUSHY,
-    BY_WORD,
-    COMMANDS,
-    DATA,
-    KEYS,
-    MOST_BUDGET_OF_A_TREE,
-    MOST_SEED,
-    REDUCE,
-    STATS,
-    TEXTS,
+    ACCURACY, BUDGET, BUSHY, BY_WORD, COMMANDS, DATA, KEYS, MOST_BUDGET_OF_A_TREE, MOST_SEED, REDUCE, STATS, TEXTS,
     program_options,
 )
 from ..terminal import columns
@@ -29,6 +18,7 @@ from ..tokens import tokens_of
 from ..words import options, places
 
 if TYPE_CHECKING:
+    from ..faults import Fault
     from . import Run
     from ..table import Command, Option
 
@@ -38,7 +28,7 @@ MOST_LOOKED_AT = 4096
 DIGITS = re.compile(r"[0-9]+", re.ASCII)
 
 
-def explain(fault: dict[str, Any], run: Run) -> list[str]:
+def explain(fault: Fault, run: Run) -> list[str]:
     command = BY_WORD.get(run.command)
     if command is None or command.is_own:
         return wrong_command(run)
@@ -67,8 +57,8 @@ def line_meant(command: Command, run: Run) -> str:
     )
     if len(below) == 1:
         return (
-            f"{plain(files[0])} is in {plain(below[0])}. Without a schema, one is proposed from the tables there:\n   "
-            f" safebound {command.word} {plain(shlex.quote(files[0]))} --data {plain(shlex.quote(below[0]))}"
+            f"{plain(files[0])} is in {plain(below[0])}. Without a schema, one is proposed from the tables there:"
+            f"\n    safebound {command.word} {plain(shlex.quote(files[0]))} --data {plain(shlex.quote(below[0]))}"
         )
     return ""
 
@@ -85,7 +75,7 @@ def no_query_yet(run: Run) -> str:
     )
 
 
-def first_strange(command: Command, run: Run) -> list[Any]:
+def first_strange(command: Command, run: Run) -> list[str]:
     return [word for word in options(run.words[1:]) if word not in {option.word for option in command.options}]
 
 
@@ -100,8 +90,7 @@ def wrong_command(run: Run) -> list[str]:
     if 0 < len(files) < 3 and files[0] == word and all(file.lower().endswith(".sql") for file in files):
         alone = len(files) == 1 and is_query(word)
         line = (
-            run.line_without_schema(word)
-            if alone
+            run.line_without_schema(word) if alone
             else f"\n    safebound run {' '.join(plain(shlex.quote(file)) for file in files)}"
         )
         return [f"There is no command {plain(word)}. The command comes first:{line}", "`safebound help` lists them."]
@@ -135,8 +124,7 @@ def first_wrong(command: Command, words: list[str]) -> str | None:
         seen.add(head)
         budget = value if head == BUDGET.word else budget
     return (
-        wrong_places(command, found)
-        or wrong_beside(seen)
+        wrong_places(command, found) or wrong_beside(seen)
         or (wrong_budget(budget) if BUSHY.word in seen and budget else None)
     )
 
@@ -241,9 +229,10 @@ def tables_named(command: Command, run: Run) -> str:
     """What to do where tables stand behind a query."""
     query, *tables = places(run.words[1:])
     are = "is a table" if len(tables) == 1 else "are tables"
+    line = run.line_without_schema(query) if run.before else line_of_query(command, query)
     return (
-        f"{plain(listed(tables))} {are}, and no line names tables: the query does. They are found in their folder, and a"
-        f" schema is proposed from them:{run.line_without_schema(query) if run.before else line_of_query(command, query)}"
+        f"{plain(listed(tables))} {are}, and no line names tables: the query does. They are found in their folder, and"
+        f" a schema is proposed from them:{line}"
     )
 
 
