@@ -70,9 +70,10 @@ def said(query: Query, schema: Schema, beside: Reference, number: str, sign: str
     new = decimals.quoted(decimals.called(decimals.bare(found.name), digits))
     declared = f", and {plain(run.schema_file)} declares it: {plain(new)} INTEGER NOT NULL"
     schema_too = "" if run.is_proposed else declared
+    line = decimals.line_to_paste(word, found.name, digits)
     return [
         f"{plain(found.name)} has decimals, as `{plain(first)}` on line {found.values[first]} of {plain(table.file)},"
         f" and numbers are integers here: so it is a text, and can't be compared with {plain(number)}. Store the"
-        f" smallest unit: this writes it in {decimals.units(digits)}:{decimals.line_to_paste(word, found.name, digits)}",
+        f" smallest unit: this writes it in {decimals.units(digits)}:{line}",
         f"Then the query says {plain(new)} {sign} {decimals.scaled(number.replace(' ', ''), digits)}{schema_too}.",
     ]
