@@ -669,7 +669,71 @@ OF_FOLDERS = [
         ("pupils.csv, line 3",),
     ),
 ]
-FIRST_HOUR = OF_TABLES + OF_CELLS + OF_QUERIES + OF_LINES + OF_DECIMALS + OF_NAMES + OF_FOLDERS
+OF_OTHERS = [
+    Fault(
+        "the first letter in Latin-1",
+        asked(
+            None,
+            {
+                "teachers.csv": "id,name\r\n1,Ina\r\n2,Næss\r\n".encode("latin-1"),
+                "query.sql": b"SELECT name FROM teachers",
+            },
+        ),
+        ("isn't in UTF-8", "`Næss`"),
+        ("safebound convert folder/teachers.csv",),
+        ("teachers.csv", "line 3"),
+    ),
+    Fault(
+        "a first line for Excel",
+        rooms("sep=;\r\nnr;floor;seats\r\n101;1;28\r\n", None, "SELECT nr FROM rooms"),
+        ("sep=;", "for Excel", "semicolons"),
+        ("leaves that line out", "safebound convert folder/rooms.csv"),
+        ("rooms.csv",),
+    ),
+    Fault(
+        "a file beside one in other letters",
+        asked(None, {"Pupils.csv": b"id,name\r\n1,Ada\r\n", "query.sql": b"SELECT name FROM pupils WHERE id = 1"}),
+        ("Pupils.csv is there too", "isn't read"),
+        ("upper and lower case count",),
+        ("pupils.csv",),
+    ),
+    Fault(
+        "the text of a query, with lines to paste",
+        asked(
+            "error read SELECT name FROM pupils",
+            {"query.sql": None},
+            ("run", "SELECT name FROM pupils", "--data", "folder"),
+        ),
+        ("text of a query",),
+        ("echo 'SELECT name FROM pupils' > folder/query.sql", "safebound run query.sql --data folder"),
+        ("SELECT name FROM pupils",),
+    ),
+    Fault(
+        "the text of a query without its folder",
+        asked("error usage", words=("run", "SELECT name FROM pupils")),
+        ("text of a query",),
+        ("echo 'SELECT name FROM pupils' > query.sql", "safebound run query.sql --data ."),
+        ("run",),
+    ),
+    Fault(
+        "a key that was guessed",
+        asked(
+            "error table pupils.csv key 3 1",
+            {
+                "pupils.csv": (
+                    PUPILS + "1,Ada,5A,2013-04-02\r\n2,Bo,5A,2013-11-30\r\n1,Cleo,5B,2012-12-24\r\n"
+                ).encode(),
+                "schema.sql": b"-- Proposed from 1 file.\n" + SCHOOL,
+                "query.sql": ALL_PUPILS.encode(),
+            },
+            ("run", "schema.sql", "query.sql", "--data", "folder"),
+        ),
+        ("stands in the key ID already", "guessed"),
+        ("Remove one of the two, or the key from the schema, schema.sql, line 2",),
+        ("pupils.csv, line 4",),
+    ),
+]
+FIRST_HOUR = OF_TABLES + OF_CELLS + OF_QUERIES + OF_LINES + OF_DECIMALS + OF_NAMES + OF_FOLDERS + OF_OTHERS
 # Those whose remedy is a line to paste: behind it the same run ends well.
 PASTED = (
     "a table whose file ends in .txt",

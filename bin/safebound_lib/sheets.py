@@ -101,6 +101,10 @@ def sheet_of(file: str, word: str) -> Sheet:
         sheet.says.append(
             f"A query writes this table in double quotes too, {sheet.name}: the word can't be a name without them."
         )
+    others = [name for name in os.listdir(os.path.dirname(file) or ".") if name.lower() == base.lower() != name]
+    if others and base == base.lower():
+        said = listed(map(plain, sorted(others)))
+        sheet.says.append(f"{said} is there too, and isn't read: upper and lower case count.")
     data = bytes_of(file, word)
     found = records(data)
     line, header = next(found, NO_RECORD)
@@ -204,8 +208,20 @@ def bytes_of(file: str, word: str) -> bytes:
     if packed(data):
         raise NoTable(f"It {packed(data)}.")
     if encoding_of(data) not in ("utf-8", "utf-8-sig"):
-        raise NoTable(f"It isn't in UTF-8. This writes it so:\n    safebound convert {plain(word)}")
+        first = first_strange(data)
+        raise NoTable(f"It isn't in UTF-8{first}. This writes it so:\n    safebound convert {plain(word)}")
     return data
+
+
+def first_strange(data: bytes) -> str:
+    """Where the first byte stands that is no UTF-8: its line, and the value's text as Windows-1252 has it."""
+    try:
+        data.decode()
+    except UnicodeDecodeError as fault:
+        line = data[:fault.start].count(b"\n") + 1
+        around = re.split(rb"[,;\t\r\n]", data[:fault.start])[-1] + re.split(rb"[,;\t\r\n]", data[fault.start:])[0]
+        return f", first on line {line}, in {marked(around.decode('latin-1'))}" if 0 not in around else ""
+    return ""
 
 
 def refuse_header(word: str, header: list[str]) -> None:
@@ -213,6 +229,12 @@ def refuse_header(word: str, header: list[str]) -> None:
     if not header:
         raise NoTable("It holds nothing. Its first line names the columns, separated by commas.")
     separator = next((s for s in SEPARATORS if s != "," and len(header) == 1 and s in header[0]), None)
+    if separator and header[0] == f"sep={separator}":
+        raise NoTable(
+            f"Its first line, {plain(header[0])}, is a sign for Excel and no header, and it is separated by"
+            f" {SEPARATORS[separator]}. This leaves that line out, and writes commas:\n    safebound convert"
+            f" {plain(word)}"
+        )
     if separator:
         raise NoTable(
             f"It is separated by {SEPARATORS[separator]}. This writes it with commas:\n    safebound convert"

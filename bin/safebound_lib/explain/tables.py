@@ -233,6 +233,7 @@ def key(table: Table, fault: Fault, data: bytes, run: Run) -> list[str]:
             is_same(table, t, fields[i], before[i]) for t, i in zip(tokens, at)
         ):
             names, values = listed(plain(t.name) for t in tokens), ", ".join(quoted(fields[i]) for i in at)
+            key_there = key_in_schema(tokens[0], run)
             break
     return [
         (
@@ -242,9 +243,16 @@ def key(table: Table, fault: Fault, data: bytes, run: Run) -> list[str]:
         ),
         (
             "No two records have the same values in a PRIMARY KEY or UNIQUE. Remove one of the two, or the key from the"
-            " schema."
+            f" schema{key_there}."
         ),
     ]
+
+
+def key_in_schema(column: Token, run: Run) -> str:
+    """Where a key of the schema stands, and whether it was guessed from rows."""
+    data = read(run.schema_file)
+    guessed = ", where it was guessed from the rows of that time" if data.startswith(b"-- Proposed from") else ""
+    return f", {plain(run.schema_file)}, line {data[:column.start].count(10) + 1}{guessed}"
 
 
 def is_same(table: Table, token: Token, one: str, other: str) -> bool:

@@ -34,8 +34,13 @@ def explain(fault: Fault, run: Run) -> list[str]:
         return wrong_command(run)
     if command.places == TEXTS and not first_strange(command, run) and with_tables(places(run.words[1:])):
         return [tables_named(command, run)]
-    return [first_wrong(command, run.words[1:]) or "These words are no command.", f"It is: safebound {command.spelled}",
+    return [first_wrong(command, run.words[1:]) or "These words are no command.",
+            f"It is: safebound {command.spelled}{may_lack(command)}",
             f"`safebound help {command.word}` says more.", line_meant(command, run)]
+
+
+def may_lack(command: Command) -> str:
+    return ". Beside --data SCHEMA may be left out." if command.places == TEXTS and DATA in command.options else ""
 
 
 def line_meant(command: Command, run: Run) -> str:
@@ -249,6 +254,11 @@ def wrong_places(command: Command, found: list[str]) -> str | None:
         return (
             f"{command.word} lacks SCHEMA: {plain(found[0])} is a query. Without a schema, one is proposed from the"
             f" tables where you say in which folder they are:{line_of_query(command, found[0])}"
+        )
+    if len(found) == 1 and command.places == TEXTS and re.match(r"\s*SELECT\s", found[0], re.IGNORECASE):
+        return (
+            f"{command.word} takes files, and here stands the text of a query. Write it into a file beside the tables:"
+            f"\n    echo {plain(shlex.quote(found[0]))} > query.sql\n    safebound {command.word} query.sql --data ."
         )
     if len(found) < len(command.places):
         return f"{command.word} lacks {listed(command.places[len(found):])}."
