@@ -545,6 +545,13 @@ OF_DECIMALS = [
         ("query.sql, line 1, column 36",),
     ),
     Fault(
+        "decimals BETWEEN whole numbers",
+        jobs("SELECT id FROM jobs WHERE hours BETWEEN §9 AND 10", "kind"),
+        ("HOURS has decimals", "text"),
+        ("safebound convert folder/jobs.csv --cents HOURS", "HOURS_CENTS, and 900 for 9"),
+        ("query.sql, line 1, column 41",),
+    ),
+    Fault(
         "decimals with a comma",
         jobs('SELECT id FROM jobs WHERE "Unit Price" > §10', "kind"),
         ('"Unit Price" has decimals', "text"),
@@ -634,8 +641,8 @@ OF_FOLDERS = [
     Fault(
         "query and schema in the other order",
         asked("error schema syntax 0", {"schema.sql": SCHOOL}, ("run", "query.sql", "schema.sql", "--data", "folder")),
-        ("query.sql is a query, and schema.sql a schema",),
-        ("safebound run schema.sql query.sql --data folder",),
+        ("looks like a query",),
+        ("SCHEMA first", "safebound run schema.sql query.sql --data folder"),
         ("query.sql",),
     ),
     Fault(
@@ -714,6 +721,16 @@ OF_OTHERS = [
         ("text of a query",),
         ("echo 'SELECT name FROM pupils' > query.sql", "safebound run query.sql --data ."),
         ("run",),
+    ),
+    Fault(
+        "a column that the header names twice",
+        asked(
+            "error query name 7",
+            {"rooms.csv": b"nr,seats,seats\r\n101,1,28\r\n102,1,30\r\n", "query.sql": b"SELECT seats FROM rooms"},
+        ),
+        ("No entry has a column SEATS", "names it 2 times"),
+        ("rename all but one",),
+        ("query.sql, line 1, column 8",),
     ),
     Fault(
         "a key that was guessed",

@@ -84,8 +84,10 @@ def convert(line: Line) -> int:
 def in_cents(line: Line, file: str, sheet: Sheet | None) -> str:
     """Writes the column of `--cents` in whole numbers, and says so; nothing where that isn't asked for."""
     name, digits = line.own.get(CENTS.word), line.own.get(DIGITS.word, "2")
-    if name is None or sheet is None:
+    if name is None and DIGITS.word not in line.own:
         return ""
+    if name is None or sheet is None:
+        raise Misused(f"{DIGITS.word} stands beside {CENTS.word}, and both are for tables alone")
     if not re.fullmatch("[1-9]|1[0-8]", digits):
         raise Misused(f"{DIGITS.word} takes a number from 1 to 18: {DIGITS.spelled}")
     return f". {in_whole_numbers(file, sheet.records, name, int(digits))}"

@@ -33,7 +33,7 @@ def of_kind(query: Query, schema: Schema, at: int, run: Run) -> list[str]:
     beside = next((side for side in sides if isinstance(side, Reference)), None)
     if literal is None or beside is None:
         return []
-    sign = test.operator if test.operator in COMPARISONS and beside is sides[0] else "="
+    sign = test.operator if test.operator in COMPARISONS and beside is sides[0] else ""
     return said(query, schema, beside, "".join(token.source for token in literal.tokens), sign, run)
 
 
@@ -68,6 +68,7 @@ def said(query: Query, schema: Schema, beside: Reference, number: str, sign: str
         return []
     digits = max(decimals.scale_of(found.values), decimals.digits_of(number) or 0)
     new = decimals.quoted(decimals.called(decimals.bare(found.name), digits))
+    whole = decimals.scaled(number, digits)
     declared = f", and {plain(run.schema_file)} declares it: {plain(new)} INTEGER NOT NULL"
     schema_too = "" if run.is_proposed else declared
     line = decimals.line_to_paste(word, found.name, digits)
@@ -75,5 +76,5 @@ def said(query: Query, schema: Schema, beside: Reference, number: str, sign: str
         f"{plain(found.name)} has decimals, as `{plain(first)}` on line {found.values[first]} of {plain(table.file)},"
         f" and numbers are integers here: so it is a text, and can't be compared with {plain(number)}. Store the"
         f" smallest unit: this writes it in {decimals.units(digits)}:{line}",
-        f"Then the query says {plain(new)} {sign} {decimals.scaled(number.replace(' ', ''), digits)}{schema_too}.",
+        f"Then the query says {plain(new)}{f' {sign} {whole}' if sign else f', and {whole} for {number}'}{schema_too}.",
     ]

@@ -14,6 +14,7 @@ from ..convert import packed
 from ..decimals import quoted as in_query
 from ..near import hint, listed, nearest
 from ..query import Literal, Reference, found_of, visible
+from ..records import records, same
 from ..spot import plain
 from ..tokens import LEAST_NUMBER, MOST_NUMBER
 
@@ -23,6 +24,8 @@ if TYPE_CHECKING:
     from ..query import Entry, Query
     from ..schema import Schema, Table
     from ..tokens import Token
+
+NO_RECORD: tuple[int, list[str]] = (0, [])
 
 
 def explain(fault: Fault, run: Run) -> list[str]:
@@ -241,6 +244,9 @@ def unknown_column(query: Query, reference: Reference, schema: Schema) -> list[s
             f" {plain(found[0][0].name)}.{plain(token.source)}."
         ]
     tables = {query.entries[i].name: schema.table(query.entries[i].table.name) for i in reference.scope}
+    repeated = next((said for table in tables.values() for said in [named_twice(token, table)] if said), "")
+    if repeated:
+        return [f"No entry has a column {plain(token.name)}. {repeated}"]
     if token.kind == "quoted":
         return quoted(token, tables)
     every = [f"{entry}.{column}" for entry, table in tables.items() for column in columns(table)]
@@ -266,6 +272,18 @@ def name_of_words(query: Query, at: int, names: list[str]) -> str:
     firsts = query.tokens[max(at - 3, 0):at + 1]
     found = (two_words(query, token, names) for token in firsts if token.kind == "word")
     return next((name for name in found if name), "")
+
+
+def named_twice(token: Token, table: Table | None) -> str:
+    """A sentence on a column that is left out since its file's header names it more than once."""
+    if table is None or not os.path.isfile(table.file):
+        return ""
+    _, header = next(records(read(table.file)), NO_RECORD)
+    count = sum(same(name) == same(token.name) for name in header)
+    return (
+        f"The header of {plain(table.file)} names it {count} times, so it is left out: rename all but one of them."
+        if count > 1 else ""
+    )
 
 
 def two_words(query: Query, token: Token, names: list[str]) -> str:

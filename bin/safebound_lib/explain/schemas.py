@@ -30,7 +30,16 @@ def explain(fault: Fault, run: Run) -> list[str]:
         return other
     name_there = accented(data, schema.tokens, at)
     said = [quotes_for(name_there, [])] if name_there else says(schema, at)
-    return [marked(run.schema_file, data, schema, at, token.end - at if token else 1), *said]
+    return [marked(run.schema_file, data, schema, at, token.end - at if token else 1), *said, in_order(run)]
+
+
+def in_order(run: Run) -> str:
+    """Where query and schema stand in each other's place, the line that has them in order."""
+    if not (is_query(run.schema_file) and is_schema(run.query_file)):
+        return ""
+    folder = f" --data {plain(run.path_of('.'))}" if run.before else ""
+    files = " ".join(plain(shlex.quote(file)) for file in (run.query_file, run.schema_file))
+    return f"So it is:\n    safebound {run.command} {files}{folder}"
 
 
 def no_schema(run: Run) -> list[str]:
@@ -38,13 +47,6 @@ def no_schema(run: Run) -> list[str]:
     command = BY_WORD.get(run.command)
     if command and with_tables([run.schema_file, run.query_file]):
         return [tables_named(command, run)]
-    if is_query(run.schema_file) and is_schema(run.query_file):
-        folder = f" --data {plain(run.path_of('.'))}" if run.before else ""
-        files = " ".join(plain(shlex.quote(file)) for file in (run.query_file, run.schema_file))
-        return [
-            f"{plain(run.schema_file)} is a query, and {plain(run.query_file)} a schema: the schema comes first.\n"
-            f"    safebound {run.command} {files}{folder}"
-        ]
     if not run.schema_file.lower().endswith(".csv"):
         return []
     return [

@@ -207,9 +207,10 @@ def quote_within(place: Place) -> str:
         return ""
     behind = list(itertools.takewhile(lambda token: not token.source.startswith("'"), tokens[at + 1:]))
     rest = "".join(" " * (token.start - before.end) + token.source for before, token in zip(tokens[at:], behind))
-    within = tokens[at].source[1:-1]
+    within = tokens[at].source[1:-1].rstrip("\\")
     return (
-        f"The text ends within {plain(within.split(' ')[-1])}'{plain(behind[0].source)}. A quote within a text is"
+        "This text isn't closed, since the one before it ends within"
+        f" {plain(within.split(' ')[-1])}'{plain(behind[0].source)}. A quote within a text is"
         f" written twice: '{plain(within)}''{plain(rest)}'."
     )
 
