@@ -115,7 +115,7 @@ check-command: command
 check-install: library command
 	library/test-install
 check-engines: library
-	engines/test --queries 50
+	engines/test --gate
 check-release:
 	tools/release --check
 
