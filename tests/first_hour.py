@@ -514,7 +514,243 @@ OF_LINES = [
         ("query.sql",),
     ),
 ]
-FIRST_HOUR = OF_TABLES + OF_CELLS + OF_QUERIES + OF_LINES
+JOBS = 'id,hours,Unit Price\r\n1,8.5,"18,75"\r\n2,10,"7,00"\r\n3,12.25,"10,5"\r\n4,9,"100,00"\r\n5,9.5,"7,00"\r\n'
+
+
+def jobs(of: str, cause: str) -> Mistake:
+    data, at = placed(of)
+    return asked(f"error query {cause} {at}", {"jobs.csv": JOBS.encode(), "query.sql": data})
+
+
+OF_DECIMALS = [
+    Fault(
+        "a column of decimals",
+        jobs("SELECT §wages FROM jobs", "name"),
+        ("HOURS", "`8.5`", "decimals", "text"),
+        ("safebound convert folder/jobs.csv --cents HOURS", "850"),
+        ("line 2",),
+    ),
+    Fault(
+        "decimals beside a whole number",
+        jobs("SELECT id FROM jobs WHERE hours > §9", "kind"),
+        ("HOURS has decimals", "text"),
+        ("safebound convert folder/jobs.csv --cents HOURS", "HOURS_CENTS > 900"),
+        ("query.sql, line 1, column 35",),
+    ),
+    Fault(
+        "decimals beside a decimal",
+        jobs("SELECT id FROM jobs WHERE hours > 9§.5", "syntax"),
+        ("HOURS has decimals", "text"),
+        ("safebound convert folder/jobs.csv --cents HOURS", "HOURS_CENTS > 950"),
+        ("query.sql, line 1, column 36",),
+    ),
+    Fault(
+        "decimals BETWEEN whole numbers",
+        jobs("SELECT id FROM jobs WHERE hours BETWEEN §9 AND 10", "kind"),
+        ("HOURS has decimals", "text"),
+        ("safebound convert folder/jobs.csv --cents HOURS", "HOURS_CENTS, and 900 for 9"),
+        ("query.sql, line 1, column 41",),
+    ),
+    Fault(
+        "decimals with a comma",
+        jobs('SELECT id FROM jobs WHERE "Unit Price" > §10', "kind"),
+        ('"Unit Price" has decimals', "text"),
+        ("safebound convert folder/jobs.csv --cents 'Unit Price'", '"Unit Price cents" > 1000'),
+        ("query.sql, line 1, column 42",),
+    ),
+]
+CUSTOMERS = b"Customer No,Full Name,Town\r\n1,Ada Berg,Bonn\r\n2,Karin O'Brien,Ulm\r\n3,Cleo Rand,Bonn\r\n"
+CARS = b"id,Owner,Make\r\n10,1,Audi\r\n11,2,Opel\r\n12,2,Audi\r\n"
+
+
+def garage(text: str, cause: str) -> Mistake:
+    data, at = placed(text)
+    return asked(f"error query {cause} {at}", {"customers.csv": CUSTOMERS, "cars.csv": CARS, "query.sql": data})
+
+
+OF_NAMES = [
+    Fault(
+        "a name of two words that begins with a reserved one",
+        garage('SELECT §Full Name, Make FROM customers, cars WHERE Owner = "Customer No"', "syntax"),
+        ('"Full Name"',),
+        ("double quotes",),
+        ("query.sql, line 1, column 8",),
+    ),
+    Fault(
+        "a comma missing between tables",
+        garage('SELECT "Full Name", §Make FROM customers cars WHERE Owner = "Customer No"', "name"),
+        ("cars is read here as another name of customers", "cars.csv is there"),
+        ("FROM customers, cars",),
+        ("query.sql, line 1, column 21",),
+    ),
+    Fault(
+        "a name in double quotes in lower case",
+        garage('SELECT "Full Name", Make FROM customers, cars WHERE Owner = §"customer no"', "name"),
+        ("upper and lower case",),
+        ('Did you mean "Customer No"?',),
+        ("query.sql, line 1, column 61",),
+    ),
+    Fault(
+        "rows of each group",
+        garage("SELECT Town, COUNT§(*) FROM customers GROUP BY Town", "syntax"),
+        ("COUNT", "aggregates"),
+        ("| tail -n +2 | sort | uniq -c", "in the place of COUNT(*)"),
+        ("query.sql, line 1, column 19",),
+    ),
+    Fault(
+        "a quote within a text",
+        garage("SELECT Town FROM customers WHERE \"Full Name\" = 'Karin O'Brien§'", "syntax"),
+        ("O'Brien",),
+        ("'Karin O''Brien'",),
+        ("query.sql, line 1, column 62",),
+    ),
+]
+SCHOOL = (
+    b"CREATE TABLE PUPILS (ID INTEGER PRIMARY KEY, NAME VARCHAR(20) NOT NULL, CLASS VARCHAR(5) NOT NULL,"
+    b" BORN VARCHAR(10) NOT NULL);\n"
+)
+OF_FOLDERS = [
+    Fault(
+        "no query yet",
+        asked("error usage", {"query.sql": None}, ("run", "--data", "folder")),
+        ("There is no query in folder",),
+        ("SELECT * FROM LESSONS", "safebound run query.sql --data folder"),
+        ("run",),
+    ),
+    Fault(
+        "a query in the folder of its tables",
+        asked("error usage", words=("run", "folder/query.sql")),
+        ("lacks SCHEMA", "a query"),
+        ("safebound run query.sql --data folder",),
+        ("folder/query.sql",),
+    ),
+    Fault(
+        "tables named behind the query",
+        asked("error usage", words=("run", "folder/query.sql", "folder/pupils.csv", "folder/marks.csv")),
+        ("no line names tables",),
+        ("safebound run query.sql --data folder",),
+        ("folder/pupils.csv and folder/marks.csv",),
+    ),
+    Fault(
+        "one table named behind the query",
+        asked("error schema syntax 0", words=("run", "folder/query.sql", "folder/pupils.csv")),
+        ("no line names tables",),
+        ("safebound run query.sql --data folder",),
+        ("folder/pupils.csv",),
+    ),
+    Fault(
+        "query and schema in the other order",
+        asked("error schema syntax 0", {"schema.sql": SCHOOL}, ("run", "query.sql", "schema.sql", "--data", "folder")),
+        ("looks like a query",),
+        ("SCHEMA first", "safebound run schema.sql query.sql --data folder"),
+        ("query.sql",),
+    ),
+    Fault(
+        "a schema that is there and isn't used",
+        asked(None, {"schema.sql": SCHOOL}),
+        (),
+        (),
+        ("folder/schema.sql is there, and isn't used", "safebound run schema.sql query.sql --data folder"),
+    ),
+    Fault(
+        "a title and an empty line above the header",
+        rooms("Rooms of 2024\r\n\r\n" + HEAD_OF_ROOMS + ROOMS, None, "SELECT nr FROM rooms"),
+        ("Line 1 looks like a title",),
+        ("Delete the lines above the header",),
+        ("rooms.csv", "line 3"),
+    ),
+    Fault(
+        "a quote that closes lines later",
+        asked(
+            "error table pupils.csv width 2 5",
+            {
+                "pupils.csv": (
+                    PUPILS + '1,Ada,5A,2013-04-02\r\n2,"Bo,5A,2013-11-30\r\n3,Cleo,5B,2012-12-24\r\n'
+                    '4,"Smith, Jr.",5B,2013-06-17\r\n'
+                ).encode(),
+                "query.sql": ALL_PUPILS.encode(),
+            },
+        ),
+        ("opens on line 3", "closed only on line 5"),
+        ('Write the " that is missing on line 3',),
+        ("pupils.csv, line 3",),
+    ),
+]
+OF_OTHERS = [
+    Fault(
+        "the first letter in Latin-1",
+        asked(
+            None,
+            {
+                "teachers.csv": "id,name\r\n1,Ina\r\n2,Næss\r\n".encode("latin-1"),
+                "query.sql": b"SELECT name FROM teachers",
+            },
+        ),
+        ("isn't in UTF-8", "`Næss`"),
+        ("safebound convert folder/teachers.csv",),
+        ("teachers.csv", "line 3"),
+    ),
+    Fault(
+        "a first line for Excel",
+        rooms("sep=;\r\nnr;floor;seats\r\n101;1;28\r\n", None, "SELECT nr FROM rooms"),
+        ("sep=;", "for Excel", "semicolons"),
+        ("leaves that line out", "safebound convert folder/rooms.csv"),
+        ("rooms.csv",),
+    ),
+    Fault(
+        "a file beside one in other letters",
+        asked(None, {"Pupils.csv": b"id,name\r\n1,Ada\r\n", "query.sql": b"SELECT name FROM pupils WHERE id = 1"}),
+        ("Pupils.csv is there too", "isn't read"),
+        ("upper and lower case count",),
+        ("pupils.csv",),
+    ),
+    Fault(
+        "the text of a query, with lines to paste",
+        asked(
+            "error read SELECT name FROM pupils",
+            {"query.sql": None},
+            ("run", "SELECT name FROM pupils", "--data", "folder"),
+        ),
+        ("text of a query",),
+        ("echo 'SELECT name FROM pupils' > folder/query.sql", "safebound run query.sql --data folder"),
+        ("SELECT name FROM pupils",),
+    ),
+    Fault(
+        "the text of a query without its folder",
+        asked("error usage", words=("run", "SELECT name FROM pupils")),
+        ("text of a query",),
+        ("echo 'SELECT name FROM pupils' > query.sql", "safebound run query.sql --data ."),
+        ("run",),
+    ),
+    Fault(
+        "a column that the header names twice",
+        asked(
+            "error query name 7",
+            {"rooms.csv": b"nr,seats,seats\r\n101,1,28\r\n102,1,30\r\n", "query.sql": b"SELECT seats FROM rooms"},
+        ),
+        ("No entry has a column SEATS", "names it 2 times"),
+        ("rename all but one",),
+        ("query.sql, line 1, column 8",),
+    ),
+    Fault(
+        "a key that was guessed",
+        asked(
+            "error table pupils.csv key 3 1",
+            {
+                "pupils.csv": (
+                    PUPILS + "1,Ada,5A,2013-04-02\r\n2,Bo,5A,2013-11-30\r\n1,Cleo,5B,2012-12-24\r\n"
+                ).encode(),
+                "schema.sql": b"-- Proposed from 1 file.\n" + SCHOOL,
+                "query.sql": ALL_PUPILS.encode(),
+            },
+            ("run", "schema.sql", "query.sql", "--data", "folder"),
+        ),
+        ("stands in the key ID already", "guessed"),
+        ("Remove one of the two, or the key from the schema, schema.sql, line 2",),
+        ("pupils.csv, line 4",),
+    ),
+]
+FIRST_HOUR = OF_TABLES + OF_CELLS + OF_QUERIES + OF_LINES + OF_DECIMALS + OF_NAMES + OF_FOLDERS + OF_OTHERS
 # Those whose remedy is a line to paste: behind it the same run ends well.
 PASTED = (
     "a table whose file ends in .txt",
@@ -528,4 +764,8 @@ PASTED = (
     "the command forgotten",
     "the query forgotten",
     "a schema that isn't there",
+    "a query in the folder of its tables",
+    "tables named behind the query",
+    "one table named behind the query",
+    "query and schema in the other order",
 )

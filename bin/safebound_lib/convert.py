@@ -4,16 +4,19 @@ from __future__ import annotations
 import codecs
 import csv
 import io
+import itertools
 import os
+import re
 import shlex
 import tempfile
 from collections.abc import Iterator
 from dataclasses import dataclass
 
 from . import program
+from .decimals import in_whole_numbers
 from .near import listed
 from .spot import plain
-from .table import ENCODING, OUTPUT
+from .table import CENTS, DIGITS, ENCODING, OUTPUT
 from .words import Line, Misused, places
 
 SEPARATORS = {",": "commas", ";": "semicolons", "\t": "tabs", "|": "bars"}
@@ -67,12 +70,27 @@ def convert(line: Line) -> int:
     sheet = None if file.lower().endswith(".sql") else sheet_of(text)
     commas = " with commas" if sheet else ""
     output = line.own.get(OUTPUT.word)
-    if output is None and encoding == "utf-8" and (not sheet or sheet.separator == "," and not sheet.lines_before):
+    cents = in_cents(line, file, sheet)
+    is_right = encoding == "utf-8" and (not sheet or sheet.separator == "," and not sheet.lines_before)
+    if output is None and not cents and is_right:
         program.write(1, f"{plain(file)}: is UTF-8{commas} already; nothing was written\n")
         return 0
     new = (written(sheet) if sheet else text).encode()
     was = SPOKEN.get(encoding, encoding) + (f", separated by {SEPARATORS[sheet.separator]}" if sheet else "")
-    return laid(file, data, new, output, f"{was}; now it is UTF-8{commas}", ragged(sheet) if sheet else "")
+    says = f"{was}; now it is UTF-8{commas}{cents}"
+    return laid(file, data, new, output, says, ragged(sheet) if sheet else "", bool(cents))
+
+
+def in_cents(line: Line, file: str, sheet: Sheet | None) -> str:
+    """Writes the column of `--cents` in whole numbers, and says so; nothing where that isn't asked for."""
+    name, digits = line.own.get(CENTS.word), line.own.get(DIGITS.word, "2")
+    if name is None and DIGITS.word not in line.own:
+        return ""
+    if name is None or sheet is None:
+        raise Misused(f"{DIGITS.word} stands beside {CENTS.word}, and both are for tables alone")
+    if not re.fullmatch("[1-9]|1[0-8]", digits):
+        raise Misused(f"{DIGITS.word} takes a number from 1 to 18: {DIGITS.spelled}")
+    return f". {in_whole_numbers(file, sheet.records, name, int(digits))}"
 
 
 def read(file: str) -> bytes:
@@ -170,13 +188,20 @@ def ragged(sheet: Sheet) -> str:
     return f"The header has {wide} fields, and {said} has another number.\n" if found else ""
 
 
-def laid(file: str, old: bytes, new: bytes, output: str | None, says: str, warning: str) -> int:
+def free(name: str) -> str:
+    """A name that no file has: this one, or one with a number behind it."""
+    number = next(n for n in itertools.count(1) if not os.path.lexists(f"{name}{n if n > 1 else ''}"))
+    return f"{name}{number if number > 1 else ''}"
+
+
+def laid(file: str, old: bytes, new: bytes, output: str | None, says: str, warning: str, numbers_kept: bool) -> int:
     """Writes what came out. No file is written over: one that keeps its name is kept under another name first."""
     folder, base = os.path.split(file)
     target = output or os.path.join(
         folder, base.lower() if base.lower().endswith((".csv", ".sql")) else os.path.splitext(base)[0].lower() + ".csv"
     )
-    kept = f"{file}.original" if os.path.exists(target) and os.path.samefile(file, target) else None
+    is_same = os.path.exists(target) and os.path.samefile(file, target)
+    kept = (free(f"{file}.original") if numbers_kept else f"{file}.original") if is_same else None
     if target == "-":
         program.write(1, new.decode())
         return 0

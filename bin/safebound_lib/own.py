@@ -2,7 +2,9 @@
 from __future__ import annotations
 
 import os
+import shlex
 import shutil
+import sys
 import tempfile
 from typing import TYPE_CHECKING
 
@@ -44,9 +46,16 @@ def new(words: list[str]) -> int:
             shutil.copyfile(os.path.join(source, name), os.path.join(folder, name))
     except OSError as fault:
         raise Misused(f"{folder}: {fault.strerror}") from None
-    line = f"    safebound run schema.sql query.sql --data {folder}\n"
+    line = f"    {called()} run schema.sql query.sql --data {folder}\n"
     program.write(1, f"{folder}: {listed(names)}\nRun it, and then edit it:\n{line}")
     return 0
+
+
+def called() -> str:
+    """The command as it was called, where a shell wouldn't find it by its name."""
+    found = shutil.which("safebound")
+    is_it = found is not None and os.path.realpath(found) == os.path.realpath(sys.argv[0])
+    return "safebound" if is_it or os.path.basename(sys.argv[0]) != "safebound" else shlex.quote(sys.argv[0])
 
 
 def check(path: str, line: Line) -> int:

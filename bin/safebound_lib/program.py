@@ -22,7 +22,7 @@ def found() -> str:
     if path is None:
         sys.exit(NO_PROGRAM)
     if path == places.RELEASED and is_terminal(2):
-        say(f"Nothing is built here (make build), so {released()} runs.\n")
+        say(f"{released()[:1].upper()}{released()[1:]} runs. `make build` proves and builds one here.\n")
     return path
 
 

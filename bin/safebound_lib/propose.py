@@ -44,18 +44,29 @@ class Proposal:
         )
         return head + "\n".join(table_text(sheet, self.sheets) for sheet in self.sheets)
 
-    def short(self, files: list[str], target: str) -> str:
-        """The schema text in a line for each table, and how to keep it, with `files` and `target` as words to paste."""
+    def short(self, files: list[str], target: str, uses: str) -> str:
+        """The schema text in a line for each table, and how to keep it; `files`, `target` and the line that `uses` a
+        kept one are words to paste.
+        """
         room = columns() if program.is_terminal(2) else None
         lines = [
             re.sub(r"\s+", " ", table_text(sheet, self.sheets)).replace("( ", "(").replace(" )", ")")
             for sheet in self.sheets
         ]
-        head = (
-            "-- This schema is proposed from the rows. To keep it, and edit it:\n--     safebound schema"
-            f" {' '.join(map(plain, files))} --output {plain(target)}\n"
-        )
+        head = f"-- This schema is proposed from the rows. {kept(files, target, uses)}\n"
         return head + "".join(f"{cut(line.strip(), room) if room else line.strip()}\n" for line in lines)
+
+
+def kept(files: list[str], target: str, uses: str) -> str:
+    """How to keep a schema that is proposed, or where there is one the line that `uses` it."""
+    if os.path.exists("schema.sql"):
+        return f"{plain(target)} is there, and isn't used. This uses it:\n--     {plain(uses)}"
+    return f"To keep it, and edit it:\n--     safebound schema {' '.join(map(plain, files))} --output {plain(target)}"
+
+
+def line_with_schema(command: str, schema: str, query: str, folder: str) -> str:
+    """The line that runs a query with a schema, both in the tables' folder."""
+    return f"safebound {command} {shlex.quote(schema)} {shlex.quote(query)} --data {shlex.quote(folder)}"
 
 
 def proposal(files: list[str], before: Optional[str] = None) -> Proposal:
@@ -167,7 +178,8 @@ def write(text: str, to: str) -> None:
         ) from None
     except OSError as fault:
         raise Misused(f"{to}: {fault.strerror}") from None
-    program.say(f"{to}: look at it, and edit what isn't so\n")
+    uses = line_with_schema("run", os.path.basename(to), "query.sql", os.path.dirname(to) or ".")
+    program.say(f"{to}: look at it, and edit what isn't so. A query is run with it so:\n    {plain(uses)}\n")
 
 
 def sentences(says: list[str]) -> str:
@@ -203,7 +215,8 @@ def proposed(line: Line) -> Iterator[Line]:
         )
     if is_whole and not found.left_out:
         files = [word_of(sheet.file, line.before) for sheet in found.sheets]
-        program.say(found.short(files, word_of("schema.sql", line.before)) + "\n" + sentences(found.says))
+        uses = line_with_schema(line.command, "schema.sql", query, line.own[DATA.word])
+        program.say(found.short(files, word_of("schema.sql", line.before), uses) + "\n" + sentences(found.says))
     with tempfile.TemporaryDirectory(prefix="safebound-") as folder:
         file = os.path.join(folder, "schema.sql")
         with open(file, "w", encoding="utf-8") as f:

@@ -8,7 +8,8 @@ from functools import cached_property
 from typing import Optional
 
 from .convert import SEPARATORS, encoding_of, packed
-from .explain.tables import all_differ, number_expected, quoted as marked
+from .decimals import of_decimals
+from .explain.tables import all_differ, closed_late, number_expected, quoted as marked
 from .near import listed
 from .records import left_open, records, same
 from .spot import plain
@@ -100,6 +101,10 @@ def sheet_of(file: str, word: str) -> Sheet:
         sheet.says.append(
             f"A query writes this table in double quotes too, {sheet.name}: the word can't be a name without them."
         )
+    others = [name for name in os.listdir(os.path.dirname(file) or ".") if name.lower() == base.lower() != name]
+    if others and base == base.lower():
+        said = listed(map(plain, sorted(others)))
+        sheet.says.append(f"{said} is there too, and isn't read: upper and lower case count.")
     data = bytes_of(file, word)
     found = records(data)
     line, header = next(found, NO_RECORD)
@@ -109,7 +114,9 @@ def sheet_of(file: str, word: str) -> Sheet:
     with saying(f"looking at {plain(file)} .."):
         fill(sheet, found, len(header), data)
     for column in sheet.columns:
-        sheet.says += of_values(column) + of_repeats(sheet, column, data)
+        decimals = of_decimals(column.name, column.values, word)
+        sheet.says += [decimals] if decimals else of_values(column)
+        sheet.says += of_repeats(sheet, column, data)
     if sheet.rows == 0 and next(records(data, 1), None) is None:
         sheet.says.append("There are no rows: types and lengths are guesses.")
     return sheet
@@ -201,8 +208,20 @@ def bytes_of(file: str, word: str) -> bytes:
     if packed(data):
         raise NoTable(f"It {packed(data)}.")
     if encoding_of(data) not in ("utf-8", "utf-8-sig"):
-        raise NoTable(f"It isn't in UTF-8. This writes it so:\n    safebound convert {plain(word)}")
+        first = first_strange(data)
+        raise NoTable(f"It isn't in UTF-8{first}. This writes it so:\n    safebound convert {plain(word)}")
     return data
+
+
+def first_strange(data: bytes) -> str:
+    """Where the first byte stands that is no UTF-8: its line, and the value's text as Windows-1252 has it."""
+    try:
+        data.decode()
+    except UnicodeDecodeError as fault:
+        line = data[:fault.start].count(b"\n") + 1
+        around = re.split(rb"[,;\t\r\n]", data[:fault.start])[-1] + re.split(rb"[,;\t\r\n]", data[fault.start:])[0]
+        return f", first on line {line}, in {marked(around.decode('latin-1'))}" if 0 not in around else ""
+    return ""
 
 
 def refuse_header(word: str, header: list[str]) -> None:
@@ -210,6 +229,12 @@ def refuse_header(word: str, header: list[str]) -> None:
     if not header:
         raise NoTable("It holds nothing. Its first line names the columns, separated by commas.")
     separator = next((s for s in SEPARATORS if s != "," and len(header) == 1 and s in header[0]), None)
+    if separator and header[0] == f"sep={separator}":
+        raise NoTable(
+            f"Its first line, {plain(header[0])}, is a sign for Excel and no header, and it is separated by"
+            f" {SEPARATORS[separator]}. This leaves that line out, and writes commas:\n    safebound convert"
+            f" {plain(word)}"
+        )
     if separator:
         raise NoTable(
             f"It is separated by {SEPARATORS[separator]}. This writes it with commas:\n    safebound convert"
@@ -227,14 +252,22 @@ def refuse_title(data: bytes, header: list[str]) -> None:
     """A title above the names: one field of the first line is filled, and all of the second, none by a value."""
     line, second = next(records(data, 1), NO_RECORD)
     named = sum(name != "" for name in header)
+    if len(header) == 1 < len(second) and (line > 2 or " " in header[0]) and is_header(second):
+        raise NoTable(
+            f"Line 1 looks like a title, and line {line} like the header. Delete the lines above the header."
+        )
     if (
-        named == 1 < len(header) - 1 and len(second) == len(header) and all(second)
-        and not any(map(LIKE_A_VALUE.fullmatch, second))
+        named == 1 < len(header) - 1 and len(second) == len(header) and is_header(second)
     ):
         raise NoTable(
             f"The first line names 1 of its {len(header)} columns, and line {line} looks like the header. Delete what"
             " stands above that."
         )
+
+
+def is_header(names: list[str]) -> bool:
+    """Whether fields look like the names of columns."""
+    return all(names) and not any(map(LIKE_A_VALUE.fullmatch, names))
 
 
 def add_columns(sheet: Sheet, header: list[str]) -> None:
@@ -302,6 +335,9 @@ def ragged_records(ragged: int, first: tuple[int, int, int], wide: int, data: by
     whole = all_differ(data)
     if whole:
         return f"{whole} A run will refuse the file until then."
+    late = "" if left_open(data, number) is not None else closed_late(data, number)
+    if late:
+        return f"{late} A run will refuse the file until then."
     others = f", and {ragged - 1} more records differ too" if ragged > 1 else ""
     why = (
         "A quote of that record isn't closed."

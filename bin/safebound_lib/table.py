@@ -93,6 +93,13 @@ ENCODING = Option(
     "--encoding", "NAME", "the encoding that the file has, as latin-1 or cp850; without it, it is found from the bytes",
     is_own=True,
 )
+CENTS = Option(
+    "--cents",
+    "COLUMN",
+    "writes a column of decimals in whole cents, 1250 for 12.50, under a name of its own",
+    is_own=True,
+)
+DIGITS = Option("--digits", "N", "beside --cents: how many digits behind the point are kept; 2 without it", is_own=True)
 HELP = Option("--help", None, "this help", is_own=True)
 VERSION = Option("--version", None, "the version of this command, and which program it runs", is_own=True)
 
@@ -165,7 +172,7 @@ COMMANDS = (
         "convert",
         ("FILE",),
         "writes a file of another encoding, or with semicolons or tabs, as the program reads it: UTF-8 with commas",
-        (RESULT, ENCODING),
+        (RESULT, ENCODING, CENTS, DIGITS),
         (
             "The new file keeps the name, and the file as it was gets a name that ends in .original. Another ending"
             " than .csv becomes .csv. A text of SQL only gets another encoding. Nothing is written over."
@@ -173,6 +180,7 @@ COMMANDS = (
         (
             "safebound convert city.csv", "safebound convert Export.txt --output shop/city.csv",
             "safebound convert city.csv --encoding cp850",
+            "safebound convert shop.csv --cents PRICE",
         ),
         is_own=True,
     ),

@@ -38,7 +38,7 @@ PARTS = {
 UNEXPLAINED = (OSError, LookupError, ValueError, StopIteration, RecursionError, MemoryError, csv.Error)
 PROPOSING = ("run", "plan", "audit", "stats", "picture")
 # How a line begins that is there to be pasted: it stays whole.
-TO_PASTE = ("    safebound ", "    mv ")
+TO_PASTE = ("    safebound ", "    mv ", "    echo ")
 
 
 class Run:

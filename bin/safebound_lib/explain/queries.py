@@ -6,12 +6,15 @@ from collections.abc import Iterable
 from typing import TYPE_CHECKING, cast
 
 from . import read
+from .decimals import of_decimals
 from .query_advice import CERTAIN, GUESSES
 from .reads import missing_table
 from .texts import accented, advised, bad_character, marked, no_text, place_of, quotes_for
 from ..convert import packed
+from ..decimals import quoted as in_query
 from ..near import hint, listed, nearest
 from ..query import Literal, Reference, found_of, visible
+from ..records import records, same
 from ..spot import plain
 from ..tokens import LEAST_NUMBER, MOST_NUMBER
 
@@ -21,6 +24,8 @@ if TYPE_CHECKING:
     from ..query import Entry, Query
     from ..schema import Schema, Table
     from ..tokens import Token
+
+NO_RECORD: tuple[int, list[str]] = (0, [])
 
 
 def explain(fault: Fault, run: Run) -> list[str]:
@@ -32,7 +37,8 @@ def explain(fault: Fault, run: Run) -> list[str]:
     schema, name_there = run.schema, accented(data, query.tokens, at)
     said = (
         [quotes_for(name_there, names_of(schema))] if name_there
-        else of_a_proposal(fault, query, schema, run) or says(query, schema, at)
+        else of_decimals(fault.cause, query, schema, at, run) or of_a_proposal(fault, query, schema, run)
+        or says(query, schema, at)
     )
     return [marked(run.query_file, data, query, at, length(query, at)), *said]
 
@@ -106,6 +112,9 @@ def syntax(query: Query, schema: Schema, at: int) -> list[str]:
     literal = next((o for o in query.literals if o.token.start == at), None)
     if literal and not literal.fits:
         return [f"A number is from {LEAST_NUMBER:,} to {MOST_NUMBER:,} (64 bits), and this one isn't."]
+    several = name_of_words(query, place.at, names_of(schema))
+    if several:
+        return [f"{several} is a name of several words, and stands in double quotes."]
     place.outs = outputs(query, schema)
     return advised(place, CERTAIN, GUESSES)
 
@@ -146,7 +155,24 @@ def name(query: Query, schema: Schema, at: int) -> list[str]:
         if (entry.alias or entry.table).start == at and entry.name in earlier:
             return [twice(entry)]
     reference = next(r for r in query.references if r.token.start == at)
+    joined = next((said for i in reference.scope for said in [no_comma(query, query.entries[i])] if said), "")
+    if joined:
+        return [joined]
     return unknown_entry(query, reference, schema) if reference.entry else unknown_column(query, reference, schema)
+
+
+def no_comma(query: Query, entry: Entry) -> str:
+    """A sentence on an alias without AS that is the name of another table's file."""
+    alias, table = entry.alias, entry.table
+    if alias is None or query.tokens[query.tokens.index(alias) - 1].is_one("AS"):
+        return ""
+    file = alias.name.lower() + ".csv"
+    if alias.name == table.name or not os.path.isfile(file):
+        return ""
+    return (
+        f"{plain(alias.source)} is read here as another name of {plain(table.source)}, though {plain(file)} is there."
+        f" For both tables put a comma between them: FROM {plain(table.source)}, {plain(alias.source)}."
+    )
 
 
 def unknown_table(token: Token, schema: Schema) -> str:
@@ -218,6 +244,9 @@ def unknown_column(query: Query, reference: Reference, schema: Schema) -> list[s
             f" {plain(found[0][0].name)}.{plain(token.source)}."
         ]
     tables = {query.entries[i].name: schema.table(query.entries[i].table.name) for i in reference.scope}
+    repeated = next((said for table in tables.values() for said in [named_twice(token, table)] if said), "")
+    if repeated:
+        return [f"No entry has a column {plain(token.name)}. {repeated}"]
     if token.kind == "quoted":
         return quoted(token, tables)
     every = [f"{entry}.{column}" for entry, table in tables.items() for column in columns(table)]
@@ -234,6 +263,27 @@ def unknown_column(query: Query, reference: Reference, schema: Schema) -> list[s
         f"No entry has a column {plain(token.name)}." + (f" Did you mean {near}?" if near else "") + as_text,
         f"The columns are:{each}",
     ]
+
+
+def name_of_words(query: Query, at: int, names: list[str]) -> str:
+    """A name of several words that stands without quotes around the token of this number, in double quotes; or
+    nothing.
+    """
+    firsts = query.tokens[max(at - 3, 0):at + 1]
+    found = (two_words(query, token, names) for token in firsts if token.kind == "word")
+    return next((name for name in found if name), "")
+
+
+def named_twice(token: Token, table: Table | None) -> str:
+    """A sentence on a column that is left out since its file's header names it more than once."""
+    if table is None or not os.path.isfile(table.file):
+        return ""
+    _, header = next(records(read(table.file)), NO_RECORD)
+    count = sum(same(name) == same(token.name) for name in header)
+    return (
+        f"The header of {plain(table.file)} names it {count} times, so it is left out: rename all but one of them."
+        if count > 1 else ""
+    )
 
 
 def two_words(query: Query, token: Token, names: list[str]) -> str:
@@ -256,6 +306,12 @@ def quoted(token: Token, tables: dict[str, Table | None]) -> list[str]:
     names = {column for table in tables.values() for column in columns(table)}
     if token.name.upper() in names:
         return ["No entry has a column of that name." + case(token, names)]
+    near = nearest(token.name, names, 0.85)
+    if near:
+        return [
+            f"No entry has a column {plain(token.source)}: in double quotes upper and lower case count. Did you mean"
+            f" {plain(in_query(near))}?"
+        ]
     text = plain(token.name).replace("'", "''")
     return [
         f'In double quotes stands a name, and no column is called {plain(token.source)}. A text takes single quotes:'

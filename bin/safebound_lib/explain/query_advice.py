@@ -36,8 +36,13 @@ DATES = (
     " >= '2024-01-01'."
 )
 AGGREGATE = (
-    "Functions and aggregates aren't part of the language. `safebound audit` prints how many rows each level has; for"
-    " sums and groups give the rows to another program."
+    "Functions and aggregates aren't part of the language. Take the columns alone, without GROUP BY, and give the rows"
+    " to another program."
+)
+COUNT = (
+    "Functions and aggregates aren't part of the language. Take a column in the place of COUNT(*), and leave GROUP BY"
+    " out. Then `safebound audit` prints how many rows there are, and this counts those of each group:"
+    " safebound run .. | tail -n +2 | sort | uniq -c"
 )
 FUNCTION = (
     "Functions and aggregates aren't part of the language: store the value that you compare, or compute it behind the"
@@ -137,9 +142,8 @@ def call(place: Place) -> str | None:
     """A name and a parenthesis."""
     before = place.token(-1)
     if place.token().is_one("(") and before.is_name:
-        return (
-            f"This is read as a call of {plain(before.source)}. {AGGREGATE if before.word in AGGREGATES else FUNCTION}"
-        )
+        advice = COUNT if before.word == "COUNT" else AGGREGATE if before.word in AGGREGATES else FUNCTION
+        return f"This is read as a call of {plain(before.source)}. {advice}"
     return None
 
 

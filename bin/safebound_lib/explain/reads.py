@@ -2,6 +2,7 @@
 from __future__ import annotations
 
 import os
+import shlex
 from typing import TYPE_CHECKING
 
 from .texts import convert_line
@@ -24,9 +25,17 @@ def explain(fault: Fault, run: Run) -> list[str]:
     if is_one_query(file):
         return [
             f"Here stands the text of a query, {plain(file)[:60]}, and the name of a file has to. Write the text into a"
-            " file, as query.sql, and name that."
+            f" file, as query.sql, and name that{lines_of_text(file, run)}"
         ]
     return [why(file), *where(file, run), *without_schema(file, run)]
+
+
+def lines_of_text(text: str, run: Run) -> str:
+    """The lines that write a query's text into a file and run it."""
+    written = os.path.join(os.path.dirname(run.path_of("query.sql")), "query.sql")
+    if os.path.exists("query.sql"):
+        return "."
+    return f":\n    echo {plain(shlex.quote(text))} > {written}{run.line_without_schema('query.sql')}"
 
 
 def is_one_query(words: str) -> bool:

@@ -1,13 +1,17 @@
 """`error schema CAUSE AT`: what is wrong with a schema text at that place."""
 from __future__ import annotations
 
+import os
+import shlex
 from typing import TYPE_CHECKING
 
 from . import read
 from .schema_advice import CERTAIN, GUESSES
 from .texts import accented, advised, bad_character, marked, no_text, place_of, quotes_for
+from .usage import is_query, tables_named, with_tables
 from ..near import hint, listed
 from ..spot import plain
+from ..table import BY_WORD
 from ..tokens import tokens_of
 
 if TYPE_CHECKING:
@@ -26,17 +30,34 @@ def explain(fault: Fault, run: Run) -> list[str]:
         return other
     name_there = accented(data, schema.tokens, at)
     said = [quotes_for(name_there, [])] if name_there else says(schema, at)
-    return [marked(run.schema_file, data, schema, at, token.end - at if token else 1), *said]
+    return [marked(run.schema_file, data, schema, at, token.end - at if token else 1), *said, in_order(run)]
+
+
+def in_order(run: Run) -> str:
+    """Where query and schema stand in each other's place, the line that has them in order."""
+    if not (is_query(run.schema_file) and is_schema(run.query_file)):
+        return ""
+    folder = f" --data {plain(run.path_of('.'))}" if run.before else ""
+    files = " ".join(plain(shlex.quote(file)) for file in (run.query_file, run.schema_file))
+    return f"So it is:\n    safebound {run.command} {files}{folder}"
 
 
 def no_schema(run: Run) -> list[str]:
     """Where a table's file stands in the place of the schema's."""
+    command = BY_WORD.get(run.command)
+    if command and with_tables([run.schema_file, run.query_file]):
+        return [tables_named(command, run)]
     if not run.schema_file.lower().endswith(".csv"):
         return []
     return [
         f"{plain(run.schema_file)} is a table's file, and here the schema's has to stand. Leave it out, and a schema is"
         f" proposed:{run.line_without_schema()}"
     ]
+
+
+def is_schema(file: str) -> bool:
+    """Whether a file begins as a schema does."""
+    return os.path.isfile(file) and any(token.is_one("CREATE") for token in tokens_of(read(file))[:1])
 
 
 def syntax(schema: Schema, at: int) -> list[str]:

@@ -55,6 +55,19 @@ def all_differ(data: bytes) -> str:
     )
 
 
+def closed_late(data: bytes, number: int) -> str:
+    """A sentence where a field of this record goes over lines, since a quote closes lines later than it should."""
+    ((line, fields),) = chosen(data, number)
+    place = next((i for i, value in enumerate(fields) if "\n" in value and "," in value), None)
+    if place is None:
+        return ""
+    begins = line + sum(value.count("\n") for value in fields[:place])
+    return (
+        f'The quote that opens on line {begins} is closed only on line {begins + fields[place].count(chr(10))}, so the'
+        f' lines between are one value. Write the " that is missing on line {begins}, or take away the one there.'
+    )
+
+
 def quoted(value: str) -> str:
     """A value as it stands in the file, between marks."""
     return f"`{plain(value[:MOST_OF_VALUE])}{'...' if len(value) > MOST_OF_VALUE else ''}`"
@@ -136,6 +149,9 @@ def width(table: Table, fault: Fault, data: bytes, run: Run) -> list[str]:
     whole = all_differ(data)
     if whole:
         return [first + shown, whole]
+    late = closed_late(data, fault.record)
+    if late:
+        return [first + shown, late]
     if len(fields) > len(head):
         return [
             first + shown,
@@ -217,6 +233,7 @@ def key(table: Table, fault: Fault, data: bytes, run: Run) -> list[str]:
             is_same(table, t, fields[i], before[i]) for t, i in zip(tokens, at)
         ):
             names, values = listed(plain(t.name) for t in tokens), ", ".join(quoted(fields[i]) for i in at)
+            key_there = key_in_schema(tokens[0], run)
             break
     return [
         (
@@ -226,9 +243,16 @@ def key(table: Table, fault: Fault, data: bytes, run: Run) -> list[str]:
         ),
         (
             "No two records have the same values in a PRIMARY KEY or UNIQUE. Remove one of the two, or the key from the"
-            " schema."
+            f" schema{key_there}."
         ),
     ]
+
+
+def key_in_schema(column: Token, run: Run) -> str:
+    """Where a key of the schema stands, and whether it was guessed from rows."""
+    data = read(run.schema_file)
+    guessed = ", where it was guessed from the rows of that time" if data.startswith(b"-- Proposed from") else ""
+    return f", {plain(run.schema_file)}, line {data[:column.start].count(10) + 1}{guessed}"
 
 
 def is_same(table: Table, token: Token, one: str, other: str) -> bool:

@@ -3,6 +3,7 @@ no text.
 """
 from __future__ import annotations
 
+import itertools
 import unicodedata
 from dataclasses import dataclass
 from collections.abc import Callable
@@ -188,10 +189,30 @@ def bad_character(place: Place) -> str:
     if first in QUOTES:
         return "These are quotes of a word processor: texts take ' and names take \"."
     if first == "'":
-        return "This text isn't closed: a ' is missing behind it. A quote within a text is written twice: 'it''s'."
+        missing = "This text isn't closed: a ' is missing behind it. A quote within a text is written twice: 'it''s'."
+        return quote_within(place) or missing
     if first == '"':
         return bad_name(token.source)
     return CHARACTERS.get(first, f"The character {plain(first)} has no meaning here.")
+
+
+def quote_within(place: Place) -> str:
+    """A sentence on a text that a quote within it ends, as 'O'Brien': a word goes on where the text ends."""
+    tokens = place.tokens
+    at = next(
+        (i for i, t in enumerate(tokens[:-1]) if t.kind == "text" and tokens[i + 1].kind == "word"
+         and tokens[i + 1].start == t.end), None
+    )
+    if at is None:
+        return ""
+    behind = list(itertools.takewhile(lambda token: not token.source.startswith("'"), tokens[at + 1:]))
+    rest = "".join(" " * (token.start - before.end) + token.source for before, token in zip(tokens[at:], behind))
+    within = tokens[at].source[1:-1].rstrip("\\")
+    return (
+        "This text isn't closed, since the one before it ends within"
+        f" {plain(within.split(' ')[-1])}'{plain(behind[0].source)}. A quote within a text is"
+        f" written twice: '{plain(within)}''{plain(rest)}'."
+    )
 
 
 JOINERS = {"||": "OR", "&&": "AND"}

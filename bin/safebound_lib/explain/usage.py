@@ -32,8 +32,15 @@ def explain(fault: Fault, run: Run) -> list[str]:
     command = BY_WORD.get(run.command)
     if command is None or command.is_own:
         return wrong_command(run)
-    return [first_wrong(command, run.words[1:]) or "These words are no command.", f"It is: safebound {command.spelled}",
+    if command.places == TEXTS and not first_strange(command, run) and with_tables(places(run.words[1:])):
+        return [tables_named(command, run)]
+    return [first_wrong(command, run.words[1:]) or "These words are no command.",
+            f"It is: safebound {command.spelled}{may_lack(command)}",
             f"`safebound help {command.word}` says more.", line_meant(command, run)]
+
+
+def may_lack(command: Command) -> str:
+    return ". Beside --data SCHEMA may be left out." if command.places == TEXTS and DATA in command.options else ""
 
 
 def line_meant(command: Command, run: Run) -> str:
@@ -43,10 +50,9 @@ def line_meant(command: Command, run: Run) -> str:
         return ""
     if not files:
         found = [name for name in os.listdir(".") if is_query(name)] if run.before else []
-        return (
-            f"Without a schema, one is proposed from the tables:{run.line_without_schema(found[0])}" if len(found) == 1
-            else ""
-        )
+        if len(found) == 1:
+            return f"Without a schema, one is proposed from the tables:{run.line_without_schema(found[0])}"
+        return no_query_yet(run) if run.before and not found else ""
     below = (
         sorted(
             entry.name for entry in os.scandir(".") if entry.is_dir() and is_query(os.path.join(entry.name, files[0]))
@@ -60,6 +66,18 @@ def line_meant(command: Command, run: Run) -> str:
             f"\n    safebound {command.word} {plain(shlex.quote(files[0]))} --data {plain(shlex.quote(below[0]))}"
         )
     return ""
+
+
+def no_query_yet(run: Run) -> str:
+    """Where a folder has tables and no query: how to write one."""
+    tables = sorted(name for name in os.listdir(".") if name.endswith(".csv"))
+    if not tables:
+        return ""
+    return (
+        f"There is no query in {plain(run.path_of('.'))}. Write one into a file there, as query.sql:"
+        f" SELECT * FROM {plain(tables[0].removesuffix('.csv').upper())}\nThen this runs it:"
+        f"{run.line_without_schema('query.sql')}"
+    )
 
 
 def first_strange(command: Command, run: Run) -> list[str]:
@@ -207,12 +225,40 @@ def is_query(file: str) -> bool:
         return False
 
 
+def with_tables(files: list[str]) -> bool:
+    """Whether files are a query and tables behind it."""
+    return len(files) > 1 and is_query(files[0]) and all(file.lower().endswith(".csv") for file in files[1:])
+
+
+def tables_named(command: Command, run: Run) -> str:
+    """What to do where tables stand behind a query."""
+    query, *tables = places(run.words[1:])
+    are = "is a table" if len(tables) == 1 else "are tables"
+    line = run.line_without_schema(query) if run.before else line_of_query(command, query)
+    return (
+        f"{plain(listed(tables))} {are}, and no line names tables: the query does. They are found in their folder, and"
+        f" a schema is proposed from them:{line}"
+    )
+
+
+def line_of_query(command: Command, query: str) -> str:
+    """The line to paste that runs a query without a schema, in the query's folder where tables lie there."""
+    folder = os.path.dirname(query)
+    is_there = bool(folder) and any(name.endswith(".csv") for name in os.listdir(folder))
+    words = [os.path.basename(query), "--data", folder] if is_there else [query, "--data", "."]
+    return f"\n    safebound {command.word} {' '.join(plain(shlex.quote(word)) for word in words)}"
+
+
 def wrong_places(command: Command, found: list[str]) -> str | None:
     if len(found) == 1 and is_query(found[0]) and command.places == TEXTS:
         return (
             f"{command.word} lacks SCHEMA: {plain(found[0])} is a query. Without a schema, one is proposed from the"
-            " tables where you say in which folder they are: safebound"
-            f" {command.word} {plain(shlex.quote(found[0]))} --data ."
+            f" tables where you say in which folder they are:{line_of_query(command, found[0])}"
+        )
+    if len(found) == 1 and command.places == TEXTS and re.match(r"\s*SELECT\s", found[0], re.IGNORECASE):
+        return (
+            f"{command.word} takes files, and here stands the text of a query. Write it into a file beside the tables:"
+            f"\n    echo {plain(shlex.quote(found[0]))} > query.sql\n    safebound {command.word} query.sql --data ."
         )
     if len(found) < len(command.places):
         return f"{command.word} lacks {listed(command.places[len(found):])}."
