@@ -5,6 +5,7 @@
 #include <math.h>
 
 #include "optimizer/cost.h"
+#include "optimizer/geqo.h"
 #include "optimizer/optimizer.h"
 #include "optimizer/pathnode.h"
 #include "optimizer/paths.h"
@@ -16,6 +17,7 @@ int			estimates_mode = ESTIMATES_OFF;
 static planner_hook_type planner_before;
 static set_rel_pathlist_hook_type rel_paths_before;
 static set_join_pathlist_hook_type join_paths_before;
+static join_search_hook_type join_search_before;
 
 /* One call of the planner. A function that it evaluates may call it again. */
 typedef struct Planning
@@ -26,7 +28,7 @@ typedef struct Planning
 
 static Planning *planning;
 
-/* What PostgreSQL by itself expects of a relation; `seen` marks a join relation whose paths were made anew. */
+/* What PostgreSQL by itself expects of a relation. A join relation that is in the table has its rows. */
 typedef struct OwnRows
 {
 	RelOptInfo *rel;
@@ -164,28 +166,100 @@ own_join_rows(BoundedQuery *query, RelOptInfo *joinrel, RelOptInfo *outer, RelOp
 	return clamp_row_est(rows);
 }
 
+/* Sets a join relation's rows and takes its paths away, where it has a bound; they are to be made again. */
+static bool
+set_join_rows(BoundedQuery *query, RelOptInfo *joinrel, double estimate)
+{
+	uint64		bound = bound_of_join(query, joinrel->relids);
+
+	note_own_rows(query, joinrel, estimate);
+	if (bound == UNKNOWN)
+		return false;
+	joinrel->rows = rows_by_mode((double) bound, estimate);
+	joinrel->pathlist = NIL;
+	joinrel->partial_pathlist = NIL;
+	joinrel->ppilist = NIL;
+	return true;
+}
+
+static bool
+is_new(BoundedQuery *query, RelOptInfo *joinrel)
+{
+	return joinrel->reloptkind == RELOPT_JOINREL && hash_search(query->estimates, &joinrel, HASH_FIND, NULL) == NULL;
+}
+
 /* At a join relation's first pair its rows are set, and the pair's paths are made again. */
 static void
 on_join_paths(PlannerInfo *root, RelOptInfo *joinrel, RelOptInfo *outer, RelOptInfo *inner, JoinType type, JoinPathExtraData *extra)
 {
-	BoundedQuery *query = estimates_mode != ESTIMATES_OFF && planning && !root->join_search_private && joinrel->reloptkind == RELOPT_JOINREL ? query_of(root, false) : NULL;
+	BoundedQuery *query = estimates_mode != ESTIMATES_OFF && planning && !root->join_search_private ? query_of(root, false) : NULL;
 
-	if (query != NULL && hash_search(query->estimates, &joinrel, HASH_FIND, NULL) == NULL)
-	{
-		uint64		bound = bound_of_join(query, joinrel->relids);
-
-		note_own_rows(query, joinrel, own_join_rows(query, joinrel, outer, inner, extra->sjinfo->jointype));
-		if (bound != UNKNOWN)
-		{
-			joinrel->rows = rows_by_mode((double) bound, own_rows(query, joinrel));
-			joinrel->pathlist = NIL;
-			joinrel->partial_pathlist = NIL;
-			joinrel->ppilist = NIL;
-			return add_paths_to_joinrel(root, joinrel, outer, inner, type, extra->sjinfo, extra->restrictlist);
-		}
-	}
+	if (query != NULL && is_new(query, joinrel) &&
+		set_join_rows(query, joinrel, own_join_rows(query, joinrel, outer, inner, extra->sjinfo->jointype)))
+		return add_paths_to_joinrel(root, joinrel, outer, inner, type, extra->sjinfo, extra->restrictlist);
 	if (join_paths_before)
 		join_paths_before(root, joinrel, outer, inner, type, extra);
+}
+
+/* Joins with a condition that names no relation don't come to the hook above. A level that has such a join is made once more. */
+static void
+search_level(PlannerInfo *root, BoundedQuery *query, int level)
+{
+	bool		again = false;
+	ListCell   *cell;
+
+	join_search_one_level(root, level);
+	foreach(cell, root->join_rel_level[level])
+	{
+		RelOptInfo *rel = lfirst(cell);
+
+		if (is_new(query, rel) && !IS_DUMMY_REL(rel) && set_join_rows(query, rel, rel->rows))
+			again = true;
+	}
+	if (again)
+		join_search_one_level(root, level);
+}
+
+/* What allpaths.c does once a level has its relations. */
+static void
+finish_level(PlannerInfo *root, int level)
+{
+	ListCell   *cell;
+
+	foreach(cell, root->join_rel_level[level])
+	{
+		RelOptInfo *rel = lfirst(cell);
+
+		generate_partitionwise_join_paths(root, rel);
+		if (!bms_equal(rel->relids, root->all_baserels))
+			generate_useful_gather_paths(root, rel, false);
+		set_cheapest(rel);
+	}
+}
+
+/* PostgreSQL's own search, with a look at each level. */
+static RelOptInfo *
+on_join_search(PlannerInfo *root, int levels, List *initial)
+{
+	BoundedQuery *query = estimates_mode != ESTIMATES_OFF && planning ? query_of(root, false) : NULL;
+	RelOptInfo *rel;
+
+	if (join_search_before)
+		return join_search_before(root, levels, initial);
+	if (enable_geqo && levels >= geqo_threshold)
+		return geqo(root, levels, initial);
+	if (query == NULL)
+		return standard_join_search(root, levels, initial);
+	root->join_rel_level = palloc0((levels + 1) * sizeof(List *));
+	root->join_rel_level[1] = initial;
+	for (int level = 2; level <= levels; level++)
+	{
+		search_level(root, query, level);
+		finish_level(root, level);
+	}
+	rel = linitial(root->join_rel_level[levels]);
+	root->join_rel_level = NULL;
+	return rel;
 }
 
 static PlannedStmt *
@@ -218,4 +292,6 @@ planning_init(void)
 	set_rel_pathlist_hook = on_rel_paths;
 	join_paths_before = set_join_pathlist_hook;
 	set_join_pathlist_hook = on_join_paths;
+	join_search_before = join_search_hook;
+	join_search_hook = on_join_search;
 }
