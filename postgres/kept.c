@@ -169,11 +169,26 @@ drop(KeptTable *table)
 	dropped = table;
 }
 
+/* How many plans are in the making or being admitted. */
+static int	holders;
+
+void
+kept_hold(void)
+{
+	holders++;
+}
+
+void
+kept_release(void)
+{
+	holders--;
+}
+
 /* Called where no plan is in the making. */
 void
 kept_free_dropped(void)
 {
-	while (dropped != NULL)
+	while (dropped != NULL && holders == 0)
 	{
 		KeptTable  *next = dropped->next;
 

@@ -1,5 +1,5 @@
 /* The extension's module: its settings, and its parts begin. */
-#include "planning.h"
+#include "admit.h"
 
 #include "fmgr.h"
 #include "utils/guc.h"
@@ -21,7 +21,8 @@ _PG_init(void)
 	DefineCustomEnumVariable("safebound.estimates", "Which numbers of rows the planner is given.",
 							 "off: its own; bound: row bounds; mean: the geometric mean of both, never above the bound.",
 							 &estimates_mode, ESTIMATES_OFF, estimates_modes, PGC_USERSET, GUC_EXPLAIN, NULL, NULL, NULL);
-	MarkGUCPrefixReserved("safebound");
 	kept_init();
 	planning_init();
+	admit_init();
+	MarkGUCPrefixReserved("safebound");
 }

@@ -67,6 +67,8 @@ extern DegreeList get_list(const char **at, const char *end);
 extern Oid	extension_table(const char *name);
 extern const KeptTable *kept_table(Oid relation);
 extern const KeptPair *kept_pair(const KeptTable *table, AttrNumber joined, AttrNumber filter);
+extern void kept_hold(void);
+extern void kept_release(void);
 extern void kept_free_dropped(void);
 extern void kept_init(void);
 
