@@ -1,0 +1,239 @@
+/* The lists of a relation under its own conditions. A condition that isn't understood leaves the list of all rows. */
+#include "statistics.h"
+
+#include "access/stratnum.h"
+#include "nodes/nodeFuncs.h"
+#include "optimizer/optimizer.h"
+#include "utils/array.h"
+#include "utils/lsyscache.h"
+#include "utils/typcache.h"
+
+/* More values than these of IN or = ANY are not looked at. */
+#define MOST_VALUES 1000
+
+typedef struct Conditioned
+{
+	const KeptTable *table;
+	Index		entry;			/* the relation's number in the query */
+	AttrNumber	joined;
+	DegreeList	whole;
+} Conditioned;
+
+static bool list_of_clause(const Conditioned *of, Node *clause, DegreeList *list);
+
+/* The column of this relation that an expression is, below conversions that keep the bytes; 0 where it is none. */
+static AttrNumber
+column_of(const Conditioned *of, Node *node)
+{
+	while (node && IsA(node, RelabelType))
+		node = (Node *) ((RelabelType *) node)->arg;
+	if (node && IsA(node, Var) && ((Var *) node)->varno == (int) of->entry && ((Var *) node)->varlevelsup == 0 && ((Var *) node)->varattno > 0)
+		return ((Var *) node)->varattno;
+	return 0;
+}
+
+/* The family of the operators by which a column's values were told apart, where a clause under `collation` tells the same ones apart;
+   else InvalidOid. */
+Oid
+equality_family(const KeptTable *table, AttrNumber column, Oid collation)
+{
+	Oid			type,
+				own;
+	int32		typmod;
+
+	get_atttypetypmodcoll(table->relation, column, &type, &typmod, &own);
+	if (collation != own && OidIsValid(collation) && OidIsValid(own) &&
+		!(get_collation_isdeterministic(collation) && get_collation_isdeterministic(own)))
+		return InvalidOid;
+	return lookup_type_cache(type, TYPECACHE_BTREE_OPFAMILY)->btree_opf;
+}
+
+/* Whether an operator is the equality by which the column's values were told apart. */
+bool
+is_equality(const KeptTable *table, AttrNumber column, Oid operator, Oid collation)
+{
+	Oid			family = equality_family(table, column, collation);
+
+	return OidIsValid(family) && get_op_opfamily_strategy(operator, family) == BTEqualStrategyNumber;
+}
+
+static const KeptList *
+list_of_kind(const KeptPair *pair, ListKind kind)
+{
+	for (int i = 0; i < pair->length; i++)
+		if (pair->lists[i].kind == kind)
+			return &pair->lists[i];
+	return NULL;
+}
+
+/* The list of a value: its own where it is common, else the one for all others. */
+static const KeptList *
+list_of_value(const KeptPair *pair, FmgrInfo *equal, Oid collation, bool column_left, Datum value)
+{
+	for (int i = 0; i < pair->length; i++)
+	{
+		const KeptList *kept = &pair->lists[i];
+
+		if (kept->kind == LIST_VALUE &&
+			DatumGetBool(FunctionCall2Coll(equal, collation, column_left ? kept->value : value, column_left ? value : kept->value)))
+			return kept;
+	}
+	return list_of_kind(pair, LIST_OTHER);
+}
+
+static bool
+list_of_equality(const Conditioned *of, OpExpr *clause, DegreeList *list)
+{
+	Node	   *left = linitial(clause->args);
+	Node	   *right = lsecond(clause->args);
+	bool		column_left = column_of(of, left) != 0;
+	AttrNumber	column = column_left ? column_of(of, left) : column_of(of, right);
+	Node	   *other = column_left ? right : left;
+	const KeptPair *pair = column ? kept_pair(of->table, of->joined, column) : NULL;
+	const KeptList *kept;
+	FmgrInfo	equal;
+
+	if (pair == NULL || !is_equality(of->table, column, clause->opno, clause->inputcollid))
+		return false;
+	while (IsA(other, RelabelType))
+		other = (Node *) ((RelabelType *) other)->arg;
+	fmgr_info(get_opcode(clause->opno), &equal);
+	if (contain_var_clause(other) || contain_volatile_functions(other))
+		return false;
+	if (!IsA(other, Const))
+		kept = list_of_kind(pair, LIST_ANY);
+	else if (((Const *) other)->constisnull)
+		return false;
+	else
+		kept = list_of_value(pair, &equal, clause->inputcollid, column_left, ((Const *) other)->constvalue);
+	if (kept == NULL)
+		return false;
+	*list = kept->list;
+	return true;
+}
+
+/* The sum of the lists of the values of an array: a common value counts once, others each. */
+static bool
+sum_of_values(const KeptPair *pair, ScalarArrayOpExpr *clause, ArrayType *array, DegreeList *list)
+{
+	Oid			type = ARR_ELEMTYPE(array);
+	bool	   *used = palloc0((pair->length + 1) * sizeof(bool));
+	int16		length;
+	bool		by_value,
+			   *nulls;
+	char		align;
+	Datum	   *values;
+	int			count;
+	FmgrInfo	equal;
+
+	get_typlenbyvalalign(type, &length, &by_value, &align);
+	deconstruct_array(array, type, length, by_value, align, &values, &nulls, &count);
+	fmgr_info(get_opcode(clause->opno), &equal);
+	*list = (DegreeList) {0};
+	if (count > MOST_VALUES)
+		return false;
+	for (int i = 0; i < count; i++)
+	{
+		const KeptList *kept = nulls[i] ? NULL : list_of_value(pair, &equal, clause->inputcollid, true, values[i]);
+
+		if (kept == NULL || used[kept - pair->lists])
+			continue;
+		used[kept - pair->lists] = kept->kind == LIST_VALUE;
+		*list = summed(*list, kept->list);
+	}
+	return true;
+}
+
+static bool
+list_of_array(const Conditioned *of, ScalarArrayOpExpr *clause, DegreeList *list)
+{
+	AttrNumber	column = column_of(of, linitial(clause->args));
+	Node	   *values = lsecond(clause->args);
+	const KeptPair *pair = column ? kept_pair(of->table, of->joined, column) : NULL;
+
+	while (IsA(values, RelabelType))
+		values = (Node *) ((RelabelType *) values)->arg;
+	if (pair == NULL || !clause->useOr || !is_equality(of->table, column, clause->opno, clause->inputcollid))
+		return false;
+	if (!IsA(values, Const) || ((Const *) values)->constisnull)
+		return false;
+	return sum_of_values(pair, clause, DatumGetArrayTypeP(((Const *) values)->constvalue), list);
+}
+
+static bool
+list_of_null_test(const Conditioned *of, NullTest *test, DegreeList *list)
+{
+	AttrNumber	column = column_of(of, (Node *) test->arg);
+	const KeptPair *pair = column ? kept_pair(of->table, of->joined, column) : NULL;
+	const KeptList *kept = pair && test->nulltesttype == IS_NULL && !test->argisrow ? list_of_kind(pair, LIST_NULL) : NULL;
+
+	if (kept != NULL)
+		*list = kept->list;
+	return kept != NULL;
+}
+
+/* AND: the lesser of what is understood. */
+static bool
+list_of_all(const Conditioned *of, List *clauses, DegreeList *list)
+{
+	bool		any = false;
+	ListCell   *cell;
+
+	foreach(cell, clauses)
+	{
+		DegreeList	one;
+
+		if (!list_of_clause(of, lfirst(cell), &one))
+			continue;
+		*list = any ? lesser(*list, one) : one;
+		any = true;
+	}
+	return any;
+}
+
+/* OR: the sum, where each side is understood. */
+static bool
+list_of_any(const Conditioned *of, List *clauses, DegreeList *list)
+{
+	ListCell   *cell;
+
+	*list = (DegreeList) {0};
+	foreach(cell, clauses)
+	{
+		DegreeList	one;
+
+		if (!list_of_clause(of, lfirst(cell), &one))
+			return false;
+		*list = summed(*list, one);
+	}
+	return true;
+}
+
+static bool
+list_of_clause(const Conditioned *of, Node *clause, DegreeList *list)
+{
+	if (IsA(clause, RestrictInfo))
+		clause = (Node *) ((RestrictInfo *) clause)->clause;
+	if (is_andclause(clause))
+		return list_of_all(of, ((BoolExpr *) clause)->args, list);
+	if (is_orclause(clause))
+		return list_of_any(of, ((BoolExpr *) clause)->args, list);
+	if (IsA(clause, OpExpr) && list_length(((OpExpr *) clause)->args) == 2)
+		return list_of_equality(of, (OpExpr *) clause, list);
+	if (IsA(clause, ScalarArrayOpExpr))
+		return list_of_array(of, (ScalarArrayOpExpr *) clause, list);
+	if (IsA(clause, NullTest))
+		return list_of_null_test(of, (NullTest *) clause, list);
+	return false;
+}
+
+/* The list of a joined column over the rows that pass the relation's own conditions; with joined 0 only its rows count. */
+DegreeList
+list_under(const KeptTable *table, RelOptInfo *rel, AttrNumber joined)
+{
+	const KeptPair *all = kept_pair(table, joined, 0);
+	Conditioned of = {table, rel->relid, joined, all->lists[0].list};
+	DegreeList	list;
+
+	return list_of_all(&of, rel->baserestrictinfo, &list) ? lesser(of.whole, list) : of.whole;
+}

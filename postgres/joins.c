@@ -1,0 +1,328 @@
+/* Row bounds of sets of relations and of joins, outer and semi-joins among them, by the library. */
+#include "planning.h"
+
+#include "catalog/pg_class.h"
+#include "nodes/nodeFuncs.h"
+#include "optimizer/optimizer.h"
+#include "optimizer/paths.h"
+#include "utils/lsyscache.h"
+
+/* Of more outer and semi-joins in one join nothing is bounded: the ways in which their sides may be missing double with each. */
+#define MOST_SPECIAL_JOINS 6
+
+static Var *
+var_of(Expr *expression)
+{
+	while (expression && IsA(expression, RelabelType))
+		expression = ((RelabelType *) expression)->arg;
+	if (expression && IsA(expression, Var) && ((Var *) expression)->varlevelsup == 0 && ((Var *) expression)->varattno > 0)
+		return (Var *) expression;
+	return NULL;
+}
+
+static Entry *
+entry_of(BoundedQuery *query, int relid)
+{
+	return relid > 0 && relid < query->root->simple_rel_array_size && query->entries[relid].table ? &query->entries[relid] : NULL;
+}
+
+/* The number of a joined column, which is added where it is new; -1 where no list of it is kept. */
+static int
+joined_column(BoundedQuery *query, Var *var)
+{
+	Entry	   *entry = entry_of(query, var->varno);
+
+	if (entry == NULL || kept_pair(entry->table, var->varattno, 0) == NULL)
+		return -1;
+	for (int i = 0; i < query->columns_length; i++)
+		if (query->columns[i].relid == (Index) var->varno && query->columns[i].number == var->varattno)
+			return i;
+	if (query->columns_length == query->columns_capacity)
+		query->columns = repalloc(query->columns, (query->columns_capacity *= 2) * sizeof(JoinedColumn));
+	query->columns[query->columns_length] = (JoinedColumn) {
+		.relid = var->varno,
+		.number = var->varattno,
+		.list = list_under(entry->table, entry->rel, var->varattno)
+	};
+	return query->columns_length++;
+}
+
+static void
+add_class(BoundedQuery *query, EquivalenceClass *class)
+{
+	EqualColumns *equal = palloc0(sizeof(EqualColumns));
+	ListCell   *cell;
+
+	equal->columns = palloc((list_length(class->ec_members) + 1) * sizeof(int));
+	foreach(cell, class->ec_members)
+	{
+		EquivalenceMember *member = lfirst(cell);
+		Var		   *var = member->em_is_child || member->em_is_const ? NULL : var_of(member->em_expr);
+		Entry	   *entry = var ? entry_of(query, var->varno) : NULL;
+		int			column;
+
+		if (entry == NULL || !list_member_oid(class->ec_opfamilies, equality_family(entry->table, var->varattno, class->ec_collation)))
+			continue;
+		column = joined_column(query, var);
+		if (column >= 0)
+			equal->columns[equal->length++] = column;
+	}
+	if (equal->length > 1)
+		query->equalities = lappend(query->equalities, equal);
+}
+
+/* A clause that is in no class: one of an outer join's ON. */
+static void
+add_clause(BoundedQuery *query, RestrictInfo *info)
+{
+	OpExpr	   *clause = (OpExpr *) info->clause;
+	Var		   *left = info->can_join && IsA(clause, OpExpr) ? var_of(linitial(clause->args)) : NULL;
+	Var		   *right = left ? var_of(lsecond(clause->args)) : NULL;
+	Entry	   *left_entry = left ? entry_of(query, left->varno) : NULL;
+	Entry	   *right_entry = right ? entry_of(query, right->varno) : NULL;
+	EqualColumns *equal = palloc0(sizeof(EqualColumns));
+
+	if (left_entry == NULL || right_entry == NULL || left->varno == right->varno ||
+		!is_equality(left_entry->table, left->varattno, clause->opno, clause->inputcollid) ||
+		!is_equality(right_entry->table, right->varattno, clause->opno, clause->inputcollid))
+		return;
+	equal->required = info->required_relids;
+	equal->length = 2;
+	equal->columns = palloc(2 * sizeof(int));
+	equal->columns[0] = joined_column(query, left);
+	equal->columns[1] = joined_column(query, right);
+	if (equal->columns[0] >= 0 && equal->columns[1] >= 0)
+		query->equalities = lappend(query->equalities, equal);
+}
+
+/* Each clause stands at both of its relations: it is taken at the first. */
+static void
+add_clauses(BoundedQuery *query, RelOptInfo *rel)
+{
+	ListCell   *cell;
+
+	foreach(cell, rel->joininfo)
+	{
+		RestrictInfo *info = lfirst_node(RestrictInfo, cell);
+
+		if (bms_num_members(info->clause_relids) == 2 && bms_next_member(info->clause_relids, -1) == (int) rel->relid)
+			add_clause(query, info);
+	}
+}
+
+static bool
+can_be_known(PlannerInfo *root, RelOptInfo *rel)
+{
+	RangeTblEntry *entry;
+
+	if (rel == NULL || rel->reloptkind != RELOPT_BASEREL || rel->rtekind != RTE_RELATION || IS_DUMMY_REL(rel))
+		return false;
+	entry = root->simple_rte_array[rel->relid];
+	return (entry->relkind == RELKIND_RELATION || entry->relkind == RELKIND_MATVIEW) && !entry->inh && entry->tablesample == NULL;
+}
+
+BoundedQuery *
+bounded_query(PlannerInfo *root)
+{
+	BoundedQuery *query = palloc0(sizeof(BoundedQuery));
+	ListCell   *cell;
+
+	query->root = root;
+	query->entries = palloc0(root->simple_rel_array_size * sizeof(Entry));
+	query->columns_capacity = 8;
+	query->columns = palloc(query->columns_capacity * sizeof(JoinedColumn));
+	for (int i = 1; i < root->simple_rel_array_size; i++)
+	{
+		RelOptInfo *rel = root->simple_rel_array[i];
+		const KeptTable *table = can_be_known(root, rel) ? kept_table(root->simple_rte_array[i]->relid) : NULL;
+
+		if (table != NULL)
+			query->entries[i] = (Entry) {table, rel, list_under(table, rel, 0).rows};
+	}
+	foreach(cell, root->eq_classes)
+	{
+		EquivalenceClass *class = lfirst(cell);
+
+		if (!class->ec_has_volatile && class->ec_merged == NULL)
+			add_class(query, class);
+	}
+	for (int i = 1; i < root->simple_rel_array_size; i++)
+		if (query->entries[i].table)
+			add_clauses(query, query->entries[i].rel);
+	return query;
+}
+
+/* A call of the library, as its arrays. */
+typedef struct SetCall
+{
+	uint64		rows[SAFEBOUND_MOST_ENTRIES];
+	int			entries;
+	int		   *number;			/* of each relid's entry, -1 where it isn't in the set */
+	safebound_equality equalities[SAFEBOUND_MOST_EQUALITIES];
+	int			equalities_length;
+	bool	   *named;			/* the columns that an equality names */
+} SetCall;
+
+static bool
+add_equality(SetCall *call, BoundedQuery *query, int left, int right)
+{
+	JoinedColumn *one = &query->columns[left];
+	JoinedColumn *other = &query->columns[right];
+
+	if (call->equalities_length == SAFEBOUND_MOST_EQUALITIES)
+		return false;
+	call->equalities[call->equalities_length++] = (safebound_equality) {
+		.left_entry = call->number[one->relid],.left_column = left,
+		.right_entry = call->number[other->relid],.right_column = right
+	};
+	call->named[left] = call->named[right] = true;
+	return true;
+}
+
+/* The equalities of a class within the set: each column with the last one before it that is of another entry. */
+static void
+add_equal_columns(SetCall *call, BoundedQuery *query, const EqualColumns *equal)
+{
+	int			last = -1;
+
+	for (int i = 0; i < equal->length; i++)
+	{
+		int			column = equal->columns[i];
+		Index		relid = query->columns[column].relid;
+
+		if (call->number[relid] < 0 || (last >= 0 && query->columns[last].relid == relid))
+			continue;
+		if (last >= 0)
+			add_equality(call, query, last, column);
+		last = column;
+	}
+}
+
+static uint64
+call_library(SetCall *call, BoundedQuery *query)
+{
+	safebound_list *lists = palloc((query->columns_length + 1) * sizeof(safebound_list));
+	safebound_run *runs;
+	size_t		lists_length = 0;
+	size_t		runs_length = 0;
+	uint64		bound = 0;
+
+	for (int i = 0; i < query->columns_length; i++)
+		runs_length += query->columns[i].list.length;
+	runs = palloc((runs_length + 1) * sizeof(safebound_run));
+	runs_length = 0;
+	for (int i = 0; i < query->columns_length; i++)
+	{
+		DegreeList *list = &query->columns[i].list;
+
+		if (!call->named[i])
+			continue;
+		lists[lists_length++] = (safebound_list) {
+			.entry = call->number[query->columns[i].relid],.column = i,
+			.first = list->length ? runs_length : SAFEBOUND_NO_VALUES,.length = list->length
+		};
+		memcpy(runs + runs_length, list->runs, list->length * sizeof(safebound_run));
+		runs_length += list->length;
+	}
+	library_check(safebound_set_bound(call->rows, call->entries, call->equalities, call->equalities_length, lists, lists_length,
+									  runs, runs_length, (UINT64_C(1) << call->entries) - 1, &bound), bound, "safebound_set_bound");
+	pfree(lists);
+	pfree(runs);
+	return bound;
+}
+
+/* The bound of the inner join of a set of relations. */
+uint64
+bound_of_set(BoundedQuery *query, Relids relids)
+{
+	SetCall		call = {0};
+	int			relid = -1;
+	ListCell   *cell;
+
+	call.number = palloc(query->root->simple_rel_array_size * sizeof(int));
+	for (int i = 0; i < query->root->simple_rel_array_size; i++)
+		call.number[i] = -1;
+	while ((relid = bms_next_member(relids, relid)) >= 0)
+	{
+		Entry	   *entry = entry_of(query, relid);
+
+		if (entry == NULL || call.entries == SAFEBOUND_MOST_ENTRIES)
+			return UNKNOWN;
+		call.number[relid] = call.entries;
+		call.rows[call.entries++] = entry->rows;
+	}
+	if (call.entries <= 1)
+		return call.entries ? call.rows[0] : 1;
+	call.named = palloc0((query->columns_length + 1) * sizeof(bool));
+	foreach(cell, query->equalities)
+	{
+		EqualColumns *equal = lfirst(cell);
+
+		if (bms_is_subset(equal->required, relids))
+			add_equal_columns(&call, query, equal);
+	}
+	return call_library(&call, query);
+}
+
+static uint64
+plus(uint64 one, uint64 other)
+{
+	return one > UNKNOWN - other ? UNKNOWN : one + other;
+}
+
+/* Whether a special join is a part of the join of these relations. */
+static bool
+is_within(SpecialJoinInfo *join, Relids relids)
+{
+	return bms_is_subset(join->min_lefthand, relids) && bms_is_subset(join->min_righthand, relids);
+}
+
+/* A row of a join is a choice of rows of some relations, where a side of an outer join may be missing. So the rows are at most the sum
+   over all ways in which sides may be missing, each an inner join of those that are left. `joins` are still to be looked at, the
+   outermost first, and `present` is what isn't missing yet. */
+static uint64
+bound_of_ways(BoundedQuery *query, Relids present, List *joins)
+{
+	SpecialJoinInfo *join;
+	List	   *rest;
+	Relids		without_right;
+	uint64		less;
+
+	if (joins == NIL)
+		return bound_of_set(query, present);
+	join = llast(joins);
+	rest = list_truncate(list_copy(joins), list_length(joins) - 1);
+	if (!bms_overlap(join->syn_righthand, present))
+		return bound_of_ways(query, present, rest);
+	without_right = bms_difference(present, join->syn_righthand);
+	less = bound_of_ways(query, without_right, rest);
+	switch (join->jointype)
+	{
+		case JOIN_ANTI:
+			return less;
+		case JOIN_SEMI:
+			return Min(less, bound_of_ways(query, present, rest));
+		case JOIN_LEFT:
+			/* Where the left side is missing, a strict condition on it finds no right side. */
+			if (join->lhs_strict && !bms_overlap(join->min_lefthand, present))
+				return less;
+			return plus(less, bound_of_ways(query, present, rest));
+		case JOIN_FULL:
+			return plus(plus(less, bound_of_ways(query, bms_difference(present, join->syn_lefthand), rest)), bound_of_ways(query, present, rest));
+		default:
+			return UNKNOWN;
+	}
+}
+
+/* The bound of a join relation's rows. */
+uint64
+bound_of_join(BoundedQuery *query, Relids relids)
+{
+	List	   *joins = NIL;
+	ListCell   *cell;
+
+	foreach(cell, query->root->join_info_list)
+		if (is_within(lfirst(cell), relids))
+			joins = lappend(joins, lfirst(cell));
+	return list_length(joins) > MOST_SPECIAL_JOINS ? UNKNOWN : bound_of_ways(query, relids, joins);
+}

@@ -1,0 +1,239 @@
+/* The backend's memory of statistics: read when a table is first planned with, and dropped when the table changes its definition or
+   is kept anew. */
+#include "statistics.h"
+
+#include "access/genam.h"
+#include "access/htup_details.h"
+#include "access/table.h"
+#include "catalog/namespace.h"
+#include "catalog/pg_type.h"
+#include "utils/builtins.h"
+#include "utils/datum.h"
+#include "utils/fmgroids.h"
+#include "utils/hsearch.h"
+#include "utils/inval.h"
+#include "utils/lsyscache.h"
+#include "utils/memutils.h"
+#include "utils/rel.h"
+#include "utils/syscache.h"
+
+/* The columns of safebound.kept_lists. */
+enum
+{
+	LISTS_RELATION = 1,
+	LISTS_JOINED,
+	LISTS_FILTER,
+	LISTS_JOINED_TYPE,
+	LISTS_FILTER_TYPE,
+	LISTS_JOINED_COLLATION,
+	LISTS_FILTER_COLLATION,
+	LISTS_BYTES,
+	LISTS_COLUMNS = LISTS_BYTES
+};
+
+static HTAB *tables;
+
+/* Statistics that are no longer true, but that a plan in the making may still point to. */
+static KeptTable *dropped;
+
+/* A table of the extension; InvalidOid where the extension isn't created in this database. */
+Oid
+extension_table(const char *name)
+{
+	Oid			schema = get_namespace_oid("safebound", true);
+
+	return OidIsValid(schema) ? get_relname_relid(name, schema) : InvalidOid;
+}
+
+/* What changed since the statistics were made may have other values: a column of another type or collation. */
+static bool
+same_column(Oid relation, AttrNumber number, Oid type, Oid collation)
+{
+	HeapTuple	tuple;
+	bool		same;
+
+	if (number == 0)
+		return true;
+	tuple = SearchSysCache2(ATTNUM, ObjectIdGetDatum(relation), Int16GetDatum(number));
+	if (!HeapTupleIsValid(tuple))
+		return false;
+	same = ((Form_pg_attribute) GETSTRUCT(tuple))->atttypid == type && ((Form_pg_attribute) GETSTRUCT(tuple))->attcollation == collation;
+	ReleaseSysCache(tuple);
+	return same;
+}
+
+static Datum
+get_value(const char **at, const char *end, Oid type)
+{
+	uint64		size = get_number(at, end);
+	int16		length;
+	bool		by_value;
+	Datum		value;
+
+	get_typlenbyval(type, &length, &by_value);
+	if (by_value)
+		size = sizeof(Datum);
+	if (size > (uint64) (end - *at))
+		ereport(ERROR, (errcode(ERRCODE_DATA_CORRUPTED), errmsg("a kept list ends too early")));
+	if (by_value)
+		memcpy(&value, *at, sizeof(Datum));
+	else
+		value = PointerGetDatum(memcpy(palloc(size), *at, size));
+	*at += size;
+	return value;
+}
+
+static KeptPair
+read_pair(Datum *row)
+{
+	KeptPair	pair = {DatumGetInt16(row[LISTS_JOINED - 1]), DatumGetInt16(row[LISTS_FILTER - 1])};
+	bytea	   *bytes = DatumGetByteaP(row[LISTS_BYTES - 1]);
+	const char *at = VARDATA_ANY(bytes);
+	const char *end = at + VARSIZE_ANY_EXHDR(bytes);
+	int			capacity = 4;
+
+	pair.lists = palloc(capacity * sizeof(KeptList));
+	while (at < end)
+	{
+		KeptList	list = {(ListKind) *at++};
+
+		if (list.kind == LIST_VALUE)
+			list.value = get_value(&at, end, DatumGetObjectId(row[LISTS_FILTER_TYPE - 1]));
+		list.list = get_list(&at, end);
+		if (pair.length == capacity)
+			pair.lists = repalloc(pair.lists, (capacity *= 2) * sizeof(KeptList));
+		pair.lists[pair.length++] = list;
+	}
+	return pair;
+}
+
+static void
+read_table(KeptTable *table, Relation lists)
+{
+	ScanKeyData key;
+	SysScanDesc scan;
+	HeapTuple	tuple;
+	int			capacity = 16;
+
+	table->pairs = palloc(capacity * sizeof(KeptPair));
+	ScanKeyInit(&key, LISTS_RELATION, BTEqualStrategyNumber, F_OIDEQ, ObjectIdGetDatum(table->relation));
+	scan = systable_beginscan(lists, extension_table("kept_lists_pkey"), true, NULL, 1, &key);
+	while (HeapTupleIsValid(tuple = systable_getnext(scan)))
+	{
+		Datum		row[LISTS_COLUMNS];
+		bool		nulls[LISTS_COLUMNS];
+
+		heap_deform_tuple(tuple, RelationGetDescr(lists), row, nulls);
+		if (!same_column(table->relation, DatumGetInt16(row[LISTS_JOINED - 1]), DatumGetObjectId(row[LISTS_JOINED_TYPE - 1]), DatumGetObjectId(row[LISTS_JOINED_COLLATION - 1])) ||
+			!same_column(table->relation, DatumGetInt16(row[LISTS_FILTER - 1]), DatumGetObjectId(row[LISTS_FILTER_TYPE - 1]), DatumGetObjectId(row[LISTS_FILTER_COLLATION - 1])))
+			continue;
+		if (table->length == capacity)
+			table->pairs = repalloc(table->pairs, (capacity *= 2) * sizeof(KeptPair));
+		table->pairs[table->length++] = read_pair(row);
+	}
+	systable_endscan(scan);
+	table->known = kept_pair(table, 0, 0) != NULL;
+}
+
+static KeptTable *
+loaded(Oid relation)
+{
+	Oid			lists_oid = extension_table("kept_lists");
+	MemoryContext context = AllocSetContextCreate(CacheMemoryContext, "safebound statistics", ALLOCSET_SMALL_SIZES);
+	MemoryContext before = MemoryContextSwitchTo(context);
+	KeptTable  *table = palloc0(sizeof(KeptTable));
+
+	table->relation = relation;
+	table->context = context;
+	if (OidIsValid(lists_oid))
+	{
+		Relation	lists = table_open(lists_oid, AccessShareLock);
+
+		read_table(table, lists);
+		table_close(lists, AccessShareLock);
+	}
+	MemoryContextSwitchTo(before);
+	return table;
+}
+
+typedef struct TableEntry
+{
+	Oid			relation;
+	KeptTable  *table;
+} TableEntry;
+
+static void
+drop(KeptTable *table)
+{
+	table->next = dropped;
+	dropped = table;
+}
+
+/* Called where no plan is in the making. */
+void
+kept_free_dropped(void)
+{
+	while (dropped != NULL)
+	{
+		KeptTable  *next = dropped->next;
+
+		MemoryContextDelete(dropped->context);
+		dropped = next;
+	}
+}
+
+/* The statistics of a table, or NULL. What is dropped meanwhile stays until no plan is in the making. */
+const KeptTable *
+kept_table(Oid relation)
+{
+	bool		found;
+	TableEntry *entry = hash_search(tables, &relation, HASH_FIND, &found);
+	KeptTable  *table;
+
+	if (found)
+		return entry->table->known ? entry->table : NULL;
+	table = loaded(relation);
+	entry = hash_search(tables, &relation, HASH_ENTER, &found);
+	if (found)
+		drop(entry->table);
+	entry->table = table;
+	return table->known ? table : NULL;
+}
+
+const KeptPair *
+kept_pair(const KeptTable *table, AttrNumber joined, AttrNumber filter)
+{
+	for (int i = 0; i < table->length; i++)
+		if (table->pairs[i].joined == joined && table->pairs[i].filter == filter)
+			return &table->pairs[i];
+	return NULL;
+}
+
+static void
+drop_entry(TableEntry *entry)
+{
+	drop(entry->table);
+	hash_search(tables, &entry->relation, HASH_REMOVE, NULL);
+}
+
+/* With InvalidOid all tables may have changed. */
+static void
+on_invalidation(Datum argument, Oid relation)
+{
+	HASH_SEQ_STATUS status;
+	TableEntry *entry;
+
+	hash_seq_init(&status, tables);
+	while ((entry = hash_seq_search(&status)) != NULL)
+		if (!OidIsValid(relation) || entry->relation == relation)
+			drop_entry(entry);
+}
+
+void
+kept_init(void)
+{
+	HASHCTL		control = {.keysize = sizeof(Oid), .entrysize = sizeof(TableEntry)};
+
+	tables = hash_create("safebound tables", 64, &control, HASH_ELEM | HASH_BLOBS);
+	CacheRegisterRelcacheCallback(on_invalidation, (Datum) 0);
+}

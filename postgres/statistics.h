@@ -1,0 +1,78 @@
+/* What is kept of tables, and the lists that conditions make of it. */
+#ifndef SAFEBOUND_STATISTICS_H
+#define SAFEBOUND_STATISTICS_H
+
+#include "postgres.h"
+
+#include "lib/stringinfo.h"
+#include "nodes/pathnodes.h"
+#include "safebound.h"
+
+/* A degree list, with a number that its rows are at most. Rows whose joined column is NULL are in `rows` and not in the runs. */
+typedef struct DegreeList
+{
+	uint64		rows;
+	int			length;
+	safebound_run *runs;
+} DegreeList;
+
+/* Which rows a kept list is of. */
+typedef enum ListKind
+{
+	LIST_ALL = 'w',				/* all rows */
+	LIST_VALUE = 'v',			/* one common value of the filter column */
+	LIST_NULL = 'n',			/* the filter column is NULL */
+	LIST_OTHER = 'o',			/* dominates the list of each value that isn't common */
+	LIST_ANY = 'a'				/* dominates the list of each value */
+} ListKind;
+
+typedef struct KeptList
+{
+	ListKind	kind;
+	Datum		value;			/* of LIST_VALUE */
+	DegreeList	list;
+} KeptList;
+
+/* The lists of a joined column by a filter column. joined 0: rows alone; filter 0: all rows, in one list. */
+typedef struct KeptPair
+{
+	AttrNumber	joined;
+	AttrNumber	filter;
+	int			length;
+	KeptList   *lists;
+} KeptPair;
+
+typedef struct KeptTable
+{
+	Oid			relation;
+	bool		known;			/* whether there are statistics that fit the table as it is */
+	MemoryContext context;
+	struct KeptTable *next;		/* of those that are dropped */
+	int			length;
+	KeptPair   *pairs;
+} KeptTable;
+
+/* lists.c: lists and their bytes. All of these allocate in the current context. */
+extern void library_check(safebound_status status, uint64 detail, const char *call);
+extern DegreeList degrees_of(const uint64 *keys, size_t length, uint64 rows);
+extern DegreeList compressed(DegreeList list, int accuracy);
+extern DegreeList summed(DegreeList one, DegreeList other);
+extern DegreeList lesser(DegreeList one, DegreeList other);
+extern void put_number(StringInfo into, uint64 number);
+extern void put_list(StringInfo into, const DegreeList *list);
+extern uint64 get_number(const char **at, const char *end);
+extern DegreeList get_list(const char **at, const char *end);
+
+/* kept.c: the backend's memory of statistics. */
+extern Oid	extension_table(const char *name);
+extern const KeptTable *kept_table(Oid relation);
+extern const KeptPair *kept_pair(const KeptTable *table, AttrNumber joined, AttrNumber filter);
+extern void kept_free_dropped(void);
+extern void kept_init(void);
+
+/* conditions.c: lists under a relation's own conditions. */
+extern Oid	equality_family(const KeptTable *table, AttrNumber column, Oid collation);
+extern bool is_equality(const KeptTable *table, AttrNumber column, Oid operator, Oid collation);
+extern DegreeList list_under(const KeptTable *table, RelOptInfo *rel, AttrNumber joined);
+
+#endif

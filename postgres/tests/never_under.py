@@ -1,0 +1,167 @@
+"""Random queries over random tables: no scan and no join of a plan has more rows than its bound.
+
+    postgres/tests/never_under.py URL [SEED [TABLES [QUERIES]]]
+
+The server at URL has the extension installed. For each of TABLES sets of tables QUERIES queries are planned with
+safebound.estimates = bound and run by EXPLAIN ANALYZE, which counts the rows of each node.
+"""
+
+from __future__ import annotations
+
+import json
+import random
+import sys
+
+import psycopg
+
+# Types whose values compare across columns, with a text for a small number.
+TYPES = {
+    "integer": "{n}",
+    "bigint": "{n}",
+    "numeric": "{n}.{zeros}",
+    "text": "'v{n}'",
+    'text COLLATE "C"': "'v{n}'",
+    "caseless": "'{case}{n}'",
+    "varchar(9)": "'v{n}'",
+    "small": "{n}",
+}
+COMPARABLE = [["integer", "bigint", "small"], ["text", "varchar(9)"], ['text COLLATE "C"'], ["caseless"], ["numeric"]]
+JOINS = ("Nested Loop", "Hash Join", "Merge Join")
+PRELUDE = """
+CREATE EXTENSION IF NOT EXISTS safebound;
+CREATE COLLATION IF NOT EXISTS caseless (provider = icu, locale = 'und-u-ks-level2', deterministic = false);
+DO $$ BEGIN CREATE DOMAIN caseless AS text COLLATE caseless; EXCEPTION WHEN duplicate_object THEN NULL; END $$;
+DO $$ BEGIN CREATE DOMAIN small AS integer CHECK (VALUE < 100000); EXCEPTION WHEN duplicate_object THEN NULL; END $$;
+"""
+
+
+def value(r: random.Random, of: str, distinct: int, null: float) -> str:
+    if r.random() < null:
+        return "NULL"
+    skewed = min(r.randrange(distinct), r.randrange(distinct))
+    return TYPES[of].format(n=skewed, zeros="0" * r.randint(1, 3), case=r.choice("vV"))
+
+
+class Table:
+    def __init__(self, r: random.Random, name: str) -> None:
+        self.name, self.r = name, r
+        family = r.choice(COMPARABLE)
+        self.columns = [r.choice(family if r.random() < 0.5 else r.choice(COMPARABLE)) for _ in range(r.randint(2, 4))]
+        self.distinct = [r.choice([1, 3, 8, 40]) for _ in self.columns]
+
+    def make(self, connection: psycopg.Connection) -> None:
+        r = self.r
+        connection.execute(f"DROP TABLE IF EXISTS {self.name} CASCADE")
+        connection.execute(f"CREATE TABLE {self.name} ({', '.join(f'c{i} {of}' for i, of in enumerate(self.columns))})")
+        rows = r.choice([0, 1, 10, 40, 120])
+        nulls = [r.choice([0, 0, 0.2, 0.9]) for _ in self.columns]
+        if rows:
+            tuples = (f"({', '.join(value(r, of, d, n) for of, d, n in zip(self.columns, self.distinct, nulls))})" for _ in range(rows))
+            connection.execute(f"INSERT INTO {self.name} VALUES {', '.join(tuples)}")
+        if r.random() < 0.5:
+            connection.execute(f"CREATE INDEX ON {self.name} (c{r.randrange(len(self.columns))})")
+        connection.execute(f"SELECT safebound.keep('{self.name}', common => {r.choice([0, 1, 3, 100])}, accuracy => {r.choice([1, 2, 8, 64])})")
+
+
+def condition(r: random.Random, alias: str, table: Table) -> str:
+    i = r.randrange(len(table.columns))
+    column, one = f"{alias}.c{i}", lambda: value(r, table.columns[i], table.distinct[i] + 2, 0)
+    kind = r.randrange(8)
+    if kind == 0:
+        return f"{column} IN ({', '.join(one() for _ in range(r.randint(1, 4)))})"
+    if kind == 1:
+        return f"{column} IS {r.choice(['', 'NOT '])}NULL"
+    if kind == 2:
+        return f"({column} = {one()} OR {condition(r, alias, table)})"
+    if kind == 3:
+        return f"{column} {r.choice(['<', '>=', '<>'])} {one()}"
+    if kind == 4:
+        literal = one()
+        return f"{column} = (SELECT {literal}::{'text' if literal.startswith(chr(39)) else 'numeric'})"
+    return f"{column} = {one()}"
+
+
+def equality(r: random.Random, left: tuple[str, Table], right: tuple[str, Table]) -> str:
+    pairs = [
+        (i, j)
+        for i, a in enumerate(left[1].columns)
+        for j, b in enumerate(right[1].columns)
+        if any(a in family and b in family for family in COMPARABLE)
+    ]
+    if not pairs:
+        return "true"
+    return " AND ".join(f"{left[0]}.c{i} = {right[0]}.c{j}" for i, j in r.sample(pairs, min(len(pairs), r.choice([1, 1, 2]))))
+
+
+def query(r: random.Random, tables: list[Table]) -> str:
+    entries = [(f"t{i}", r.choice(tables)) for i in range(r.randint(1, 5))]
+    text, wheres, visible = f"{entries[0][1].name} t0", [], [entries[0]]
+    for entry in entries[1:]:
+        on = equality(r, r.choice(visible), entry)
+        kind = r.choice(["JOIN", "JOIN", "JOIN", "LEFT JOIN", "RIGHT JOIN", "FULL JOIN", "EXISTS", "NOT EXISTS"])
+        if kind.endswith("EXISTS"):
+            more = f" AND {condition(r, *entry)}" if r.random() < 0.3 else ""
+            wheres.append(f"{kind} (SELECT FROM {entry[1].name} {entry[0]} WHERE {on}{more})")
+            continue
+        if kind != "FULL JOIN" and r.random() < 0.3:
+            on += f" AND {condition(r, *r.choice([entry, r.choice(visible)]))}"
+        text = f"({text} {kind} {entry[1].name} {entry[0]} ON {on})"
+        visible.append(entry)
+    wheres += [condition(r, *r.choice(visible)) for _ in range(r.choice([0, 1, 1, 2]))]
+    return f"SELECT 1 FROM {text}" + (f" WHERE {' AND '.join(wheres)}" if wheres else "")
+
+
+def nodes(plan: dict, repeated: bool = False):
+    """The scans and joins whose bound stands for all of their rows: not those that are repeated for each row of others."""
+    kind = plan["Node Type"]
+    if not repeated and plan["Actual Loops"] == 1 and kind in (*JOINS, "Seq Scan"):
+        yield plan
+    for below in plan.get("Plans", []):
+        yield from nodes(below, repeated or (kind == "Nested Loop" and below["Parent Relationship"] == "Inner"))
+
+
+def main() -> int:
+    url = sys.argv[1]
+    numbers = [int(word) for word in sys.argv[2:5]]
+    seed, sets, queries = numbers + [1, 20, 40][len(numbers) :]
+    r = random.Random(seed)
+    under = joins = scans = failed = 0
+    tight: list[float] = []
+    with psycopg.connect(url, autocommit=True) as connection:
+        connection.execute(PRELUDE)
+        connection.execute("SET jit = off; SET max_parallel_workers_per_gather = 0; SET statement_timeout = '1s'")
+        for _ in range(sets):
+            tables = [Table(r, f"nu{i}") for i in range(3)]
+            for table in tables:
+                table.make(connection)
+            connection.execute("ANALYZE nu0, nu1, nu2; SET safebound.estimates = bound")
+            for method in ("hashjoin", "mergejoin", "nestloop"):
+                connection.execute(f"SET enable_{method} = {r.choice(['on', 'on', 'off'])}")
+            for _ in range(queries):
+                text = query(r, tables)
+                try:
+                    told = connection.execute(f"EXPLAIN (ANALYZE, TIMING OFF, FORMAT JSON) {text}").fetchone()[0]
+                except (psycopg.errors.QueryCanceled, psycopg.errors.FeatureNotSupported, psycopg.errors.UndefinedFunction, psycopg.errors.DatatypeMismatch) as error:
+                    failed += 1
+                    if "-v" in sys.argv:
+                        print(text, error)
+                    continue
+                for node in nodes(told[0]["Plan"]):
+                    if node["Node Type"] in JOINS:
+                        joins += 1
+                        tight.append(node["Plan Rows"] / max(1, node["Actual Rows"]))
+                    else:
+                        scans += 1
+                    if node["Actual Rows"] > node["Plan Rows"]:
+                        under += 1
+                        if "-v" in sys.argv:
+                            print(text, json.dumps(told, indent=1))
+                            return 1
+                        print(f"seed {seed}: {node['Node Type']} has {node['Actual Rows']} rows, bound {node['Plan Rows']}: {text}")
+    tight.sort()
+    print(f"{sets * queries - failed} queries ({failed} not run), {scans} scans and {joins} joins, {under} under; bound by rows of a join: median {tight[len(tight) // 2]:.2f}, 90th percentile {tight[len(tight) * 9 // 10]:.1f}")
+    return 1 if under or not joins else 0
+
+
+if __name__ == "__main__":
+    sys.exit(main())
