@@ -151,7 +151,7 @@ refuse_unbounded(PlannerInfo *root, List *join)
 			(errcode(ERRCODE_UNBOUNDED),
 			 errmsg("a join of this query has no bound, and safebound.unbounded is refuse"),
 			 join ? errdetail("It joins %s.", names_of(root, join)) : 0,
-			 errhint("Only joins of at most %d tables of which statistics are kept have a bound: safebound.keep keeps them, and the view safebound.kept says of which tables they are known.", SAFEBOUND_MOST_ENTRIES)));
+			 errhint("Only joins of at most %d tables that are watched have a bound: safebound.watch watches them, and the view safebound.kept says which are.", SAFEBOUND_MOST_ENTRIES)));
 }
 
 /* What would help: an order by bounds, where the planner didn't look for one. */
@@ -211,15 +211,18 @@ admit(QueryDesc *query)
 {
 	MemoryContext own = AllocSetContextCreate(CurrentMemoryContext, "safebound admission", ALLOCSET_DEFAULT_SIZES);
 	MemoryContext before = MemoryContextSwitchTo(own);
+	bool		fresh_before = kept_fresh_only;
 
 	PushActiveSnapshot(query->snapshot);
 	kept_hold();
+	kept_fresh_only = true;
 	PG_TRY();
 	{
 		check_plan(query->plannedstmt, query->params);
 	}
 	PG_FINALLY();
 	{
+		kept_fresh_only = fresh_before;
 		kept_release();
 	}
 	PG_END_TRY();

@@ -235,5 +235,6 @@ list_under(const KeptTable *table, RelOptInfo *rel, AttrNumber joined)
 	Conditioned of = {table, rel->relid, joined, all->lists[0].list};
 	DegreeList	list;
 
-	return list_of_all(&of, rel->baserestrictinfo, &list) ? lesser(of.whole, list) : of.whole;
+	list = list_of_all(&of, rel->baserestrictinfo, &list) ? lesser(of.whole, list) : of.whole;
+	return with_deltas(table, joined, list);
 }

@@ -1,7 +1,7 @@
 /* safebound.keep and safebound.forget: the statistics of a table, made by sorting each column once.
 
    Equal values of a column get one code, in the order of the column's sort, and 0 is NULL. All lists are counted over codes. */
-#include "statistics.h"
+#include "watch.h"
 
 #include "access/htup_details.h"
 #include "access/relation.h"
@@ -76,7 +76,7 @@ numbered_values(Form_pg_attribute attribute)
 }
 
 /* Which values are equal doesn't depend on the order, so what is equal by its bytes is sorted by them, which is faster. */
-static Oid
+Oid
 sort_collation(Oid collation)
 {
 	return OidIsValid(collation) && get_collation_isdeterministic(collation) ? C_COLLATION_OID : collation;
@@ -344,7 +344,7 @@ owner_of(Oid relation)
 }
 
 /* Changes the extension's own tables, as their owner: who keeps a table has no rights on them. */
-static uint64
+uint64
 write_own(const char *statement, int length, Oid *types, Datum *values)
 {
 	Oid			user;
@@ -467,7 +467,7 @@ has_order(Form_pg_attribute attribute)
 static Bitmapset *
 named_columns(Relation relation, ArrayType *names)
 {
-	Bitmapset  *numbers = NULL;
+	Bitmapset  *numbers = bms_make_singleton(0);	/* no names aren't all names */
 	Datum	   *values;
 	bool	   *nulls;
 	int			length;
@@ -500,11 +500,11 @@ all_columns(Relation relation)
 }
 
 static void
-choose_columns(Making *making, ArrayType *joined, ArrayType *filters)
+choose_columns(Making *making, Bitmapset *joined, Bitmapset *filters)
 {
 	Bitmapset  *all = all_columns(making->relation);
-	Bitmapset  *joins = joined ? named_columns(making->relation, joined) : all;
-	Bitmapset  *conditions = filters ? named_columns(making->relation, filters) : all;
+	Bitmapset  *joins = joined ? joined : all;
+	Bitmapset  *conditions = filters ? filters : all;
 	int			number = -1;
 
 	making->columns = palloc0(sizeof(Column) * (bms_num_members(all) + 1));
@@ -519,7 +519,7 @@ choose_columns(Making *making, ArrayType *joined, ArrayType *filters)
 }
 
 /* Only who owns a table keeps it. */
-static Relation
+Relation
 open_owned(Oid relation)
 {
 	Relation	opened = relation_open(relation, AccessShareLock);
@@ -559,24 +559,50 @@ within(int value, int least, int most, const char *name)
 	return value;
 }
 
+/* Counts a table in a new snapshot. No columns: all that have an order. */
+int64
+keep_table(Oid relation, Bitmapset *joined, Bitmapset *filters, int most_common, int accuracy, bool folding)
+{
+	Making		making = {.most_common = most_common,.accuracy = accuracy,.relation = open_owned(relation)};
+	bool		followed;
+	Seen		before;
+
+	SPI_connect();
+	choose_columns(&making, joined, filters);
+	begin_counting(making.relation, folding, &before, &followed);
+	forget_table(relation);
+	keep_columns(&making);
+	save_table(&making);
+	end_counting(&before, followed);
+	SPI_finish();
+	relation_close(making.relation, NoLock);
+	return making.lists;
+}
+
+static Bitmapset *
+named_or_all(Oid relation, FunctionCallInfo fcinfo, int argument)
+{
+	Relation	opened;
+	Bitmapset  *numbers;
+
+	if (PG_ARGISNULL(argument))
+		return NULL;
+	opened = open_owned(relation);
+	numbers = named_columns(opened, PG_GETARG_ARRAYTYPE_P(argument));
+	relation_close(opened, NoLock);
+	return numbers;
+}
+
 Datum
 safebound_keep(PG_FUNCTION_ARGS)
 {
-	Making		making = {0};
+	Oid			relation = PG_GETARG_OID(0);
 
 	if (PG_ARGISNULL(0) || PG_ARGISNULL(3) || PG_ARGISNULL(4))
 		PG_RETURN_NULL();
-	making.most_common = within(PG_GETARG_INT32(3), 0, 1000, "common");
-	making.accuracy = within(PG_GETARG_INT32(4), 1, SAFEBOUND_MOST_ACCURACY, "accuracy");
-	making.relation = open_owned(PG_GETARG_OID(0));
-	choose_columns(&making, PG_ARGISNULL(1) ? NULL : PG_GETARG_ARRAYTYPE_P(1), PG_ARGISNULL(2) ? NULL : PG_GETARG_ARRAYTYPE_P(2));
-	SPI_connect();
-	forget_table(PG_GETARG_OID(0));
-	keep_columns(&making);
-	save_table(&making);
-	SPI_finish();
-	relation_close(making.relation, NoLock);
-	PG_RETURN_INT64(making.lists);
+	PG_RETURN_INT64(keep_table(relation, named_or_all(relation, fcinfo, 1), named_or_all(relation, fcinfo, 2),
+							   within(PG_GETARG_INT32(3), 0, 1000, "common"),
+							   within(PG_GETARG_INT32(4), 1, SAFEBOUND_MOST_ACCURACY, "accuracy"), false));
 }
 
 Datum

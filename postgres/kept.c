@@ -1,6 +1,6 @@
 /* The backend's memory of statistics: read when a table is first planned with, and dropped when the table changes its definition or
    is kept anew. */
-#include "statistics.h"
+#include "watch.h"
 
 #include "access/genam.h"
 #include "access/htup_details.h"
@@ -15,6 +15,7 @@
 #include "utils/lsyscache.h"
 #include "utils/memutils.h"
 #include "utils/rel.h"
+#include "utils/snapmgr.h"
 #include "utils/syscache.h"
 
 /* The columns of safebound.kept_lists. */
@@ -35,6 +36,7 @@ static HTAB *tables;
 
 /* Statistics that are no longer true, but that a plan in the making may still point to. */
 static KeptTable *dropped;
+static List *dropped_deltas;
 
 /* A table of the extension; InvalidOid where the extension isn't created in this database. */
 Oid
@@ -108,7 +110,7 @@ read_pair(Datum *row)
 }
 
 static void
-read_table(KeptTable *table, Relation lists)
+read_table(KeptTable *table, Relation lists, Snapshot snapshot)
 {
 	ScanKeyData key;
 	SysScanDesc scan;
@@ -117,7 +119,7 @@ read_table(KeptTable *table, Relation lists)
 
 	table->pairs = palloc(capacity * sizeof(KeptPair));
 	ScanKeyInit(&key, LISTS_RELATION, BTEqualStrategyNumber, F_OIDEQ, ObjectIdGetDatum(table->relation));
-	scan = systable_beginscan(lists, extension_table("kept_lists_pkey"), true, NULL, 1, &key);
+	scan = systable_beginscan(lists, extension_table("kept_lists_pkey"), true, snapshot, 1, &key);
 	while (HeapTupleIsValid(tuple = systable_getnext(scan)))
 	{
 		Datum		row[LISTS_COLUMNS];
@@ -136,20 +138,21 @@ read_table(KeptTable *table, Relation lists)
 }
 
 static KeptTable *
-loaded(Oid relation)
+loaded(const Seen *seen, Snapshot snapshot)
 {
 	Oid			lists_oid = extension_table("kept_lists");
 	MemoryContext context = AllocSetContextCreate(CacheMemoryContext, "safebound statistics", ALLOCSET_SMALL_SIZES);
 	MemoryContext before = MemoryContextSwitchTo(context);
 	KeptTable  *table = palloc0(sizeof(KeptTable));
 
-	table->relation = relation;
+	table->relation = seen->relation;
+	table->version = seen->version;
 	table->context = context;
 	if (OidIsValid(lists_oid))
 	{
 		Relation	lists = table_open(lists_oid, AccessShareLock);
 
-		read_table(table, lists);
+		read_table(table, lists, snapshot);
 		table_close(lists, AccessShareLock);
 	}
 	MemoryContextSwitchTo(before);
@@ -163,8 +166,19 @@ typedef struct TableEntry
 } TableEntry;
 
 static void
+drop_deltas(Deltas *deltas)
+{
+	if (deltas != NULL)
+		dropped_deltas = lappend(dropped_deltas, deltas);
+}
+
+static void
 drop(KeptTable *table)
 {
+	MemoryContext before = MemoryContextSwitchTo(CacheMemoryContext);
+
+	drop_deltas(table->deltas);
+	MemoryContextSwitchTo(before);
 	table->next = dropped;
 	dropped = table;
 }
@@ -195,24 +209,66 @@ kept_free_dropped(void)
 		MemoryContextDelete(dropped->context);
 		dropped = next;
 	}
+	while (dropped_deltas != NIL && holders == 0)
+	{
+		MemoryContextDelete(((Deltas *) linitial(dropped_deltas))->context);
+		dropped_deltas = list_delete_first(dropped_deltas);
+	}
 }
 
-/* The statistics of a table, or NULL. What is dropped meanwhile stays until no plan is in the making. */
-const KeptTable *
-kept_table(Oid relation)
+static KeptTable *
+table_of_version(const Seen *seen, Snapshot snapshot)
 {
 	bool		found;
-	TableEntry *entry = hash_search(tables, &relation, HASH_FIND, &found);
+	TableEntry *entry = hash_search(tables, &seen->relation, HASH_FIND, &found);
 	KeptTable  *table;
 
-	if (found)
-		return entry->table->known ? entry->table : NULL;
-	table = loaded(relation);
-	entry = hash_search(tables, &relation, HASH_ENTER, &found);
+	if (found && entry->table->version == seen->version)
+		return entry->table;
+	table = loaded(seen, snapshot);
+	entry = hash_search(tables, &seen->relation, HASH_ENTER, &found);
 	if (found)
 		drop(entry->table);
 	entry->table = table;
-	return table->known ? table : NULL;
+	return table;
+}
+
+static void
+take_deltas(KeptTable *table, const Seen *seen, Snapshot snapshot)
+{
+	Deltas	   *deltas = see_deltas(seen, snapshot, table->deltas);
+	MemoryContext before = MemoryContextSwitchTo(CacheMemoryContext);
+
+	if (deltas != table->deltas)
+		drop_deltas(table->deltas);
+	table->deltas = deltas;
+	MemoryContextSwitchTo(before);
+}
+
+bool		kept_fresh_only = false;
+
+/* The statistics of a table as the active snapshot sees them, or NULL. What is dropped meanwhile stays until no plan is in the making.
+   The memory of them is of one version, and a snapshot may see another one. */
+const KeptTable *
+kept_table(Oid relation)
+{
+	Snapshot	snapshot = ActiveSnapshotSet() ? GetActiveSnapshot() : GetTransactionSnapshot();
+	KeptTable  *table,
+			   *view;
+	Seen		seen;
+
+	if (!see_table(relation, snapshot, &seen) || (kept_fresh_only && seen.sources == NIL) || is_writing(&seen))
+		return NULL;
+	table = table_of_version(&seen, snapshot);
+	if (!table->known)
+		return NULL;
+	if (seen.sources != NIL)
+		take_deltas(table, &seen, snapshot);
+	if (table->deltas && table->deltas->not_counted)
+		return NULL;
+	view = palloc(sizeof(KeptTable));
+	*view = *table;
+	return view;
 }
 
 const KeptPair *

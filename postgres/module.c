@@ -1,5 +1,6 @@
 /* The extension's module: its settings, and its parts begin. */
 #include "admit.h"
+#include "watch.h"
 
 #include "fmgr.h"
 #include "utils/guc.h"
@@ -24,5 +25,7 @@ _PG_init(void)
 	kept_init();
 	planning_init();
 	admit_init();
+	followed_init();
+	watch_init();
 	MarkGUCPrefixReserved("safebound");
 }

@@ -7,6 +7,7 @@
 #include "lib/stringinfo.h"
 #include "nodes/pathnodes.h"
 #include "safebound.h"
+#include "utils/relcache.h"
 
 /* A degree list, with a number that its rows are at most. Rows whose joined column is NULL are in `rows` and not in the runs. */
 typedef struct DegreeList
@@ -42,9 +43,13 @@ typedef struct KeptPair
 	KeptList   *lists;
 } KeptPair;
 
+typedef struct Deltas Deltas;
+
 typedef struct KeptTable
 {
 	Oid			relation;
+	int64		version;		/* of the statistics: they are kept anew under another one */
+	Deltas	   *deltas;			/* the rows that came since; NULL where the table isn't watched */
 	bool		known;			/* whether there are statistics that fit the table as it is */
 	MemoryContext context;
 	struct KeptTable *next;		/* of those that are dropped */
@@ -63,10 +68,20 @@ extern void put_list(StringInfo into, const DegreeList *list);
 extern uint64 get_number(const char **at, const char *end);
 extern DegreeList get_list(const char **at, const char *end);
 
+/* keep.c */
+extern Relation open_owned(Oid relation);
+extern Oid	sort_collation(Oid collation);
+extern uint64 write_own(const char *statement, int length, Oid *types, Datum *values);
+extern int64 keep_table(Oid relation, Bitmapset *joined, Bitmapset *filters, int most_common, int accuracy, bool folding);
+
+/* deltas.c: the rows that came. Whatever else answers a list of a table has it go through here. */
+extern DegreeList with_deltas(const KeptTable *table, AttrNumber joined, DegreeList list);
+
 /* kept.c: the backend's memory of statistics. */
 extern Oid	extension_table(const char *name);
 extern const KeptTable *kept_table(Oid relation);
 extern const KeptPair *kept_pair(const KeptTable *table, AttrNumber joined, AttrNumber filter);
+extern bool kept_fresh_only;	/* only tables that are watched are known */
 extern void kept_hold(void);
 extern void kept_release(void);
 extern void kept_free_dropped(void);

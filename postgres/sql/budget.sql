@@ -5,6 +5,11 @@ CREATE TABLE s (x bigint);
 INSERT INTO s VALUES (8), (8), (8), (2), (2), (5), (5), (1);
 CREATE TABLE unknown (x integer);
 SELECT safebound.keep('r', accuracy => 64) > 0 AS r, safebound.keep('s', accuracy => 64) > 0 AS s;
+-- A budget counts on nothing that isn't watched.
+SET safebound.budget = 1000;
+SELECT count(*) FROM r JOIN s USING (x);
+RESET safebound.budget;
+SELECT safebound.watch('r') > 0 AS r, safebound.watch('s') > 0 AS s;
 \set SHOW_CONTEXT never
 SET safebound.budget = 23;
 SELECT count(*) FROM r JOIN s USING (x);

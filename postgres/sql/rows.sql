@@ -1,0 +1,172 @@
+-- Rows that come: `most` says how many rows the bound allows, `known` whether the table is known.
+CREATE FUNCTION most(query text) RETURNS integer LANGUAGE plpgsql SET safebound.estimates = bound AS $$
+DECLARE told json;
+BEGIN
+    EXECUTE 'EXPLAIN (FORMAT JSON) ' || query INTO told;
+    RETURN told->0->'Plan'->>'Plan Rows';
+END $$;
+CREATE FUNCTION known(of regclass) RETURNS boolean LANGUAGE sql AS $$ SELECT k.known AND k.watched FROM safebound.kept k WHERE k."table" = of $$;
+CREATE FUNCTION deltas(of regclass) RETURNS bigint LANGUAGE sql AS $$ SELECT k.deltas FROM safebound.kept k WHERE k."table" = of $$;
+CREATE TABLE r (x integer, c text, other text);
+INSERT INTO r VALUES (8, 'a'), (8, 'a'), (8, 'b'), (2, 'a'), (NULL, 'b');
+CREATE TABLE s (x bigint PRIMARY KEY, note text);
+INSERT INTO s VALUES (8), (2), (1);
+SELECT safebound.keep('r', '{x}', '{c}') > 0 AS r, safebound.keep('s', '{x}', '{}') > 0 AS s;
+SELECT known('r');
+SELECT safebound.watch('r') > 0 AS r, safebound.watch('s') > 0 AS s;
+SELECT known('r'), most('SELECT FROM r'), most('SELECT FROM r JOIN s USING (x)'), most('SELECT FROM r WHERE c = ''a''');
+
+-- INSERT: of the three new rows two have one value. x stood 3 and 1 times, now at most 5 and 2 times.
+INSERT INTO r VALUES (1, 'a'), (1, 'b'), (8, 'c');
+SELECT most('SELECT FROM r') = 8 AS r, most('SELECT FROM r JOIN s USING (x)') = 7 AS joined, most('SELECT FROM r WHERE c = ''a''') = 6 AS a, deltas('r');
+-- UPDATE of a column that isn't kept brings nothing, and of a kept one brings the row under its new values.
+UPDATE r SET other = 'o', c = c;
+SELECT most('SELECT FROM r') = 8 AS unchanged;
+UPDATE r SET c = 'd' WHERE c = 'c';
+SELECT most('SELECT FROM r') = 9 AS changed, deltas('r');
+SELECT safebound.fold('r') > 0 AS folded;
+SELECT most('SELECT FROM r') = 8 AS r, most('SELECT FROM r WHERE c = ''d''') = 1 AS d, deltas('r'), known('r');
+-- COPY, ON CONFLICT, MERGE, a CTE that writes, ON UPDATE CASCADE.
+COPY r (x, c) FROM stdin;
+7	a
+7	b
+\.
+SELECT most('SELECT FROM r') = 10 AS copied;
+INSERT INTO s VALUES (8, 'again'), (9, 'new') ON CONFLICT (x) DO UPDATE SET x = s.x + 100;
+SELECT most('SELECT FROM s') = 3 + 1 + 1 AS on_conflict, deltas('s') = 2 AS both;
+MERGE INTO s USING (VALUES (9), (10)) AS n (x) ON s.x = n.x WHEN MATCHED THEN UPDATE SET x = 11 WHEN NOT MATCHED THEN INSERT (x) VALUES (n.x);
+SELECT most('SELECT FROM s') = 5 + 2 AS merged;
+WITH w AS (INSERT INTO r VALUES (3, 'w') RETURNING x) SELECT count(*) FROM w;
+SELECT most('SELECT FROM r') = 11 AS by_cte;
+CREATE TABLE child (x bigint REFERENCES s ON UPDATE CASCADE);
+INSERT INTO child VALUES (2), (2);
+SELECT safebound.watch('child') > 0 AS child;
+UPDATE s SET x = 200 WHERE x = 2;
+SELECT most('SELECT FROM child') = 2 + 2 AS cascaded;
+-- DELETE and TRUNCATE need nothing.
+DELETE FROM r WHERE x = 7;
+SELECT most('SELECT FROM r') = 11 AS r;
+TRUNCATE child;
+SELECT most('SELECT FROM child') = 4 AS child;
+-- What is rolled back takes its deltas along.
+BEGIN;
+INSERT INTO r VALUES (6, 'z');
+SAVEPOINT one;
+INSERT INTO r VALUES (6, 'z');
+ROLLBACK TO one;
+SELECT most('SELECT FROM r') = 12 AS within;
+ROLLBACK;
+SELECT most('SELECT FROM r') = 11 AS after;
+-- Triggers that fire in a session of a replica.
+SET session_replication_role = replica;
+INSERT INTO r VALUES (6, 'z');
+RESET session_replication_role;
+SELECT most('SELECT FROM r') = 12 AS replica;
+
+-- Queries in the midst of a statement: the table isn't known to them, since they see rows that aren't counted yet.
+SELECT safebound.fold('r') > 0 AS folded;
+CREATE FUNCTION asks() RETURNS trigger LANGUAGE plpgsql AS $$ BEGIN PERFORM count(*) FROM r JOIN s USING (x); RETURN NEW; END $$;
+CREATE TRIGGER asks AFTER INSERT ON r FOR EACH ROW EXECUTE FUNCTION asks();
+SET safebound.budget = 1000000;
+\set SHOW_CONTEXT never
+INSERT INTO r VALUES (6, 'z');
+SELECT count(*) FROM r JOIN s USING (x);
+DROP TRIGGER asks ON r;
+-- A trigger that asks once all rows are counted is answered.
+CREATE TRIGGER z_asks AFTER INSERT ON r FOR EACH STATEMENT EXECUTE FUNCTION asks();
+INSERT INTO r VALUES (6, 'z');
+DROP TRIGGER z_asks ON r;
+RESET safebound.budget;
+SELECT known('r'), deltas('r');
+
+-- What no trigger sees makes the table unknown, until it is watched anew: a trigger that is disabled, also if it is enabled again;
+ALTER TABLE r DISABLE TRIGGER safebound_insert;
+SELECT known('r');
+ALTER TABLE r ENABLE ALWAYS TRIGGER safebound_insert;
+SELECT known('r');
+SELECT safebound.watch('r') > 0 AS watched, known('r');
+ALTER TABLE r ENABLE TRIGGER safebound_insert;
+SELECT known('r');
+-- counted anew without its triggers it isn't watched;
+SELECT safebound.keep('r') > 0 AS kept, known('r');
+SELECT safebound.watch('r') > 0 AS watched, known('r');
+DROP TRIGGER safebound_update ON r;
+SELECT known('r'), safebound.watch('r') > 0 AS watched, known('r');
+-- rows that are written anew, with a type or without;
+ALTER TABLE r ALTER x TYPE integer USING x % 2;
+SELECT known('r'), safebound.watch('r') > 0 AS watched, known('r');
+ALTER TABLE r ALTER x TYPE bigint;
+SELECT known('r'), safebound.watch('r') > 0 AS watched, known('r');
+ALTER TABLE r ADD more integer;
+SELECT known('r') AS "a new column changes nothing";
+-- a table above that brings rows.
+CREATE TABLE above (LIKE r);
+ALTER TABLE r INHERIT above;
+SELECT known('r'), safebound.watch('r') > 0 AS watched, known('r');
+SELECT safebound.fold('r') > 0 AS folded, deltas('r');
+UPDATE above SET c = 'from above';
+SELECT deltas('r'), most('SELECT FROM r') = 2 * (SELECT count(*) FROM r) AS twice;
+ALTER TABLE r NO INHERIT above;
+SELECT known('r'), safebound.watch('r') > 0 AS watched, known('r');
+-- Partitions: rows that are put into the table above, and straight into a partition.
+CREATE TABLE parts (x integer, c text) PARTITION BY RANGE (x);
+CREATE TABLE part_a PARTITION OF parts FOR VALUES FROM (0) TO (100);
+INSERT INTO parts VALUES (1), (2);
+SELECT safebound.watch('part_a') > 0 AS watched;
+INSERT INTO parts VALUES (3);
+INSERT INTO part_a VALUES (4);
+SELECT most('SELECT FROM part_a') = 4 AS part_a;
+CREATE TABLE part_b (x integer, c text);
+SELECT safebound.watch('part_b') > 0 AS watched;
+ALTER TABLE parts ATTACH PARTITION part_b FOR VALUES FROM (100) TO (200);
+SELECT known('part_b'), known('part_a');
+ALTER TABLE parts DETACH PARTITION part_a;
+SELECT known('part_a');
+-- A materialized view, which is refreshed.
+CREATE MATERIALIZED VIEW m AS SELECT * FROM r;
+SELECT safebound.watch('m') > 0 AS watched, known('m');
+REFRESH MATERIALIZED VIEW m;
+SELECT known('m'), safebound.watch('m') > 0 AS watched, known('m');
+-- A table that is dropped and made anew has no statistics, under whatever number.
+CREATE TABLE gone (x integer);
+SELECT safebound.watch('gone') > 0 AS watched;
+SELECT 'gone'::regclass::oid AS gone \gset
+DROP TABLE gone;
+SELECT count(*) FROM safebound.kept_table WHERE relation = :gone;
+SELECT count(*) FROM safebound.kept_lists WHERE relation = :gone;
+-- Who analyzes folds what has a hundred deltas.
+SELECT safebound.fold('s') > 0 AS folded;
+DO $$ BEGIN FOR i IN 1..99 LOOP INSERT INTO s VALUES (1000 + i); END LOOP; END $$;
+ANALYZE s;
+SELECT deltas('s');
+INSERT INTO s VALUES (2000);
+ANALYZE r;
+SELECT deltas('s');
+VACUUM (ANALYZE) s;
+SELECT deltas('s'), most('SELECT FROM s') = (SELECT count(*) FROM s) AS exact;
+-- Only its owner counts and watches a table; who writes to it needs no right for it.
+CREATE ROLE rows_user;
+GRANT USAGE ON SCHEMA safebound TO rows_user;
+GRANT INSERT ON r TO rows_user;
+SET ROLE rows_user;
+SELECT safebound.watch('r');
+SELECT safebound.unwatch('r');
+SELECT safebound.fold('r');
+INSERT INTO r VALUES (6, 'z');
+SELECT * FROM safebound.kept_delta;
+RESET ROLE;
+SELECT deltas('r');
+-- No new snapshot, no count of a table that is watched.
+BEGIN ISOLATION LEVEL REPEATABLE READ;
+SELECT safebound.fold('r');
+ROLLBACK;
+BEGIN ISOLATION LEVEL SERIALIZABLE;
+SELECT safebound.watch('child');
+ROLLBACK;
+SELECT safebound.unwatch('r'), safebound.unwatch('r');
+INSERT INTO r VALUES (6, 'z');
+SELECT known('r'), deltas('r');
+REVOKE ALL ON SCHEMA safebound FROM rows_user;
+DROP TABLE r, s, child, above, parts, part_a CASCADE;
+DROP ROLE rows_user;
+DROP FUNCTION most, known, deltas, asks;
