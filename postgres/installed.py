@@ -33,6 +33,9 @@ def lay_server(root: str) -> str:
     """The folder of the copied programs, below `root`."""
     programs = root + told("--bindir")
     shutil.copytree(told("--bindir"), programs)
+    headers = told("--includedir")
+    os.makedirs(root + os.path.dirname(headers))
+    os.symlink(headers, root + headers)
     link_all(told("--pkglibdir"), root + told("--pkglibdir"))
     link_all(told("--sharedir"), root + told("--sharedir"))
     extensions = os.path.join(root + told("--sharedir"), "extension")

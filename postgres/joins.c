@@ -5,10 +5,18 @@
 #include "nodes/nodeFuncs.h"
 #include "optimizer/optimizer.h"
 #include "optimizer/paths.h"
+#include "port/pg_bitutils.h"
 #include "utils/lsyscache.h"
 
 /* Of more outer and semi-joins in one join nothing is bounded: the ways in which their sides may be missing double with each. */
 #define MOST_SPECIAL_JOINS 6
+
+/* Longer lists are compressed before they are joined, since a plan waits for its bounds. */
+#define LONGEST_LIST 48
+#define PLANNING_ACCURACY 6
+
+/* Of more relations of one query no more are known: a set of them is a number of 64 bits. */
+#define MOST_KNOWN 64
 
 static Var *
 var_of(Expr *expression)
@@ -24,6 +32,13 @@ static Entry *
 entry_of(BoundedQuery *query, int relid)
 {
 	return relid > 0 && relid < query->root->simple_rel_array_size && query->entries[relid].table ? &query->entries[relid] : NULL;
+}
+
+/* What conditions make of lists grows with each of them. */
+static DegreeList
+shortened(DegreeList list)
+{
+	return list.length > LONGEST_LIST ? compressed(list, PLANNING_ACCURACY) : list;
 }
 
 /* The number of a joined column, which is added where it is new; -1 where no list of it is kept. */
@@ -42,7 +57,7 @@ joined_column(BoundedQuery *query, Var *var)
 	query->columns[query->columns_length] = (JoinedColumn) {
 		.relid = var->varno,
 		.number = var->varattno,
-		.list = list_under(entry->table, entry->rel, var->varattno)
+		.list = shortened(list_under(entry->table, entry->rel, var->varattno))
 	};
 	return query->columns_length++;
 }
@@ -121,13 +136,30 @@ can_be_known(PlannerInfo *root, RelOptInfo *rel)
 	return (entry->relkind == RELKIND_RELATION || entry->relkind == RELKIND_MATVIEW) && !entry->inh && entry->tablesample == NULL;
 }
 
+/* A set of relations, by their numbers, whose bound is known. */
+typedef struct KnownBound
+{
+	uint64		set;
+	uint64		bound;
+} KnownBound;
+
+static HTAB *
+known_bounds(void)
+{
+	HASHCTL		control = {.keysize = sizeof(uint64),.entrysize = sizeof(KnownBound),.hcxt = CurrentMemoryContext};
+
+	return hash_create("safebound bounds", 64, &control, HASH_ELEM | HASH_BLOBS | HASH_CONTEXT);
+}
+
 BoundedQuery *
 bounded_query(PlannerInfo *root)
 {
 	BoundedQuery *query = palloc0(sizeof(BoundedQuery));
+	int			number = 0;
 	ListCell   *cell;
 
 	query->root = root;
+	query->bounds = known_bounds();
 	query->entries = palloc0(root->simple_rel_array_size * sizeof(Entry));
 	query->columns_capacity = 8;
 	query->columns = palloc(query->columns_capacity * sizeof(JoinedColumn));
@@ -136,8 +168,8 @@ bounded_query(PlannerInfo *root)
 		RelOptInfo *rel = root->simple_rel_array[i];
 		const KeptTable *table = can_be_known(root, rel) ? kept_table(root->simple_rte_array[i]->relid) : NULL;
 
-		if (table != NULL)
-			query->entries[i] = (Entry) {table, rel, list_under(table, rel, 0).rows};
+		if (table != NULL && number < MOST_KNOWN)
+			query->entries[i] = (Entry) {table, rel, list_under(table, rel, 0).rows, number++};
 	}
 	foreach(cell, root->eq_classes)
 	{
@@ -231,25 +263,23 @@ call_library(SetCall *call, BoundedQuery *query)
 	return bound;
 }
 
-/* The bound of the inner join of a set of relations. */
-uint64
-bound_of_set(BoundedQuery *query, Relids relids)
+/* Asks the library for the bound of so many relations. */
+static uint64
+new_bound(BoundedQuery *query, Relids relids, int entries)
 {
 	SetCall		call = {0};
 	int			relid = -1;
 	ListCell   *cell;
 
+	if (entries > SAFEBOUND_MOST_ENTRIES)
+		return UNKNOWN;
 	call.number = palloc(query->root->simple_rel_array_size * sizeof(int));
 	for (int i = 0; i < query->root->simple_rel_array_size; i++)
 		call.number[i] = -1;
 	while ((relid = bms_next_member(relids, relid)) >= 0)
 	{
-		Entry	   *entry = entry_of(query, relid);
-
-		if (entry == NULL || call.entries == SAFEBOUND_MOST_ENTRIES)
-			return UNKNOWN;
 		call.number[relid] = call.entries;
-		call.rows[call.entries++] = entry->rows;
+		call.rows[call.entries++] = query->entries[relid].rows;
 	}
 	if (call.entries <= 1)
 		return call.entries ? call.rows[0] : 1;
@@ -262,6 +292,29 @@ bound_of_set(BoundedQuery *query, Relids relids)
 			add_equal_columns(&call, query, equal);
 	}
 	return call_library(&call, query);
+}
+
+/* The bound of the inner join of a set of relations, which the library is asked once. */
+uint64
+bound_of_set(BoundedQuery *query, Relids relids)
+{
+	uint64		set = 0;
+	int			relid = -1;
+	KnownBound *known;
+	bool		found;
+
+	while ((relid = bms_next_member(relids, relid)) >= 0)
+	{
+		Entry	   *entry = entry_of(query, relid);
+
+		if (entry == NULL)
+			return UNKNOWN;
+		set |= UINT64CONST(1) << entry->number;
+	}
+	known = hash_search(query->bounds, &set, HASH_ENTER, &found);
+	if (!found)
+		known->bound = new_bound(query, relids, pg_popcount64(set));
+	return known->bound;
 }
 
 static uint64

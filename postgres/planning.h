@@ -23,6 +23,7 @@ typedef struct Entry
 	const KeptTable *table;		/* NULL: nothing is known of it */
 	RelOptInfo *rel;
 	uint64		rows;			/* its row bound */
+	int			number;			/* among the relations that are known */
 } Entry;
 
 /* A joined column under its entry's own conditions. */
@@ -49,6 +50,7 @@ typedef struct BoundedQuery
 	int			columns_capacity;
 	JoinedColumn *columns;
 	List	   *equalities;		/* of EqualColumns */
+	HTAB	   *bounds;			/* of the sets that were asked for */
 	HTAB	   *estimates;		/* PostgreSQL's own rows, by relation */
 } BoundedQuery;
 
