@@ -14,6 +14,7 @@
 #include "executor/spi.h"
 #include "executor/tuptable.h"
 #include "miscadmin.h"
+#include "storage/lmgr.h"
 #include "utils/acl.h"
 #include "utils/array.h"
 #include "utils/builtins.h"
@@ -236,9 +237,11 @@ safebound_forget(PG_FUNCTION_ARGS)
 	Relation	opened = open_owned(PG_GETARG_OID(0));
 	bool		were;
 
+	LockRelationOid(PG_GETARG_OID(0), ShareUpdateExclusiveLock);
 	SPI_connect();
 	were = forget_table(PG_GETARG_OID(0));
 	SPI_finish();
+	delete_deltas(PG_GETARG_OID(0), NULL);
 	relation_close(opened, NoLock);
 	PG_RETURN_BOOL(were);
 }
