@@ -5,13 +5,18 @@
 #include "admit.h"
 
 #include "access/parallel.h"
+#include "access/table.h"
+#include "access/xact.h"
 #include "catalog/catalog.h"
 #include "catalog/namespace.h"
+#include "catalog/pg_db_role_setting.h"
 #include "executor/executor.h"
 #include "lib/stringinfo.h"
+#include "miscadmin.h"
 #include "optimizer/paths.h"
 #include "optimizer/planner.h"
 #include "utils/guc.h"
+#include "utils/guc_tables.h"
 #include "utils/lsyscache.h"
 #include "utils/memutils.h"
 #include "utils/plancache.h"
@@ -243,14 +248,70 @@ on_start(QueryDesc *query, int flags)
 		standard_ExecutorStart(query, flags);
 }
 
-void
-admit_init(void)
+/* The settings of the role and the database, as at the beginning of a session. */
+static void
+apply_settings(void)
+{
+	bool		begins = !IsTransactionState();
+	Relation	settings;
+	Snapshot	snapshot;
+
+	if (begins)
+		StartTransactionCommand();
+	settings = table_open(DbRoleSettingRelationId, AccessShareLock);
+	snapshot = RegisterSnapshot(GetCatalogSnapshot(DbRoleSettingRelationId));
+	ApplySetting(snapshot, MyDatabaseId, GetSessionUserId(), settings, PGC_S_DATABASE_USER);
+	ApplySetting(snapshot, InvalidOid, GetSessionUserId(), settings, PGC_S_USER);
+	ApplySetting(snapshot, MyDatabaseId, InvalidOid, settings, PGC_S_DATABASE);
+	ApplySetting(snapshot, InvalidOid, InvalidOid, settings, PGC_S_GLOBAL);
+	UnregisterSnapshot(snapshot);
+	table_close(settings, AccessShareLock);
+	if (begins)
+		CommitTransactionCommand();
+}
+
+/* Whether somebody gave a setting a value that it doesn't have now. */
+static bool
+was_denied(const char *name, bool given)
+{
+	struct config_generic **settings = get_guc_variables();
+
+	for (int i = 0; given && i < GetNumConfigOptions(); i++)
+		if (strcmp(settings[i]->name, name) == 0)
+			return settings[i]->source == PGC_S_DEFAULT;
+	return false;
+}
+
+static void
+define_settings(void)
 {
 	DefineCustomIntVariable("safebound.budget", "The most rows that a join of a query may have, by its bound.",
 							"A query with a join that may have more is refused before it runs. 0: no budget.",
 							&budget, 0, 0, INT_MAX, PGC_SUSET, 0, NULL, on_budget, NULL);
 	DefineCustomEnumVariable("safebound.unbounded", "What is done with a query of which a join has no bound, where there is a budget.",
 							 NULL, &unbounded, UNBOUNDED_REFUSE, unbounded_choices, PGC_SUSET, 0, NULL, NULL, NULL);
+}
+
+/* A user may begin a session with any value, as long as the library isn't there. Its value is refused then, but has taken the place of
+   the one that the role, the database or the server has, which is looked up again. */
+static void
+define_guarded_settings(void)
+{
+	bool		budget_given = GetConfigOption("safebound.budget", true, false) != NULL;
+	bool		unbounded_given = GetConfigOption("safebound.unbounded", true, false) != NULL;
+
+	define_settings();
+	if (!OidIsValid(MyDatabaseId) || IsParallelWorker() ||
+		!(was_denied("safebound.budget", budget_given) || was_denied("safebound.unbounded", unbounded_given)))
+		return;
+	apply_settings();
+	ProcessConfigFile(PGC_SIGHUP);
+}
+
+void
+admit_init(void)
+{
+	define_guarded_settings();
 	planner_before = planner_hook;
 	planner_hook = on_planner;
 	rel_paths_before = set_rel_pathlist_hook;

@@ -82,6 +82,9 @@ SELECT known('r'), deltas('r');
 -- What no trigger sees makes the table unknown, until it is watched anew: a trigger that is disabled, also if it is enabled again;
 ALTER TABLE r DISABLE TRIGGER safebound_insert;
 SELECT known('r');
+SET safebound.budget = 1000000;
+SELECT count(*) FROM r JOIN s USING (x);
+RESET safebound.budget;
 ALTER TABLE r ENABLE ALWAYS TRIGGER safebound_insert;
 SELECT known('r');
 SELECT safebound.watch('r') > 0 AS watched, known('r');
@@ -106,6 +109,10 @@ SELECT known('r'), safebound.watch('r') > 0 AS watched, known('r');
 SELECT safebound.fold('r') > 0 AS folded, deltas('r');
 UPDATE above SET c = 'from above';
 SELECT deltas('r'), most('SELECT FROM r') = 2 * (SELECT count(*) FROM r) AS twice;
+-- Which values they have isn't told there: all may have one.
+CREATE TABLE one (x integer);
+INSERT INTO one VALUES (1), (2), (3), (4);
+SELECT safebound.watch('one') > 0 AS watched, most('SELECT FROM r JOIN one USING (x)') = (SELECT count(x) + count(*) FROM r) AS all_of_one;
 ALTER TABLE r NO INHERIT above;
 SELECT known('r'), safebound.watch('r') > 0 AS watched, known('r');
 -- Partitions: rows that are put into the table above, and straight into a partition.
@@ -167,6 +174,6 @@ SELECT safebound.unwatch('r'), safebound.unwatch('r');
 INSERT INTO r VALUES (6, 'z');
 SELECT known('r'), deltas('r');
 REVOKE ALL ON SCHEMA safebound FROM rows_user;
-DROP TABLE r, s, child, above, parts, part_a CASCADE;
+DROP TABLE r, s, one, child, above, parts, part_a CASCADE;
 DROP ROLE rows_user;
 DROP FUNCTION most, known, deltas, asks;
