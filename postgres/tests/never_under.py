@@ -49,8 +49,8 @@ def value(r: random.Random, of: str, distinct: int, null: float) -> str:
 
 
 class Table:
-    def __init__(self, r: random.Random, name: str) -> None:
-        self.name, self.r, self.kind = name, r, r.choice(KINDS)
+    def __init__(self, r: random.Random, name: str, kinds: tuple[str, ...] = KINDS) -> None:
+        self.name, self.r, self.kind, self.bare = name, r, r.choice(kinds), kinds == ("plain",)
         family = r.choice(COMPARABLE)
         self.columns = [r.choice(family if r.random() < 0.5 else r.choice(COMPARABLE)) for _ in range(r.randint(2, 4))]
         self.distinct = [r.choice([1, 3, 8, 40]) for _ in self.columns]
@@ -97,6 +97,8 @@ class Table:
         if parts and self.r.random() < 0.6:
             alone.add(alias)
             return self.r.choice(parts)
+        if self.bare:
+            return self.name
         return self.r.choice([self.name, self.name, self.name, f"{self.name}_view", f"(SELECT * FROM {self.name})", f"(SELECT DISTINCT * FROM {self.name})", f"with_{self.name}"])
 
 
