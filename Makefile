@@ -12,7 +12,7 @@ EXAMPLE := trips
 DATA := examples/$(EXAMPLE)
 WORDS := run schema.sql query.sql
 
-.PHONY: help run archive build install uninstall deb release library command engines test edits bench memory limits clean
+.PHONY: help run archive build install uninstall deb release library command engines postgres test edits bench memory limits clean
 
 ## make run       runs a query over examples/trips, or over a folder of yours: make run DATA=FOLDER
 ##                (2 seconds with the built program, or where the kit isn't here with the release's; else a minute, and nothing is proved)
@@ -24,6 +24,8 @@ WORDS := run schema.sql query.sql
 ## make install   lays what was built, program and libraries, below PREFIX, /usr/local (2 seconds); make uninstall takes it away
 ## make deb       makes Debian packages of both in out/ (3 seconds, once they are built)
 ## make engines   tests safebound-sql on SQLite and on a PostgreSQL of its own, over the library (docs/ENGINES.md; minutes)
+## make postgres  builds the extension for PostgreSQL 15 over the library, or where it isn't built over the release's, and tests it on a
+##                server of its own (docs/POSTGRES.md; minutes)
 ## make release   builds the last commit twice, from clean clones, and lays the result in dist/ (minutes, where the proofs are kept)
 ## make test      the gate: every proof, the gate's own edits, every test (about 40 minutes from nothing; it says how far it is)
 ## make edits     every wrong body that a contract must refuse (two hours); make edits CRATES="plans set_bounds" some of them
@@ -125,6 +127,11 @@ limits: build
 engines: library
 	engines/setup --server
 	engines/test --all
+
+# The extension for PostgreSQL, tested on a server of its own; nothing is installed into the machine's.
+postgres:
+	engines/setup --extension
+	postgres/test --all
 
 clean:
 	rm -rf crates/*/out library/out rust/target out

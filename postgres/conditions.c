@@ -2,10 +2,15 @@
 #include "statistics.h"
 
 #include "access/stratnum.h"
+#include "catalog/pg_collation.h"
+#include "catalog/pg_operator.h"
+#include "catalog/pg_opfamily.h"
 #include "nodes/nodeFuncs.h"
 #include "optimizer/optimizer.h"
 #include "utils/array.h"
+#include "utils/builtins.h"
 #include "utils/lsyscache.h"
+#include "utils/pg_locale.h"
 #include "utils/typcache.h"
 
 /* More values than these of IN or = ANY are not looked at. */
@@ -55,6 +60,184 @@ is_equality(const KeptTable *table, AttrNumber column, Oid operator, Oid collati
 	Oid			family = equality_family(table, column, collation);
 
 	return OidIsValid(family) && get_op_opfamily_strategy(operator, family) == BTEqualStrategyNumber;
+}
+
+/* A part of a column's values in its order, as leaves. */
+typedef struct Range
+{
+	AttrNumber	column;
+	const KeptPair *pair;
+	int			first;
+	int			last;			/* below `first`: there is none */
+} Range;
+
+/* The first leaf whose greatest value isn't on the near side of a value; as many as there are where each one is. */
+static int
+leaf_at(const KeptPair *pair, Oid before, Oid collation, Datum value)
+{
+	int			from = 0;
+	int			to = pair->leaves;
+	FmgrInfo	function;
+
+	fmgr_info(get_opcode(before), &function);
+	while (from < to)
+	{
+		int			middle = (from + to) / 2;
+
+		if (DatumGetBool(FunctionCall2Coll(&function, collation, pair->lists[pair->first_leaf + middle].value, value)))
+			from = middle + 1;
+		else
+			to = middle;
+	}
+	return from;
+}
+
+/* The leaves in which values are that stand in a relation of the column's order to a value of another type. */
+static void
+set_range(Range *range, const KeptPair *pair, int strategy, Oid less, Oid less_equal, Oid collation, Datum value)
+{
+	range->pair = pair;
+	range->first = 0;
+	range->last = pair->leaves - 1;
+	if (strategy == BTGreaterStrategyNumber)
+		range->first = leaf_at(pair, less_equal, collation, value);
+	else if (strategy == BTGreaterEqualStrategyNumber)
+		range->first = leaf_at(pair, less, collation, value);
+	else
+		range->last = Min(range->last, leaf_at(pair, less, collation, value));
+}
+
+static bool
+is_ordered_by(const KeptTable *table, AttrNumber column, Oid collation)
+{
+	Oid			type,
+				own;
+	int32		typmod;
+
+	get_atttypetypmodcoll(table->relation, column, &type, &typmod, &own);
+	return collation == own || !OidIsValid(own) || (OidIsValid(collation) && lc_collate_is_c(own) && lc_collate_is_c(collation));
+}
+
+/* column < constant and the like, on either side. */
+static bool
+range_of_comparison(const Conditioned *of, OpExpr *clause, Range *range)
+{
+	Node	   *left = linitial(clause->args);
+	bool		column_left = column_of(of, left) != 0;
+	Node	   *other = column_left ? lsecond(clause->args) : left;
+	Oid			operator = column_left ? clause->opno : get_commutator(clause->opno);
+	const KeptPair *pair;
+	Oid			family,
+				left_type,
+				right_type;
+	int			strategy;
+
+	range->column = column_of(of, column_left ? left : lsecond(clause->args));
+	pair = range->column ? kept_pair(of->table, of->joined, range->column) : NULL;
+	if (pair == NULL || pair->leaves == 0 || !OidIsValid(operator) || !is_ordered_by(of->table, range->column, clause->inputcollid))
+		return false;
+	family = equality_family(of->table, range->column, clause->inputcollid);
+	if (!OidIsValid(family) || get_op_opfamily_strategy(operator, family) == 0)
+		return false;
+	get_op_opfamily_properties(operator, family, false, &strategy, &left_type, &right_type);
+	while (IsA(other, RelabelType))
+		other = (Node *) ((RelabelType *) other)->arg;
+	if (strategy == BTEqualStrategyNumber || !IsA(other, Const) || ((Const *) other)->constisnull)
+		return false;
+	set_range(range, pair, strategy, get_opfamily_member(family, left_type, right_type, BTLessStrategyNumber),
+			  get_opfamily_member(family, left_type, right_type, BTLessEqualStrategyNumber), clause->inputcollid, ((Const *) other)->constvalue);
+	return true;
+}
+
+/* The bytes in front of the first sign of a pattern that isn't itself; their number. */
+static int
+front_of(const char *pattern, int length)
+{
+	int			front = 0;
+
+	while (front < length && pattern[front] != '%' && pattern[front] != '_' && pattern[front] != '\\')
+		front++;
+	return front;
+}
+
+/* The least text behind all that begin with a front, in the order of bytes; NULL where there is none. */
+static text *
+behind(const char *front, int length)
+{
+	text	   *next;
+
+	while (length > 0 && (unsigned char) front[length - 1] == 255)
+		length--;
+	if (length == 0)
+		return NULL;
+	next = cstring_to_text_with_len(front, length);
+	VARDATA(next)[length - 1]++;
+	return next;
+}
+
+/* column LIKE 'front%', where texts are ordered by their bytes. */
+static bool
+range_of_like(const Conditioned *of, OpExpr *clause, Range *range)
+{
+	Const	   *pattern = lsecond(clause->args);
+	const KeptPair *pair;
+	text	   *front,
+			   *next;
+	int			length;
+	Oid			type,
+				collation;
+	int32		typmod;
+	Range		below;
+
+	range->column = column_of(of, linitial(clause->args));
+	pair = range->column ? kept_pair(of->table, of->joined, range->column) : NULL;
+	if (clause->opno != OID_TEXT_LIKE_OP || pair == NULL || pair->leaves == 0 || !IsA(pattern, Const) || pattern->constisnull)
+		return false;
+	get_atttypetypmodcoll(of->table->relation, range->column, &type, &typmod, &collation);
+	if (lookup_type_cache(type, TYPECACHE_BTREE_OPFAMILY)->btree_opf != TEXT_BTREE_FAM_OID || !lc_collate_is_c(collation))
+		return false;
+	front = DatumGetTextPP(pattern->constvalue);
+	length = front_of(VARDATA_ANY(front), VARSIZE_ANY_EXHDR(front));
+	next = behind(VARDATA_ANY(front), length);
+	front = cstring_to_text_with_len(VARDATA_ANY(front), length);
+	set_range(range, pair, BTGreaterEqualStrategyNumber, TextLessOperator, InvalidOid, C_COLLATION_OID, PointerGetDatum(front));
+	if (next == NULL)
+		return true;
+	set_range(&below, pair, BTLessStrategyNumber, TextLessOperator, InvalidOid, C_COLLATION_OID, PointerGetDatum(next));
+	range->last = below.last;
+	return true;
+}
+
+static bool
+range_of_clause(const Conditioned *of, Node *clause, Range *range)
+{
+	if (IsA(clause, RestrictInfo))
+		clause = (Node *) ((RestrictInfo *) clause)->clause;
+	if (!IsA(clause, OpExpr) || list_length(((OpExpr *) clause)->args) != 2)
+		return false;
+	return range_of_comparison(of, (OpExpr *) clause, range) || range_of_like(of, (OpExpr *) clause, range);
+}
+
+/* The list of leaves: the sum of the fewest nodes that they are. */
+static DegreeList
+list_of_range(const Range *range)
+{
+	const KeptList *level = range->pair->lists + range->pair->first_leaf;
+	int			length = range->pair->leaves;
+	int			first = range->first;
+	int			end = range->last + 1;
+	DegreeList	sum = {0};
+
+	if (first >= end)
+		return sum;
+	for (; first < end; level += length, length = (length + 1) / 2, first /= 2, end /= 2)
+	{
+		if (first % 2)
+			sum = summed(sum, level[first++].list);
+		if (end % 2 && first < end)
+			sum = summed(sum, level[--end].list);
+	}
+	return sum;
 }
 
 static const KeptList *
@@ -172,19 +355,52 @@ list_of_null_test(const Conditioned *of, NullTest *test, DegreeList *list)
 	return kept != NULL;
 }
 
+/* What ranges of one column leave together. */
+static void
+add_range(List **ranges, const Range *range)
+{
+	Range	   *known;
+	ListCell   *cell;
+
+	foreach(cell, *ranges)
+	{
+		known = lfirst(cell);
+		if (known->column == range->column)
+		{
+			known->first = Max(known->first, range->first);
+			known->last = Min(known->last, range->last);
+			return;
+		}
+	}
+	known = palloc(sizeof(Range));
+	*known = *range;
+	*ranges = lappend(*ranges, known);
+}
+
 /* AND: the lesser of what is understood. */
 static bool
 list_of_all(const Conditioned *of, List *clauses, DegreeList *list)
 {
 	bool		any = false;
+	List	   *ranges = NIL;
 	ListCell   *cell;
 
 	foreach(cell, clauses)
 	{
 		DegreeList	one;
+		Range		range;
 
+		if (range_of_clause(of, lfirst(cell), &range))
+			add_range(&ranges, &range);
 		if (!list_of_clause(of, lfirst(cell), &one))
 			continue;
+		*list = any ? lesser(*list, one) : one;
+		any = true;
+	}
+	foreach(cell, ranges)
+	{
+		DegreeList	one = list_of_range(lfirst(cell));
+
 		*list = any ? lesser(*list, one) : one;
 		any = true;
 	}
@@ -202,7 +418,7 @@ list_of_any(const Conditioned *of, List *clauses, DegreeList *list)
 	{
 		DegreeList	one;
 
-		if (!list_of_clause(of, lfirst(cell), &one))
+		if (!list_of_all(of, list_make1(lfirst(cell)), &one))
 			return false;
 		*list = summed(*list, one);
 	}

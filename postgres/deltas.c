@@ -54,6 +54,7 @@ read_seen(Relation tables, HeapTuple tuple, Seen *seen)
 		.relation = DatumGetObjectId(row[TABLE_RELATION - 1]),
 		.version = DatumGetInt64(row[TABLE_VERSION - 1]),
 		.common = DatumGetInt16(row[TABLE_COMMON - 1]),
+		.ranges = DatumGetInt16(row[TABLE_RANGES - 1]),
 		.accuracy = DatumGetInt16(row[TABLE_ACCURACY - 1])
 	};
 	if (!nulls[TABLE_SOURCES - 1])

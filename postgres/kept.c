@@ -24,6 +24,8 @@ enum
 	LISTS_RELATION = 1,
 	LISTS_JOINED,
 	LISTS_FILTER,
+	LISTS_ALONG,
+	LISTS_REFERRED,
 	LISTS_JOINED_TYPE,
 	LISTS_FILTER_TYPE,
 	LISTS_JOINED_COLLATION,
@@ -88,7 +90,10 @@ get_value(const char **at, const char *end, Oid type)
 static KeptPair
 read_pair(Datum *row)
 {
-	KeptPair	pair = {DatumGetInt16(row[LISTS_JOINED - 1]), DatumGetInt16(row[LISTS_FILTER - 1])};
+	KeptPair	pair = {
+		.joined = DatumGetInt16(row[LISTS_JOINED - 1]),.filter = DatumGetInt16(row[LISTS_FILTER - 1]),
+		.along = DatumGetInt16(row[LISTS_ALONG - 1]),.referred = DatumGetObjectId(row[LISTS_REFERRED - 1])
+	};
 	bytea	   *bytes = DatumGetByteaP(row[LISTS_BYTES - 1]);
 	const char *at = VARDATA_ANY(bytes);
 	const char *end = at + VARSIZE_ANY_EXHDR(bytes);
@@ -97,13 +102,15 @@ read_pair(Datum *row)
 	pair.lists = palloc(capacity * sizeof(KeptList));
 	while (at < end)
 	{
-		KeptList	list = {(ListKind) *at++};
+		KeptList	list = {.kind = (ListKind) *at++};
 
-		if (list.kind == LIST_VALUE)
+		if (list.kind == LIST_VALUE || list.kind == LIST_LEAF)
 			list.value = get_value(&at, end, DatumGetObjectId(row[LISTS_FILTER_TYPE - 1]));
 		list.list = get_list(&at, end);
 		if (pair.length == capacity)
 			pair.lists = repalloc(pair.lists, (capacity *= 2) * sizeof(KeptList));
+		if (list.kind == LIST_LEAF && pair.leaves++ == 0)
+			pair.first_leaf = pair.length;
 		pair.lists[pair.length++] = list;
 	}
 	return pair;
@@ -127,7 +134,7 @@ read_table(KeptTable *table, Relation lists, Snapshot snapshot)
 
 		heap_deform_tuple(tuple, RelationGetDescr(lists), row, nulls);
 		if (!same_column(table->relation, DatumGetInt16(row[LISTS_JOINED - 1]), DatumGetObjectId(row[LISTS_JOINED_TYPE - 1]), DatumGetObjectId(row[LISTS_JOINED_COLLATION - 1])) ||
-			!same_column(table->relation, DatumGetInt16(row[LISTS_FILTER - 1]), DatumGetObjectId(row[LISTS_FILTER_TYPE - 1]), DatumGetObjectId(row[LISTS_FILTER_COLLATION - 1])))
+			!same_column(OidIsValid(DatumGetObjectId(row[LISTS_REFERRED - 1])) ? DatumGetObjectId(row[LISTS_REFERRED - 1]) : table->relation, DatumGetInt16(row[LISTS_FILTER - 1]), DatumGetObjectId(row[LISTS_FILTER_TYPE - 1]), DatumGetObjectId(row[LISTS_FILTER_COLLATION - 1])))
 			continue;
 		if (table->length == capacity)
 			table->pairs = repalloc(table->pairs, (capacity *= 2) * sizeof(KeptPair));
@@ -175,10 +182,6 @@ drop_deltas(Deltas *deltas)
 static void
 drop(KeptTable *table)
 {
-	MemoryContext before = MemoryContextSwitchTo(CacheMemoryContext);
-
-	drop_deltas(table->deltas);
-	MemoryContextSwitchTo(before);
 	table->next = dropped;
 	dropped = table;
 }
@@ -206,6 +209,8 @@ kept_free_dropped(void)
 	{
 		KeptTable  *next = dropped->next;
 
+		if (dropped->deltas)
+			MemoryContextDelete(dropped->deltas->context);
 		MemoryContextDelete(dropped->context);
 		dropped = next;
 	}
@@ -275,7 +280,7 @@ const KeptPair *
 kept_pair(const KeptTable *table, AttrNumber joined, AttrNumber filter)
 {
 	for (int i = 0; i < table->length; i++)
-		if (table->pairs[i].joined == joined && table->pairs[i].filter == filter)
+		if (table->pairs[i].joined == joined && table->pairs[i].filter == filter && table->pairs[i].along == 0)
 			return &table->pairs[i];
 	return NULL;
 }

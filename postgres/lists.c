@@ -110,6 +110,44 @@ put_run(DegreeList *into, uint64 degree, uint64 keys)
 		into->runs[into->length++] = (safebound_run) {.degree = degree, .keys = keys};
 }
 
+/* The greater degree at each rank: it dominates what one of both dominates. */
+DegreeList
+greatest(DegreeList one, DegreeList other)
+{
+	Place		first = {&one, 0, 0, 0};
+	Place		second = {&other, 0, 0, 0};
+	DegreeList	both = {Max(one.rows, other.rows), 0, palloc((one.length + other.length + 1) * sizeof(safebound_run))};
+
+	while (degree_at(&first) > 0 || degree_at(&second) > 0)
+	{
+		uint64		keys = Min(left_at(&first), left_at(&second));
+
+		put_run(&both, Max(degree_at(&first), degree_at(&second)), keys);
+		advance(&first, keys);
+		advance(&second, keys);
+	}
+	return both;
+}
+
+/* Whether a list has nothing that is greater in the other one. */
+bool
+dominates(const DegreeList *one, const DegreeList *other)
+{
+	Place		first = {one, 0, 0, 0};
+	Place		second = {other, 0, 0, 0};
+
+	while (degree_at(&second) > 0)
+	{
+		uint64		keys = Min(left_at(&first), left_at(&second));
+
+		if (degree_at(&first) < degree_at(&second))
+			return false;
+		advance(&first, keys);
+		advance(&second, keys);
+	}
+	return one->rows >= other->rows;
+}
+
 /* How many of the next keys the lower of two places stays the lower one: it stands `gap` rows lower and gains `gain` a key. */
 static uint64
 keys_until_crossing(uint64 gap, uint64 lower, uint64 upper)

@@ -10,6 +10,7 @@ CREATE TABLE kept_table (
     rows bigint NOT NULL,
     accuracy smallint NOT NULL,
     common smallint NOT NULL,
+    ranges smallint NOT NULL,
     made timestamptz NOT NULL,
     version bigint NOT NULL DEFAULT nextval('versions'),
     sources oid[],
@@ -19,16 +20,19 @@ CREATE TABLE kept_table (
 REVOKE ALL ON kept_table FROM PUBLIC;
 
 -- joined 0: the rows of each value of the filter column alone. filter 0: the list of all rows.
+-- along: the filter column is one of the table `referred`, to which the column `along` refers; 0: it is one of the table itself.
 CREATE TABLE kept_lists (
     relation regclass NOT NULL,
     joined smallint NOT NULL,
     filter smallint NOT NULL,
+    along smallint NOT NULL,
+    referred oid NOT NULL,
     joined_type regtype NOT NULL,
     filter_type regtype NOT NULL,
     joined_collation oid NOT NULL,
     filter_collation oid NOT NULL,
     lists bytea NOT NULL,
-    PRIMARY KEY (relation, joined, filter)
+    PRIMARY KEY (relation, joined, filter, along, referred)
 );
 REVOKE ALL ON kept_lists FROM PUBLIC;
 
@@ -43,9 +47,9 @@ CREATE TABLE kept_delta (
 REVOKE ALL ON kept_delta FROM PUBLIC;
 
 CREATE FUNCTION keep(relation regclass, columns name[] DEFAULT NULL, filters name[] DEFAULT NULL,
-                     common integer DEFAULT 100, accuracy integer DEFAULT 8) RETURNS bigint
+                     common integer DEFAULT 100, ranges integer DEFAULT 64, accuracy integer DEFAULT 8) RETURNS bigint
 AS 'MODULE_PATHNAME', 'safebound_keep' LANGUAGE C VOLATILE CALLED ON NULL INPUT;
-COMMENT ON FUNCTION keep(regclass, name[], name[], integer, integer)
+COMMENT ON FUNCTION keep(regclass, name[], name[], integer, integer, integer)
 IS 'makes the statistics of a table anew, and answers how many lists they are';
 
 CREATE FUNCTION forget(relation regclass) RETURNS boolean

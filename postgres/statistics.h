@@ -24,23 +24,30 @@ typedef enum ListKind
 	LIST_VALUE = 'v',			/* one common value of the filter column */
 	LIST_NULL = 'n',			/* the filter column is NULL */
 	LIST_OTHER = 'o',			/* dominates the list of each value that isn't common */
-	LIST_ANY = 'a'				/* dominates the list of each value */
+	LIST_ANY = 'a',				/* dominates the list of each value */
+	LIST_LEAF = 'l',			/* a part of the values, up to one, in the column's order */
+	LIST_NODE = 'm'				/* two leaves or nodes, and the last one where their number is odd */
 } ListKind;
 
 typedef struct KeptList
 {
 	ListKind	kind;
-	Datum		value;			/* of LIST_VALUE */
+	Datum		value;			/* of LIST_VALUE, and of LIST_LEAF the greatest one */
 	DegreeList	list;
 } KeptList;
 
-/* The lists of a joined column by a filter column. joined 0: rows alone; filter 0: all rows, in one list. */
+/* The lists of a joined column by a filter column. joined 0: rows alone; filter 0: all rows, in one list. With `along` the filter column
+   is one of the table that the column `along` refers to. */
 typedef struct KeptPair
 {
 	AttrNumber	joined;
 	AttrNumber	filter;
+	AttrNumber	along;
+	Oid			referred;
 	int			length;
 	KeptList   *lists;
+	int			first_leaf;
+	int			leaves;
 } KeptPair;
 
 typedef struct Deltas Deltas;
@@ -63,6 +70,8 @@ extern DegreeList degrees_of(const uint64 *keys, size_t length, uint64 rows);
 extern DegreeList compressed(DegreeList list, int accuracy);
 extern DegreeList summed(DegreeList one, DegreeList other);
 extern DegreeList lesser(DegreeList one, DegreeList other);
+extern DegreeList greatest(DegreeList one, DegreeList other);
+extern bool dominates(const DegreeList *one, const DegreeList *other);
 extern void put_number(StringInfo into, uint64 number);
 extern void put_list(StringInfo into, const DegreeList *list);
 extern uint64 get_number(const char **at, const char *end);
@@ -72,7 +81,7 @@ extern DegreeList get_list(const char **at, const char *end);
 extern Relation open_owned(Oid relation);
 extern Oid	sort_collation(Oid collation);
 extern uint64 write_own(const char *statement, int length, Oid *types, Datum *values);
-extern int64 keep_table(Oid relation, Bitmapset *joined, Bitmapset *filters, int most_common, int accuracy, bool folding);
+extern int64 keep_table(Oid relation, Bitmapset *joined, Bitmapset *filters, int most_common, int most_leaves, int accuracy, bool folding);
 
 /* deltas.c: the rows that came. Whatever else answers a list of a table has it go through here. */
 extern DegreeList with_deltas(const KeptTable *table, AttrNumber joined, DegreeList list);

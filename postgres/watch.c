@@ -37,6 +37,7 @@ PG_FUNCTION_INFO_V1(safebound_on_change);
 
 /* What keep takes where it isn't told. */
 #define COMMON 100
+#define RANGES 64
 #define ACCURACY 8
 
 static ProcessUtility_hook_type utility_before;
@@ -222,9 +223,9 @@ keep_again(Oid relation, bool folding)
 	Seen		seen;
 
 	if (!see_table(relation, NULL, &seen))
-		return keep_table(relation, NULL, NULL, COMMON, ACCURACY, folding);
+		return keep_table(relation, NULL, NULL, COMMON, RANGES, ACCURACY, folding);
 	/* A set with 0 alone is no column; NULL would be all. */
-	return keep_table(relation, bms_add_member(seen.joined, 0), bms_add_member(seen.filters, 0), seen.common, seen.accuracy, folding);
+	return keep_table(relation, bms_add_member(seen.joined, 0), bms_add_member(seen.filters, 0), seen.common, seen.ranges, seen.accuracy, folding);
 }
 
 /* Looks whether the caller may count a table, and answers whether it has triggers: a materialized view has none. */

@@ -14,6 +14,7 @@ enum
 	TABLE_ROWS,
 	TABLE_ACCURACY,
 	TABLE_COMMON,
+	TABLE_RANGES,
 	TABLE_MADE,
 	TABLE_VERSION,
 	TABLE_SOURCES,
@@ -39,6 +40,7 @@ typedef struct Seen
 	Oid			relation;
 	int64		version;
 	int			common;
+	int			ranges;
 	int			accuracy;
 	List	   *sources;		/* the tables whose statements may bring rows; NIL where nobody follows them */
 	Bitmapset  *joined;			/* the columns with lists */

@@ -19,6 +19,22 @@ SELECT rows_of('SELECT FROM r WHERE c = ''a''') = 5 AS one_value, rows_of('SELEC
 SELECT rows_of('SELECT FROM r WHERE c IN (''a'', ''b'')') = 9 AS two_values, rows_of('SELECT FROM r WHERE c IS NULL OR c = ''b''') = 5 AS either;
 -- Of the rows with a, x stands 3 and 2 times.
 SELECT rows_of('SELECT FROM r JOIN s USING (x) WHERE c = ''a''') = 3 * 3 + 2 * 2 AS filtered;
+-- 64 parts of 1000 values: one ends at 250, one at 500 and one at 750.
+CREATE TABLE n (k integer, x integer, c text COLLATE "C");
+INSERT INTO n SELECT i, i % 10, CASE WHEN i <= 300 THEN 'aa' WHEN i <= 500 THEN 'ab' ELSE 'b_' END || i % 3 FROM generate_series(1, 1000) i;
+INSERT INTO n VALUES (NULL, 1, NULL);
+CREATE TABLE m (x integer, k smallint);
+INSERT INTO m SELECT i, i FROM generate_series(0, 9) i;
+SELECT safebound.keep('n', accuracy => 64) > 0 AS n, safebound.keep('m') > 0 AS m;
+SELECT rows_of('SELECT FROM n WHERE k <= 250') = 250 AS up_to, rows_of('SELECT FROM n WHERE 250::bigint >= k') = 250 AS turned,
+       rows_of('SELECT FROM n WHERE k > 250') = 750 AS above, rows_of('SELECT FROM n WHERE k >= 250') BETWEEN 751 AND 766 AS from_there;
+SELECT rows_of('SELECT FROM n WHERE k > 250 AND k <= 500') = 250 AS both_ends, rows_of('SELECT FROM n WHERE k <= 250 OR k > 750') = 500 AS either_end,
+       rows_of('SELECT FROM n WHERE k BETWEEN 300 AND 305') BETWEEN 6 AND 32 AS few, rows_of('SELECT FROM n WHERE k > 1000') = 1 AS none;
+SELECT rows_of('SELECT FROM n JOIN m USING (x) WHERE n.k > 250 AND n.k <= 500') = 250 AS joined;
+-- Nine texts, each a part: aa0 to aa2 stand 100 times each, ab0 to ab2 66 or 67 times. The part with the first text behind counts too.
+SELECT rows_of('SELECT FROM n WHERE c LIKE ''a%''') BETWEEN 500 AND 667 AS front, rows_of('SELECT FROM n WHERE c LIKE ''b\_1''') = 500 AS escaped,
+       rows_of('SELECT FROM n WHERE c LIKE ''%a''') = 1000 AS no_front, rows_of('SELECT FROM n WHERE c LIKE ''aa_''') BETWEEN 300 AND 367 AS longer;
+DROP TABLE n, m;
 SET safebound.estimates = off;
 DROP TABLE r, s;
 DROP FUNCTION rows_of;

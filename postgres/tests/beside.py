@@ -89,7 +89,7 @@ class Asking:
 
     def joins(self, told: list[dict], limit: int | None, text: str) -> None:
         """Counts the joins of a plan that ran; each has at most its bound, or at most the limit."""
-        for node in nodes(told[0]["Plan"]):
+        for node in nodes(told[0]["Plan"], {"nu0", "nu1", "nu2"}):
             if node["Node Type"] not in JOINS and limit is not None:
                 continue
             most = node["Plan Rows"] if limit is None else limit
@@ -143,7 +143,7 @@ class Asking:
 
 def one_set(url: str, asking: Asking, r: random.Random, watched: bool, queries: int) -> Counter[str]:
     """A set of tables, with writers beside."""
-    tables = [Table(r, f"nu{i}") for i in range(3)]
+    tables = [Table(r, f"nu{i}", ("plain",)) for i in range(3)]
     asking.connection.execute("SET safebound.estimates = off")
     for table in tables:
         table.make(asking.connection)
@@ -157,7 +157,7 @@ def one_set(url: str, asking: Asking, r: random.Random, watched: bool, queries: 
         writer.start()
     try:
         for _ in range(queries):
-            asking.ask(query(r, tables))
+            asking.ask(query(r, tables)[0])
     finally:
         for writer in writers:
             writer.stopping.set()

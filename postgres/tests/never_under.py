@@ -3,7 +3,9 @@
     postgres/tests/never_under.py URL [SEED [TABLES [QUERIES]]]
 
 The server at URL has the extension installed. For each of TABLES sets of tables QUERIES queries are planned with
-safebound.estimates = bound and run by EXPLAIN ANALYZE, which counts the rows of each node.
+safebound.estimates = bound and run by EXPLAIN ANALYZE, which counts the rows of each node. Tables are plain, partitioned or
+have children; queries read them alone, by a view, a subquery or WITH. Where a join reads what isn't known, PostgreSQL's own
+number stands, and isn't looked at.
 """
 
 from __future__ import annotations
@@ -27,6 +29,10 @@ TYPES = {
 }
 COMPARABLE = [["integer", "bigint", "small"], ["text", "varchar(9)"], ['text COLLATE "C"'], ["caseless"], ["numeric"]]
 JOINS = ("Nested Loop", "Hash Join", "Merge Join")
+SCANS = ("Seq Scan", "Index Scan", "Index Only Scan", "Bitmap Heap Scan")
+# What stands between a join and the tables below it without other rows of its own.
+PASSES = ("Hash", "Sort", "Incremental Sort", "Materialize", "Memoize", "Bitmap Index Scan", "BitmapOr", "BitmapAnd")
+KINDS = ("plain", "plain", "plain", "hash", "list", "children")
 PRELUDE = """
 CREATE EXTENSION IF NOT EXISTS safebound;
 CREATE COLLATION IF NOT EXISTS caseless (provider = icu, locale = 'und-u-ks-level2', deterministic = false);
@@ -43,30 +49,63 @@ def value(r: random.Random, of: str, distinct: int, null: float) -> str:
 
 
 class Table:
-    def __init__(self, r: random.Random, name: str) -> None:
-        self.name, self.r = name, r
+    def __init__(self, r: random.Random, name: str, kinds: tuple[str, ...] = KINDS) -> None:
+        self.name, self.r, self.kind, self.bare = name, r, r.choice(kinds), kinds == ("plain",)
         family = r.choice(COMPARABLE)
         self.columns = [r.choice(family if r.random() < 0.5 else r.choice(COMPARABLE)) for _ in range(r.randint(2, 4))]
         self.distinct = [r.choice([1, 3, 8, 40]) for _ in self.columns]
 
+    def parts(self) -> list[str]:
+        """The tables with rows of their own, beside the first one's."""
+        if self.kind == "plain":
+            return []
+        return [f"{self.name}_{i}" for i in range(2)]
+
+    def create(self, connection: psycopg.Connection) -> None:
+        columns = ", ".join(f"c{i} {of}" for i, of in enumerate(self.columns))
+        by = {"hash": " PARTITION BY HASH (c0)", "list": " PARTITION BY LIST (c0)"}.get(self.kind, "")
+        connection.execute(f"DROP TABLE IF EXISTS {self.name} CASCADE")
+        connection.execute(f"CREATE TABLE {self.name} ({columns}){by}")
+        for i, part in enumerate(self.parts()):
+            of = {
+                "hash": f"PARTITION OF {self.name} FOR VALUES WITH (MODULUS 2, REMAINDER {i})",
+                "list": f"PARTITION OF {self.name} " + ("DEFAULT" if i else f"FOR VALUES IN (NULL, {TYPES[self.columns[0]].format(n=0, zeros='0', case='v')})"),
+                "children": f"() INHERITS ({self.name})",
+            }[self.kind]
+            connection.execute(f"CREATE TABLE {part} {of}")
+        connection.execute(f"CREATE VIEW {self.name}_view AS SELECT * FROM {self.name}")
+
     def make(self, connection: psycopg.Connection) -> None:
         r = self.r
-        connection.execute(f"DROP TABLE IF EXISTS {self.name} CASCADE")
-        connection.execute(f"CREATE TABLE {self.name} ({', '.join(f'c{i} {of}' for i, of in enumerate(self.columns))})")
-        rows = r.choice([0, 1, 10, 40, 120])
+        self.create(connection)
+        rows = r.choice([0, 1, 10, 40, 120, 400])
         nulls = [r.choice([0, 0, 0.2, 0.9]) for _ in self.columns]
         if rows:
             tuples = (f"({', '.join(value(r, of, d, n) for of, d, n in zip(self.columns, self.distinct, nulls))})" for _ in range(rows))
             connection.execute(f"INSERT INTO {self.name} VALUES {', '.join(tuples)}")
+            if self.kind == "children":
+                connection.execute(f"INSERT INTO {self.name}_0 SELECT * FROM ONLY {self.name} LIMIT 30")
         if r.random() < 0.5:
             connection.execute(f"CREATE INDEX ON {self.name} (c{r.randrange(len(self.columns))})")
-        connection.execute(f"SELECT safebound.keep('{self.name}', common => {r.choice([0, 1, 3, 100])}, accuracy => {r.choice([1, 2, 8, 64])})")
+        for kept in self.parts() + ([] if self.kind in ("hash", "list") else [self.name]):
+            options = f"common => {r.choice([0, 1, 3, 100])}, ranges => {r.choice([0, 1, 3, 64])}, accuracy => {r.choice([1, 2, 8, 64])}"
+            connection.execute(f"SELECT safebound.keep('{kept}', {options})")
+
+    def read(self, alias: str, alone: set[str]) -> str:
+        """What stands in FROM for the table, without its alias, which is noted where a part is read alone."""
+        parts = self.parts() + ([f"ONLY {self.name}"] if self.kind == "children" else [])
+        if parts and self.r.random() < 0.6:
+            alone.add(alias)
+            return self.r.choice(parts)
+        if self.bare:
+            return self.name
+        return self.r.choice([self.name, self.name, self.name, f"{self.name}_view", f"(SELECT * FROM {self.name})", f"(SELECT DISTINCT * FROM {self.name})", f"with_{self.name}"])
 
 
 def condition(r: random.Random, alias: str, table: Table) -> str:
     i = r.randrange(len(table.columns))
     column, one = f"{alias}.c{i}", lambda: value(r, table.columns[i], table.distinct[i] + 2, 0)
-    kind = r.randrange(8)
+    kind = r.randrange(11)
     if kind == 0:
         return f"{column} IN ({', '.join(one() for _ in range(r.randint(1, 4)))})"
     if kind == 1:
@@ -75,6 +114,12 @@ def condition(r: random.Random, alias: str, table: Table) -> str:
         return f"({column} = {one()} OR {condition(r, alias, table)})"
     if kind == 3:
         return f"{column} {r.choice(['<', '>=', '<>'])} {one()}"
+    if kind == 5:
+        return f"{column} {r.choice(['>', '>='])} {one()} AND {column} {r.choice(['<', '<='])} {one()}"
+    if kind == 6:
+        return f"{one()} {r.choice(['<', '>', '<=', '>='])} {column}"
+    if kind == 7 and "text" in table.columns[i]:
+        return f"{column} LIKE 'v{r.choice(['1%', '2_', '%', '3', '1%2', ''])}'"
     if kind == 4:
         literal = one()
         return f"{column} = (SELECT {literal}::{'text' if literal.startswith(chr(39)) else 'numeric'})"
@@ -93,31 +138,46 @@ def equality(r: random.Random, left: tuple[str, Table], right: tuple[str, Table]
     return " AND ".join(f"{left[0]}.c{i} = {right[0]}.c{j}" for i, j in r.sample(pairs, min(len(pairs), r.choice([1, 1, 2]))))
 
 
-def query(r: random.Random, tables: list[Table]) -> str:
+def query(r: random.Random, tables: list[Table]) -> tuple[str, set[str]]:
+    """A query, and the aliases of the parts that it reads alone."""
+    alone: set[str] = set()
     entries = [(f"t{i}", r.choice(tables)) for i in range(r.randint(1, 5))]
-    text, wheres, visible = f"{entries[0][1].name} t0", [], [entries[0]]
+    text, wheres, visible = f"{entries[0][1].read('t0', alone)} t0", [], [entries[0]]
     for entry in entries[1:]:
         on = equality(r, r.choice(visible), entry)
         kind = r.choice(["JOIN", "JOIN", "JOIN", "LEFT JOIN", "RIGHT JOIN", "FULL JOIN", "EXISTS", "NOT EXISTS"])
         if kind.endswith("EXISTS"):
             more = f" AND {condition(r, *entry)}" if r.random() < 0.3 else ""
-            wheres.append(f"{kind} (SELECT FROM {entry[1].name} {entry[0]} WHERE {on}{more})")
+            wheres.append(f"{kind} (SELECT FROM {entry[1].read(entry[0], alone)} {entry[0]} WHERE {on}{more})")
             continue
         if kind != "FULL JOIN" and r.random() < 0.3:
             on += f" AND {condition(r, *r.choice([entry, r.choice(visible)]))}"
-        text = f"({text} {kind} {entry[1].name} {entry[0]} ON {on})"
+        text = f"({text} {kind} {entry[1].read(entry[0], alone)} {entry[0]} ON {on})"
         visible.append(entry)
     wheres += [condition(r, *r.choice(visible)) for _ in range(r.choice([0, 1, 1, 2]))]
-    return f"SELECT 1 FROM {text}" + (f" WHERE {' AND '.join(wheres)}" if wheres else "")
+    names = ", ".join(f"with_{table.name} AS {r.choice(['', 'NOT MATERIALIZED', 'MATERIALIZED'])} (SELECT * FROM {table.name})" for table in tables)
+    return f"WITH {names} SELECT 1 FROM {text}" + (f" WHERE {' AND '.join(wheres)}" if wheres else ""), alone
 
 
-def nodes(plan: dict, repeated: bool = False):
+def is_known(plan: dict, known: set[str]) -> bool:
+    """Whether a plan reads known tables alone, and joins them and does nothing else.
+
+    Known are names of plain tables, and aliases by which a part is read alone. A part that is read as one of a whole is
+    PostgreSQL's to estimate.
+    """
+    if plan["Node Type"] in SCANS:
+        return plan["Relation Name"] in known or plan["Alias"] in known
+    below = [part for part in plan.get("Plans", []) if part["Parent Relationship"] in ("Outer", "Inner", "Member")]
+    return plan["Node Type"] in (*JOINS, *PASSES) and all(is_known(part, known) for part in below)
+
+
+def nodes(plan: dict, known: set[str], repeated: bool = False):
     """The scans and joins whose bound stands for all of their rows: not those that are repeated for each row of others."""
     kind = plan["Node Type"]
-    if not repeated and plan["Actual Loops"] == 1 and kind in (*JOINS, "Seq Scan"):
+    if not repeated and plan["Actual Loops"] == 1 and kind in (*JOINS, *SCANS) and is_known(plan, known):
         yield plan
     for below in plan.get("Plans", []):
-        yield from nodes(below, repeated or (kind == "Nested Loop" and below["Parent Relationship"] == "Inner"))
+        yield from nodes(below, known, repeated or (kind == "Nested Loop" and below["Parent Relationship"] == "Inner"))
 
 
 def main() -> int:
@@ -135,10 +195,11 @@ def main() -> int:
             for table in tables:
                 table.make(connection)
             connection.execute("ANALYZE nu0, nu1, nu2; SET safebound.estimates = bound")
+            known = {table.name for table in tables if table.kind == "plain"}
             for method in ("hashjoin", "mergejoin", "nestloop"):
                 connection.execute(f"SET enable_{method} = {r.choice(['on', 'on', 'off'])}")
             for _ in range(queries):
-                text = query(r, tables)
+                text, alone = query(r, tables)
                 try:
                     told = connection.execute(f"EXPLAIN (ANALYZE, TIMING OFF, FORMAT JSON) {text}").fetchone()[0]
                 except (psycopg.errors.QueryCanceled, psycopg.errors.FeatureNotSupported, psycopg.errors.UndefinedFunction, psycopg.errors.DatatypeMismatch) as error:
@@ -146,7 +207,7 @@ def main() -> int:
                     if "-v" in sys.argv:
                         print(text, error)
                     continue
-                for node in nodes(told[0]["Plan"]):
+                for node in nodes(told[0]["Plan"], known | alone):
                     if node["Node Type"] in JOINS:
                         joins += 1
                         tight.append(node["Plan Rows"] / max(1, node["Actual Rows"]))
