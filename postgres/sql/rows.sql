@@ -141,6 +141,10 @@ SELECT 'gone'::regclass::oid AS gone \gset
 DROP TABLE gone;
 SELECT count(*) FROM safebound.kept_table WHERE relation = :gone;
 SELECT count(*) FROM safebound.kept_lists WHERE relation = :gone;
+-- A temporary table goes without a word, so it isn't watched.
+CREATE TEMPORARY TABLE passing (x integer);
+SELECT safebound.watch('passing');
+DROP TABLE passing;
 -- Who analyzes folds what has a hundred deltas.
 SELECT safebound.fold('s') > 0 AS folded;
 DO $$ BEGIN FOR i IN 1..99 LOOP INSERT INTO s VALUES (1000 + i); END LOOP; END $$;

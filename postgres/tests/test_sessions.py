@@ -144,6 +144,21 @@ class Running(Connected):
         self.refused(self.owner)
 
 
+class Elsewhere(Connected):
+    def test_a_join_that_a_foreign_server_makes(self) -> None:
+        self.owner.execute("CREATE EXTENSION postgres_fdw")
+        self.addCleanup(self.owner.execute, "DROP EXTENSION postgres_fdw CASCADE")
+        self.owner.execute(f"CREATE SERVER itself FOREIGN DATA WRAPPER postgres_fdw OPTIONS (host '{server.folder}', dbname 'postgres')")
+        self.owner.execute("CREATE USER MAPPING FOR postgres SERVER itself OPTIONS (user 'postgres')")
+        for name in ("r", "s"):
+            self.owner.execute(f"CREATE FOREIGN TABLE far_{name} (x integer) SERVER itself OPTIONS (table_name '{name}')")
+        join = "SELECT far_r.x FROM far_r JOIN far_s USING (x)"
+        # No local join is left in the plan.
+        self.assertNotIn("Hash", str(self.owner.execute(f"EXPLAIN {join}").fetchall()))
+        self.owner.execute("SET safebound.budget = 1000000")
+        self.refused(self.owner, join, "SB002")
+
+
 class Replicated(Connected):
     def wait(self, statement: str) -> None:
         """Until the statement answers true."""
