@@ -85,8 +85,8 @@ def passes(folder: Path, test: str) -> bool:
         return subprocess.run(["make", "-s", "-C", str(folder), "installcheck", *words], env=reach, capture_output=True).returncode == 0
 
 
-def build(folder: Path) -> None:
-    for target in ("all", "install"):
+def build(folder: Path, *targets: str) -> None:
+    for target in targets:
         subprocess.run(["make", "-s", "-C", str(folder), target], check=True, capture_output=True)
 
 
@@ -98,13 +98,15 @@ def main() -> int:
         os.environ["PATH"] = lay_server(root) + os.pathsep + os.environ["PATH"]
         for name in ("include", "dist", "library"):
             os.symlink(ROOT / name, Path(root) / name)
-        folder = Path(root) / "postgres"
+        built, folder = Path(root) / "built", Path(root) / "postgres"
+        shutil.copytree(HERE.parent, built)
+        build(built, "all")
         for edit in [Edit("nothing", "watch.c", [], test) for test in sorted({edit.test for edit in EDITS})] + EDITS:
             if word not in edit.name:
                 continue
-            shutil.copytree(HERE.parent, folder)
+            shutil.copytree(built, folder)
             apply(edit, folder)
-            build(folder)
+            build(folder, "all", "install")
             caught = not passes(folder, edit.test)
             wrong = caught != bool(edit.edits)
             missed += wrong
