@@ -9,7 +9,7 @@
 #include "access/table.h"
 #include "access/tableam.h"
 #include "catalog/pg_collation.h"
-#include "catalog/pg_constraint.h"
+#include "catalog/pg_operator.h"
 #include "catalog/pg_type.h"
 #include "executor/spi.h"
 #include "executor/tuptable.h"
@@ -21,6 +21,7 @@
 #include "utils/pg_locale.h"
 #include "utils/rel.h"
 #include "utils/snapmgr.h"
+#include "utils/syscache.h"
 #include "utils/tuplesort.h"
 #include "utils/typcache.h"
 
@@ -269,4 +270,153 @@ read_columns(Making *making)
 		code_column(making, column, sort, desc, making->rows, NULL);
 		ExecDropSingleTupleTableSlot(slot);
 	}
+}
+
+/* The numbers of the columns of a table whose conditions are looked at along a reference to its key. */
+static List *
+columns_beside(Relation referred, AttrNumber key)
+{
+	List	   *numbers = NIL;
+
+	for (int i = 0; i < RelationGetDescr(referred)->natts; i++)
+		if (i + 1 != key && !TupleDescAttr(RelationGetDescr(referred), i)->attisdropped && has_order(TupleDescAttr(RelationGetDescr(referred), i)))
+			numbers = lappend_int(numbers, i + 1);
+	return numbers;
+}
+
+static void
+put_operator(StringInfo into, Oid operator)
+{
+	HeapTuple	tuple = SearchSysCache1(OPEROID, ObjectIdGetDatum(operator));
+	Form_pg_operator form;
+
+	if (!HeapTupleIsValid(tuple))
+		elog(ERROR, "operator %u isn't there", operator);
+	form = (Form_pg_operator) GETSTRUCT(tuple);
+	appendStringInfo(into, "OPERATOR(%s.%s)", quote_identifier(get_namespace_name(form->oprnamespace)), NameStr(form->oprname));
+	ReleaseSysCache(tuple);
+}
+
+static const char *
+full_name(Relation relation)
+{
+	return quote_qualified_identifier(get_namespace_name(RelationGetNamespace(relation)), RelationGetRelationName(relation));
+}
+
+/* A query for the columns of what each value of the referring column refers to, by the order of its codes. */
+static char *
+query_along(const Making *making, const Column *along, Relation referred, const ForeignKeyCacheInfo *reference, List *numbers)
+{
+	StringInfoData query;
+	const char *name = quote_identifier(NameStr(along->attribute->attname));
+	Oid			collation = along->attribute->attcollation;
+	ListCell   *cell;
+
+	initStringInfo(&query);
+	appendStringInfoString(&query, "SELECT ");
+	foreach(cell, numbers)
+		appendStringInfo(&query, "%ss.%s", foreach_current_index(cell) ? ", " : "",
+						 quote_identifier(get_attname(RelationGetRelid(referred), lfirst_int(cell), false)));
+	appendStringInfo(&query, " FROM (SELECT DISTINCT %s AS value FROM ONLY %s WHERE %s IS NOT NULL) r LEFT JOIN ONLY %s s ON s.%s ",
+					 name, full_name(making->relation), name, full_name(referred),
+					 quote_identifier(get_attname(RelationGetRelid(referred), reference->confkey[0], false)));
+	put_operator(&query, reference->conpfeqop[0]);
+	appendStringInfoString(&query, " r.value ORDER BY r.value");
+	if (sort_collation(collation) == C_COLLATION_OID && collation != C_COLLATION_OID)
+		appendStringInfoString(&query, " COLLATE \"C\"");
+	return query.data;
+}
+
+/* Rows of the query go to a sort for each of its columns. Row 0 stands for NULL, which refers to nothing. */
+static void
+sort_referred(const char *query, int length, Tuplesortstate **sorts, TupleTableSlot **slots, uint32 rows)
+{
+	Portal		portal = SPI_cursor_open_with_args(NULL, query, 0, NULL, NULL, NULL, true, 0);
+	uint32		row = 0;
+
+	for (int i = 0; i < length; i++)
+		put_value(sorts[i], slots[i], (Datum) 0, true, 0);
+	for (SPI_cursor_fetch(portal, true, 10000); SPI_processed > 0; SPI_cursor_fetch(portal, true, 10000))
+	{
+		for (uint64 at = 0; at < SPI_processed; at++)
+		{
+			row++;
+			for (int i = 0; i < length; i++)
+			{
+				bool		null;
+				Datum		value = SPI_getbinval(SPI_tuptable->vals[at], SPI_tuptable->tupdesc, i + 1, &null);
+
+				put_value(sorts[i], slots[i], value, null, row);
+			}
+		}
+		SPI_freetuptable(SPI_tuptable);
+	}
+	SPI_cursor_close(portal);
+	if (row + 1 != rows)
+		elog(ERROR, "%u values are referred to, and %u are referring", row, rows - 1);
+}
+
+/* How many rows have each code. */
+static uint32 *
+weights_of(const Making *making, const Column *column)
+{
+	uint32	   *weights = MemoryContextAllocExtended(CurrentMemoryContext, ((Size) column->highest + 1) * sizeof(uint32), MCXT_ALLOC_HUGE | MCXT_ALLOC_ZERO);
+
+	codes_rewind(column->codes);
+	for (uint32 row = 0; row < making->rows; row++)
+		weights[codes_get(column->codes)]++;
+	return weights;
+}
+
+/* The codes of a column of the other table become those of the rows that refer to it. */
+static void
+spread_codes(const Making *making, const Column *along, Column *column)
+{
+	uint32	   *map = MemoryContextAllocHuge(CurrentMemoryContext, ((Size) along->highest + 1) * sizeof(uint32));
+
+	codes_rewind(column->codes);
+	for (uint32 code = 0; code <= along->highest; code++)
+		map[code] = codes_get(column->codes);
+	codes_end(column->codes);
+	column->codes = codes_begin();
+	codes_rewind(along->codes);
+	for (uint32 row = 0; row < making->rows; row++)
+		codes_put(column->codes, map[codes_get(along->codes)]);
+	codes_finish(column->codes);
+	pfree(map);
+}
+
+/* The columns of a table to which a column refers, as columns of the referring rows. */
+Column *
+referred_columns(const Making *making, const Column *along, ForeignKeyCacheInfo *reference, int *length)
+{
+	Relation	referred = table_open(reference->confrelid, AccessShareLock);
+	List	   *numbers = columns_beside(referred, reference->confkey[0]);
+	Column	   *columns = palloc0((list_length(numbers) + 1) * sizeof(Column));
+	Tuplesortstate **sorts = palloc((list_length(numbers) + 1) * sizeof(Tuplesortstate *));
+	TupleTableSlot **slots = palloc((list_length(numbers) + 1) * sizeof(TupleTableSlot *));
+	TupleDesc  *descs = palloc((list_length(numbers) + 1) * sizeof(TupleDesc));
+	uint32	   *weights;
+
+	*length = list_length(numbers);
+	for (int i = 0; i < *length; i++)
+	{
+		columns[i] = (Column) {.number = list_nth_int(numbers, i),.filter = true,.along = along,.referred = reference->confrelid,.key = reference->confkey[0]};
+		columns[i].attribute = memcpy(palloc(ATTRIBUTE_FIXED_PART_SIZE), TupleDescAttr(RelationGetDescr(referred), columns[i].number - 1), ATTRIBUTE_FIXED_PART_SIZE);
+		descs[i] = numbered_values(columns[i].attribute);
+		slots[i] = MakeSingleTupleTableSlot(descs[i], &TTSOpsVirtual);
+		sorts[i] = begin_sort(descs[i], columns[i].attribute, Max(64, maintenance_work_mem / (*length + 1)));
+	}
+	if (*length > 0)
+		sort_referred(query_along(making, along, referred, reference, numbers), *length, sorts, slots, along->highest + 1);
+	weights = weights_of(making, along);
+	for (int i = 0; i < *length; i++)
+	{
+		code_column(making, &columns[i], sorts[i], descs[i], along->highest + 1, weights);
+		spread_codes(making, along, &columns[i]);
+		ExecDropSingleTupleTableSlot(slots[i]);
+	}
+	pfree(weights);
+	table_close(referred, NoLock);
+	return columns;
 }

@@ -16,12 +16,14 @@
 /* More values than these of IN or = ANY are not looked at. */
 #define MOST_VALUES 1000
 
+/* Whose conditions are looked at, and which lists are taken for them: those of the relation itself, or of one that refers to it. */
 typedef struct Conditioned
 {
-	const KeptTable *table;
+	Oid			relation;
 	Index		entry;			/* the relation's number in the query */
+	const KeptTable *table;		/* that has the lists */
 	AttrNumber	joined;
-	DegreeList	whole;
+	const Reference *reference; /* NULL: the relation has them itself */
 } Conditioned;
 
 static bool list_of_clause(const Conditioned *of, Node *clause, DegreeList *list);
@@ -37,16 +39,22 @@ column_of(const Conditioned *of, Node *node)
 	return 0;
 }
 
+static const KeptPair *
+pair_of(const Conditioned *of, AttrNumber column)
+{
+	return kept_pair_along(of->table, of->joined, column, of->reference);
+}
+
 /* The family of the operators by which a column's values were told apart, where a clause under `collation` tells the same ones apart;
    else InvalidOid. */
 Oid
-equality_family(const KeptTable *table, AttrNumber column, Oid collation)
+equality_family(Oid relation, AttrNumber column, Oid collation)
 {
 	Oid			type,
 				own;
 	int32		typmod;
 
-	get_atttypetypmodcoll(table->relation, column, &type, &typmod, &own);
+	get_atttypetypmodcoll(relation, column, &type, &typmod, &own);
 	if (collation != own && OidIsValid(collation) && OidIsValid(own) &&
 		!(get_collation_isdeterministic(collation) && get_collation_isdeterministic(own)))
 		return InvalidOid;
@@ -55,9 +63,9 @@ equality_family(const KeptTable *table, AttrNumber column, Oid collation)
 
 /* Whether an operator is the equality by which the column's values were told apart. */
 bool
-is_equality(const KeptTable *table, AttrNumber column, Oid operator, Oid collation)
+is_equality(Oid relation, AttrNumber column, Oid operator, Oid collation)
 {
-	Oid			family = equality_family(table, column, collation);
+	Oid			family = equality_family(relation, column, collation);
 
 	return OidIsValid(family) && get_op_opfamily_strategy(operator, family) == BTEqualStrategyNumber;
 }
@@ -108,13 +116,13 @@ set_range(Range *range, const KeptPair *pair, int strategy, Oid less, Oid less_e
 }
 
 static bool
-is_ordered_by(const KeptTable *table, AttrNumber column, Oid collation)
+is_ordered_by(Oid relation, AttrNumber column, Oid collation)
 {
 	Oid			type,
 				own;
 	int32		typmod;
 
-	get_atttypetypmodcoll(table->relation, column, &type, &typmod, &own);
+	get_atttypetypmodcoll(relation, column, &type, &typmod, &own);
 	return collation == own || !OidIsValid(own) || (OidIsValid(collation) && lc_collate_is_c(own) && lc_collate_is_c(collation));
 }
 
@@ -133,10 +141,10 @@ range_of_comparison(const Conditioned *of, OpExpr *clause, Range *range)
 	int			strategy;
 
 	range->column = column_of(of, column_left ? left : lsecond(clause->args));
-	pair = range->column ? kept_pair(of->table, of->joined, range->column) : NULL;
-	if (pair == NULL || pair->leaves == 0 || !OidIsValid(operator) || !is_ordered_by(of->table, range->column, clause->inputcollid))
+	pair = range->column ? pair_of(of, range->column) : NULL;
+	if (pair == NULL || pair->leaves == 0 || !OidIsValid(operator) || !is_ordered_by(of->relation, range->column, clause->inputcollid))
 		return false;
-	family = equality_family(of->table, range->column, clause->inputcollid);
+	family = equality_family(of->relation, range->column, clause->inputcollid);
 	if (!OidIsValid(family) || get_op_opfamily_strategy(operator, family) == 0)
 		return false;
 	get_op_opfamily_properties(operator, family, false, &strategy, &left_type, &right_type);
@@ -190,10 +198,10 @@ range_of_like(const Conditioned *of, OpExpr *clause, Range *range)
 	Range		below;
 
 	range->column = column_of(of, linitial(clause->args));
-	pair = range->column ? kept_pair(of->table, of->joined, range->column) : NULL;
+	pair = range->column ? pair_of(of, range->column) : NULL;
 	if (clause->opno != OID_TEXT_LIKE_OP || pair == NULL || pair->leaves == 0 || !IsA(pattern, Const) || pattern->constisnull)
 		return false;
-	get_atttypetypmodcoll(of->table->relation, range->column, &type, &typmod, &collation);
+	get_atttypetypmodcoll(of->relation, range->column, &type, &typmod, &collation);
 	if (lookup_type_cache(type, TYPECACHE_BTREE_OPFAMILY)->btree_opf != TEXT_BTREE_FAM_OID || !lc_collate_is_c(collation))
 		return false;
 	front = DatumGetTextPP(pattern->constvalue);
@@ -272,11 +280,11 @@ list_of_equality(const Conditioned *of, OpExpr *clause, DegreeList *list)
 	bool		column_left = column_of(of, left) != 0;
 	AttrNumber	column = column_left ? column_of(of, left) : column_of(of, right);
 	Node	   *other = column_left ? right : left;
-	const KeptPair *pair = column ? kept_pair(of->table, of->joined, column) : NULL;
+	const KeptPair *pair = column ? pair_of(of, column) : NULL;
 	const KeptList *kept;
 	FmgrInfo	equal;
 
-	if (pair == NULL || !is_equality(of->table, column, clause->opno, clause->inputcollid))
+	if (pair == NULL || !is_equality(of->relation, column, clause->opno, clause->inputcollid))
 		return false;
 	while (IsA(other, RelabelType))
 		other = (Node *) ((RelabelType *) other)->arg;
@@ -332,11 +340,11 @@ list_of_array(const Conditioned *of, ScalarArrayOpExpr *clause, DegreeList *list
 {
 	AttrNumber	column = column_of(of, linitial(clause->args));
 	Node	   *values = lsecond(clause->args);
-	const KeptPair *pair = column ? kept_pair(of->table, of->joined, column) : NULL;
+	const KeptPair *pair = column ? pair_of(of, column) : NULL;
 
 	while (IsA(values, RelabelType))
 		values = (Node *) ((RelabelType *) values)->arg;
-	if (pair == NULL || !clause->useOr || !is_equality(of->table, column, clause->opno, clause->inputcollid))
+	if (pair == NULL || !clause->useOr || !is_equality(of->relation, column, clause->opno, clause->inputcollid))
 		return false;
 	if (!IsA(values, Const) || ((Const *) values)->constisnull)
 		return false;
@@ -347,7 +355,7 @@ static bool
 list_of_null_test(const Conditioned *of, NullTest *test, DegreeList *list)
 {
 	AttrNumber	column = column_of(of, (Node *) test->arg);
-	const KeptPair *pair = column ? kept_pair(of->table, of->joined, column) : NULL;
+	const KeptPair *pair = column ? pair_of(of, column) : NULL;
 	const KeptList *kept = pair && test->nulltesttype == IS_NULL && !test->argisrow ? list_of_kind(pair, LIST_NULL) : NULL;
 
 	if (kept != NULL)
@@ -448,9 +456,20 @@ DegreeList
 list_under(const KeptTable *table, RelOptInfo *rel, AttrNumber joined)
 {
 	const KeptPair *all = kept_pair(table, joined, 0);
-	Conditioned of = {table, rel->relid, joined, all->lists[0].list};
+	Conditioned of = {.relation = table->relation,.entry = rel->relid,.table = table,.joined = joined};
+	DegreeList	whole = all->lists[0].list;
 	DegreeList	list;
 
-	list = list_of_all(&of, rel->baserestrictinfo, &list) ? lesser(of.whole, list) : of.whole;
+	list = list_of_all(&of, rel->baserestrictinfo, &list) ? lesser(whole, list) : whole;
 	return with_deltas(table, joined, list);
+}
+
+/* The list of a joined column over the rows that refer to a row that passes the conditions of its relation. False where there is none.
+   What is referred to isn't followed, so there is none where rows that come are. */
+bool
+list_along(const KeptTable *table, const Reference *reference, RelOptInfo *referred, AttrNumber joined, DegreeList *list)
+{
+	Conditioned of = {.relation = reference->referred,.entry = referred->relid,.table = table,.joined = joined,.reference = reference};
+
+	return table->deltas == NULL && !kept_fresh_only && list_of_all(&of, referred->baserestrictinfo, list);
 }

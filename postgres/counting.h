@@ -5,6 +5,7 @@
 #include "statistics.h"
 
 #include "catalog/pg_attribute.h"
+#include "utils/rel.h"
 
 /* sorted.c: numbers below 2^63 sorted, in memory where that many fit, else in files. */
 typedef struct Sorted Sorted;
@@ -47,6 +48,7 @@ typedef struct Column
 	bool		filter;
 	const struct Column *along; /* for a column of a table that this one refers to: the referring column */
 	Oid			referred;
+	AttrNumber	key;			/* the column that it refers to */
 	Codes	   *codes;
 	uint32		highest;		/* the highest code */
 	int			common_length;
@@ -69,6 +71,7 @@ typedef struct Making
 
 /* columns.c */
 extern void read_columns(Making *making);
+extern Column *referred_columns(const Making *making, const Column *along, ForeignKeyCacheInfo *reference, int *length);
 extern void end_columns(Column *columns, int length);
 
 /* counts.c */

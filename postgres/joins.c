@@ -76,7 +76,7 @@ add_class(BoundedQuery *query, EquivalenceClass *class)
 		Entry	   *entry = var ? entry_of(query, var->varno) : NULL;
 		int			column;
 
-		if (entry == NULL || !list_member_oid(class->ec_opfamilies, equality_family(entry->table, var->varattno, class->ec_collation)))
+		if (entry == NULL || !list_member_oid(class->ec_opfamilies, equality_family(entry->table->relation, var->varattno, class->ec_collation)))
 			continue;
 		column = joined_column(query, var);
 		if (column >= 0)
@@ -98,8 +98,8 @@ add_clause(BoundedQuery *query, RestrictInfo *info)
 	EqualColumns *equal = palloc0(sizeof(EqualColumns));
 
 	if (left_entry == NULL || right_entry == NULL || left->varno == right->varno ||
-		!is_equality(left_entry->table, left->varattno, clause->opno, clause->inputcollid) ||
-		!is_equality(right_entry->table, right->varattno, clause->opno, clause->inputcollid))
+		!is_equality(left_entry->table->relation, left->varattno, clause->opno, clause->inputcollid) ||
+		!is_equality(right_entry->table->relation, right->varattno, clause->opno, clause->inputcollid))
 		return;
 	equal->required = info->required_relids;
 	equal->length = 2;
@@ -123,6 +123,81 @@ add_clauses(BoundedQuery *query, RelOptInfo *rel)
 		if (bms_num_members(info->clause_relids) == 2 && bms_next_member(info->clause_relids, -1) == (int) rel->relid)
 			add_clause(query, info);
 	}
+}
+
+static void
+add_carried(BoundedQuery *query, const EqualColumns *equal, const JoinedColumn *along, const JoinedColumn *key)
+{
+	Entry	   *referring = &query->entries[along->relid];
+	Entry	   *referred = &query->entries[key->relid];
+	Reference	reference = {along->number, referred->table->relation, key->number};
+	Carried    *carried;
+
+	if (along->relid == key->relid || referred->rel->baserestrictinfo == NIL || !has_pairs_along(referring->table, &reference))
+		return;
+	carried = palloc0(sizeof(Carried));
+	*carried = (Carried) {.referring = along->relid,.referred = key->relid,.required = equal->required,.reference = reference};
+	query->carried = lappend(query->carried, carried);
+}
+
+/* Where one of two equal columns refers to the other. */
+static void
+find_carried(BoundedQuery *query, const EqualColumns *equal)
+{
+	for (int i = 0; i < equal->length; i++)
+		for (int j = 0; j < equal->length; j++)
+			add_carried(query, equal, &query->columns[equal->columns[i]], &query->columns[equal->columns[j]]);
+}
+
+static void
+make_room_for_carried(BoundedQuery *query)
+{
+	ListCell   *cell;
+
+	foreach(cell, query->carried)
+	{
+		Carried    *carried = lfirst(cell);
+
+		carried->looked = palloc0((query->columns_length + 1) * sizeof(bool));
+		carried->lists = palloc0((query->columns_length + 1) * sizeof(DegreeList *));
+	}
+}
+
+/* The list of a column, by its number here, under the conditions of what its relation refers to. */
+static const DegreeList *
+carried_list(BoundedQuery *query, Carried *carried, int column)
+{
+	AttrNumber	joined = column < query->columns_length ? query->columns[column].number : 0;
+	DegreeList	list;
+
+	if (!carried->looked[column] &&
+		list_along(query->entries[carried->referring].table, &carried->reference, query->entries[carried->referred].rel, joined, &list))
+	{
+		carried->lists[column] = palloc(sizeof(DegreeList));
+		*carried->lists[column] = shortened(list);
+	}
+	carried->looked[column] = true;
+	return carried->lists[column];
+}
+
+/* A list of a relation, in a set of which it may refer to others. */
+static DegreeList
+list_in_set(BoundedQuery *query, Relids relids, Index relid, int column, DegreeList list)
+{
+	ListCell   *cell;
+
+	foreach(cell, query->carried)
+	{
+		Carried    *carried = lfirst(cell);
+		const DegreeList *other;
+
+		if (carried->referring != relid || !bms_is_member(carried->referred, relids) || !bms_is_subset(carried->required, relids))
+			continue;
+		other = carried_list(query, carried, column);
+		if (other != NULL)
+			list = lesser(list, *other);
+	}
+	return list;
 }
 
 static bool
@@ -181,6 +256,9 @@ bounded_query(PlannerInfo *root)
 	for (int i = 1; i < root->simple_rel_array_size; i++)
 		if (query->entries[i].table)
 			add_clauses(query, query->entries[i].rel);
+	foreach(cell, query->equalities)
+		find_carried(query, lfirst(cell));
+	make_room_for_carried(query);
 	return query;
 }
 
@@ -231,21 +309,27 @@ add_equal_columns(SetCall *call, BoundedQuery *query, const EqualColumns *equal)
 }
 
 static uint64
-call_library(SetCall *call, BoundedQuery *query)
+call_library(SetCall *call, BoundedQuery *query, Relids relids)
 {
 	safebound_list *lists = palloc((query->columns_length + 1) * sizeof(safebound_list));
+	DegreeList *taken = palloc((query->columns_length + 1) * sizeof(DegreeList));
 	safebound_run *runs;
 	size_t		lists_length = 0;
 	size_t		runs_length = 0;
 	uint64		bound = 0;
 
 	for (int i = 0; i < query->columns_length; i++)
-		runs_length += query->columns[i].list.length;
+	{
+		if (!call->named[i])
+			continue;
+		taken[i] = list_in_set(query, relids, query->columns[i].relid, i, query->columns[i].list);
+		runs_length += taken[i].length;
+	}
 	runs = palloc((runs_length + 1) * sizeof(safebound_run));
 	runs_length = 0;
 	for (int i = 0; i < query->columns_length; i++)
 	{
-		DegreeList *list = &query->columns[i].list;
+		DegreeList *list = &taken[i];
 
 		if (!call->named[i])
 			continue;
@@ -279,7 +363,7 @@ new_bound(BoundedQuery *query, Relids relids, int entries)
 	while ((relid = bms_next_member(relids, relid)) >= 0)
 	{
 		call.number[relid] = call.entries;
-		call.rows[call.entries++] = query->entries[relid].rows;
+		call.rows[call.entries++] = list_in_set(query, relids, relid, query->columns_length, (DegreeList) {query->entries[relid].rows, 0, NULL}).rows;
 	}
 	if (call.entries <= 1)
 		return call.entries ? call.rows[0] : 1;
@@ -291,7 +375,7 @@ new_bound(BoundedQuery *query, Relids relids, int entries)
 		if (bms_is_subset(equal->required, relids))
 			add_equal_columns(&call, query, equal);
 	}
-	return call_library(&call, query);
+	return call_library(&call, query, relids);
 }
 
 /* The bound of the inner join of a set of relations, which the library is asked once. */

@@ -3,6 +3,7 @@
 #include "watch.h"
 
 #include "access/htup_details.h"
+#include "access/stratnum.h"
 #include "access/relation.h"
 #include "access/table.h"
 #include "access/tableam.h"
@@ -59,12 +60,13 @@ write_own(const char *statement, int length, Oid *types, Datum *values)
 void
 save_pair(const Making *making, const Column *joined, const Column *filter, StringInfo bytes)
 {
-	Oid			types[] = {REGCLASSOID, INT2OID, INT2OID, INT2OID, OIDOID, REGTYPEOID, REGTYPEOID, OIDOID, OIDOID, BYTEAOID};
+	Oid			types[] = {REGCLASSOID, INT2OID, INT2OID, INT2OID, OIDOID, INT2OID, REGTYPEOID, REGTYPEOID, OIDOID, OIDOID, BYTEAOID};
 	bytea	   *lists = palloc(VARHDRSZ + bytes->len);
 	Datum		values[] = {
 		ObjectIdGetDatum(RelationGetRelid(making->relation)),
 		Int16GetDatum(joined ? joined->number : 0), Int16GetDatum(filter ? filter->number : 0),
 		Int16GetDatum(filter && filter->along ? filter->along->number : 0), ObjectIdGetDatum(filter ? filter->referred : InvalidOid),
+		Int16GetDatum(filter ? filter->key : 0),
 		ObjectIdGetDatum(joined ? joined->attribute->atttypid : InvalidOid),
 		ObjectIdGetDatum(filter ? filter->attribute->atttypid : InvalidOid),
 		ObjectIdGetDatum(joined ? joined->attribute->attcollation : InvalidOid),
@@ -73,7 +75,7 @@ save_pair(const Making *making, const Column *joined, const Column *filter, Stri
 
 	SET_VARSIZE(lists, VARHDRSZ + bytes->len);
 	memcpy(VARDATA(lists), bytes->data, bytes->len);
-	write_own("INSERT INTO safebound.kept_lists VALUES ($1, $2, $3, $4, $5, $6, $7, $8, $9, $10)", 10, types, values);
+	write_own("INSERT INTO safebound.kept_lists VALUES ($1, $2, $3, $4, $5, $6, $7, $8, $9, $10, $11)", 11, types, values);
 }
 
 /* Whether a column has an order, so that equal values can be told. */
@@ -140,6 +142,55 @@ choose_columns(Making *making, Bitmapset *joined, Bitmapset *filters)
 	}
 }
 
+/* Whether there can be lists along a reference: who keeps the table may read the other one whole, values are equal on both sides as they
+   are in each column, and numbers of them fit into the memory. */
+static bool
+may_follow(const Making *making, const Column *along, const ForeignKeyCacheInfo *reference)
+{
+	Relation	referred = table_open(reference->confrelid, AccessShareLock);
+	Form_pg_attribute key = TupleDescAttr(RelationGetDescr(referred), reference->confkey[0] - 1);
+	bool		may = referred->rd_rel->relkind == RELKIND_RELATION && !referred->rd_rel->relrowsecurity &&
+		!making->relation->rd_rel->relrowsecurity && reference->nkeys == 1 &&
+		pg_class_aclcheck(reference->confrelid, GetUserId(), ACL_SELECT) == ACLCHECK_OK &&
+		key->atttypid == along->attribute->atttypid && key->attcollation == along->attribute->attcollation &&
+		get_op_opfamily_strategy(reference->conpfeqop[0], lookup_type_cache(key->atttypid, TYPECACHE_BTREE_OPFAMILY)->btree_opf) == BTEqualStrategyNumber &&
+		((Size) along->highest + 1) * 2 * sizeof(uint32) <= (Size) maintenance_work_mem * 1024;
+
+	table_close(referred, NoLock);
+	return may;
+}
+
+/* Lists of this table's rows under conditions on a table to which they refer. */
+static void
+keep_along(Making *making, const Column *along, ForeignKeyCacheInfo *reference)
+{
+	MemoryContext own = AllocSetContextCreate(CurrentMemoryContext, "safebound reference", ALLOCSET_DEFAULT_SIZES);
+	MemoryContext before = MemoryContextSwitchTo(own);
+	int			length;
+	Column	   *columns = referred_columns(making, along, reference, &length);
+
+	keep_filters(making, columns, length);
+	end_columns(columns, length);
+	MemoryContextSwitchTo(before);
+	MemoryContextDelete(own);
+}
+
+static void
+keep_references(Making *making)
+{
+	List	   *references = copyObject(RelationGetFKeyList(making->relation));
+	ListCell   *cell;
+
+	foreach(cell, references)
+	{
+		ForeignKeyCacheInfo *reference = lfirst(cell);
+
+		for (int i = 0; i < making->length; i++)
+			if (making->columns[i].joined && making->columns[i].number == reference->conkey[0] && may_follow(making, &making->columns[i], reference))
+				keep_along(making, &making->columns[i], reference);
+	}
+}
+
 /* Only who owns a table keeps it. */
 Relation
 open_owned(Oid relation)
@@ -196,6 +247,7 @@ keep_table(Oid relation, Bitmapset *joined, Bitmapset *filters, int most_common,
 	read_columns(&making);
 	keep_whole(&making);
 	keep_filters(&making, making.columns, making.length);
+	keep_references(&making);
 	end_columns(making.columns, making.length);
 	save_table(&making);
 	end_counting(&before, followed);

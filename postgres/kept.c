@@ -26,6 +26,7 @@ enum
 	LISTS_FILTER,
 	LISTS_ALONG,
 	LISTS_REFERRED,
+	LISTS_KEY,
 	LISTS_JOINED_TYPE,
 	LISTS_FILTER_TYPE,
 	LISTS_JOINED_COLLATION,
@@ -92,7 +93,8 @@ read_pair(Datum *row)
 {
 	KeptPair	pair = {
 		.joined = DatumGetInt16(row[LISTS_JOINED - 1]),.filter = DatumGetInt16(row[LISTS_FILTER - 1]),
-		.along = DatumGetInt16(row[LISTS_ALONG - 1]),.referred = DatumGetObjectId(row[LISTS_REFERRED - 1])
+		.along = DatumGetInt16(row[LISTS_ALONG - 1]),.referred = DatumGetObjectId(row[LISTS_REFERRED - 1]),
+		.key = DatumGetInt16(row[LISTS_KEY - 1])
 	};
 	bytea	   *bytes = DatumGetByteaP(row[LISTS_BYTES - 1]);
 	const char *at = VARDATA_ANY(bytes);
@@ -279,10 +281,32 @@ kept_table(Oid relation)
 const KeptPair *
 kept_pair(const KeptTable *table, AttrNumber joined, AttrNumber filter)
 {
+	return kept_pair_along(table, joined, filter, NULL);
+}
+
+/* The same along a reference; NULL: of the table's own column. */
+const KeptPair *
+kept_pair_along(const KeptTable *table, AttrNumber joined, AttrNumber filter, const Reference *reference)
+{
+	Reference	own = reference ? *reference : (Reference) {0};
+
 	for (int i = 0; i < table->length; i++)
-		if (table->pairs[i].joined == joined && table->pairs[i].filter == filter && table->pairs[i].along == 0)
-			return &table->pairs[i];
+	{
+		const KeptPair *pair = &table->pairs[i];
+
+		if (pair->joined == joined && pair->filter == filter && pair->along == own.along && pair->referred == own.referred && pair->key == own.key)
+			return pair;
+	}
 	return NULL;
+}
+
+bool
+has_pairs_along(const KeptTable *table, const Reference *reference)
+{
+	for (int i = 0; i < table->length; i++)
+		if (table->pairs[i].along == reference->along && table->pairs[i].referred == reference->referred && table->pairs[i].key == reference->key)
+			return true;
+	return false;
 }
 
 static void

@@ -42,6 +42,17 @@ typedef struct EqualColumns
 	int		   *columns;
 } EqualColumns;
 
+/* A relation that refers to another one, by an equality of both: it has lists under the other one's conditions. */
+typedef struct Carried
+{
+	Index		referring;
+	Index		referred;
+	Relids		required;		/* as of the equality */
+	Reference	reference;
+	bool	   *looked;			/* by column, and the last one is its rows alone: whether the list was looked for */
+	DegreeList **lists;			/* NULL where there is none */
+} Carried;
+
 typedef struct BoundedQuery
 {
 	PlannerInfo *root;
@@ -50,6 +61,7 @@ typedef struct BoundedQuery
 	int			columns_capacity;
 	JoinedColumn *columns;
 	List	   *equalities;		/* of EqualColumns */
+	List	   *carried;		/* of Carried */
 	HTAB	   *bounds;			/* of the sets that were asked for */
 	HTAB	   *estimates;		/* PostgreSQL's own rows, by relation */
 } BoundedQuery;

@@ -20,19 +20,21 @@ CREATE TABLE kept_table (
 REVOKE ALL ON kept_table FROM PUBLIC;
 
 -- joined 0: the rows of each value of the filter column alone. filter 0: the list of all rows.
--- along: the filter column is one of the table `referred`, to which the column `along` refers; 0: it is one of the table itself.
+-- along: the filter column is one of the table `referred`, to whose column `key` the column `along` refers; 0: it is one of the table
+-- itself.
 CREATE TABLE kept_lists (
     relation regclass NOT NULL,
     joined smallint NOT NULL,
     filter smallint NOT NULL,
     along smallint NOT NULL,
     referred oid NOT NULL,
+    key smallint NOT NULL,
     joined_type regtype NOT NULL,
     filter_type regtype NOT NULL,
     joined_collation oid NOT NULL,
     filter_collation oid NOT NULL,
     lists bytea NOT NULL,
-    PRIMARY KEY (relation, joined, filter, along, referred)
+    PRIMARY KEY (relation, joined, filter, along, referred, key)
 );
 REVOKE ALL ON kept_lists FROM PUBLIC;
 

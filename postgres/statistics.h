@@ -37,18 +37,27 @@ typedef struct KeptList
 } KeptList;
 
 /* The lists of a joined column by a filter column. joined 0: rows alone; filter 0: all rows, in one list. With `along` the filter column
-   is one of the table that the column `along` refers to. */
+   is one of the table `referred`, to whose column `key` the column `along` refers. */
 typedef struct KeptPair
 {
 	AttrNumber	joined;
 	AttrNumber	filter;
 	AttrNumber	along;
 	Oid			referred;
+	AttrNumber	key;
 	int			length;
 	KeptList   *lists;
 	int			first_leaf;
 	int			leaves;
 } KeptPair;
+
+/* A column that refers to a column of another table. */
+typedef struct Reference
+{
+	AttrNumber	along;
+	Oid			referred;
+	AttrNumber	key;
+} Reference;
 
 typedef struct Deltas Deltas;
 
@@ -90,6 +99,8 @@ extern DegreeList with_deltas(const KeptTable *table, AttrNumber joined, DegreeL
 extern Oid	extension_table(const char *name);
 extern const KeptTable *kept_table(Oid relation);
 extern const KeptPair *kept_pair(const KeptTable *table, AttrNumber joined, AttrNumber filter);
+extern const KeptPair *kept_pair_along(const KeptTable *table, AttrNumber joined, AttrNumber filter, const Reference *reference);
+extern bool has_pairs_along(const KeptTable *table, const Reference *reference);
 extern bool kept_fresh_only;	/* only tables that are watched are known */
 extern void kept_hold(void);
 extern void kept_release(void);
@@ -97,8 +108,9 @@ extern void kept_free_dropped(void);
 extern void kept_init(void);
 
 /* conditions.c: lists under a relation's own conditions. */
-extern Oid	equality_family(const KeptTable *table, AttrNumber column, Oid collation);
-extern bool is_equality(const KeptTable *table, AttrNumber column, Oid operator, Oid collation);
+extern Oid	equality_family(Oid relation, AttrNumber column, Oid collation);
+extern bool is_equality(Oid relation, AttrNumber column, Oid operator, Oid collation);
 extern DegreeList list_under(const KeptTable *table, RelOptInfo *rel, AttrNumber joined);
+extern bool list_along(const KeptTable *table, const Reference *reference, RelOptInfo *referred, AttrNumber joined, DegreeList *list);
 
 #endif

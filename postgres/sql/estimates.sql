@@ -35,6 +35,18 @@ SELECT rows_of('SELECT FROM n JOIN m USING (x) WHERE n.k > 250 AND n.k <= 500') 
 SELECT rows_of('SELECT FROM n WHERE c LIKE ''a%''') BETWEEN 500 AND 667 AS front, rows_of('SELECT FROM n WHERE c LIKE ''b\_1''') = 500 AS escaped,
        rows_of('SELECT FROM n WHERE c LIKE ''%a''') = 1000 AS no_front, rows_of('SELECT FROM n WHERE c LIKE ''aa_''') BETWEEN 300 AND 367 AS longer;
 DROP TABLE n, m;
+-- Of 158 rows two refer to rows with a; one value alone stands in 100.
+CREATE TABLE d (k integer PRIMARY KEY, c text, n integer);
+INSERT INTO d SELECT i, CASE WHEN i IN (3, 4) THEN 'a' ELSE 'b' END, i FROM generate_series(1, 10) i;
+CREATE TABLE f (k integer REFERENCES d, x integer);
+INSERT INTO f SELECT k, i % 7 FROM d, generate_series(1, CASE k WHEN 1 THEN 100 WHEN 2 THEN 50 ELSE 1 END) i;
+INSERT INTO f VALUES (NULL, 5);
+SELECT safebound.keep('d', accuracy => 64) > 0 AS d, safebound.keep('f', accuracy => 64) > 0 AS f;
+SELECT rows_of('SELECT FROM f JOIN d USING (k) WHERE c = ''a''') = 2 AS along, rows_of('SELECT FROM f JOIN d USING (k) WHERE c IN (''a'', ''b'')') = 158 AS both,
+       rows_of('SELECT FROM f JOIN d USING (k) WHERE n > 2') = 8 AS part, rows_of('SELECT FROM f JOIN d USING (k) WHERE n = 1') = 100 AS one,
+       rows_of('SELECT d.c FROM f LEFT JOIN d ON f.k = d.k AND c = ''a''') = 159 + 2 AS left_join;
+SELECT rows_of('SELECT FROM f JOIN d USING (k) JOIN f g USING (x) WHERE c = ''a''') = 2 * 31 AS further;
+DROP TABLE f, d;
 SET safebound.estimates = off;
 DROP TABLE r, s;
 DROP FUNCTION rows_of;

@@ -146,7 +146,7 @@ def one_set(url: str, asking: Asking, r: random.Random, watched: bool, queries: 
     tables = [Table(r, f"nu{i}", ("plain",)) for i in range(3)]
     asking.connection.execute("SET safebound.estimates = off")
     for table in tables:
-        table.make(asking.connection)
+        table.make(asking.connection, [])
         if watched:
             asking.connection.execute(f"SELECT safebound.watch('{table.name}')")
     asking.connection.execute(f"SET safebound.estimates = bound; SET plan_cache_mode = {r.choice(['force_generic_plan', 'auto'])}")

@@ -51,6 +51,7 @@ def value(r: random.Random, of: str, distinct: int, null: float) -> str:
 class Table:
     def __init__(self, r: random.Random, name: str, kinds: tuple[str, ...] = KINDS) -> None:
         self.name, self.r, self.kind, self.bare = name, r, r.choice(kinds), kinds == ("plain",)
+        self.has_key = False
         family = r.choice(COMPARABLE)
         self.columns = [r.choice(family if r.random() < 0.5 else r.choice(COMPARABLE)) for _ in range(r.randint(2, 4))]
         self.distinct = [r.choice([1, 3, 8, 40]) for _ in self.columns]
@@ -75,7 +76,20 @@ class Table:
             connection.execute(f"CREATE TABLE {part} {of}")
         connection.execute(f"CREATE VIEW {self.name}_view AS SELECT * FROM {self.name}")
 
-    def make(self, connection: psycopg.Connection) -> None:
+    def make_key(self, connection: psycopg.Connection) -> None:
+        """The first column becomes the key: rows without a value there, and all but one of each value, go."""
+        connection.execute(f"DELETE FROM {self.name} a WHERE c0 IS NULL OR EXISTS (SELECT FROM {self.name} b WHERE a.c0 = b.c0 AND a.ctid < b.ctid)")
+        connection.execute(f"ALTER TABLE {self.name} ADD PRIMARY KEY (c0)")
+        self.has_key = True
+
+    def refer(self, connection: psycopg.Connection, other: Table) -> None:
+        """Each column of the other one's type refers to its key: other values go."""
+        for i, of in enumerate(self.columns):
+            if other.has_key and of == other.columns[0] and (i > 0 or not self.has_key):
+                connection.execute(f"UPDATE {self.name} SET c{i} = NULL WHERE NOT EXISTS (SELECT FROM {other.name} o WHERE o.c0 = {self.name}.c{i})")
+                connection.execute(f"ALTER TABLE {self.name} ADD FOREIGN KEY (c{i}) REFERENCES {other.name}")
+
+    def make(self, connection: psycopg.Connection, others: list[Table]) -> None:
         r = self.r
         self.create(connection)
         rows = r.choice([0, 1, 10, 40, 120, 400])
@@ -85,6 +99,10 @@ class Table:
             connection.execute(f"INSERT INTO {self.name} VALUES {', '.join(tuples)}")
             if self.kind == "children":
                 connection.execute(f"INSERT INTO {self.name}_0 SELECT * FROM ONLY {self.name} LIMIT 30")
+        if self.kind == "plain" and r.random() < 0.5:
+            self.make_key(connection)
+        for other in others:
+            self.refer(connection, other)
         if r.random() < 0.5:
             connection.execute(f"CREATE INDEX ON {self.name} (c{r.randrange(len(self.columns))})")
         for kept in self.parts() + ([] if self.kind in ("hash", "list") else [self.name]):
@@ -192,8 +210,8 @@ def main() -> int:
         connection.execute("SET jit = off; SET max_parallel_workers_per_gather = 0; SET statement_timeout = '1s'")
         for _ in range(sets):
             tables = [Table(r, f"nu{i}") for i in range(3)]
-            for table in tables:
-                table.make(connection)
+            for i, table in enumerate(tables):
+                table.make(connection, tables[:i])
             connection.execute("ANALYZE nu0, nu1, nu2; SET safebound.estimates = bound")
             known = {table.name for table in tables if table.kind == "plain"}
             for method in ("hashjoin", "mergejoin", "nestloop"):
