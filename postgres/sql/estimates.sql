@@ -46,6 +46,8 @@ SELECT rows_of('SELECT FROM f JOIN d USING (k) WHERE c = ''a''') = 2 AS along, r
        rows_of('SELECT FROM f JOIN d USING (k) WHERE n > 2') = 8 AS part, rows_of('SELECT FROM f JOIN d USING (k) WHERE n = 1') = 100 AS one,
        rows_of('SELECT d.c FROM f LEFT JOIN d ON f.k = d.k AND c = ''a''') = 159 + 2 AS left_join;
 SELECT rows_of('SELECT FROM f JOIN d USING (k) JOIN f g USING (x) WHERE c = ''a''') = 2 * 31 AS further;
+SELECT relations, bound, estimate > 0 AS estimate, statistics FROM safebound.bounds('SELECT FROM f JOIN d USING (k) JOIN f g USING (x) WHERE c = ''a'' AND g.k > 2') WHERE cardinality(relations) = 3;
+SELECT safebound.bounds('VACUUM');
 DROP TABLE f, d;
 SET safebound.estimates = off;
 DROP TABLE r, s;
