@@ -9,6 +9,7 @@
 #include "access/xact.h"
 #include "catalog/catalog.h"
 #include "catalog/namespace.h"
+#include "catalog/pg_class.h"
 #include "catalog/pg_db_role_setting.h"
 #include "executor/executor.h"
 #include "lib/stringinfo.h"
@@ -102,26 +103,31 @@ on_planner(Query *parse, const char *text, int options, ParamListInfo parameters
 	return plan;
 }
 
-/* The tables of the system and of this extension; queries over them alone are always admitted. */
+/* The tables of the system and of this extension. */
 static bool
 is_exempt(Oid relation)
 {
 	return IsCatalogRelationOid(relation) || get_rel_namespace(relation) == get_namespace_oid("safebound", true);
 }
 
+/* A query over such tables alone is always admitted: who looks at a table with psql asks some. */
 static bool
-all_exempt(PlannerInfo *root, List *join)
+all_exempt(PlannedStmt *plan)
 {
+	bool		any = false;
 	ListCell   *cell;
 
-	foreach(cell, join)
+	foreach(cell, plan->rtable)
 	{
-		RangeTblEntry *entry = root->simple_rte_array[lfirst_int(cell)];
+		RangeTblEntry *entry = lfirst_node(RangeTblEntry, cell);
 
-		if (entry->rtekind != RTE_RELATION || !is_exempt(entry->relid))
+		if (entry->rtekind != RTE_RELATION || entry->relkind == RELKIND_VIEW)
+			continue;
+		if (!is_exempt(entry->relid))
 			return false;
+		any = true;
 	}
-	return true;
+	return any;
 }
 
 /* The relations of a join, as the query names them. */
@@ -178,7 +184,7 @@ check_join(BoundedQuery *query, List *join)
 	foreach(cell, join)
 		relids = bms_add_member(relids, lfirst_int(cell));
 	bound = bound_of_join(query, relids);
-	if (bound == UNKNOWN && !all_exempt(query->root, join))
+	if (bound == UNKNOWN)
 		refuse_unbounded(query->root, join);
 	if (bound != UNKNOWN && bound > (uint64) budget)
 		ereport(ERROR,
@@ -205,6 +211,8 @@ check_plan(PlannedStmt *plan, ParamListInfo parameters)
 	List	   *recipe = recipe_of(plan);
 	bool		untold = recipe == NIL ? has_joins(plan) : linitial_int((List *) linitial(recipe)) > 0;
 
+	if (all_exempt(plan))
+		return;
 	if (untold)
 		refuse_unbounded(NULL, NIL);
 	for (int i = 1; i < list_length(recipe); i++)

@@ -184,10 +184,6 @@ drop_deltas(Deltas *deltas)
 static void
 drop(KeptTable *table)
 {
-	MemoryContext before = MemoryContextSwitchTo(CacheMemoryContext);
-
-	drop_deltas(table->deltas);
-	MemoryContextSwitchTo(before);
 	table->next = dropped;
 	dropped = table;
 }
@@ -215,6 +211,8 @@ kept_free_dropped(void)
 	{
 		KeptTable  *next = dropped->next;
 
+		if (dropped->deltas)
+			MemoryContextDelete(dropped->deltas->context);
 		MemoryContextDelete(dropped->context);
 		dropped = next;
 	}

@@ -33,6 +33,15 @@ typedef struct Search
 
 static Scans scans_below(Search *search, Plan *plan);
 
+/* The entries that a scan has joined before its rows come: a foreign server may, or what another extension has planned. */
+static Bitmapset *
+joined_elsewhere(Plan *plan)
+{
+	Bitmapset  *numbers = IsA(plan, ForeignScan) ? ((ForeignScan *) plan)->fs_relids : IsA(plan, CustomScan) ? ((CustomScan *) plan)->custom_relids : NULL;
+
+	return bms_membership(numbers) == BMS_MULTIPLE ? numbers : NULL;
+}
+
 static bool
 is_join(Plan *plan)
 {
@@ -72,7 +81,7 @@ any_join(Plan *plan)
 	check_stack_depth();
 	if (plan == NULL)
 		return false;
-	if (is_join(plan))
+	if (is_join(plan) || joined_elsewhere(plan))
 		return true;
 	foreach(cell, children_of(plan))
 		if (any_join(lfirst(cell)))
@@ -238,6 +247,8 @@ scans_below(Search *search, Plan *plan)
 	check_stack_depth();
 	if (is_join(plan))
 		return scans_of_join(search, plan);
+	if (joined_elsewhere(plan))
+		note_join(search, joined_elsewhere(plan), NULL, true);
 	children = children_of(plan);
 	foreach(cell, children)
 	{

@@ -235,6 +235,9 @@ may_have_triggers(Oid relation)
 	Relation	opened = open_owned(relation);
 	bool		may = opened->rd_rel->relkind == RELKIND_RELATION;
 
+	/* It is dropped at the end of the session without an event. */
+	if (opened->rd_rel->relpersistence == RELPERSISTENCE_TEMP)
+		ereport(ERROR, (errcode(ERRCODE_FEATURE_NOT_SUPPORTED), errmsg("\"%s\" is a temporary table, and can't be watched", get_rel_name(relation))));
 	/* Its triggers change while nobody here has it open. */
 	relation_close(opened, NoLock);
 	return may;

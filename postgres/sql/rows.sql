@@ -43,11 +43,18 @@ INSERT INTO child VALUES (2), (2);
 SELECT safebound.watch('child') > 0 AS child;
 UPDATE s SET x = 200 WHERE x = 2;
 SELECT most('SELECT FROM child') = 2 + 2 AS cascaded;
+-- A statement that cascades to several rows writes one delta, and is over then.
+INSERT INTO child VALUES (1);
+SELECT safebound.fold('child') > 0 AS folded;
+UPDATE s SET x = x + 5000 WHERE x IN (1, 200);
+SELECT most('SELECT FROM child') = 3 + 3 AS cascaded, deltas('child');
+UPDATE s SET x = x - 5000 WHERE x IN (5001);
+SELECT most('SELECT FROM child') = 3 + 3 + 1 AS cascaded, deltas('child');
 -- DELETE and TRUNCATE need nothing.
 DELETE FROM r WHERE x = 7;
 SELECT most('SELECT FROM r') = 11 AS r;
 TRUNCATE child;
-SELECT most('SELECT FROM child') = 4 AS child;
+SELECT most('SELECT FROM child') = 7 AS child;
 -- What is rolled back takes its deltas along.
 BEGIN;
 INSERT INTO r VALUES (6, 'z');
@@ -141,6 +148,10 @@ SELECT 'gone'::regclass::oid AS gone \gset
 DROP TABLE gone;
 SELECT count(*) FROM safebound.kept_table WHERE relation = :gone;
 SELECT count(*) FROM safebound.kept_lists WHERE relation = :gone;
+-- A temporary table goes without a word, so it isn't watched.
+CREATE TEMPORARY TABLE passing (x integer);
+SELECT safebound.watch('passing');
+DROP TABLE passing;
 -- Who analyzes folds what has a hundred deltas.
 SELECT safebound.fold('s') > 0 AS folded;
 DO $$ BEGIN FOR i IN 1..99 LOOP INSERT INTO s VALUES (1000 + i); END LOOP; END $$;

@@ -6,6 +6,7 @@
 from __future__ import annotations
 
 import os
+import subprocess
 import sys
 import time
 import unittest
@@ -16,6 +17,7 @@ sys.dont_write_bytecode = True
 HERE = os.path.dirname(os.path.abspath(__file__))
 sys.path[:0] = [os.path.join(HERE, "..")]
 from installed import Installed
+from server import programs
 
 # No library in each session: tests say themselves where it is loaded.
 SETTINGS = ("session_preload_libraries=", "wal_level=logical", "max_prepared_transactions=2", "wal_receiver_status_interval=1")
@@ -142,6 +144,39 @@ class Running(Connected):
         asker.execute("INSERT INTO r SELECT 1 FROM generate_series(1, 100)")
         self.owner.execute("SET safebound.budget = 10000")
         self.refused(self.owner)
+
+
+class Restored(Connected):
+    def test_a_dump(self) -> None:
+        """Statistics aren't dumped: what is restored isn't known, takes rows, and is watched anew."""
+        dump = subprocess.run([os.path.join(programs(), "pg_dump"), server.url], check=True, capture_output=True, text=True).stdout
+        self.assertIn("safebound_insert", dump)
+        self.owner.execute("CREATE DATABASE restored")
+        self.addCleanup(self.owner.execute, "DROP DATABASE restored")
+        restored = server.url.replace("/postgres?", "/restored?")
+        subprocess.run(["psql", "-q", "-v", "ON_ERROR_STOP=1", restored], input=dump, check=True, text=True, stdout=subprocess.DEVNULL)
+        connection = self.connect(database="restored")
+        self.addCleanup(connection.close)
+        connection.execute("LOAD 'safebound'; INSERT INTO r VALUES (1); SET safebound.budget = 1000000")
+        self.assertEqual(connection.execute("SELECT (SELECT count(*) FROM safebound.kept), (SELECT count(*) FROM safebound.kept_delta)").fetchone(), (0, 0))
+        self.refused(connection, state="SB002")
+        connection.execute("SELECT safebound.watch('r'), safebound.watch('s')")
+        self.assertEqual(connection.execute(JOIN).fetchone(), (10010,))
+
+
+class Elsewhere(Connected):
+    def test_a_join_that_a_foreign_server_makes(self) -> None:
+        self.owner.execute("CREATE EXTENSION postgres_fdw")
+        self.addCleanup(self.owner.execute, "DROP EXTENSION postgres_fdw CASCADE")
+        self.owner.execute(f"CREATE SERVER itself FOREIGN DATA WRAPPER postgres_fdw OPTIONS (host '{server.folder}', dbname 'postgres')")
+        self.owner.execute("CREATE USER MAPPING FOR postgres SERVER itself OPTIONS (user 'postgres')")
+        for name in ("r", "s"):
+            self.owner.execute(f"CREATE FOREIGN TABLE far_{name} (x integer) SERVER itself OPTIONS (table_name '{name}')")
+        join = "SELECT far_r.x FROM far_r JOIN far_s USING (x)"
+        # No local join is left in the plan.
+        self.assertNotIn("Hash", str(self.owner.execute(f"EXPLAIN {join}").fetchall()))
+        self.owner.execute("SET safebound.budget = 1000000")
+        self.refused(self.owner, join, "SB002")
 
 
 class Replicated(Connected):
