@@ -24,6 +24,7 @@ typedef struct Conditioned
 	const KeptTable *table;		/* that has the lists */
 	AttrNumber	joined;
 	const Reference *reference; /* NULL: the relation has them itself */
+	Bitmapset **used;			/* the columns whose conditions had lists */
 } Conditioned;
 
 static bool list_of_clause(const Conditioned *of, Node *clause, DegreeList *list);
@@ -299,6 +300,7 @@ list_of_equality(const Conditioned *of, OpExpr *clause, DegreeList *list)
 		kept = list_of_value(pair, &equal, clause->inputcollid, column_left, ((Const *) other)->constvalue);
 	if (kept == NULL)
 		return false;
+	*of->used = bms_add_member(*of->used, column);
 	*list = kept->list;
 	return true;
 }
@@ -348,7 +350,10 @@ list_of_array(const Conditioned *of, ScalarArrayOpExpr *clause, DegreeList *list
 		return false;
 	if (!IsA(values, Const) || ((Const *) values)->constisnull)
 		return false;
-	return sum_of_values(pair, clause, DatumGetArrayTypeP(((Const *) values)->constvalue), list);
+	if (!sum_of_values(pair, clause, DatumGetArrayTypeP(((Const *) values)->constvalue), list))
+		return false;
+	*of->used = bms_add_member(*of->used, column);
+	return true;
 }
 
 static bool
@@ -358,9 +363,11 @@ list_of_null_test(const Conditioned *of, NullTest *test, DegreeList *list)
 	const KeptPair *pair = column ? pair_of(of, column) : NULL;
 	const KeptList *kept = pair && test->nulltesttype == IS_NULL && !test->argisrow ? list_of_kind(pair, LIST_NULL) : NULL;
 
-	if (kept != NULL)
-		*list = kept->list;
-	return kept != NULL;
+	if (kept == NULL)
+		return false;
+	*of->used = bms_add_member(*of->used, column);
+	*list = kept->list;
+	return true;
 }
 
 /* What ranges of one column leave together. */
@@ -399,7 +406,10 @@ list_of_all(const Conditioned *of, List *clauses, DegreeList *list)
 		Range		range;
 
 		if (range_of_clause(of, lfirst(cell), &range))
+		{
 			add_range(&ranges, &range);
+			*of->used = bms_add_member(*of->used, range.column);
+		}
 		if (!list_of_clause(of, lfirst(cell), &one))
 			continue;
 		*list = any ? lesser(*list, one) : one;
@@ -419,6 +429,7 @@ list_of_all(const Conditioned *of, List *clauses, DegreeList *list)
 static bool
 list_of_any(const Conditioned *of, List *clauses, DegreeList *list)
 {
+	Bitmapset  *used = bms_copy(*of->used);
 	ListCell   *cell;
 
 	*list = (DegreeList) {0};
@@ -427,7 +438,10 @@ list_of_any(const Conditioned *of, List *clauses, DegreeList *list)
 		DegreeList	one;
 
 		if (!list_of_all(of, list_make1(lfirst(cell)), &one))
+		{
+			*of->used = used;
 			return false;
+		}
 		*list = summed(*list, one);
 	}
 	return true;
@@ -453,10 +467,10 @@ list_of_clause(const Conditioned *of, Node *clause, DegreeList *list)
 
 /* The list of a joined column over the rows that pass the relation's own conditions; with joined 0 only its rows count. */
 DegreeList
-list_under(const KeptTable *table, RelOptInfo *rel, AttrNumber joined)
+list_under(const KeptTable *table, RelOptInfo *rel, AttrNumber joined, Bitmapset **used)
 {
 	const KeptPair *all = kept_pair(table, joined, 0);
-	Conditioned of = {.relation = table->relation,.entry = rel->relid,.table = table,.joined = joined};
+	Conditioned of = {.relation = table->relation,.entry = rel->relid,.table = table,.joined = joined,.used = used};
 	DegreeList	whole = all->lists[0].list;
 	DegreeList	list;
 
@@ -467,9 +481,9 @@ list_under(const KeptTable *table, RelOptInfo *rel, AttrNumber joined)
 /* The list of a joined column over the rows that refer to a row that passes the conditions of its relation. False where there is none.
    Where rows that come are followed, what is referred to has to be as it was: a change there brings rows without a statement here. */
 bool
-list_along(const KeptTable *table, const Reference *reference, RelOptInfo *referred, AttrNumber joined, DegreeList *list)
+list_along(const KeptTable *table, const Reference *reference, RelOptInfo *referred, AttrNumber joined, DegreeList *list, Bitmapset **used)
 {
-	Conditioned of = {.relation = reference->referred,.entry = referred->relid,.table = table,.joined = joined,.reference = reference};
+	Conditioned of = {.relation = reference->referred,.entry = referred->relid,.table = table,.joined = joined,.reference = reference,.used = used};
 	bool		holds = table->deltas ? list_member_oid(table->unchanged, reference->referred) : !kept_fresh_only;
 
 	if (!holds || !list_of_all(&of, referred->baserestrictinfo, list))

@@ -57,7 +57,7 @@ joined_column(BoundedQuery *query, Var *var)
 	query->columns[query->columns_length] = (JoinedColumn) {
 		.relid = var->varno,
 		.number = var->varattno,
-		.list = shortened(list_under(entry->table, entry->rel, var->varattno))
+		.list = shortened(list_under(entry->table, entry->rel, var->varattno, &entry->used))
 	};
 	return query->columns_length++;
 }
@@ -171,7 +171,7 @@ carried_list(BoundedQuery *query, Carried *carried, int column)
 	DegreeList	list;
 
 	if (!carried->looked[column] &&
-		list_along(query->entries[carried->referring].table, &carried->reference, query->entries[carried->referred].rel, joined, &list))
+		list_along(query->entries[carried->referring].table, &carried->reference, query->entries[carried->referred].rel, joined, &list, &carried->used))
 	{
 		carried->lists[column] = palloc(sizeof(DegreeList));
 		*carried->lists[column] = shortened(list);
@@ -244,7 +244,10 @@ bounded_query(PlannerInfo *root)
 		const KeptTable *table = can_be_known(root, rel) ? kept_table(root->simple_rte_array[i]->relid) : NULL;
 
 		if (table != NULL && number < MOST_KNOWN)
-			query->entries[i] = (Entry) {table, rel, list_under(table, rel, 0).rows, number++};
+		{
+			query->entries[i] = (Entry) {.table = table,.rel = rel,.number = number++};
+			query->entries[i].rows = list_under(table, rel, 0, &query->entries[i].used).rows;
+		}
 	}
 	foreach(cell, root->eq_classes)
 	{

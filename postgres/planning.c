@@ -10,6 +10,7 @@
 #include "optimizer/pathnode.h"
 #include "optimizer/paths.h"
 #include "optimizer/planner.h"
+#include "tcop/tcopprot.h"
 #include "utils/hsearch.h"
 
 int			estimates_mode = ESTIMATES_OFF;
@@ -24,9 +25,13 @@ typedef struct Planning
 {
 	struct Planning *outer;
 	List	   *queries;		/* of BoundedQuery, one for each PlannerInfo that has joins or scans */
+	List	  **told;			/* where they are told, if anywhere */
 } Planning;
 
 static Planning *planning;
+
+/* Where the next call tells its queries. */
+static List **told_next;
 
 /* What PostgreSQL by itself expects of a relation. A join relation that is in the table has its rows. */
 typedef struct OwnRows
@@ -43,7 +48,7 @@ own_rows_table(void)
 	return hash_create("safebound rows", 32, &control, HASH_ELEM | HASH_BLOBS | HASH_CONTEXT);
 }
 
-static double
+double
 own_rows(BoundedQuery *query, RelOptInfo *rel)
 {
 	OwnRows    *own = hash_search(query->estimates, &rel, HASH_FIND, NULL);
@@ -79,7 +84,8 @@ set_base_rows(BoundedQuery *query)
 		if (entry->table == NULL)
 			continue;
 		note_own_rows(query, entry->rel, entry->rel->rows);
-		entry->rel->rows = rows_by_mode((double) entry->rows, entry->rel->rows);
+		if (estimates_mode != ESTIMATES_OFF)
+			entry->rel->rows = rows_by_mode((double) entry->rows, entry->rel->rows);
 	}
 }
 
@@ -136,12 +142,12 @@ set_parameterised_rows(BoundedQuery *query, RelOptInfo *rel, ParamPathInfo *info
 static void
 on_rel_paths(PlannerInfo *root, RelOptInfo *rel, Index rti, RangeTblEntry *rte)
 {
-	if (estimates_mode != ESTIMATES_OFF && planning != NULL)
+	if (planning != NULL && (estimates_mode != ESTIMATES_OFF || planning->told))
 	{
 		BoundedQuery *query = query_of(root, true);
 		ListCell   *cell;
 
-		if (rti < (Index) root->simple_rel_array_size && query->entries[rti].rel == rel && query->entries[rti].table)
+		if (estimates_mode != ESTIMATES_OFF && rti < (Index) root->simple_rel_array_size && query->entries[rti].rel == rel && query->entries[rti].table)
 		{
 			rel->ppilist = NIL;
 			make_scan_paths(root, rel);
@@ -265,11 +271,12 @@ on_join_search(PlannerInfo *root, int levels, List *initial)
 static PlannedStmt *
 on_planner(Query *parse, const char *text, int options, ParamListInfo parameters)
 {
-	Planning	mine = {planning, NIL};
+	Planning	mine = {.outer = planning,.told = told_next};
 	PlannedStmt *plan;
 
 	if (planning == NULL)
 		kept_free_dropped();
+	told_next = NULL;
 	planning = &mine;
 	PG_TRY();
 	{
@@ -280,7 +287,18 @@ on_planner(Query *parse, const char *text, int options, ParamListInfo parameters
 		planning = mine.outer;
 	}
 	PG_END_TRY();
+	if (mine.told)
+		*mine.told = mine.queries;
 	return plan;
+}
+
+/* Plans a query as this session does, and tells what is known of each part of it. */
+PlannedStmt *
+plan_and_tell(Query *query, const char *text, List **queries)
+{
+	*queries = NIL;
+	told_next = queries;
+	return pg_plan_query(query, text, CURSOR_OPT_PARALLEL_OK, NULL);
 }
 
 void

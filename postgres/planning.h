@@ -3,6 +3,8 @@
 #define SAFEBOUND_PLANNING_H
 
 #include "statistics.h"
+
+#include "nodes/plannodes.h"
 #include "utils/hsearch.h"
 
 /* No row bound is known. */
@@ -24,6 +26,7 @@ typedef struct Entry
 	RelOptInfo *rel;
 	uint64		rows;			/* its row bound */
 	int			number;			/* among the relations that are known */
+	Bitmapset  *used;			/* the columns whose conditions have lists */
 } Entry;
 
 /* A joined column under its entry's own conditions. */
@@ -51,6 +54,7 @@ typedef struct Carried
 	Reference	reference;
 	bool	   *looked;			/* by column, and the last one is its rows alone: whether the list was looked for */
 	DegreeList **lists;			/* NULL where there is none */
+	Bitmapset  *used;			/* the columns of the referred relation whose conditions have lists */
 } Carried;
 
 typedef struct BoundedQuery
@@ -72,6 +76,8 @@ extern uint64 bound_of_set(BoundedQuery *query, Relids relids);
 extern uint64 bound_of_join(BoundedQuery *query, Relids relids);
 
 /* planning.c */
+extern double own_rows(BoundedQuery *query, RelOptInfo *rel);
+extern PlannedStmt *plan_and_tell(Query *query, const char *text, List **queries);
 extern void planning_init(void);
 
 #endif

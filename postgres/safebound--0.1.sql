@@ -73,6 +73,11 @@ CREATE VIEW kept AS
            NOT EXISTS (SELECT FROM @extschema@.kept_delta d WHERE d.relation = t.relation AND d.rows < 0) AS known
     FROM @extschema@.kept_table t;
 
+CREATE FUNCTION bounds(query text) RETURNS TABLE (relations text[], bound bigint, estimate bigint, statistics text[])
+AS 'MODULE_PATHNAME', 'safebound_bounds_of' LANGUAGE C VOLATILE STRICT;
+COMMENT ON FUNCTION bounds(text)
+IS 'the joins of a query''s plan: their relations, bounds, PostgreSQL''s estimates, and the columns whose statistics were used';
+
 CREATE FUNCTION watch(relation regclass) RETURNS bigint
 AS 'MODULE_PATHNAME', 'safebound_watch' LANGUAGE C VOLATILE STRICT;
 COMMENT ON FUNCTION watch(regclass) IS 'makes the statistics of a table anew, and follows the rows that come from now on';

@@ -19,6 +19,27 @@ SELECT rows_of('SELECT FROM r WHERE c = ''a''') = 5 AS one_value, rows_of('SELEC
 SELECT rows_of('SELECT FROM r WHERE c IN (''a'', ''b'')') = 9 AS two_values, rows_of('SELECT FROM r WHERE c IS NULL OR c = ''b''') = 5 AS either;
 -- Of the rows with a, x stands 3 and 2 times.
 SELECT rows_of('SELECT FROM r JOIN s USING (x) WHERE c = ''a''') = 3 * 3 + 2 * 2 AS filtered;
+-- One of s stands beside five of r.
+CREATE TABLE one (x integer);
+INSERT INTO one VALUES (8);
+SELECT safebound.keep('one') > 0 AS one;
+SELECT rows_of('SELECT FROM r WHERE EXISTS (SELECT FROM one WHERE r.x = one.x)') = 5 AS semi_join,
+       rows_of('SELECT FROM r WHERE r.x IN (SELECT x FROM s)') BETWEEN 8 AND 10 AS within;
+-- A parameter may be any value.
+PREPARE with_parameter(text) AS SELECT FROM r WHERE c = $1;
+SET plan_cache_mode = force_generic_plan;
+SELECT rows_of('EXECUTE with_parameter(''b'')') = 5 AS parameter;
+RESET plan_cache_mode;
+-- Under another collation a value may be equal to more values.
+CREATE COLLATION caseless (provider = icu, locale = 'und-u-ks-level2', deterministic = false);
+CREATE TABLE cases (c text, d text COLLATE caseless);
+INSERT INTO cases VALUES ('a', 'a'), ('A', 'A'), ('A', 'A'), ('b', 'B');
+SELECT safebound.keep('cases') > 0 AS cases;
+SELECT rows_of('SELECT FROM cases WHERE c = ''a''') = 1 AS own, rows_of('SELECT FROM cases WHERE c = ''a'' COLLATE caseless') = 4 AS other,
+       rows_of('SELECT FROM cases WHERE d = ''a''') = 3 AS caseless, rows_of('SELECT FROM cases WHERE d = ''a'' COLLATE "C"') = 4 AS bytes,
+       rows_of('SELECT FROM cases JOIN cases o ON cases.c = o.d') = 4 * 4 AS mixed, rows_of('SELECT FROM cases JOIN cases o USING (d)') = 3 * 3 + 1 AS joined;
+DROP TABLE one, cases;
+DROP COLLATION caseless;
 -- 64 parts of 1000 values: one ends at 250, one at 500 and one at 750.
 CREATE TABLE n (k integer, x integer, c text COLLATE "C");
 INSERT INTO n SELECT i, i % 10, CASE WHEN i <= 300 THEN 'aa' WHEN i <= 500 THEN 'ab' ELSE 'b_' END || i % 3 FROM generate_series(1, 1000) i;
@@ -46,6 +67,8 @@ SELECT rows_of('SELECT FROM f JOIN d USING (k) WHERE c = ''a''') = 2 AS along, r
        rows_of('SELECT FROM f JOIN d USING (k) WHERE n > 2') = 8 AS part, rows_of('SELECT FROM f JOIN d USING (k) WHERE n = 1') = 100 AS one,
        rows_of('SELECT d.c FROM f LEFT JOIN d ON f.k = d.k AND c = ''a''') = 159 + 2 AS left_join;
 SELECT rows_of('SELECT FROM f JOIN d USING (k) JOIN f g USING (x) WHERE c = ''a''') = 2 * 31 AS further;
+SELECT relations, bound, estimate > 0 AS estimate, statistics FROM safebound.bounds('SELECT FROM f JOIN d USING (k) JOIN f g USING (x) WHERE c = ''a'' AND g.k > 2') WHERE cardinality(relations) = 3;
+SELECT safebound.bounds('VACUUM');
 DROP TABLE f, d;
 SET safebound.estimates = off;
 DROP TABLE r, s;

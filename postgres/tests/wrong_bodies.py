@@ -33,6 +33,19 @@ class Edit:
 
 
 EDITS = [
+    Edit("the lesser where the sum belongs", "conditions.c", [("		*list = summed(*list, one);", "		*list = cell == list_head(clauses) ? one : lesser(*list, one);")], "estimates"),
+    Edit("a range leaves its last part out", "conditions.c", [("end = range->last + 1", "end = range->last")], "estimates"),
+    Edit("a range ends before its value", "conditions.c", [("range->last = Min(range->last, leaf_at(pair, less,", "range->last = Min(range->last, -1 + leaf_at(pair, less,")], "estimates"),
+    Edit("the other values' list of a common value", "conditions.c", [("kept->kind == LIST_VALUE &&", "false &&")], "estimates"),
+    Edit("a parameter is no common value", "conditions.c", [("list_of_kind(pair, LIST_ANY)", "list_of_kind(pair, LIST_OTHER)")], "estimates"),
+    Edit("collations are mixed", "conditions.c", [("	if (collation != own && OidIsValid(collation)", "	if (false && OidIsValid(collation)")], "estimates"),
+    Edit("a semi-join is bounded by its right side", "joins.c",
+         [("return Min(less, bound_of_ways(query, present, rest));", "return Min(less, bound_of_ways(query, join->syn_righthand, rest));")], "estimates"),
+    Edit("the missing side of a left join has no rows", "joins.c", [("			return plus(less, bound_of_ways(query, present, rest));", "			return bound_of_ways(query, present, rest);")], "estimates"),
+    Edit("a list along a reference is taken without what is referred to", "joins.c", [("!bms_is_member(carried->referred, relids)", "false")], "estimates"),
+    Edit("rows that refer count once for each value", "columns.c", [("coding->weights ? coding->weights[row] : 1", "1")], "estimates"),
+    Edit("the last degree of a group is lost", "counts.c", [("	add_degree(&degrees, (uint32) last == 0 ? 0 : degree);\n	end_group", "	end_group")], "estimates"),
+    Edit("NULLs join", "counts.c", [("			add_degree(&degrees, (uint32) last == 0 ? 0 : degree);", "			add_degree(&degrees, degree);")], "estimates"),
     Edit("a delta isn't read", "deltas.c", [("table->deltas == NULL || table->deltas->rows == 0", "true")], "rows"),
     Edit("deltas have no rows", "deltas.c", [("all.rows = list.rows + table->deltas->rows", "all.rows = list.rows")], "rows"),
     Edit("values that a delta doesn't tell are different ones", "deltas.c", [("{.degree = rows, .keys = 1}", "{.degree = 1, .keys = rows}")], "rows"),
