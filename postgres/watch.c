@@ -248,12 +248,15 @@ quoted_name(Oid relation)
 	return quote_qualified_identifier(get_namespace_name(get_rel_namespace(relation)), get_rel_name(relation));
 }
 
-/* Makes the triggers of a source, which waits for all who are writing to it. */
+/* Makes the triggers of a source, and waits for all who are writing to it. Those that are there stay, since other tables need them. */
 static void
 make_triggers(Oid source, bool itself)
 {
 	char	   *name = quoted_name(source);
 
+	LockRelationOid(source, ShareRowExclusiveLock);
+	if (has_triggers(source, itself))
+		return;
 	execute("CREATE OR REPLACE TRIGGER safebound_begin BEFORE INSERT OR UPDATE ON %s FOR EACH STATEMENT EXECUTE FUNCTION safebound.follow()", name);
 	execute("CREATE OR REPLACE TRIGGER safebound_insert AFTER INSERT ON %s REFERENCING NEW TABLE AS new_rows FOR EACH STATEMENT EXECUTE FUNCTION safebound.follow()", name);
 	execute("CREATE OR REPLACE TRIGGER safebound_update AFTER UPDATE ON %s REFERENCING OLD TABLE AS old_rows NEW TABLE AS new_rows FOR EACH STATEMENT EXECUTE FUNCTION safebound.follow()", name);
