@@ -42,6 +42,9 @@ static const struct config_enum_entry unbounded_choices[] = {
 static int	budget;
 static int	unbounded;
 
+/* The extension counts tables by queries of its own, which are no user's. */
+bool		admission_paused = false;
+
 static planner_hook_type planner_before;
 static set_rel_pathlist_hook_type rel_paths_before;
 static ExecutorStart_hook_type start_before;
@@ -248,7 +251,7 @@ admit(QueryDesc *query)
 static void
 on_start(QueryDesc *query, int flags)
 {
-	if (budget > 0 && !(flags & (EXEC_FLAG_EXPLAIN_ONLY | EXEC_FLAG_WITH_NO_DATA)) && !IsParallelWorker())
+	if (budget > 0 && !admission_paused && !(flags & (EXEC_FLAG_EXPLAIN_ONLY | EXEC_FLAG_WITH_NO_DATA)) && !IsParallelWorker())
 		admit(query);
 	if (start_before)
 		start_before(query, flags);

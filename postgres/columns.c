@@ -327,11 +327,30 @@ query_along(const Making *making, const Column *along, Relation referred, const 
 	return query.data;
 }
 
+/* Opens a query of the extension's own, in the active snapshot. */
+static Portal
+open_own(const char *query)
+{
+	Portal		portal;
+
+	admission_paused = true;
+	PG_TRY();
+	{
+		portal = SPI_cursor_open_with_args(NULL, query, 0, NULL, NULL, NULL, true, 0);
+	}
+	PG_FINALLY();
+	{
+		admission_paused = false;
+	}
+	PG_END_TRY();
+	return portal;
+}
+
 /* Rows of the query go to a sort for each of its columns. Row 0 stands for NULL, which refers to nothing. */
 static void
 sort_referred(const char *query, int length, Tuplesortstate **sorts, TupleTableSlot **slots, uint32 rows)
 {
-	Portal		portal = SPI_cursor_open_with_args(NULL, query, 0, NULL, NULL, NULL, true, 0);
+	Portal		portal = open_own(query);
 	uint32		row = 0;
 
 	for (int i = 0; i < length; i++)

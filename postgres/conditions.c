@@ -479,11 +479,15 @@ list_under(const KeptTable *table, RelOptInfo *rel, AttrNumber joined, Bitmapset
 }
 
 /* The list of a joined column over the rows that refer to a row that passes the conditions of its relation. False where there is none.
-   What is referred to isn't followed, so there is none where rows that come are. */
+   Where rows that come are followed, what is referred to has to be as it was: a change there brings rows without a statement here. */
 bool
 list_along(const KeptTable *table, const Reference *reference, RelOptInfo *referred, AttrNumber joined, DegreeList *list, Bitmapset **used)
 {
 	Conditioned of = {.relation = reference->referred,.entry = referred->relid,.table = table,.joined = joined,.reference = reference,.used = used};
+	bool		holds = table->deltas ? list_member_oid(table->unchanged, reference->referred) : !kept_fresh_only;
 
-	return table->deltas == NULL && !kept_fresh_only && list_of_all(&of, referred->baserestrictinfo, list);
+	if (!holds || !list_of_all(&of, referred->baserestrictinfo, list))
+		return false;
+	*list = with_deltas(table, joined, *list);
+	return true;
 }

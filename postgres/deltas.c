@@ -13,6 +13,7 @@
 #include "utils/array.h"
 #include "utils/builtins.h"
 #include "utils/fmgroids.h"
+#include "utils/lsyscache.h"
 #include "utils/memutils.h"
 #include "utils/rel.h"
 #include "utils/snapmgr.h"
@@ -23,15 +24,18 @@
 static Datum *
 array_datums(Datum array, Oid type, int *length)
 {
+	int16		size;
+	bool		by_value;
+	char		align;
 	Datum	   *values;
 	bool	   *nulls;
 
-	deconstruct_array(DatumGetArrayTypeP(array), type, type == OIDOID ? 4 : 2, true, type == OIDOID ? TYPALIGN_INT : TYPALIGN_SHORT,
-					  &values, &nulls, length);
+	get_typlenbyvalalign(type, &size, &by_value, &align);
+	deconstruct_array(DatumGetArrayTypeP(array), type, size, by_value, align, &values, &nulls, length);
 	return values;
 }
 
-static Bitmapset *
+Bitmapset *
 array_numbers(Datum array)
 {
 	Bitmapset  *numbers = NULL;
@@ -41,6 +45,24 @@ array_numbers(Datum array)
 	for (int i = 0; i < length; i++)
 		numbers = bms_add_member(numbers, DatumGetInt16(values[i]));
 	return numbers;
+}
+
+/* Three numbers for each. */
+static List *
+array_referred(Datum array)
+{
+	List	   *referred = NIL;
+	int			length;
+	Datum	   *values = array_datums(array, INT8OID, &length);
+
+	for (int i = 0; i + 2 < length; i += 3)
+	{
+		ReferredTable *table = palloc(sizeof(ReferredTable));
+
+		*table = (ReferredTable) {(Oid) DatumGetInt64(values[i]), DatumGetInt64(values[i + 1]), DatumGetInt64(values[i + 2])};
+		referred = lappend(referred, table);
+	}
+	return referred;
 }
 
 static void
@@ -69,6 +91,8 @@ read_seen(Relation tables, HeapTuple tuple, Seen *seen)
 		seen->joined = array_numbers(row[TABLE_JOINED - 1]);
 	if (!nulls[TABLE_FILTERS - 1])
 		seen->filters = array_numbers(row[TABLE_FILTERS - 1]);
+	if (!nulls[TABLE_REFERRED - 1])
+		seen->referred = array_referred(row[TABLE_REFERRED - 1]);
 }
 
 /* A table's row as a snapshot sees it; with NULL, as it is now. False where the table isn't kept. */
@@ -135,12 +159,12 @@ number_of(Relation deltas, HeapTuple tuple, int column)
 	return DatumGetInt64(heap_getattr(tuple, column, RelationGetDescr(deltas), &null));
 }
 
-/* Whether there are rows that came without being counted, as it is now. */
+/* Whether there are rows that came without being counted. */
 bool
-has_mark(Oid relation)
+has_mark(Oid relation, Snapshot snapshot)
 {
 	Relation	deltas = table_open(extension_table("kept_delta"), AccessShareLock);
-	SysScanDesc scan = begin_scan(deltas, relation, NULL);
+	SysScanDesc scan = begin_scan(deltas, relation, snapshot);
 	bool		found = false;
 	HeapTuple	tuple;
 
@@ -151,18 +175,38 @@ has_mark(Oid relation)
 	return found;
 }
 
-int
-count_deltas(Oid relation)
+int64
+count_deltas(Oid relation, Snapshot snapshot)
 {
 	Relation	deltas = table_open(extension_table("kept_delta"), AccessShareLock);
-	SysScanDesc scan = begin_scan(deltas, relation, NULL);
-	int			count = 0;
+	SysScanDesc scan = begin_scan(deltas, relation, snapshot);
+	int64		count = 0;
 
 	while (HeapTupleIsValid(systable_getnext(scan)))
 		count++;
 	systable_endscan(scan);
 	table_close(deltas, AccessShareLock);
 	return count;
+}
+
+/* The tables that a table refers to and that still are what they were when it was counted. Under one version deltas only come, so that
+   as many are the same ones. */
+List *
+unchanged_references(const Seen *seen, Snapshot snapshot)
+{
+	List	   *unchanged = NIL;
+	ListCell   *cell;
+
+	foreach(cell, seen->referred)
+	{
+		ReferredTable *then = lfirst(cell);
+		Seen		now;
+
+		if (see_table(then->relation, snapshot, &now) && now.version == then->version && now.sources != NIL && !is_writing(&now) &&
+			count_deltas(then->relation, snapshot) == then->deltas)
+			unchanged = lappend_oid(unchanged, then->relation);
+	}
+	return unchanged;
 }
 
 static DegreeList *

@@ -295,6 +295,7 @@ kept_table(Oid relation)
 		return NULL;
 	view = palloc(sizeof(KeptTable));
 	*view = *table;
+	view->unchanged = unchanged_references(&seen, snapshot);
 	return view;
 }
 

@@ -4,6 +4,7 @@
 -- What is known of a table: one row for each kept table, and one for each joined column with each filter column.
 -- Statistics tell values, so only the extension's owner reads them.
 -- version: another one each time that the table is counted. sources: the tables whose statements bring rows, where it is watched.
+-- referred: the number, the version and how many deltas of each watched table that it refers to, when it was counted.
 CREATE SEQUENCE versions;
 CREATE TABLE kept_table (
     relation regclass PRIMARY KEY,
@@ -15,7 +16,8 @@ CREATE TABLE kept_table (
     version bigint NOT NULL DEFAULT nextval('versions'),
     sources oid[],
     joined smallint[],
-    filters smallint[]
+    filters smallint[],
+    referred bigint[]
 );
 REVOKE ALL ON kept_table FROM PUBLIC;
 

@@ -66,6 +66,7 @@ typedef struct KeptTable
 	Oid			relation;
 	int64		version;		/* of the statistics: they are kept anew under another one */
 	Deltas	   *deltas;			/* the rows that came since; NULL where the table isn't watched */
+	List	   *unchanged;		/* where it is: the tables that it refers to and that are as they were */
 	bool		known;			/* whether there are statistics that fit the table as it is */
 	MemoryContext context;
 	struct KeptTable *next;		/* of those that are dropped */
@@ -91,6 +92,9 @@ extern Relation open_owned(Oid relation);
 extern Oid	sort_collation(Oid collation);
 extern uint64 write_own(const char *statement, int length, Oid *types, Datum *values);
 extern int64 keep_table(Oid relation, Bitmapset *joined, Bitmapset *filters, int most_common, int most_leaves, int accuracy, bool folding);
+
+/* admit.c: nothing is refused meanwhile. */
+extern bool admission_paused;
 
 /* deltas.c: the rows that came. Whatever else answers a list of a table has it go through here. */
 extern DegreeList with_deltas(const KeptTable *table, AttrNumber joined, DegreeList list);

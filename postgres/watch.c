@@ -162,14 +162,73 @@ note_sources(Oid relation, List *sources)
 	Datum		values[] = {ObjectIdGetDatum(relation), oid_array(sources)};
 
 	write_own("UPDATE safebound.kept_table SET sources = nullif($2, '{}'::oid[]),"
-			  " joined = ARRAY(SELECT joined FROM safebound.kept_lists WHERE relation = $1 AND filter = 0 AND joined > 0),"
-			  " filters = ARRAY(SELECT filter FROM safebound.kept_lists WHERE relation = $1 AND joined = 0 AND filter > 0)"
+			  " joined = ARRAY(SELECT joined FROM safebound.kept_lists WHERE relation = $1 AND along = 0 AND filter = 0 AND joined > 0),"
+			  " filters = ARRAY(SELECT filter FROM safebound.kept_lists WHERE relation = $1 AND along = 0 AND joined = 0 AND filter > 0)"
 			  " WHERE relation = $1", 2, types, values);
+}
+
+/* The columns of which changes are told, of a table that is watched and known; NULL where it isn't. */
+static Bitmapset *
+columns_told(Oid relation, Seen *seen)
+{
+	if (!see_table(relation, GetActiveSnapshot(), seen) || seen->sources == NIL || has_mark(relation, GetActiveSnapshot()))
+		return NULL;
+	return bms_union(seen->joined, seen->filters);
+}
+
+/* What the lists along a reference were made of, as the active snapshot sees it: three numbers for each table of which all changes to
+   their columns are told. */
+static List *
+references_told(Oid relation, uint64 rows, SPITupleTable *lists)
+{
+	List	   *told = NIL;
+
+	for (uint64 at = 0; at < rows; at++)
+	{
+		bool		null;
+		Oid			referred = DatumGetObjectId(SPI_getbinval(lists->vals[at], lists->tupdesc, 1, &null));
+		Seen		seen;
+		Bitmapset  *columns = columns_told(referred, &seen);
+		ReferredTable *table = palloc(sizeof(ReferredTable));
+
+		if (columns == NULL || !bms_is_subset(array_numbers(SPI_getbinval(lists->vals[at], lists->tupdesc, 2, &null)), columns))
+			continue;
+		*table = (ReferredTable) {referred, seen.version, count_deltas(referred, GetActiveSnapshot())};
+		told = lappend(told, table);
+	}
+	return told;
+}
+
+static void
+note_references(Oid relation)
+{
+	Oid			types[] = {REGCLASSOID, INT8ARRAYOID};
+	Datum		values[2] = {ObjectIdGetDatum(relation)};
+	List	   *told;
+	Datum	   *numbers;
+	ListCell   *cell;
+	int			length = 0;
+
+	write_own("SELECT referred, array_agg(DISTINCT filter) || array_agg(DISTINCT key) FROM safebound.kept_lists"
+			  " WHERE relation = $1 AND along > 0 GROUP BY referred", 1, types, values);
+	told = references_told(relation, SPI_processed, SPI_tuptable);
+	numbers = palloc(sizeof(Datum) * 3 * (list_length(told) + 1));
+	foreach(cell, told)
+	{
+		ReferredTable *table = lfirst(cell);
+
+		numbers[length++] = Int64GetDatum(table->relation);
+		numbers[length++] = Int64GetDatum(table->version);
+		numbers[length++] = Int64GetDatum(table->deltas);
+	}
+	values[1] = PointerGetDatum(construct_array(numbers, length, INT8OID, 8, FLOAT8PASSBYVAL, TYPALIGN_DOUBLE));
+	write_own("UPDATE safebound.kept_table SET referred = $2 WHERE relation = $1", 2, types, values);
 }
 
 void
 end_counting(const Seen *before, bool was_followed)
 {
+	note_references(before->relation);
 	PopActiveSnapshot();
 	note_sources(before->relation, was_followed && is_intact(before->relation, before->sources) ? before->sources : NIL);
 }
@@ -307,7 +366,7 @@ fold_full(List *named)
 
 		if (seen->sources != NIL && (named == NIL || list_member_oid(named, seen->relation)) &&
 			SearchSysCacheExists1(RELOID, ObjectIdGetDatum(seen->relation)) &&
-			pg_class_ownercheck(seen->relation, GetUserId()) && count_deltas(seen->relation) >= MANY_DELTAS)
+			pg_class_ownercheck(seen->relation, GetUserId()) && count_deltas(seen->relation, NULL) >= MANY_DELTAS)
 			keep_again(seen->relation, true);
 	}
 }
@@ -363,7 +422,7 @@ on_utility(PlannedStmt *statement, const char *text, bool read_only, ProcessUtil
 static void
 mark_broken(Oid relation)
 {
-	if (!has_mark(relation) || !ConditionalLockRelationOid(relation, ShareUpdateExclusiveLock))
+	if (!has_mark(relation, NULL) || !ConditionalLockRelationOid(relation, ShareUpdateExclusiveLock))
 		mark_not_counted(relation);
 }
 

@@ -20,7 +20,8 @@ enum
 	TABLE_SOURCES,
 	TABLE_JOINED,
 	TABLE_FILTERS,
-	TABLE_COLUMNS = TABLE_FILTERS
+	TABLE_REFERRED,
+	TABLE_COLUMNS = TABLE_REFERRED
 };
 
 enum
@@ -34,6 +35,14 @@ enum
 /* In DELTA_ROWS: rows came or changed in a way that was seen and not counted. */
 #define NOT_COUNTED (-1)
 
+/* A table that another one refers to, as it was when the other one was counted. */
+typedef struct ReferredTable
+{
+	Oid			relation;
+	int64		version;
+	int64		deltas;
+} ReferredTable;
+
 /* What a snapshot sees of a table's row in safebound.kept_table. */
 typedef struct Seen
 {
@@ -45,6 +54,7 @@ typedef struct Seen
 	List	   *sources;		/* the tables whose statements may bring rows; NIL where nobody follows them */
 	Bitmapset  *joined;			/* the columns with lists */
 	Bitmapset  *filters;		/* the columns whose conditions have lists */
+	List	   *referred;		/* of ReferredTable */
 } Seen;
 
 /* The rows that came since, as far as a snapshot sees them. */
@@ -61,14 +71,16 @@ struct Deltas
 };
 
 /* deltas.c */
+extern Bitmapset *array_numbers(Datum array);
 extern bool see_table(Oid relation, Snapshot snapshot, Seen *seen);
 extern Deltas *see_deltas(const Seen *seen, Snapshot snapshot, Deltas *known);
 extern void write_delta(Oid relation, int64 rows, StringInfo lists);
 extern void delete_deltas(Oid relation, Snapshot snapshot);
 extern List *followers_of(Oid source);
 
-extern bool has_mark(Oid relation);
-extern int	count_deltas(Oid relation);
+extern bool has_mark(Oid relation, Snapshot snapshot);
+extern int64 count_deltas(Oid relation, Snapshot snapshot);
+extern List *unchanged_references(const Seen *seen, Snapshot snapshot);
 
 /* watch.c */
 extern void begin_counting(Relation relation, bool folding, Seen *before, bool *was_followed);

@@ -70,6 +70,30 @@ INSERT INTO r VALUES (6, 'z');
 RESET session_replication_role;
 SELECT most('SELECT FROM r') = 12 AS replica;
 
+-- Lists along a foreign key: they hold while what is referred to is as it was, and take the rows that came to the table itself.
+CREATE TABLE kinds (id integer PRIMARY KEY, kind text, note text);
+INSERT INTO kinds VALUES (1, 'rare'), (2, 'usual'), (3, 'usual');
+CREATE TABLE things (kind integer REFERENCES kinds);
+INSERT INTO things SELECT 2 FROM generate_series(1, 50);
+INSERT INTO things VALUES (1), (3);
+SELECT safebound.keep('things', filters => '{}') > 0 AS things;
+SELECT safebound.watch('kinds') > 0 AS kinds, safebound.watch('things') > 0 AS things;
+SELECT filters FROM safebound.kept_table WHERE relation = 'things'::regclass;
+CREATE VIEW rare AS SELECT FROM things t JOIN kinds k ON t.kind = k.id WHERE k.kind = 'rare';
+SELECT most('SELECT FROM rare') = 1 AS one;
+INSERT INTO things VALUES (1), (2);
+-- One kind is rare, and stood once: it stands at most twice.
+SELECT most('SELECT FROM rare') = 2 AS twice;
+-- Another kind is rare now, without a statement on things: the lists along the reference aren't taken until things is counted.
+UPDATE kinds SET kind = 'rare' WHERE id = 2;
+SELECT count(*), most('SELECT FROM rare') >= count(*) AS enough FROM rare;
+SELECT safebound.fold('kinds') > 0 AS kinds;
+SELECT count(*), most('SELECT FROM rare') >= count(*) AS enough FROM rare;
+SET safebound.budget = 100;
+SELECT safebound.fold('things') > 0 AS things;
+SELECT count(*), most('SELECT FROM rare') = count(*) AS exact FROM rare;
+RESET safebound.budget;
+
 -- Queries in the midst of a statement: the table isn't known to them, since they see rows that aren't counted yet.
 SELECT safebound.fold('r') > 0 AS folded;
 CREATE FUNCTION asks() RETURNS trigger LANGUAGE plpgsql AS $$ BEGIN PERFORM count(*) FROM r JOIN s USING (x); RETURN NEW; END $$;
@@ -185,6 +209,8 @@ SELECT safebound.unwatch('r'), safebound.unwatch('r');
 INSERT INTO r VALUES (6, 'z');
 SELECT known('r'), deltas('r');
 REVOKE ALL ON SCHEMA safebound FROM rows_user;
+DROP VIEW rare;
+DROP TABLE things, kinds;
 DROP TABLE r, s, one, child, above, parts, part_a CASCADE;
 DROP ROLE rows_user;
 DROP FUNCTION most, known, deltas, asks;

@@ -14,12 +14,27 @@ import random
 import sys
 import threading
 from collections import Counter
+from collections.abc import Iterator
 
 import psycopg
-from never_under import JOINS, PRELUDE, Table, nodes, query, value
+from never_under import JOINS, KINDS, PRELUDE, Table, nodes, query, value
 
 WRITERS = 3
-ASKED_ABOVE = "SB001"
+# States of a query that is refused.
+ABOVE, UNBOUNDED = "SB001", "SB002"
+
+
+def kept_parts(table: Table) -> list[str]:
+    """The tables with rows of their own."""
+    return table.parts() + ([] if table.kind in ("hash", "list") else [table.name])
+
+
+def all_joins(plan: dict, repeated: bool = False) -> Iterator[dict]:
+    """The joins of a plan that aren't repeated for each row of others."""
+    if plan["Node Type"] in JOINS and plan["Actual Loops"] == 1 and not repeated:
+        yield plan
+    for below in plan.get("Plans", []):
+        yield from all_joins(below, repeated or (plan["Node Type"] == "Nested Loop" and below["Parent Relationship"] == "Inner"))
 
 
 class Writer(threading.Thread):
@@ -55,28 +70,30 @@ class Writer(threading.Thread):
 
     def statement(self, connection: psycopg.Connection, table: Table) -> None:
         r = self.r
-        kinds = ["insert", "insert", "insert", "one", "update", "update", "delete", "delete", "copy", "truncate", "fold"]
-        kind = r.choices(kinds, [4, 4, 4, 4, 4, 4, 4, 4, 4, 1, 2 if self.watched else 0])[0]
+        kinds = ["insert", "one", "update", "delete", "copy", "truncate", "fold"]
+        kind = r.choices(kinds, [12, 4, 8, 8, 4, 1, 2 if self.watched else 0])[0]
         i = r.randrange(len(table.columns))
         some = value(r, table.columns[i], table.distinct[i], 0)
+        # Into the whole table, or straight into a part of it.
+        into = r.choice([table.name, table.name, *table.parts()])
         if kind in ("insert", "one"):
             rows = (f"({', '.join(self.row(table))})" for _ in range(1 if kind == "one" else r.randint(1, 20)))
-            connection.execute(f"INSERT INTO {table.name} VALUES {', '.join(rows)}")
+            connection.execute(f"INSERT INTO {into} VALUES {', '.join(rows)}")
         elif kind == "update":
             j = r.randrange(len(table.columns))
             new = value(r, table.columns[j], table.distinct[j], 0.1)
-            connection.execute(f"UPDATE {table.name} SET c{j} = {new} WHERE c{i} = {some}")
+            connection.execute(f"UPDATE {into} SET c{j} = {new} WHERE c{i} = {some}")
         elif kind == "delete":
-            connection.execute(f"DELETE FROM {table.name} WHERE c{i} = {some} OR random() < 0.3")
+            connection.execute(f"DELETE FROM {into} WHERE c{i} = {some} OR random() < 0.3")
         elif kind == "copy":
-            with connection.cursor().copy(f"COPY {table.name} FROM STDIN") as copy:
+            with connection.cursor().copy(f"COPY {into} FROM STDIN") as copy:
                 for _ in range(r.randint(1, 20)):
                     cells = self.row(table)
                     copy.write_row([None if cell == "NULL" else cell.strip("'") for cell in cells])
         elif kind == "truncate":
-            connection.execute(f"TRUNCATE {table.name}")
+            connection.execute(f"TRUNCATE {into} CASCADE")
         else:
-            connection.execute(f"SELECT safebound.fold('{table.name}')")
+            connection.execute(f"SELECT safebound.fold('{r.choice(kept_parts(table))}')")
         self.done[kind] += 1
 
 
@@ -87,28 +104,34 @@ class Asking:
         self.connection, self.r, self.watched = connection, r, watched
         self.seen: Counter[str] = Counter()
 
-    def joins(self, told: list[dict], limit: int | None, text: str) -> None:
-        """Counts the joins of a plan that ran; each has at most its bound, or at most the limit."""
-        for node in nodes(told[0]["Plan"], {"nu0", "nu1", "nu2"}):
-            if node["Node Type"] not in JOINS and limit is not None:
-                continue
-            most = node["Plan Rows"] if limit is None else limit
-            self.seen[f"{'budget' if limit else 'snapshot'} {'joins' if node['Node Type'] in JOINS else 'scans'}"] += 1
-            if node["Actual Rows"] > most:
-                self.seen["under"] += 1
-                if self.seen["under"] <= 3:
-                    print(f"{node['Node Type']} has {node['Actual Rows']} rows, at most {most}: {text}")
+    def node(self, node: dict, most: int, name: str, text: str) -> None:
+        self.seen[name] += 1
+        if node["Actual Rows"] > most:
+            self.seen["under"] += 1
+            if self.seen["under"] <= 3:
+                print(f"{node['Node Type']} has {node['Actual Rows']} rows, at most {most}: {text}")
+
+    def bounded(self, told: list[dict], known: set[str], text: str) -> None:
+        """Each scan and join of known tables has at most as many rows as the plan says."""
+        for node in nodes(told[0]["Plan"], known):
+            self.node(node, node["Plan Rows"], f"snapshot {'joins' if node['Node Type'] in JOINS else 'scans'}", text)
+
+    def admitted(self, told: list[dict], budget: int, text: str) -> None:
+        """Each join of an admitted query has at most as many rows as the budget says."""
+        self.seen["admitted"] += 1
+        for node in all_joins(told[0]["Plan"]):
+            self.node(node, budget, "budget joins", text)
 
     def explained(self, text: str) -> list[dict]:
         row = self.connection.execute(f"EXPLAIN (ANALYZE, TIMING OFF, FORMAT JSON) {text}").fetchone()
         assert row is not None
         return row[0]
 
-    def in_snapshot(self, text: str) -> None:
+    def in_snapshot(self, text: str, known: set[str]) -> None:
         with self.connection.transaction():
             self.connection.execute("SET TRANSACTION ISOLATION LEVEL REPEATABLE READ")
             for _ in range(3):
-                self.joins(self.explained(text), None, text)
+                self.bounded(self.explained(text), known, text)
 
     def under_budget(self, text: str) -> None:
         """Runs a prepared query again and again under a budget near its bound."""
@@ -121,34 +144,42 @@ class Asking:
                 return
             self.connection.execute(f"SET safebound.budget = {budget}")
             try:
-                self.joins(self.explained("EXECUTE asked"), budget, text)
-                self.seen["admitted"] += 1
+                self.admitted(self.explained("EXECUTE asked"), budget, text)
             except psycopg.Error as error:
-                if error.sqlstate != ASKED_ABOVE:
+                if error.sqlstate not in (ABOVE, UNBOUNDED):
                     raise
-                self.seen["refused"] += 1
+                self.seen["refused" if error.sqlstate == ABOVE else "refused without a bound"] += 1
             finally:
                 self.connection.execute("SET safebound.budget = 0")
 
-    def ask(self, text: str) -> None:
+    def ask(self, text: str, known: set[str]) -> None:
         kept = (psycopg.errors.QueryCanceled, psycopg.errors.DeadlockDetected, psycopg.errors.FeatureNotSupported,
                 psycopg.errors.UndefinedFunction, psycopg.errors.DatatypeMismatch)
         try:
-            self.in_snapshot(text) if not self.watched or self.r.random() < 0.5 else self.under_budget(text)
+            self.in_snapshot(text, known) if not self.watched or self.r.random() < 0.5 else self.under_budget(text)
             self.seen["queries"] += 1
         except kept as error:
             self.seen[f"not run {error.sqlstate}"] += 1
         self.connection.execute("DEALLOCATE ALL")
 
 
+def make_tables(connection: psycopg.Connection, r: random.Random, watched: bool) -> list[Table]:
+    """Plain tables, or also partitions and children; in half of the sets with references to the tables before them."""
+    kinds = r.choice([("plain",), KINDS])
+    refers = r.random() < 0.5
+    tables = [Table(r, f"nu{i}", kinds) for i in range(3)]
+    for i, table in enumerate(tables):
+        table.make(connection, tables[:i] if refers else [])
+        for part in kept_parts(table) if watched else []:
+            connection.execute(f"SELECT safebound.watch('{part}')")
+    return tables
+
+
 def one_set(url: str, asking: Asking, r: random.Random, watched: bool, queries: int) -> Counter[str]:
     """A set of tables, with writers beside."""
-    tables = [Table(r, f"nu{i}", ("plain",)) for i in range(3)]
     asking.connection.execute("SET safebound.estimates = off")
-    for table in tables:
-        table.make(asking.connection, [])
-        if watched:
-            asking.connection.execute(f"SELECT safebound.watch('{table.name}')")
+    tables = make_tables(asking.connection, r, watched)
+    known = {table.name for table in tables if table.kind == "plain"}
     asking.connection.execute(f"SET safebound.estimates = bound; SET plan_cache_mode = {r.choice(['force_generic_plan', 'auto'])}")
     for method in ("hashjoin", "mergejoin", "nestloop"):
         asking.connection.execute(f"SET enable_{method} = {r.choice(['on', 'on', 'off'])}")
@@ -157,7 +188,8 @@ def one_set(url: str, asking: Asking, r: random.Random, watched: bool, queries: 
         writer.start()
     try:
         for _ in range(queries):
-            asking.ask(query(r, tables)[0])
+            text, alone = query(r, tables)
+            asking.ask(text, known | alone)
     finally:
         for writer in writers:
             writer.stopping.set()
