@@ -138,7 +138,9 @@ range_of_comparison(const Conditioned *of, OpExpr *clause, Range *range)
 	const KeptPair *pair;
 	Oid			family,
 				left_type,
-				right_type;
+				right_type,
+				less,
+				less_equal;
 	int			strategy;
 
 	range->column = column_of(of, column_left ? left : lsecond(clause->args));
@@ -151,10 +153,11 @@ range_of_comparison(const Conditioned *of, OpExpr *clause, Range *range)
 	get_op_opfamily_properties(operator, family, false, &strategy, &left_type, &right_type);
 	while (IsA(other, RelabelType))
 		other = (Node *) ((RelabelType *) other)->arg;
-	if (strategy == BTEqualStrategyNumber || !IsA(other, Const) || ((Const *) other)->constisnull)
+	less = get_opfamily_member(family, left_type, right_type, BTLessStrategyNumber);
+	less_equal = get_opfamily_member(family, left_type, right_type, BTLessEqualStrategyNumber);
+	if (strategy == BTEqualStrategyNumber || !IsA(other, Const) || ((Const *) other)->constisnull || !OidIsValid(less) || !OidIsValid(less_equal))
 		return false;
-	set_range(range, pair, strategy, get_opfamily_member(family, left_type, right_type, BTLessStrategyNumber),
-			  get_opfamily_member(family, left_type, right_type, BTLessEqualStrategyNumber), clause->inputcollid, ((Const *) other)->constvalue);
+	set_range(range, pair, strategy, less, less_equal, clause->inputcollid, ((Const *) other)->constvalue);
 	return true;
 }
 

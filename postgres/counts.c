@@ -2,6 +2,7 @@
 #include "counting.h"
 
 #include "miscadmin.h"
+#include "port/pg_bitutils.h"
 #include "utils/datum.h"
 #include "utils/memutils.h"
 
@@ -154,11 +155,18 @@ next_code(const Column *column)
 	return column ? codes_get(column->codes) : 0;
 }
 
-/* The codes of both columns of each row, one in the high and one in the low bits. A column may be both. */
+/* The bits of a column's codes. */
+static int
+bits_of(const Column *column)
+{
+	return column && column->highest ? pg_leftmost_one_pos32(column->highest) + 1 : 0;
+}
+
+/* The codes of both columns of each row, one above the other's bits. A column may be both. */
 static Sorted *
 sorted_codes(const Making *making, const Column *high, const Column *low, uint32 (*part) (const Column *, uint32))
 {
-	Sorted	   *sorted = sorted_begin(making->rows);
+	Sorted	   *sorted = sorted_begin(making->rows, bits_of(high) + bits_of(low));
 
 	if (high)
 		codes_rewind(high->codes);
@@ -170,7 +178,7 @@ sorted_codes(const Making *making, const Column *high, const Column *low, uint32
 		uint32		other = low == high ? (uint32) one : next_code(low);
 
 		CHECK_FOR_INTERRUPTS();
-		sorted_put(sorted, (one << 32) | (part ? part(low, other) : other));
+		sorted_put(sorted, (one << bits_of(low)) | (part ? part(low, other) : other));
 	}
 	sorted_perform(sorted);
 	return sorted;
@@ -182,6 +190,8 @@ count_groups(Counting *counting)
 {
 	Sorted	   *sorted = sorted_codes(counting->making, counting->filter, counting->joined, NULL);
 	Degrees		degrees = {0};
+	int			bits = bits_of(counting->joined);
+	uint64		mask = (UINT64CONST(1) << bits) - 1;
 	uint64		last = 0;
 	uint64		degree = 0;
 	uint64		number;
@@ -190,18 +200,18 @@ count_groups(Counting *counting)
 	while (sorted_get(sorted, &number))
 	{
 		if (number != last)
-			add_degree(&degrees, (uint32) last == 0 ? 0 : degree);
-		if (number >> 32 != last >> 32)
+			add_degree(&degrees, (last & mask) == 0 ? 0 : degree);
+		if (number >> bits != last >> bits)
 		{
-			end_group(counting, last >> 32, &degrees, &common);
+			end_group(counting, last >> bits, &degrees, &common);
 			degrees.rows = degrees.length = 0;
 		}
 		degree = number == last ? degree + 1 : 1;
 		degrees.rows++;
 		last = number;
 	}
-	add_degree(&degrees, (uint32) last == 0 ? 0 : degree);
-	end_group(counting, last >> 32, &degrees, &common);
+	add_degree(&degrees, (last & mask) == 0 ? 0 : degree);
+	end_group(counting, last >> bits, &degrees, &common);
 	sorted_end(sorted);
 }
 
@@ -288,16 +298,18 @@ static void
 count_nodes(Counting *counting, Nodes *nodes)
 {
 	Sorted	   *sorted = sorted_codes(counting->making, counting->joined, counting->filter, leaf_of);
+	int			bits = bits_of(counting->filter);
+	uint64		mask = (UINT64CONST(1) << bits) - 1;
 	uint32		last = 0;
 	uint64		number;
 
 	while (sorted_get(sorted, &number))
 	{
-		if (number >> 32 != last)
+		if (number >> bits != last)
 			add_counts(nodes, false);
-		last = number >> 32;
-		if (last != 0 && (uint32) number != 0)
-			nodes->counts[(uint32) number - 1]++;
+		last = number >> bits;
+		if (last != 0 && (number & mask) != 0)
+			nodes->counts[(number & mask) - 1]++;
 	}
 	add_counts(nodes, false);
 	sorted_end(sorted);

@@ -118,6 +118,25 @@ read_pair(Datum *row)
 	return pair;
 }
 
+static int
+compared(uint64 one, uint64 other)
+{
+	return (one > other) - (one < other);
+}
+
+static int
+by_columns(const void *left, const void *right)
+{
+	const KeptPair *one = left;
+	const KeptPair *other = right;
+	int			order = compared(one->referred, other->referred);
+
+	if (order == 0)
+		order = compared(((uint64) (uint16) one->along << 48) | ((uint64) (uint16) one->key << 32) | ((uint64) (uint16) one->joined << 16) | (uint16) one->filter,
+						 ((uint64) (uint16) other->along << 48) | ((uint64) (uint16) other->key << 32) | ((uint64) (uint16) other->joined << 16) | (uint16) other->filter);
+	return order;
+}
+
 static void
 read_table(KeptTable *table, Relation lists, Snapshot snapshot)
 {
@@ -143,6 +162,7 @@ read_table(KeptTable *table, Relation lists, Snapshot snapshot)
 		table->pairs[table->length++] = read_pair(row);
 	}
 	systable_endscan(scan);
+	qsort(table->pairs, table->length, sizeof(KeptPair), by_columns);
 	table->known = kept_pair(table, 0, 0) != NULL;
 }
 
@@ -289,16 +309,15 @@ kept_pair(const KeptTable *table, AttrNumber joined, AttrNumber filter)
 const KeptPair *
 kept_pair_along(const KeptTable *table, AttrNumber joined, AttrNumber filter, const Reference *reference)
 {
-	Reference	own = reference ? *reference : (Reference) {0};
+	KeptPair	wanted = {.joined = joined,.filter = filter};
 
-	for (int i = 0; i < table->length; i++)
+	if (reference)
 	{
-		const KeptPair *pair = &table->pairs[i];
-
-		if (pair->joined == joined && pair->filter == filter && pair->along == own.along && pair->referred == own.referred && pair->key == own.key)
-			return pair;
+		wanted.along = reference->along;
+		wanted.referred = reference->referred;
+		wanted.key = reference->key;
 	}
-	return NULL;
+	return bsearch(&wanted, table->pairs, table->length, sizeof(KeptPair), by_columns);
 }
 
 bool
