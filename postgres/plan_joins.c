@@ -151,6 +151,16 @@ leaf_scans(Plan *plan)
 	return (Scans) {NULL, is_empty(plan)};
 }
 
+/* The parent of a child in its own part of the planner; 0 where it is no child. A finished plan's numbers of both are moved by as much as
+   the part's entries were, while the array still has the child at its number from before. */
+static Index
+parent_of(PlannerInfo *root, Index child)
+{
+	AppendRelInfo *info = root->append_rel_array ? root->append_rel_array[child] : NULL;
+
+	return info ? info->parent_relid - (info->child_relid - child) : 0;
+}
+
 /* The number that an entry has in `root`, where it stands in a subquery below it too; 0 where it isn't below. */
 static Index
 relid_in(PlannerInfo *root, const Origin *origin)
@@ -171,8 +181,8 @@ relid_in(PlannerInfo *root, const Origin *origin)
 		at = parent;
 		relid = below;
 	}
-	while (at->append_rel_array && at->append_rel_array[relid])
-		relid = at->append_rel_array[relid]->parent_relid;
+	while (parent_of(at, relid) != 0)
+		relid = parent_of(at, relid);
 	return relid;
 }
 
