@@ -115,11 +115,11 @@ class Running(Connected):
         """A subquery's entries have other numbers in the finished plan than in its own part of the planner."""
         self.owner.execute("CREATE TABLE above (x integer); CREATE TABLE below () INHERITS (above)")
         self.addCleanup(self.owner.execute, "DROP TABLE above CASCADE")
-        self.owner.execute("SET safebound.budget = 1000000")
         for more in range(1, 8):
             others = ", ".join(f"r r{i}" for i in range(more))
-            error = self.refused(self.owner, f"SELECT 1 FROM {others}, (SELECT DISTINCT a.x FROM above a JOIN s USING (x)) q WHERE r0.x = q.x", "SB002")
-            self.assertEqual(error.diag.message_detail, "It joins above AS a and s.")
+            query = f"SELECT 1 FROM {others}, (SELECT DISTINCT a.x FROM above a JOIN s USING (x)) q WHERE r0.x = q.x"
+            names = [row[0] for row in self.owner.execute("SELECT * FROM safebound.bounds(%s)", (query,))]
+            self.assertIn(["a", "s"], names)
 
     def test_prepared_transactions(self) -> None:
         """Rows of a transaction that is prepared come with their delta when it is committed."""
