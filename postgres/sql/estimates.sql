@@ -68,6 +68,9 @@ SELECT rows_of('SELECT FROM f JOIN d USING (k) WHERE c = ''a''') = 2 AS along, r
        rows_of('SELECT d.c FROM f LEFT JOIN d ON f.k = d.k AND c = ''a''') = 159 + 2 AS left_join;
 SELECT rows_of('SELECT FROM f JOIN d USING (k) JOIN f g USING (x) WHERE c = ''a''') = 2 * 31 AS further;
 SELECT relations, bound, estimate > 0 AS estimate, statistics FROM safebound.bounds('SELECT FROM f JOIN d USING (k) JOIN f g USING (x) WHERE c = ''a'' AND g.k > 2') WHERE cardinality(relations) = 3;
+SET join_collapse_limit = 1;
+SELECT relations, bound >= (SELECT count(*) FROM f JOIN f g USING (x)) AS whole FROM safebound.bounds('SELECT FROM (f JOIN f g USING (x)) JOIN d ON f.k = d.k WHERE c = ''a''') WHERE 'd' <> ALL (relations);
+RESET join_collapse_limit;
 SELECT safebound.bounds('VACUUM');
 DROP TABLE f, d;
 SET safebound.estimates = off;
