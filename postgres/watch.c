@@ -66,16 +66,15 @@ sources_of(Oid relation)
 	return sources;
 }
 
-/* Whether all triggers of a source are there and fire always: three for statements, and on the table itself one for rows. */
-static bool
-has_triggers(Oid source, bool itself)
+/* How many of a source's triggers for statements and for rows are there and fire always. */
+static void
+count_triggers(Oid source, int *statements, int *rows)
 {
 	Relation	opened = relation_open(source, AccessShareLock);
 	TriggerDesc *triggers = opened->trigdesc;
 	Oid			follow = LookupFuncName(list_make2(makeString("safebound"), makeString("follow")), 0, NULL, true);
-	int			statements = 0;
-	int			rows = 0;
 
+	*statements = *rows = 0;
 	for (int i = 0; triggers && i < triggers->numtriggers; i++)
 	{
 		Trigger    *trigger = &triggers->triggers[i];
@@ -83,11 +82,21 @@ has_triggers(Oid source, bool itself)
 		if (trigger->tgfoid != follow)
 			continue;
 		if (TRIGGER_FOR_ROW(trigger->tgtype))
-			rows += trigger->tgenabled == TRIGGER_FIRES_ON_REPLICA;
+			*rows += trigger->tgenabled == TRIGGER_FIRES_ON_REPLICA;
 		else
-			statements += trigger->tgenabled == TRIGGER_FIRES_ALWAYS;
+			*statements += trigger->tgenabled == TRIGGER_FIRES_ALWAYS;
 	}
 	relation_close(opened, AccessShareLock);
+}
+
+/* Whether all triggers of a source are there: three for statements, and on the table itself one for rows. */
+static bool
+has_triggers(Oid source, bool itself)
+{
+	int			statements,
+				rows;
+
+	count_triggers(source, &statements, &rows);
 	return statements == 3 && (rows == 1 || !itself);
 }
 
@@ -248,34 +257,46 @@ quoted_name(Oid relation)
 	return quote_qualified_identifier(get_namespace_name(get_rel_namespace(relation)), get_rel_name(relation));
 }
 
-/* Makes the triggers of a source, and waits for all who are writing to it. Those that are there stay, since other tables need them. */
 static void
-make_triggers(Oid source, bool itself)
+make_statement_triggers(const char *name)
 {
-	char	   *name = quoted_name(source);
-
-	LockRelationOid(source, ShareRowExclusiveLock);
-	if (has_triggers(source, itself))
-		return;
 	execute("CREATE OR REPLACE TRIGGER safebound_begin BEFORE INSERT OR UPDATE ON %s FOR EACH STATEMENT EXECUTE FUNCTION safebound.follow()", name);
 	execute("CREATE OR REPLACE TRIGGER safebound_insert AFTER INSERT ON %s REFERENCING NEW TABLE AS new_rows FOR EACH STATEMENT EXECUTE FUNCTION safebound.follow()", name);
 	execute("CREATE OR REPLACE TRIGGER safebound_update AFTER UPDATE ON %s REFERENCING OLD TABLE AS old_rows NEW TABLE AS new_rows FOR EACH STATEMENT EXECUTE FUNCTION safebound.follow()", name);
 	execute("ALTER TABLE %s ENABLE ALWAYS TRIGGER safebound_begin, ENABLE ALWAYS TRIGGER safebound_insert, ENABLE ALWAYS TRIGGER safebound_update", name);
-	if (!itself)
+}
+
+/* Makes the triggers of a source, and waits for all who are writing to it. Those that are there stay: tables below need them, and would
+   count as unknown once they are made anew. */
+static void
+make_triggers(Oid source, bool itself)
+{
+	char	   *name = quoted_name(source);
+	int			statements,
+				rows;
+
+	LockRelationOid(source, ShareRowExclusiveLock);
+	count_triggers(source, &statements, &rows);
+	if (statements != 3)
+		make_statement_triggers(name);
+	if (!itself || rows == 1)
 		return;
 	execute("CREATE OR REPLACE TRIGGER safebound_applied AFTER INSERT OR UPDATE ON %s FOR EACH ROW EXECUTE FUNCTION safebound.follow()", name);
 	execute("ALTER TABLE %s ENABLE REPLICA TRIGGER safebound_applied", name);
 }
 
+/* Drops the triggers of a table that is no longer watched, as far as tables below it don't need them. */
 static void
 drop_triggers(Oid source)
 {
 	char	   *name = quoted_name(source);
 
+	execute("DROP TRIGGER IF EXISTS safebound_applied ON %s", name);
+	if (followers_of(source) != NIL)
+		return;
 	execute("DROP TRIGGER IF EXISTS safebound_begin ON %s", name);
 	execute("DROP TRIGGER IF EXISTS safebound_insert ON %s", name);
 	execute("DROP TRIGGER IF EXISTS safebound_update ON %s", name);
-	execute("DROP TRIGGER IF EXISTS safebound_applied ON %s", name);
 }
 
 /* Makes the statistics anew, of the same columns where there are some. */

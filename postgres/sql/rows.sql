@@ -138,6 +138,9 @@ CREATE TABLE above (LIKE r);
 ALTER TABLE r INHERIT above;
 SELECT known('r'), safebound.watch('r') > 0 AS watched, known('r');
 SELECT safebound.fold('r') > 0 AS folded, deltas('r');
+-- The table above may be watched itself, and no more: what is below it stays known.
+SELECT safebound.watch('above') > 0 AS watched, known('above'), known('r');
+SELECT safebound.unwatch('above'), known('above'), known('r'), safebound.forget('above');
 UPDATE above SET c = 'from above';
 SELECT deltas('r'), most('SELECT FROM r') = 2 * (SELECT count(*) FROM r) AS twice;
 -- Which values they have isn't told there: all may have one.

@@ -53,6 +53,8 @@ EDITS = [
     Edit("a table is known in the midst of a statement", "kept.c", [(" || is_writing(&seen)", "")], "rows"),
     Edit("marks aren't looked at", "kept.c", [("table->deltas && table->deltas->not_counted", "false")], "rows"),
     Edit("triggers that are gone aren't missed", "watch.c", [("return statements == 3 && (rows == 1 || !itself)", "return true")], "rows"),
+    Edit("triggers of a table above are made anew when it is watched itself", "watch.c", [("	if (statements != 3)", "	if (statements != 3 || (itself && rows != 1))")], "rows"),
+    Edit("triggers of a table above go with its own statistics", "watch.c", [("	if (followers_of(source) != NIL)", "	if (false)")], "rows"),
     Edit("tables above bring no rows", "watch.c", [("list_append_unique_oid(sources, ((Form_pg_inherits) GETSTRUCT(tuple))->inhparent)", "sources")], "rows"),
     Edit("rows that are written anew are the same", "watch.c", [("		mark_rewritten();", "		;")], "rows"),
     Edit("a materialized view stays as it was", "watch.c", [("		mark_refreshed();", "		;")], "rows"),
