@@ -114,10 +114,9 @@ put_join(ReturnSetInfo *into, BoundedQuery *query, Relids relids)
 	tuplestore_putvalues(into->setResult, into->setDesc, values, nulls);
 }
 
-Datum
-safebound_bounds_of(PG_FUNCTION_ARGS)
+static void
+put_bounds(FunctionCallInfo fcinfo, const char *asked)
 {
-	char	   *asked = text_to_cstring(PG_GETARG_TEXT_PP(0));
 	List	   *queries;
 	List	   *roots = NIL;
 	PlannedStmt *plan = plan_and_tell(analysed(asked), asked, &queries);
@@ -136,5 +135,23 @@ safebound_bounds_of(PG_FUNCTION_ARGS)
 		if (query != NULL)
 			put_join((ReturnSetInfo *) fcinfo->resultinfo, query, join->relids);
 	}
+}
+
+/* Statistics stay after the planning, since the bounds are made of them then. */
+Datum
+safebound_bounds_of(PG_FUNCTION_ARGS)
+{
+	char	   *asked = text_to_cstring(PG_GETARG_TEXT_PP(0));
+
+	kept_hold();
+	PG_TRY();
+	{
+		put_bounds(fcinfo, asked);
+	}
+	PG_FINALLY();
+	{
+		kept_release();
+	}
+	PG_END_TRY();
 	return (Datum) 0;
 }

@@ -309,12 +309,13 @@ same_ids(const Deltas *one, const Deltas *other)
 	return one && one->length == other->length && memcmp(one->ids, other->ids, one->length * sizeof(int64)) == 0;
 }
 
-/* The sum of the deltas that a snapshot sees, in a memory context of its own; `known` where these are the ones that were summed there. */
+/* The sum of the deltas that a snapshot sees, in a memory context of its own below the current one; `known` where these are the ones that
+   were summed there. */
 Deltas *
 see_deltas(const Seen *seen, Snapshot snapshot, Deltas *known)
 {
 	Relation	deltas = table_open(extension_table("kept_delta"), AccessShareLock);
-	MemoryContext context = AllocSetContextCreate(CacheMemoryContext, "safebound deltas", ALLOCSET_SMALL_SIZES);
+	MemoryContext context = AllocSetContextCreate(CurrentMemoryContext, "safebound deltas", ALLOCSET_SMALL_SIZES);
 	MemoryContext before = MemoryContextSwitchTo(context);
 	Deltas	   *sums = read_ids(seen, deltas, snapshot);
 	bool		same = same_ids(known, sums);

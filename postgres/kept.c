@@ -166,11 +166,12 @@ read_table(KeptTable *table, Relation lists, Snapshot snapshot)
 	table->known = kept_pair(table, 0, 0) != NULL;
 }
 
+/* Below the current context, so that nothing of it stays after an error. */
 static KeptTable *
 loaded(const Seen *seen, Snapshot snapshot)
 {
 	Oid			lists_oid = extension_table("kept_lists");
-	MemoryContext context = AllocSetContextCreate(CacheMemoryContext, "safebound statistics", ALLOCSET_SMALL_SIZES);
+	MemoryContext context = AllocSetContextCreate(CurrentMemoryContext, "safebound statistics", ALLOCSET_SMALL_SIZES);
 	MemoryContext before = MemoryContextSwitchTo(context);
 	KeptTable  *table = palloc0(sizeof(KeptTable));
 
@@ -256,6 +257,7 @@ table_of_version(const Seen *seen, Snapshot snapshot)
 	entry = hash_search(tables, &seen->relation, HASH_ENTER, &found);
 	if (found)
 		drop(entry->table);
+	MemoryContextSetParent(table->context, CacheMemoryContext);
 	entry->table = table;
 	return table;
 }
@@ -268,6 +270,7 @@ take_deltas(KeptTable *table, const Seen *seen, Snapshot snapshot)
 
 	if (deltas != table->deltas)
 		drop_deltas(table->deltas);
+	MemoryContextSetParent(deltas->context, CacheMemoryContext);
 	table->deltas = deltas;
 	MemoryContextSwitchTo(before);
 }

@@ -296,9 +296,21 @@ on_planner(Query *parse, const char *text, int options, ParamListInfo parameters
 PlannedStmt *
 plan_and_tell(Query *query, const char *text, List **queries)
 {
+	PlannedStmt *plan;
+
 	*queries = NIL;
 	told_next = queries;
-	return pg_plan_query(query, text, CURSOR_OPT_PARALLEL_OK, NULL);
+	PG_TRY();
+	{
+		plan = pg_plan_query(query, text, CURSOR_OPT_PARALLEL_OK, NULL);
+	}
+	PG_FINALLY();
+	{
+		/* Another hook may have failed before ours took it. */
+		told_next = NULL;
+	}
+	PG_END_TRY();
+	return plan;
 }
 
 void

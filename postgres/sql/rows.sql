@@ -189,6 +189,26 @@ ANALYZE r;
 SELECT deltas('s');
 VACUUM (ANALYZE) s;
 SELECT deltas('s'), most('SELECT FROM s') = (SELECT count(*) FROM s) AS exact;
+-- Deltas and lists that can't be read are an error each time, which leaves no memory behind.
+CREATE TABLE torn (x integer);
+SELECT safebound.watch('torn') > 0 AS watched;
+CREATE VIEW memory AS SELECT count(*) AS contexts FROM pg_backend_memory_contexts WHERE name LIKE 'safebound %';
+INSERT INTO torn VALUES (1);
+UPDATE safebound.kept_delta SET lists = '\x01' WHERE relation = 'torn'::regclass;
+SELECT most('SELECT FROM torn');
+SELECT contexts AS before FROM memory \gset
+SELECT most('SELECT FROM torn');
+SELECT most('SELECT FROM torn');
+SELECT contexts - :before AS more FROM memory;
+SELECT safebound.fold('torn') > 0 AS folded;
+UPDATE safebound.kept_lists SET lists = '\x77' WHERE relation = 'torn'::regclass;
+SELECT most('SELECT FROM torn');
+SELECT contexts AS before FROM memory \gset
+SELECT most('SELECT FROM torn');
+SELECT most('SELECT FROM torn');
+SELECT contexts - :before AS more FROM memory;
+DROP VIEW memory;
+DROP TABLE torn;
 -- Only its owner counts and watches a table; who writes to it needs no right for it.
 CREATE ROLE rows_user;
 GRANT USAGE ON SCHEMA safebound TO rows_user;

@@ -49,6 +49,8 @@ EDITS = [
     Edit("a delta isn't read", "deltas.c", [("table->deltas == NULL || table->deltas->rows == 0", "true")], "rows"),
     Edit("deltas have no rows", "deltas.c", [("all.rows = list.rows + table->deltas->rows", "all.rows = list.rows")], "rows"),
     Edit("values that a delta doesn't tell are different ones", "deltas.c", [("{.degree = rows, .keys = 1}", "{.degree = 1, .keys = rows}")], "rows"),
+    Edit("deltas that can't be read stay in memory", "deltas.c", [('(CurrentMemoryContext, "safebound deltas"', '(CacheMemoryContext, "safebound deltas"')], "rows"),
+    Edit("lists that can't be read stay in memory", "kept.c", [('(CurrentMemoryContext, "safebound statistics"', '(CacheMemoryContext, "safebound statistics"')], "rows"),
     Edit("updates change nothing", "followed.c", [("!same_values(seen, new->desc, new->slot, old)", "false")], "rows"),
     Edit("a table is known in the midst of a statement", "kept.c", [(" || is_writing(&seen)", "")], "rows"),
     Edit("marks aren't looked at", "kept.c", [("table->deltas && table->deltas->not_counted", "false")], "rows"),
