@@ -156,8 +156,59 @@ def equality(r: random.Random, left: tuple[str, Table], right: tuple[str, Table]
     return " AND ".join(f"{left[0]}.c{i} = {right[0]}.c{j}" for i, j in r.sample(pairs, min(len(pairs), r.choice([1, 1, 2]))))
 
 
+def with_tables(r: random.Random, tables: list[Table]) -> str:
+    how = ("", "NOT MATERIALIZED", "MATERIALIZED")
+    return "WITH " + ", ".join(f"with_{t.name} AS {r.choice(how)} (SELECT * FROM {t.name})" for t in tables)
+
+
+def leaf(r: random.Random, number: int, tables: list[Table], alone: set[str]) -> tuple[str, list[tuple[str, Table]]]:
+    """A table, or the rows of it that have a partner in another one, or that have none."""
+    alias, table = f"t{number}", r.choice(tables)
+    text = f"{table.read(alias, alone)} {alias}"
+    if r.random() < 0.15:
+        within, other = f"s{number}", r.choice(tables)
+        partner = f"SELECT FROM {other.read(within, alone)} {within} WHERE {equality(r, (alias, table), (within, other))}"
+        text = f"(SELECT {alias}.* FROM {text} WHERE {r.choice(['', 'NOT '])}EXISTS ({partner})) {alias}"
+    return text, [(alias, table)]
+
+
+def is_null(r: random.Random, entry: tuple[str, Table]) -> str:
+    return f"{entry[0]}.c{r.randrange(len(entry[1].columns))} IS NULL"
+
+
+def outer_joins(r: random.Random, numbers: range, tables: list[Table], alone: set[str]) -> tuple[str, list[tuple[str, Table]]]:
+    """Joins of any shape, most of them outer ones, and the tables that they join."""
+    if len(numbers) == 1:
+        return leaf(r, numbers[0], tables, alone)
+    middle = r.randint(1, len(numbers) - 1)
+    left, lefts = outer_joins(r, numbers[:middle], tables, alone)
+    right, rights = outer_joins(r, numbers[middle:], tables, alone)
+    kind = r.choice(["JOIN", "LEFT JOIN", "LEFT JOIN", "RIGHT JOIN", "FULL JOIN", "FULL JOIN"])
+    on = equality(r, r.choice(lefts), r.choice(rights))
+    if kind != "FULL JOIN" and r.random() < 0.4:
+        entry = r.choice(lefts + rights)
+        on += f" AND {is_null(r, entry) if r.random() < 0.5 else condition(r, *entry)}"
+    return f"({left} {kind} {right} ON {on})", lefts + rights
+
+
+def outer_query(r: random.Random, tables: list[Table]) -> tuple[str, set[str]]:
+    """Outer joins above each other under conditions on sides that may be missing, and the aliases of the parts that are read alone."""
+    alone: set[str] = set()
+    text, visible = outer_joins(r, range(r.randint(3, 6)), tables, alone)
+    wheres = [is_null(r, r.choice(visible)) for _ in range(r.choice([0, 1, 1, 2]))]
+    for i in range(r.choice([0, 0, 1, 2])):
+        table = r.choice(tables)
+        on = equality(r, r.choice(visible), (f"e{i}", table))
+        wheres.append(f"{r.choice(['', 'NOT ', 'NOT '])}EXISTS (SELECT FROM {table.read(f'e{i}', alone)} e{i} WHERE {on})")
+    if r.random() < 0.3:
+        wheres.append(condition(r, *r.choice(visible)))
+    return f"{with_tables(r, tables)} SELECT 1 FROM {text}" + (f" WHERE {' AND '.join(wheres)}" if wheres else ""), alone
+
+
 def query(r: random.Random, tables: list[Table]) -> tuple[str, set[str]]:
     """A query, and the aliases of the parts that it reads alone."""
+    if r.random() < 0.4:
+        return outer_query(r, tables)
     alone: set[str] = set()
     entries = [(f"t{i}", r.choice(tables)) for i in range(r.randint(1, 5))]
     text, wheres, visible = f"{entries[0][1].read('t0', alone)} t0", [], [entries[0]]
@@ -173,8 +224,7 @@ def query(r: random.Random, tables: list[Table]) -> tuple[str, set[str]]:
         text = f"({text} {kind} {entry[1].read(entry[0], alone)} {entry[0]} ON {on})"
         visible.append(entry)
     wheres += [condition(r, *r.choice(visible)) for _ in range(r.choice([0, 1, 1, 2]))]
-    names = ", ".join(f"with_{table.name} AS {r.choice(['', 'NOT MATERIALIZED', 'MATERIALIZED'])} (SELECT * FROM {table.name})" for table in tables)
-    return f"WITH {names} SELECT 1 FROM {text}" + (f" WHERE {' AND '.join(wheres)}" if wheres else ""), alone
+    return f"{with_tables(r, tables)} SELECT 1 FROM {text}" + (f" WHERE {' AND '.join(wheres)}" if wheres else ""), alone
 
 
 def is_known(plan: dict, known: set[str]) -> bool:
