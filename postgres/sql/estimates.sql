@@ -25,6 +25,22 @@ INSERT INTO one VALUES (8);
 SELECT safebound.keep('one') > 0 AS one;
 SELECT rows_of('SELECT FROM r WHERE EXISTS (SELECT FROM one WHERE r.x = one.x)') = 5 AS semi_join,
        rows_of('SELECT FROM r WHERE r.x IN (SELECT x FROM s)') BETWEEN 8 AND 10 AS within;
+-- A condition above an outer join isn't one of the scan below it, and one of its ON is.
+CREATE FUNCTION scanned(query text, alias text) RETURNS integer LANGUAGE plpgsql AS $$
+DECLARE told jsonb;
+BEGIN
+    EXECUTE 'EXPLAIN (FORMAT JSON) ' || query INTO told;
+    RETURN jsonb_path_query_first(told, '$.**{2 to last} ? (@.Alias == $alias)."Plan Rows"', jsonb_build_object('alias', alias));
+END $$;
+SELECT scanned('SELECT FROM r FULL JOIN s USING (x) WHERE c IS NULL', 'r') = 10 AS above_full,
+       scanned('SELECT FROM s LEFT JOIN r USING (x) WHERE c IS NULL', 'r') = 10 AS above_left,
+       scanned('SELECT FROM s LEFT JOIN r ON r.x = s.x AND c IS NULL', 'r') = 1 AS within;
+-- Three rows: 1 of s has no partner, so that c is NULL beside it; the row of r without c meets two of s.
+CREATE VIEW apart AS SELECT s.x FROM (one RIGHT JOIN r ON one.x = r.x) FULL JOIN s ON r.x = s.x
+    WHERE NOT EXISTS (SELECT FROM one e WHERE r.x = e.x) AND r.c IS NULL;
+SELECT count(*), rows_of('SELECT FROM apart') >= count(*) AS enough FROM apart;
+DROP VIEW apart;
+DROP FUNCTION scanned;
 -- A parameter may be any value.
 PREPARE with_parameter(text) AS SELECT FROM r WHERE c = $1;
 SET plan_cache_mode = force_generic_plan;
