@@ -32,6 +32,8 @@ JOINS = ("Nested Loop", "Hash Join", "Merge Join")
 SCANS = ("Seq Scan", "Index Scan", "Index Only Scan", "Bitmap Heap Scan")
 # What stands between a join and the tables below it without other rows of its own.
 PASSES = ("Hash", "Sort", "Incremental Sort", "Materialize", "Memoize", "Bitmap Index Scan", "BitmapOr", "BitmapAnd")
+# Of more outer and semi-joins no join is bounded.
+MOST_SPECIAL_JOINS = 6
 KINDS = ("plain", "plain", "plain", "hash", "list", "children")
 PRELUDE = """
 CREATE EXTENSION IF NOT EXISTS safebound;
@@ -191,12 +193,19 @@ def outer_joins(r: random.Random, numbers: range, tables: list[Table], alone: se
     return f"({left} {kind} {right} ON {on})", lefts + rights
 
 
+def special_joins(text: str) -> int:
+    return sum(text.count(words) for words in ("LEFT JOIN", "RIGHT JOIN", "FULL JOIN", "EXISTS"))
+
+
 def outer_query(r: random.Random, tables: list[Table]) -> tuple[str, set[str]]:
-    """Outer joins above each other under conditions on sides that may be missing, and the aliases of the parts that are read alone."""
+    """Outer joins above each other under conditions on sides that may be missing, and the aliases of the parts that it reads alone."""
     alone: set[str] = set()
     text, visible = outer_joins(r, range(r.randint(3, 6)), tables, alone)
+    room = MOST_SPECIAL_JOINS - special_joins(text)
+    if room < 0:
+        return outer_query(r, tables)
     wheres = [is_null(r, r.choice(visible)) for _ in range(r.choice([0, 1, 1, 2]))]
-    for i in range(r.choice([0, 0, 1, 2])):
+    for i in range(min(room, r.choice([0, 0, 1, 2]))):
         table = r.choice(tables)
         on = equality(r, r.choice(visible), (f"e{i}", table))
         wheres.append(f"{r.choice(['', 'NOT ', 'NOT '])}EXISTS (SELECT FROM {table.read(f'e{i}', alone)} e{i} WHERE {on})")
