@@ -14,7 +14,7 @@ DATA := examples/$(EXAMPLE)
 WORDS :=
 COMPILE :=
 
-.PHONY: help run archive build install uninstall deb release library command engines test checks edits bench memory limits clean
+.PHONY: help run archive build install uninstall deb release library command engines postgres test checks edits bench memory limits clean
 
 ## make run       runs a query over examples/trips, or over a folder of yours: make run DATA=FOLDER
 ##                (2 seconds, with the built program or else the release's; with COMPILE=yes a minute, by one that the kit compiles
@@ -27,6 +27,8 @@ COMPILE :=
 ## make install   lays what was built, program and libraries, below PREFIX, /usr/local (2 seconds); make uninstall takes it away
 ## make deb       makes Debian packages of both in out/ (3 seconds, once they are built)
 ## make engines   tests safebound-sql on SQLite and on a PostgreSQL of its own, over the library (docs/ENGINES.md; minutes)
+## make postgres  builds the extension for PostgreSQL 15 over the library, or where it isn't built over the release's, and tests it on a
+##                server of its own (docs/POSTGRES.md; minutes)
 ## make release   builds the last commit twice, from clean clones, and lays the result in dist/ (minutes, where the proofs are kept)
 ## make test      the gate: every proof, the gate's own edits, every test (from nothing about 75 minutes, eight where all is kept; it says how far it is)
 ## make checks    the gate's tests of what is built, side by side (five minutes)
@@ -84,7 +86,7 @@ test:
 	.ci/run
 
 # What the gate does behind its proofs, side by side, the longest first: each reads what was built, and writes into folders of its own.
-CHECKS := engines library command install friendly browser differential process pages cases examples memory-there python release
+CHECKS := engines postgres library command install friendly browser differential process pages cases examples memory-there python release
 FEATURES := run,plan,audit,stats,append,many-entries,filters,words,accuracy,reduce,bushy,keys
 
 .PHONY: $(CHECKS:%=check-%)
@@ -119,10 +121,17 @@ check-install: library command
 	library/test-install
 check-engines: library
 	engines/test --gate
+check-postgres: library
+	postgres/test --short
 check-python:
 	tools/check-python
 check-release:
 	tools/release --check
+
+# The extension for PostgreSQL, tested on a server of its own; nothing is installed into the machine's.
+postgres:
+	engines/setup --extension
+	postgres/test --all
 
 # Every wrong body that a contract must refuse, those on the shelf too; or those of some crates: make edits CRATES="plans set_bounds".
 edits:

@@ -1,0 +1,140 @@
+"""The questions inside PostgreSQL, whose planner is given its own numbers of rows, bounds, or the mean of both: processor seconds."""
+
+from __future__ import annotations
+
+import csv
+import os
+import statistics
+import threading
+from dataclasses import dataclass
+from typing import Iterator
+
+import psycopg
+
+from . import asked, places
+from .making import COLUMNS
+
+INSIDE = os.path.join(places.MADE, "inside.csv")
+INSIDE_COLUMNS = ("query", "half", "mode", "seconds", "cancelled", "planning")
+MODES = ("off", "mean", "bound")
+LONGEST = 30.0
+AGAIN_BELOW = 2.0
+"""Queries that took less are run again, and the least counts."""
+
+
+class Backend:
+    """A session, with the processor time of its backend."""
+
+    def __init__(self, url: str) -> None:
+        self.connection = psycopg.connect(url, autocommit=True)
+        self.connection.execute("SET max_parallel_workers_per_gather = 0; SET jit = off")
+        self.pid = self.connection.info.backend_pid
+
+    def seconds(self) -> float:
+        with open(f"/proc/{self.pid}/schedstat", encoding="ascii") as f:
+            return int(f.read().split()[0]) / 1e9
+
+    def cancel_at(self, end: float, done: threading.Event) -> None:
+        while not done.wait(0.25):
+            if self.seconds() > end:
+                self.connection.cancel()
+
+    def run(self, text: str) -> tuple[float, bool]:
+        """Plans and runs a query without telling its rows; whether it was cancelled."""
+        begin, done = self.seconds(), threading.Event()
+        watch = threading.Thread(target=self.cancel_at, args=(begin + LONGEST, done))
+        watch.start()
+        try:
+            self.connection.execute("EXPLAIN (ANALYZE, TIMING OFF) " + text).fetchall()
+            return self.seconds() - begin, False
+        except psycopg.errors.QueryCanceled:
+            return LONGEST, True
+        finally:
+            done.set()
+            watch.join()
+
+    def planning(self, text: str) -> float:
+        """Milliseconds of processor time for a plan: the least of five."""
+        least = LONGEST
+        for _ in range(5):
+            begin = self.seconds()
+            self.connection.execute("EXPLAIN " + text).fetchall()
+            least = min(least, self.seconds() - begin)
+        return least * 1000
+
+
+def keep(url: str) -> None:
+    backend = Backend(url)
+    backend.connection.execute("CREATE EXTENSION IF NOT EXISTS safebound")
+    begin = backend.seconds()
+    row = backend.connection.execute(f"SELECT {' + '.join(f'safebound.keep({table!r})' for table in COLUMNS)}").fetchone()
+    assert row is not None
+    print(f"{row[0]} lists in {backend.seconds() - begin:.1f} s of one processor", flush=True)
+
+
+def measured(backend: Backend, text: str) -> tuple[float, bool]:
+    seconds, cancelled = backend.run(text)
+    for _ in range(2):
+        if not cancelled and seconds < AGAIN_BELOW:
+            seconds = min(seconds, backend.run(text)[0])
+    return seconds, cancelled
+
+
+def rows(url: str) -> Iterator[tuple]:
+    """Each question in each mode, in turn. Every second one was put aside while the extension was made."""
+    backend = Backend(url)
+    for number, question in enumerate(asked.questions()):
+        for turn in range(len(MODES)):
+            mode = MODES[(number + turn) % len(MODES)]
+            backend.connection.execute(f"SET safebound.estimates = {mode}")
+            planning = backend.planning(question.text)
+            seconds, cancelled = measured(backend, question.text)
+            yield question.name, "aside" if number % 2 else "seen", mode, round(seconds, 5), cancelled, round(planning, 3)
+
+
+@dataclass
+class Told:
+    """What one question took in each mode."""
+
+    seconds: dict[str, float]
+    cancelled: dict[str, bool]
+    planning: dict[str, float]
+
+
+def by_question(lines: list[dict[str, str]], half: str) -> dict[str, Told]:
+    told: dict[str, Told] = {}
+    for line in lines:
+        if half in ("all", line["half"]):
+            one = told.setdefault(line["query"], Told({}, {}, {}))
+            one.seconds[line["mode"]] = float(line["seconds"])
+            one.cancelled[line["mode"]] = line["cancelled"] == "True"
+            one.planning[line["mode"]] = float(line["planning"])
+    return {name: one for name, one in told.items() if len(one.seconds) == len(MODES)}
+
+
+def table(lines: list[dict[str, str]]) -> Iterator[str]:
+    yield "| questions | rows given | total | without those cancelled in any mode | median of the ratio | worst | cancelled | planning longer by, median and 90th percentile |"
+    yield "|---|---|---|---|---|---|---|---|"
+    for half in ("all", "seen", "aside"):
+        told = by_question(lines, half)
+        for mode in MODES:
+            ratios = sorted(one.seconds[mode] / one.seconds["off"] for one in told.values())
+            longer = sorted(one.planning[mode] - one.planning["off"] for one in told.values())
+            whole = sum(one.seconds[mode] for one in told.values())
+            ended = sum(one.seconds[mode] for one in told.values() if not any(one.cancelled.values()))
+            cancelled = sum(one.cancelled[mode] for one in told.values())
+            yield (f"| {half} ({len(told)}) | {mode} | {whole:.1f} s | {ended:.1f} s | {statistics.median(ratios):.2f} | {ratios[-1]:.1f} | {cancelled} "
+                   f"| {statistics.median(longer):.2f} ms, {longer[len(longer) * 9 // 10]:.2f} ms |")
+
+
+def slower(lines: list[dict[str, str]]) -> Iterator[str]:
+    for name, one in by_question(lines, "all").items():
+        for mode in MODES[1:]:
+            if one.seconds[mode] > 2 * one.seconds["off"]:
+                yield f"{name}, {mode}: {one.seconds[mode]:.4f} s, PostgreSQL's own {one.seconds['off']:.4f} s"
+
+
+def report() -> None:
+    with open(INSIDE, encoding="utf-8", newline="") as f:
+        lines = list(csv.DictReader(f))
+    print("\n".join([*table(lines), *slower(lines)]))

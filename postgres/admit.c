@@ -1,0 +1,332 @@
+/* Admission: a query of which a join may have more rows than safebound.budget is refused before it runs.
+
+   The planner's hook keeps with the plan what the bounds of its joins are made of. They are made when the plan starts to run, in the
+   snapshot in which it runs and with its parameters: a plan may be made in an earlier snapshot, or be kept and run many times. */
+#include "admit.h"
+
+#include "access/parallel.h"
+#include "access/table.h"
+#include "access/xact.h"
+#include "catalog/catalog.h"
+#include "catalog/namespace.h"
+#include "catalog/pg_class.h"
+#include "catalog/pg_db_role_setting.h"
+#include "executor/executor.h"
+#include "lib/stringinfo.h"
+#include "miscadmin.h"
+#include "optimizer/paths.h"
+#include "optimizer/planner.h"
+#include "utils/guc.h"
+#include "utils/guc_tables.h"
+#include "utils/lsyscache.h"
+#include "utils/memutils.h"
+#include "utils/plancache.h"
+#include "utils/snapmgr.h"
+
+/* A class of SQLSTATEs that the standard leaves to implementations. */
+#define ERRCODE_BUDGET MAKE_SQLSTATE('S', 'B', '0', '0', '1')
+#define ERRCODE_UNBOUNDED MAKE_SQLSTATE('S', 'B', '0', '0', '2')
+
+typedef enum Unbounded
+{
+	UNBOUNDED_REFUSE,
+	UNBOUNDED_ADMIT
+} Unbounded;
+
+static const struct config_enum_entry unbounded_choices[] = {
+	{"refuse", UNBOUNDED_REFUSE, false},
+	{"admit", UNBOUNDED_ADMIT, false},
+	{NULL, 0, false}
+};
+
+static int	budget;
+static int	unbounded;
+
+/* The extension counts tables by queries of its own, which are no user's. */
+bool		admission_paused = false;
+
+static planner_hook_type planner_before;
+static set_rel_pathlist_hook_type rel_paths_before;
+static ExecutorStart_hook_type start_before;
+
+/* One call of the planner. A function that it evaluates may call it again. */
+typedef struct Call
+{
+	struct Call *outer;
+	List	   *roots;			/* the parts of the planner that made paths */
+} Call;
+
+static Call *call;
+
+/* Plans that were kept without a budget hold nothing to bound them by: they are made anew. */
+static void
+on_budget(int changed, void *extra)
+{
+	if (budget == 0 && changed > 0)
+		ResetPlanCache();
+}
+
+static void
+on_rel_paths(PlannerInfo *root, RelOptInfo *rel, Index rti, RangeTblEntry *rte)
+{
+	if (call != NULL)
+		call->roots = list_append_unique_ptr(call->roots, root);
+	if (rel_paths_before)
+		rel_paths_before(root, rel, rti, rte);
+}
+
+static PlannedStmt *
+plan_before(Query *parse, const char *text, int options, ParamListInfo parameters)
+{
+	return planner_before ? planner_before(parse, text, options, parameters) : standard_planner(parse, text, options, parameters);
+}
+
+static PlannedStmt *
+on_planner(Query *parse, const char *text, int options, ParamListInfo parameters)
+{
+	Call		mine = {call, NIL};
+	PlannedStmt *plan;
+	List	   *joins;
+
+	if (budget == 0)
+		return plan_before(parse, text, options, parameters);
+	call = &mine;
+	PG_TRY();
+	{
+		plan = plan_before(parse, text, options, parameters);
+	}
+	PG_FINALLY();
+	{
+		call = mine.outer;
+	}
+	PG_END_TRY();
+	joins = joins_of_plan(plan, mine.roots);
+	if (joins != NIL)
+		put_recipe(plan, joins);
+	return plan;
+}
+
+/* The tables of the system and of this extension. */
+static bool
+is_exempt(Oid relation)
+{
+	return IsCatalogRelationOid(relation) || get_rel_namespace(relation) == get_namespace_oid("safebound", true);
+}
+
+/* A query over such tables alone is always admitted: who looks at a table with psql asks some. */
+static bool
+all_exempt(PlannedStmt *plan)
+{
+	bool		any = false;
+	ListCell   *cell;
+
+	foreach(cell, plan->rtable)
+	{
+		RangeTblEntry *entry = lfirst_node(RangeTblEntry, cell);
+
+		if (entry->rtekind != RTE_RELATION || entry->relkind == RELKIND_VIEW)
+			continue;
+		if (!is_exempt(entry->relid))
+			return false;
+		any = true;
+	}
+	return any;
+}
+
+/* The relations of a join, as the query names them. */
+static char *
+names_of(PlannerInfo *root, List *join)
+{
+	StringInfoData names;
+	ListCell   *cell;
+
+	initStringInfo(&names);
+	foreach(cell, join)
+	{
+		RangeTblEntry *entry = root->simple_rte_array[lfirst_int(cell)];
+		const char *alias = entry->eref ? entry->eref->aliasname : "?";
+		const char *table = entry->rtekind == RTE_RELATION ? get_rel_name(entry->relid) : NULL;
+
+		if (foreach_current_index(cell) > 0)
+			appendStringInfoString(&names, lnext(join, cell) ? ", " : " and ");
+		if (table && strcmp(table, alias) != 0)
+			appendStringInfo(&names, "%s AS ", table);
+		appendStringInfoString(&names, alias);
+	}
+	return names.data;
+}
+
+static void
+refuse_unbounded(PlannerInfo *root, List *join)
+{
+	if (unbounded == UNBOUNDED_ADMIT)
+		return;
+	ereport(ERROR,
+			(errcode(ERRCODE_UNBOUNDED),
+			 errmsg("a join of this query has no bound, and safebound.unbounded is refuse"),
+			 join ? errdetail("It joins %s.", names_of(root, join)) : 0,
+			 errhint("Only joins of at most %d tables that are watched have a bound: safebound.watch watches them, and the view safebound.kept says which are.", SAFEBOUND_MOST_ENTRIES)));
+}
+
+/* What would help: an order by bounds, where the planner didn't look for one. */
+static const char *
+advice(void)
+{
+	if (estimates_mode != ESTIMATES_BOUND)
+		return "More conditions on columns that are kept help. So does safebound.estimates = bound: the planner then looks for an order by bounds.";
+	return "More conditions on columns that are kept help. So does safebound.fold for tables to which rows came.";
+}
+
+static void
+check_join(BoundedQuery *query, List *join)
+{
+	Relids		relids = NULL;
+	uint64		bound;
+	ListCell   *cell;
+
+	foreach(cell, join)
+		relids = bms_add_member(relids, lfirst_int(cell));
+	bound = bound_of_join(query, relids);
+	if (bound == UNKNOWN)
+		refuse_unbounded(query->root, join);
+	if (bound != UNKNOWN && bound > (uint64) budget)
+		ereport(ERROR,
+				(errcode(ERRCODE_BUDGET),
+				 errmsg("a join of this query may have %llu rows, and safebound.budget is %d", (unsigned long long) bound, budget),
+				 errdetail("It joins %s.", names_of(query->root, join)),
+				 errhint("%s", advice())));
+}
+
+static void
+check_part(List *part, ParamListInfo parameters)
+{
+	BoundedQuery *query = bounded_query(root_of_part(part, parameters));
+	ListCell   *cell;
+
+	foreach(cell, joins_of_part(part))
+		check_join(query, lfirst(cell));
+}
+
+/* Bounds all joins of a plan, in the active snapshot. */
+static void
+check_plan(PlannedStmt *plan, ParamListInfo parameters)
+{
+	List	   *recipe = recipe_of(plan);
+	bool		untold = recipe == NIL ? has_joins(plan) : linitial_int((List *) linitial(recipe)) > 0;
+
+	if (all_exempt(plan))
+		return;
+	if (untold)
+		refuse_unbounded(NULL, NIL);
+	for (int i = 1; i < list_length(recipe); i++)
+		check_part(list_nth(recipe, i), parameters);
+}
+
+static void
+admit(QueryDesc *query)
+{
+	MemoryContext own = AllocSetContextCreate(CurrentMemoryContext, "safebound admission", ALLOCSET_DEFAULT_SIZES);
+	MemoryContext before = MemoryContextSwitchTo(own);
+	bool		fresh_before = kept_fresh_only;
+
+	PushActiveSnapshot(query->snapshot);
+	kept_hold();
+	kept_fresh_only = true;
+	PG_TRY();
+	{
+		check_plan(query->plannedstmt, query->params);
+	}
+	PG_FINALLY();
+	{
+		kept_fresh_only = fresh_before;
+		kept_release();
+	}
+	PG_END_TRY();
+	PopActiveSnapshot();
+	MemoryContextSwitchTo(before);
+	MemoryContextDelete(own);
+}
+
+/* EXPLAIN without ANALYZE runs nothing. A parallel worker runs a part of what its leader asked for. */
+static void
+on_start(QueryDesc *query, int flags)
+{
+	if (budget > 0 && !admission_paused && !(flags & (EXEC_FLAG_EXPLAIN_ONLY | EXEC_FLAG_WITH_NO_DATA)) && !IsParallelWorker())
+		admit(query);
+	if (start_before)
+		start_before(query, flags);
+	else
+		standard_ExecutorStart(query, flags);
+}
+
+/* The settings of the role and the database, as at the beginning of a session. */
+static void
+apply_settings(void)
+{
+	bool		begins = !IsTransactionState();
+	Relation	settings;
+	Snapshot	snapshot;
+
+	if (begins)
+		StartTransactionCommand();
+	settings = table_open(DbRoleSettingRelationId, AccessShareLock);
+	snapshot = RegisterSnapshot(GetCatalogSnapshot(DbRoleSettingRelationId));
+	ApplySetting(snapshot, MyDatabaseId, GetSessionUserId(), settings, PGC_S_DATABASE_USER);
+	ApplySetting(snapshot, InvalidOid, GetSessionUserId(), settings, PGC_S_USER);
+	ApplySetting(snapshot, MyDatabaseId, InvalidOid, settings, PGC_S_DATABASE);
+	ApplySetting(snapshot, InvalidOid, InvalidOid, settings, PGC_S_GLOBAL);
+	UnregisterSnapshot(snapshot);
+	table_close(settings, AccessShareLock);
+	if (begins)
+		CommitTransactionCommand();
+}
+
+/* Whether somebody gave a setting a value that it doesn't have now. */
+static bool
+was_denied(const char *name, bool given)
+{
+	struct config_generic **settings = get_guc_variables();
+
+	for (int i = 0; given && i < GetNumConfigOptions(); i++)
+		if (strcmp(settings[i]->name, name) == 0)
+			return settings[i]->source == PGC_S_DEFAULT;
+	return false;
+}
+
+static void
+define_settings(void)
+{
+	DefineCustomIntVariable("safebound.budget", "The most rows that a join of a query may have, by its bound.",
+							"A query with a join that may have more is refused before it runs. 0: no budget.",
+							&budget, 0, 0, INT_MAX, PGC_SUSET, 0, NULL, on_budget, NULL);
+	DefineCustomEnumVariable("safebound.unbounded", "What is done with a query of which a join has no bound, where there is a budget.",
+							 NULL, &unbounded, UNBOUNDED_REFUSE, unbounded_choices, PGC_SUSET, 0, NULL, NULL, NULL);
+}
+
+/* A user may begin a session with any value, as long as the library isn't there. Its value is refused then, but has taken the place of
+   the one that the role, the database or the server has, which is looked up again. */
+static void
+define_guarded_settings(void)
+{
+	bool		budget_given = GetConfigOption("safebound.budget", true, false) != NULL;
+	bool		unbounded_given = GetConfigOption("safebound.unbounded", true, false) != NULL;
+
+	define_settings();
+	if (!OidIsValid(MyDatabaseId) || IsParallelWorker() ||
+		!(was_denied("safebound.budget", budget_given) || was_denied("safebound.unbounded", unbounded_given)))
+		return;
+	apply_settings();
+	ProcessConfigFile(PGC_SIGHUP);
+}
+
+void
+admit_init(void)
+{
+	define_guarded_settings();
+	planner_before = planner_hook;
+	planner_hook = on_planner;
+	rel_paths_before = set_rel_pathlist_hook;
+	set_rel_pathlist_hook = on_rel_paths;
+	start_before = ExecutorStart_hook;
+	ExecutorStart_hook = on_start;
+}

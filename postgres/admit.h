@@ -1,0 +1,29 @@
+/* Admission: which joins a plan has, what their bounds are made of, and the refusal. */
+#ifndef SAFEBOUND_ADMIT_H
+#define SAFEBOUND_ADMIT_H
+
+#include "planning.h"
+
+#include "nodes/plannodes.h"
+
+/* A join of a plan: the relations that it joins, by their numbers in one PlannerInfo; root NULL where they can't be told. */
+typedef struct PlanJoin
+{
+	PlannerInfo *root;
+	Relids		relids;
+} PlanJoin;
+
+/* plan_joins.c */
+extern bool has_joins(PlannedStmt *plan);
+extern List *joins_of_plan(PlannedStmt *plan, List *roots);
+
+/* recipe.c: what bounds are made of, kept with the plan */
+extern void put_recipe(PlannedStmt *plan, List *joins);
+extern List *recipe_of(PlannedStmt *plan);
+extern PlannerInfo *root_of_part(List *part, ParamListInfo parameters);
+extern List *joins_of_part(List *part);
+
+/* admit.c */
+extern void admit_init(void);
+
+#endif

@@ -1,0 +1,441 @@
+/* Codes of columns: each is sorted once, and its rows get the codes of their values.
+
+   Along a foreign key the columns of the other table are columns of this one: each row has the value of the row that it refers to. */
+#include "counting.h"
+
+#include "access/genam.h"
+#include "access/htup_details.h"
+#include "access/stratnum.h"
+#include "access/table.h"
+#include "access/tableam.h"
+#include "catalog/pg_collation.h"
+#include "catalog/pg_operator.h"
+#include "catalog/pg_type.h"
+#include "executor/spi.h"
+#include "executor/tuptable.h"
+#include "miscadmin.h"
+#include "utils/builtins.h"
+#include "utils/datum.h"
+#include "utils/lsyscache.h"
+#include "utils/memutils.h"
+#include "utils/pg_locale.h"
+#include "utils/rel.h"
+#include "utils/snapmgr.h"
+#include "utils/syscache.h"
+#include "utils/tuplesort.h"
+#include "utils/typcache.h"
+
+/* Tuples of one column and the number of its row. */
+static TupleDesc
+numbered_values(Form_pg_attribute attribute)
+{
+	TupleDesc	desc = CreateTemplateTupleDesc(2);
+
+	TupleDescInitEntry(desc, 1, "value", attribute->atttypid, attribute->atttypmod, 0);
+	TupleDescInitEntryCollation(desc, 1, attribute->attcollation);
+	TupleDescInitEntry(desc, 2, "row", INT4OID, -1, 0);
+	return desc;
+}
+
+/* Which values are equal doesn't depend on the order, so what is equal by its bytes is sorted by them, which is faster. */
+Oid
+sort_collation(Oid collation)
+{
+	return OidIsValid(collation) && get_collation_isdeterministic(collation) ? C_COLLATION_OID : collation;
+}
+
+/* Whether that is the order of the column too, so that a part of it is a range. */
+static bool
+keeps_order(Oid collation)
+{
+	return !OidIsValid(collation) || !get_collation_isdeterministic(collation) || lc_collate_is_c(collation);
+}
+
+static Tuplesortstate *
+begin_sort(TupleDesc desc, Form_pg_attribute attribute, int memory)
+{
+	TypeCacheEntry *type = lookup_type_cache(attribute->atttypid, TYPECACHE_LT_OPR);
+	AttrNumber	key = 1;
+	Oid			collation = sort_collation(attribute->attcollation);
+	bool		nulls_first = true;
+
+	return tuplesort_begin_heap(desc, 1, &key, &type->lt_opr, &collation, &nulls_first, memory, NULL, TUPLESORT_NONE);
+}
+
+static void
+put_value(Tuplesortstate *sort, TupleTableSlot *slot, Datum value, bool null, uint32 row)
+{
+	ExecClearTuple(slot);
+	slot->tts_values[0] = value;
+	slot->tts_isnull[0] = null;
+	slot->tts_values[1] = Int32GetDatum((int32) row);
+	slot->tts_isnull[1] = false;
+	ExecStoreVirtualTuple(slot);
+	tuplesort_puttupleslot(sort, slot);
+}
+
+/* Reads the column of all rows that the snapshot sees, always in the same order, and answers how many they are. */
+static uint32
+sort_rows(Relation relation, AttrNumber number, Tuplesortstate *sort, TupleTableSlot *put)
+{
+	TableScanDesc scan = table_beginscan_strat(relation, GetActiveSnapshot(), 0, NULL, true, false);
+	TupleTableSlot *row = table_slot_create(relation, NULL);
+	uint32		rows = 0;
+
+	while (table_scan_getnextslot(scan, ForwardScanDirection, row))
+	{
+		bool		null;
+		Datum		value = slot_getattr(row, number, &null);
+
+		CHECK_FOR_INTERRUPTS();
+		if (rows >= PG_INT32_MAX)
+			ereport(ERROR, (errcode(ERRCODE_PROGRAM_LIMIT_EXCEEDED), errmsg("a table of more than %d rows can't be kept", PG_INT32_MAX)));
+		put_value(sort, put, value, null, rows++);
+	}
+	ExecDropSingleTupleTableSlot(row);
+	table_endscan(scan);
+	return rows;
+}
+
+/* What is known of a column while its sorted values come. */
+typedef struct Coding
+{
+	Column	   *column;
+	int			most_common;
+	int			most_leaves;
+	const uint32 *weights;		/* how many rows each counts for; NULL: one */
+	uint64		total;			/* of all weights */
+	uint64		nulls;
+	uint64		passed;			/* of those with a value */
+	uint64		count;			/* of the last value */
+	Datum		last;
+	Sorted	   *by_row;
+} Coding;
+
+/* Keeps the most common values: one that is more common than the least takes its place. */
+static void
+note_common(Coding *coding)
+{
+	Column	   *column = coding->column;
+	int			least = 0;
+	CommonValue *into;
+
+	if (column->common_length < coding->most_common)
+		into = &column->common[column->common_length++];
+	else
+	{
+		for (int i = 1; i < coding->most_common; i++)
+			if (column->common[i].count < column->common[least].count)
+				least = i;
+		if (coding->most_common == 0 || column->common[least].count >= coding->count)
+			return;
+		into = &column->common[least];
+		if (!column->attribute->attbyval)
+			pfree(DatumGetPointer(into->value));
+	}
+	*into = (CommonValue) {.code = column->highest, .count = coding->count};
+	into->value = datumCopy(coding->last, column->attribute->attbyval, column->attribute->attlen);
+}
+
+/* A leaf ends with a value where as many rows have come as its share is. The last one is open until all have come. */
+static void
+note_leaf(Coding *coding)
+{
+	Column	   *column = coding->column;
+	uint64		all = coding->total - coding->nulls;
+	Leaf	   *leaf = &column->leaves[column->leaves_length];
+
+	if (coding->passed * coding->most_leaves < all * (column->leaves_length + 1) || coding->most_leaves == 0)
+		return;
+	*leaf = (Leaf) {.last = column->highest, .end = coding->passed};
+	leaf->greatest = datumCopy(coding->last, column->attribute->attbyval, column->attribute->attlen);
+	column->leaves_length++;
+}
+
+/* All rows of a value have come. */
+static void
+end_value(Coding *coding)
+{
+	if (coding->column->highest == 0)
+		return;
+	coding->passed += coding->count;
+	note_common(coding);
+	if (coding->column->leaves)
+		note_leaf(coding);
+}
+
+static void
+begin_value(Coding *coding, Datum value)
+{
+	Form_pg_attribute attribute = coding->column->attribute;
+
+	end_value(coding);
+	if (coding->column->highest > 0 && !attribute->attbyval)
+		pfree(DatumGetPointer(coding->last));
+	if (attribute->attlen == -1)
+		value = PointerGetDatum(PG_DETOAST_DATUM_PACKED(value));
+	coding->last = datumCopy(value, attribute->attbyval, attribute->attlen);
+	coding->column->highest++;
+	coding->count = 0;
+}
+
+static int
+by_code(const void *one, const void *other)
+{
+	uint32		a = ((const CommonValue *) one)->code;
+	uint32		b = ((const CommonValue *) other)->code;
+
+	return (a > b) - (a < b);
+}
+
+/* Gives each row the code of its value, in the order of the sort. */
+static void
+code_values(Coding *coding, Tuplesortstate *sort, TupleTableSlot *slot)
+{
+	Column	   *column = coding->column;
+	FmgrInfo   *equal = &lookup_type_cache(column->attribute->atttypid, TYPECACHE_EQ_OPR_FINFO)->eq_opr_finfo;
+
+	while (tuplesort_gettupleslot(sort, true, true, slot, NULL))
+	{
+		bool		null,
+					isnull;
+		Datum		value = slot_getattr(slot, 1, &null);
+		uint32		row = (uint32) DatumGetInt32(slot_getattr(slot, 2, &isnull));
+		uint64		weight = coding->weights ? coding->weights[row] : 1;
+
+		CHECK_FOR_INTERRUPTS();
+		if (null)
+			coding->nulls += weight;
+		else if (column->highest == 0 || !DatumGetBool(FunctionCall2Coll(equal, column->attribute->attcollation, coding->last, value)))
+			begin_value(coding, value);
+		coding->count += weight;
+		sorted_put(coding->by_row, ((uint64) row << 32) | (null ? 0 : column->highest));
+	}
+	end_value(coding);
+	qsort(column->common, column->common_length, sizeof(CommonValue), by_code);
+}
+
+/* The codes of a sorted column, by its rows. */
+static void
+write_codes(Coding *coding)
+{
+	uint64		number;
+
+	sorted_perform(coding->by_row);
+	coding->column->codes = codes_begin();
+	while (sorted_get(coding->by_row, &number))
+		codes_put(coding->column->codes, (uint32) number);
+	codes_finish(coding->column->codes);
+	sorted_end(coding->by_row);
+}
+
+static void
+code_column(const Making *making, Column *column, Tuplesortstate *sort, TupleDesc desc, uint32 rows, const uint32 *weights)
+{
+	TupleTableSlot *sorted = MakeSingleTupleTableSlot(desc, &TTSOpsMinimalTuple);
+	Coding		coding = {
+		.column = column,.most_common = making->most_common,.most_leaves = making->most_leaves,
+		.weights = weights,.total = making->rows
+	};
+
+	tuplesort_performsort(sort);
+	column->common = palloc((making->most_common + 1) * sizeof(CommonValue));
+	if (keeps_order(column->attribute->attcollation))
+		column->leaves = palloc((making->most_leaves + 1) * sizeof(Leaf));
+	coding.by_row = sorted_begin(rows, 63);
+	code_values(&coding, sort, sorted);
+	ExecDropSingleTupleTableSlot(sorted);
+	tuplesort_end(sort);
+	write_codes(&coding);
+}
+
+void
+end_columns(Column *columns, int length)
+{
+	for (int i = 0; i < length; i++)
+		codes_end(columns[i].codes);
+}
+
+void
+read_columns(Making *making)
+{
+	for (int i = 0; i < making->length; i++)
+	{
+		Column	   *column = &making->columns[i];
+		TupleDesc	desc = numbered_values(column->attribute);
+		TupleTableSlot *slot = MakeSingleTupleTableSlot(desc, &TTSOpsVirtual);
+		Tuplesortstate *sort = begin_sort(desc, column->attribute, maintenance_work_mem / 2);
+
+		making->rows = sort_rows(making->relation, column->number, sort, slot);
+		code_column(making, column, sort, desc, making->rows, NULL);
+		ExecDropSingleTupleTableSlot(slot);
+	}
+}
+
+/* The numbers of the columns of a table whose conditions are looked at along a reference to its key. */
+static List *
+columns_beside(Relation referred, AttrNumber key)
+{
+	List	   *numbers = NIL;
+
+	for (int i = 0; i < RelationGetDescr(referred)->natts; i++)
+		if (i + 1 != key && !TupleDescAttr(RelationGetDescr(referred), i)->attisdropped && has_order(TupleDescAttr(RelationGetDescr(referred), i)))
+			numbers = lappend_int(numbers, i + 1);
+	return numbers;
+}
+
+static void
+put_operator(StringInfo into, Oid operator)
+{
+	HeapTuple	tuple = SearchSysCache1(OPEROID, ObjectIdGetDatum(operator));
+	Form_pg_operator form;
+
+	if (!HeapTupleIsValid(tuple))
+		elog(ERROR, "operator %u isn't there", operator);
+	form = (Form_pg_operator) GETSTRUCT(tuple);
+	appendStringInfo(into, "OPERATOR(%s.%s)", quote_identifier(get_namespace_name(form->oprnamespace)), NameStr(form->oprname));
+	ReleaseSysCache(tuple);
+}
+
+static const char *
+full_name(Relation relation)
+{
+	return quote_qualified_identifier(get_namespace_name(RelationGetNamespace(relation)), RelationGetRelationName(relation));
+}
+
+/* A query for the columns of what each value of the referring column refers to, by the order of its codes. */
+static char *
+query_along(const Making *making, const Column *along, Relation referred, const ForeignKeyCacheInfo *reference, List *numbers)
+{
+	StringInfoData query;
+	const char *name = quote_identifier(NameStr(along->attribute->attname));
+	Oid			collation = along->attribute->attcollation;
+	ListCell   *cell;
+
+	initStringInfo(&query);
+	appendStringInfoString(&query, "SELECT ");
+	foreach(cell, numbers)
+		appendStringInfo(&query, "%ss.%s", foreach_current_index(cell) ? ", " : "",
+						 quote_identifier(get_attname(RelationGetRelid(referred), lfirst_int(cell), false)));
+	appendStringInfo(&query, " FROM (SELECT DISTINCT %s AS value FROM ONLY %s WHERE %s IS NOT NULL) r LEFT JOIN ONLY %s s ON s.%s ",
+					 name, full_name(making->relation), name, full_name(referred),
+					 quote_identifier(get_attname(RelationGetRelid(referred), reference->confkey[0], false)));
+	put_operator(&query, reference->conpfeqop[0]);
+	appendStringInfoString(&query, " r.value ORDER BY r.value");
+	if (sort_collation(collation) == C_COLLATION_OID && collation != C_COLLATION_OID)
+		appendStringInfoString(&query, " COLLATE \"C\"");
+	return query.data;
+}
+
+/* Opens a query of the extension's own, in the active snapshot. */
+static Portal
+open_own(const char *query)
+{
+	Portal		portal;
+
+	admission_paused = true;
+	PG_TRY();
+	{
+		portal = SPI_cursor_open_with_args(NULL, query, 0, NULL, NULL, NULL, true, 0);
+	}
+	PG_FINALLY();
+	{
+		admission_paused = false;
+	}
+	PG_END_TRY();
+	return portal;
+}
+
+/* Rows of the query go to a sort for each of its columns. Row 0 stands for NULL, which refers to nothing. */
+static void
+sort_referred(const char *query, int length, Tuplesortstate **sorts, TupleTableSlot **slots, uint32 rows)
+{
+	Portal		portal = open_own(query);
+	uint32		row = 0;
+
+	for (int i = 0; i < length; i++)
+		put_value(sorts[i], slots[i], (Datum) 0, true, 0);
+	for (SPI_cursor_fetch(portal, true, 10000); SPI_processed > 0; SPI_cursor_fetch(portal, true, 10000))
+	{
+		for (uint64 at = 0; at < SPI_processed; at++)
+		{
+			row++;
+			for (int i = 0; i < length; i++)
+			{
+				bool		null;
+				Datum		value = SPI_getbinval(SPI_tuptable->vals[at], SPI_tuptable->tupdesc, i + 1, &null);
+
+				put_value(sorts[i], slots[i], value, null, row);
+			}
+		}
+		SPI_freetuptable(SPI_tuptable);
+	}
+	SPI_cursor_close(portal);
+	if (row + 1 != rows)
+		elog(ERROR, "%u values are referred to, and %u are referring", row, rows - 1);
+}
+
+/* How many rows have each code. */
+static uint32 *
+weights_of(const Making *making, const Column *column)
+{
+	uint32	   *weights = MemoryContextAllocExtended(CurrentMemoryContext, ((Size) column->highest + 1) * sizeof(uint32), MCXT_ALLOC_HUGE | MCXT_ALLOC_ZERO);
+
+	codes_rewind(column->codes);
+	for (uint32 row = 0; row < making->rows; row++)
+		weights[codes_get(column->codes)]++;
+	return weights;
+}
+
+/* The codes of a column of the other table become those of the rows that refer to it. */
+static void
+spread_codes(const Making *making, const Column *along, Column *column)
+{
+	uint32	   *map = MemoryContextAllocHuge(CurrentMemoryContext, ((Size) along->highest + 1) * sizeof(uint32));
+
+	codes_rewind(column->codes);
+	for (uint32 code = 0; code <= along->highest; code++)
+		map[code] = codes_get(column->codes);
+	codes_end(column->codes);
+	column->codes = codes_begin();
+	codes_rewind(along->codes);
+	for (uint32 row = 0; row < making->rows; row++)
+		codes_put(column->codes, map[codes_get(along->codes)]);
+	codes_finish(column->codes);
+	pfree(map);
+}
+
+/* The columns of a table to which a column refers, as columns of the referring rows. */
+Column *
+referred_columns(const Making *making, const Column *along, ForeignKeyCacheInfo *reference, int *length)
+{
+	Relation	referred = table_open(reference->confrelid, AccessShareLock);
+	List	   *numbers = columns_beside(referred, reference->confkey[0]);
+	Column	   *columns = palloc0((list_length(numbers) + 1) * sizeof(Column));
+	Tuplesortstate **sorts = palloc((list_length(numbers) + 1) * sizeof(Tuplesortstate *));
+	TupleTableSlot **slots = palloc((list_length(numbers) + 1) * sizeof(TupleTableSlot *));
+	TupleDesc  *descs = palloc((list_length(numbers) + 1) * sizeof(TupleDesc));
+	uint32	   *weights;
+
+	*length = list_length(numbers);
+	for (int i = 0; i < *length; i++)
+	{
+		columns[i] = (Column) {.number = list_nth_int(numbers, i),.filter = true,.along = along,.referred = reference->confrelid,.key = reference->confkey[0]};
+		columns[i].attribute = memcpy(palloc(ATTRIBUTE_FIXED_PART_SIZE), TupleDescAttr(RelationGetDescr(referred), columns[i].number - 1), ATTRIBUTE_FIXED_PART_SIZE);
+		descs[i] = numbered_values(columns[i].attribute);
+		slots[i] = MakeSingleTupleTableSlot(descs[i], &TTSOpsVirtual);
+		sorts[i] = begin_sort(descs[i], columns[i].attribute, Max(64, maintenance_work_mem / (*length + 1)));
+	}
+	if (*length > 0)
+		sort_referred(query_along(making, along, referred, reference, numbers), *length, sorts, slots, along->highest + 1);
+	weights = weights_of(making, along);
+	for (int i = 0; i < *length; i++)
+	{
+		code_column(making, &columns[i], sorts[i], descs[i], along->highest + 1, weights);
+		spread_codes(making, along, &columns[i]);
+		ExecDropSingleTupleTableSlot(slots[i]);
+	}
+	pfree(weights);
+	table_close(referred, NoLock);
+	return columns;
+}

@@ -1,0 +1,496 @@
+/* The lists of a relation under its own conditions. A condition that isn't understood leaves the list of all rows. */
+#include "statistics.h"
+
+#include "access/stratnum.h"
+#include "catalog/pg_collation.h"
+#include "catalog/pg_operator.h"
+#include "catalog/pg_opfamily.h"
+#include "nodes/nodeFuncs.h"
+#include "optimizer/optimizer.h"
+#include "utils/array.h"
+#include "utils/builtins.h"
+#include "utils/lsyscache.h"
+#include "utils/pg_locale.h"
+#include "utils/typcache.h"
+
+/* More values than these of IN or = ANY are not looked at. */
+#define MOST_VALUES 1000
+
+/* Whose conditions are looked at, and which lists are taken for them: those of the relation itself, or of one that refers to it. */
+typedef struct Conditioned
+{
+	Oid			relation;
+	Index		entry;			/* the relation's number in the query */
+	const KeptTable *table;		/* that has the lists */
+	AttrNumber	joined;
+	const Reference *reference; /* NULL: the relation has them itself */
+	Bitmapset **used;			/* the columns whose conditions had lists */
+} Conditioned;
+
+static bool list_of_clause(const Conditioned *of, Node *clause, DegreeList *list);
+
+/* The column of this relation that an expression is, below conversions that keep the bytes; 0 where it is none. */
+static AttrNumber
+column_of(const Conditioned *of, Node *node)
+{
+	while (node && IsA(node, RelabelType))
+		node = (Node *) ((RelabelType *) node)->arg;
+	if (node && IsA(node, Var) && ((Var *) node)->varno == (int) of->entry && ((Var *) node)->varlevelsup == 0 && ((Var *) node)->varattno > 0)
+		return ((Var *) node)->varattno;
+	return 0;
+}
+
+static const KeptPair *
+pair_of(const Conditioned *of, AttrNumber column)
+{
+	return kept_pair_along(of->table, of->joined, column, of->reference);
+}
+
+/* The family of the operators by which a column's values were told apart, where a clause under `collation` tells the same ones apart;
+   else InvalidOid. */
+Oid
+equality_family(Oid relation, AttrNumber column, Oid collation)
+{
+	Oid			type,
+				own;
+	int32		typmod;
+
+	get_atttypetypmodcoll(relation, column, &type, &typmod, &own);
+	if (collation != own && OidIsValid(collation) && OidIsValid(own) &&
+		!(get_collation_isdeterministic(collation) && get_collation_isdeterministic(own)))
+		return InvalidOid;
+	return lookup_type_cache(type, TYPECACHE_BTREE_OPFAMILY)->btree_opf;
+}
+
+/* Whether an operator is the equality by which the column's values were told apart. */
+bool
+is_equality(Oid relation, AttrNumber column, Oid operator, Oid collation)
+{
+	Oid			family = equality_family(relation, column, collation);
+
+	return OidIsValid(family) && get_op_opfamily_strategy(operator, family) == BTEqualStrategyNumber;
+}
+
+/* A part of a column's values in its order, as leaves. */
+typedef struct Range
+{
+	AttrNumber	column;
+	const KeptPair *pair;
+	int			first;
+	int			last;			/* below `first`: there is none */
+} Range;
+
+/* The first leaf whose greatest value isn't on the near side of a value; as many as there are where each one is. */
+static int
+leaf_at(const KeptPair *pair, Oid before, Oid collation, Datum value)
+{
+	int			from = 0;
+	int			to = pair->leaves;
+	FmgrInfo	function;
+
+	fmgr_info(get_opcode(before), &function);
+	while (from < to)
+	{
+		int			middle = (from + to) / 2;
+
+		if (DatumGetBool(FunctionCall2Coll(&function, collation, pair->lists[pair->first_leaf + middle].value, value)))
+			from = middle + 1;
+		else
+			to = middle;
+	}
+	return from;
+}
+
+/* The leaves in which values are that stand in a relation of the column's order to a value of another type. */
+static void
+set_range(Range *range, const KeptPair *pair, int strategy, Oid less, Oid less_equal, Oid collation, Datum value)
+{
+	range->pair = pair;
+	range->first = 0;
+	range->last = pair->leaves - 1;
+	if (strategy == BTGreaterStrategyNumber)
+		range->first = leaf_at(pair, less_equal, collation, value);
+	else if (strategy == BTGreaterEqualStrategyNumber)
+		range->first = leaf_at(pair, less, collation, value);
+	else
+		range->last = Min(range->last, leaf_at(pair, less, collation, value));
+}
+
+static bool
+is_ordered_by(Oid relation, AttrNumber column, Oid collation)
+{
+	Oid			type,
+				own;
+	int32		typmod;
+
+	get_atttypetypmodcoll(relation, column, &type, &typmod, &own);
+	return collation == own || !OidIsValid(own) || (OidIsValid(collation) && lc_collate_is_c(own) && lc_collate_is_c(collation));
+}
+
+/* column < constant and the like, on either side. */
+static bool
+range_of_comparison(const Conditioned *of, OpExpr *clause, Range *range)
+{
+	Node	   *left = linitial(clause->args);
+	bool		column_left = column_of(of, left) != 0;
+	Node	   *other = column_left ? lsecond(clause->args) : left;
+	Oid			operator = column_left ? clause->opno : get_commutator(clause->opno);
+	const KeptPair *pair;
+	Oid			family,
+				left_type,
+				right_type,
+				less,
+				less_equal;
+	int			strategy;
+
+	range->column = column_of(of, column_left ? left : lsecond(clause->args));
+	pair = range->column ? pair_of(of, range->column) : NULL;
+	if (pair == NULL || pair->leaves == 0 || !OidIsValid(operator) || !is_ordered_by(of->relation, range->column, clause->inputcollid))
+		return false;
+	family = equality_family(of->relation, range->column, clause->inputcollid);
+	if (!OidIsValid(family) || get_op_opfamily_strategy(operator, family) == 0)
+		return false;
+	get_op_opfamily_properties(operator, family, false, &strategy, &left_type, &right_type);
+	while (IsA(other, RelabelType))
+		other = (Node *) ((RelabelType *) other)->arg;
+	less = get_opfamily_member(family, left_type, right_type, BTLessStrategyNumber);
+	less_equal = get_opfamily_member(family, left_type, right_type, BTLessEqualStrategyNumber);
+	if (strategy == BTEqualStrategyNumber || !IsA(other, Const) || ((Const *) other)->constisnull || !OidIsValid(less) || !OidIsValid(less_equal))
+		return false;
+	set_range(range, pair, strategy, less, less_equal, clause->inputcollid, ((Const *) other)->constvalue);
+	return true;
+}
+
+/* The bytes in front of the first sign of a pattern that isn't itself; their number. */
+static int
+front_of(const char *pattern, int length)
+{
+	int			front = 0;
+
+	while (front < length && pattern[front] != '%' && pattern[front] != '_' && pattern[front] != '\\')
+		front++;
+	return front;
+}
+
+/* The least text behind all that begin with a front, in the order of bytes; NULL where there is none. */
+static text *
+behind(const char *front, int length)
+{
+	text	   *next;
+
+	while (length > 0 && (unsigned char) front[length - 1] == 255)
+		length--;
+	if (length == 0)
+		return NULL;
+	next = cstring_to_text_with_len(front, length);
+	VARDATA(next)[length - 1]++;
+	return next;
+}
+
+/* column LIKE 'front%', where texts are ordered by their bytes. */
+static bool
+range_of_like(const Conditioned *of, OpExpr *clause, Range *range)
+{
+	Const	   *pattern = lsecond(clause->args);
+	const KeptPair *pair;
+	text	   *front,
+			   *next;
+	int			length;
+	Oid			type,
+				collation;
+	int32		typmod;
+	Range		below;
+
+	range->column = column_of(of, linitial(clause->args));
+	pair = range->column ? pair_of(of, range->column) : NULL;
+	if (clause->opno != OID_TEXT_LIKE_OP || pair == NULL || pair->leaves == 0 || !IsA(pattern, Const) || pattern->constisnull)
+		return false;
+	get_atttypetypmodcoll(of->relation, range->column, &type, &typmod, &collation);
+	if (lookup_type_cache(type, TYPECACHE_BTREE_OPFAMILY)->btree_opf != TEXT_BTREE_FAM_OID || !lc_collate_is_c(collation))
+		return false;
+	front = DatumGetTextPP(pattern->constvalue);
+	length = front_of(VARDATA_ANY(front), VARSIZE_ANY_EXHDR(front));
+	next = behind(VARDATA_ANY(front), length);
+	front = cstring_to_text_with_len(VARDATA_ANY(front), length);
+	set_range(range, pair, BTGreaterEqualStrategyNumber, TextLessOperator, InvalidOid, C_COLLATION_OID, PointerGetDatum(front));
+	if (next == NULL)
+		return true;
+	set_range(&below, pair, BTLessStrategyNumber, TextLessOperator, InvalidOid, C_COLLATION_OID, PointerGetDatum(next));
+	range->last = below.last;
+	return true;
+}
+
+static bool
+range_of_clause(const Conditioned *of, Node *clause, Range *range)
+{
+	if (IsA(clause, RestrictInfo))
+		clause = (Node *) ((RestrictInfo *) clause)->clause;
+	if (!IsA(clause, OpExpr) || list_length(((OpExpr *) clause)->args) != 2)
+		return false;
+	return range_of_comparison(of, (OpExpr *) clause, range) || range_of_like(of, (OpExpr *) clause, range);
+}
+
+/* The list of leaves: the sum of the fewest nodes that they are. */
+static DegreeList
+list_of_range(const Range *range)
+{
+	const KeptList *level = range->pair->lists + range->pair->first_leaf;
+	int			length = range->pair->leaves;
+	int			first = range->first;
+	int			end = range->last + 1;
+	DegreeList	sum = {0};
+
+	if (first >= end)
+		return sum;
+	for (; first < end; level += length, length = (length + 1) / 2, first /= 2, end /= 2)
+	{
+		if (first % 2)
+			sum = summed(sum, level[first++].list);
+		if (end % 2 && first < end)
+			sum = summed(sum, level[--end].list);
+	}
+	return sum;
+}
+
+static const KeptList *
+list_of_kind(const KeptPair *pair, ListKind kind)
+{
+	for (int i = 0; i < pair->length; i++)
+		if (pair->lists[i].kind == kind)
+			return &pair->lists[i];
+	return NULL;
+}
+
+/* The list of a value: its own where it is common, else the one for all others. */
+static const KeptList *
+list_of_value(const KeptPair *pair, FmgrInfo *equal, Oid collation, bool column_left, Datum value)
+{
+	for (int i = 0; i < pair->length; i++)
+	{
+		const KeptList *kept = &pair->lists[i];
+
+		if (kept->kind == LIST_VALUE &&
+			DatumGetBool(FunctionCall2Coll(equal, collation, column_left ? kept->value : value, column_left ? value : kept->value)))
+			return kept;
+	}
+	return list_of_kind(pair, LIST_OTHER);
+}
+
+static bool
+list_of_equality(const Conditioned *of, OpExpr *clause, DegreeList *list)
+{
+	Node	   *left = linitial(clause->args);
+	Node	   *right = lsecond(clause->args);
+	bool		column_left = column_of(of, left) != 0;
+	AttrNumber	column = column_left ? column_of(of, left) : column_of(of, right);
+	Node	   *other = column_left ? right : left;
+	const KeptPair *pair = column ? pair_of(of, column) : NULL;
+	const KeptList *kept;
+	FmgrInfo	equal;
+
+	if (pair == NULL || !is_equality(of->relation, column, clause->opno, clause->inputcollid))
+		return false;
+	while (IsA(other, RelabelType))
+		other = (Node *) ((RelabelType *) other)->arg;
+	fmgr_info(get_opcode(clause->opno), &equal);
+	if (contain_var_clause(other) || contain_volatile_functions(other))
+		return false;
+	if (!IsA(other, Const))
+		kept = list_of_kind(pair, LIST_ANY);
+	else if (((Const *) other)->constisnull)
+		return false;
+	else
+		kept = list_of_value(pair, &equal, clause->inputcollid, column_left, ((Const *) other)->constvalue);
+	if (kept == NULL)
+		return false;
+	*of->used = bms_add_member(*of->used, column);
+	*list = kept->list;
+	return true;
+}
+
+/* The sum of the lists of the values of an array: a common value counts once, others each. */
+static bool
+sum_of_values(const KeptPair *pair, ScalarArrayOpExpr *clause, ArrayType *array, DegreeList *list)
+{
+	Oid			type = ARR_ELEMTYPE(array);
+	bool	   *used = palloc0((pair->length + 1) * sizeof(bool));
+	int16		length;
+	bool		by_value,
+			   *nulls;
+	char		align;
+	Datum	   *values;
+	int			count;
+	FmgrInfo	equal;
+
+	get_typlenbyvalalign(type, &length, &by_value, &align);
+	deconstruct_array(array, type, length, by_value, align, &values, &nulls, &count);
+	fmgr_info(get_opcode(clause->opno), &equal);
+	*list = (DegreeList) {0};
+	if (count > MOST_VALUES)
+		return false;
+	for (int i = 0; i < count; i++)
+	{
+		const KeptList *kept = nulls[i] ? NULL : list_of_value(pair, &equal, clause->inputcollid, true, values[i]);
+
+		if (kept == NULL || used[kept - pair->lists])
+			continue;
+		used[kept - pair->lists] = kept->kind == LIST_VALUE;
+		*list = summed(*list, kept->list);
+	}
+	return true;
+}
+
+static bool
+list_of_array(const Conditioned *of, ScalarArrayOpExpr *clause, DegreeList *list)
+{
+	AttrNumber	column = column_of(of, linitial(clause->args));
+	Node	   *values = lsecond(clause->args);
+	const KeptPair *pair = column ? pair_of(of, column) : NULL;
+
+	while (IsA(values, RelabelType))
+		values = (Node *) ((RelabelType *) values)->arg;
+	if (pair == NULL || !clause->useOr || !is_equality(of->relation, column, clause->opno, clause->inputcollid))
+		return false;
+	if (!IsA(values, Const) || ((Const *) values)->constisnull)
+		return false;
+	if (!sum_of_values(pair, clause, DatumGetArrayTypeP(((Const *) values)->constvalue), list))
+		return false;
+	*of->used = bms_add_member(*of->used, column);
+	return true;
+}
+
+static bool
+list_of_null_test(const Conditioned *of, NullTest *test, DegreeList *list)
+{
+	AttrNumber	column = column_of(of, (Node *) test->arg);
+	const KeptPair *pair = column ? pair_of(of, column) : NULL;
+	const KeptList *kept = pair && test->nulltesttype == IS_NULL && !test->argisrow ? list_of_kind(pair, LIST_NULL) : NULL;
+
+	if (kept == NULL)
+		return false;
+	*of->used = bms_add_member(*of->used, column);
+	*list = kept->list;
+	return true;
+}
+
+/* What ranges of one column leave together. */
+static void
+add_range(List **ranges, const Range *range)
+{
+	Range	   *known;
+	ListCell   *cell;
+
+	foreach(cell, *ranges)
+	{
+		known = lfirst(cell);
+		if (known->column == range->column)
+		{
+			known->first = Max(known->first, range->first);
+			known->last = Min(known->last, range->last);
+			return;
+		}
+	}
+	known = palloc(sizeof(Range));
+	*known = *range;
+	*ranges = lappend(*ranges, known);
+}
+
+/* AND: the lesser of what is understood. */
+static bool
+list_of_all(const Conditioned *of, List *clauses, DegreeList *list)
+{
+	bool		any = false;
+	List	   *ranges = NIL;
+	ListCell   *cell;
+
+	foreach(cell, clauses)
+	{
+		DegreeList	one;
+		Range		range;
+
+		if (range_of_clause(of, lfirst(cell), &range))
+		{
+			add_range(&ranges, &range);
+			*of->used = bms_add_member(*of->used, range.column);
+		}
+		if (!list_of_clause(of, lfirst(cell), &one))
+			continue;
+		*list = any ? lesser(*list, one) : one;
+		any = true;
+	}
+	foreach(cell, ranges)
+	{
+		DegreeList	one = list_of_range(lfirst(cell));
+
+		*list = any ? lesser(*list, one) : one;
+		any = true;
+	}
+	return any;
+}
+
+/* OR: the sum, where each side is understood. */
+static bool
+list_of_any(const Conditioned *of, List *clauses, DegreeList *list)
+{
+	Bitmapset  *used = bms_copy(*of->used);
+	ListCell   *cell;
+
+	*list = (DegreeList) {0};
+	foreach(cell, clauses)
+	{
+		DegreeList	one;
+
+		if (!list_of_all(of, list_make1(lfirst(cell)), &one))
+		{
+			*of->used = used;
+			return false;
+		}
+		*list = summed(*list, one);
+	}
+	return true;
+}
+
+static bool
+list_of_clause(const Conditioned *of, Node *clause, DegreeList *list)
+{
+	if (IsA(clause, RestrictInfo))
+		clause = (Node *) ((RestrictInfo *) clause)->clause;
+	if (is_andclause(clause))
+		return list_of_all(of, ((BoolExpr *) clause)->args, list);
+	if (is_orclause(clause))
+		return list_of_any(of, ((BoolExpr *) clause)->args, list);
+	if (IsA(clause, OpExpr) && list_length(((OpExpr *) clause)->args) == 2)
+		return list_of_equality(of, (OpExpr *) clause, list);
+	if (IsA(clause, ScalarArrayOpExpr))
+		return list_of_array(of, (ScalarArrayOpExpr *) clause, list);
+	if (IsA(clause, NullTest))
+		return list_of_null_test(of, (NullTest *) clause, list);
+	return false;
+}
+
+/* The list of a joined column over the rows that pass the relation's own conditions; with joined 0 only its rows count. */
+DegreeList
+list_under(const KeptTable *table, RelOptInfo *rel, AttrNumber joined, Bitmapset **used)
+{
+	const KeptPair *all = kept_pair(table, joined, 0);
+	Conditioned of = {.relation = table->relation,.entry = rel->relid,.table = table,.joined = joined,.used = used};
+	DegreeList	whole = all->lists[0].list;
+	DegreeList	list;
+
+	list = list_of_all(&of, rel->baserestrictinfo, &list) ? lesser(whole, list) : whole;
+	return with_deltas(table, joined, list);
+}
+
+/* The list of a joined column over the rows that refer to a row that passes the conditions of its relation. False where there is none.
+   Where rows that come are followed, what is referred to has to be as it was: a change there brings rows without a statement here. */
+bool
+list_along(const KeptTable *table, const Reference *reference, RelOptInfo *referred, AttrNumber joined, DegreeList *list, Bitmapset **used)
+{
+	Conditioned of = {.relation = reference->referred,.entry = referred->relid,.table = table,.joined = joined,.reference = reference,.used = used};
+	bool		holds = table->deltas ? list_member_oid(table->unchanged, reference->referred) : !kept_fresh_only;
+
+	if (!holds || !list_of_all(&of, referred->baserestrictinfo, list))
+		return false;
+	*list = with_deltas(table, joined, *list);
+	return true;
+}

@@ -1,0 +1,85 @@
+/* How a table's columns are counted: each value has a code, in the order of the column's sort, and lists are counted over codes. */
+#ifndef SAFEBOUND_COUNTING_H
+#define SAFEBOUND_COUNTING_H
+
+#include "statistics.h"
+
+#include "catalog/pg_attribute.h"
+#include "utils/rel.h"
+
+/* sorted.c: numbers below 2^63 sorted, in memory where that many fit, else in files. */
+typedef struct Sorted Sorted;
+extern Sorted *sorted_begin(uint64 most, int bits);
+extern void sorted_put(Sorted *sorted, uint64 number);
+extern void sorted_perform(Sorted *sorted);
+extern bool sorted_get(Sorted *sorted, uint64 *number);
+extern void sorted_end(Sorted *sorted);
+
+/* sorted.c: the codes of a column, one for each row, in a file. */
+typedef struct Codes Codes;
+extern Codes *codes_begin(void);
+extern void codes_put(Codes *codes, uint32 code);
+extern void codes_finish(Codes *codes);
+extern void codes_rewind(Codes *codes);
+extern uint32 codes_get(Codes *codes);
+extern void codes_end(Codes *codes);
+
+typedef struct CommonValue
+{
+	uint32		code;
+	uint64		count;
+	Datum		value;
+} CommonValue;
+
+/* A part of a column's values, from behind the last part's on. All parts have about as many rows. */
+typedef struct Leaf
+{
+	uint32		last;			/* the highest code */
+	uint64		end;			/* how many rows with a value come up to here */
+	Datum		greatest;
+} Leaf;
+
+/* A column by the codes of its rows; 0 is NULL. */
+typedef struct Column
+{
+	AttrNumber	number;
+	Form_pg_attribute attribute;
+	bool		joined;
+	bool		filter;
+	const struct Column *along; /* for a column of a table that this one refers to: the referring column */
+	Oid			referred;
+	AttrNumber	key;			/* the column that it refers to */
+	Codes	   *codes;
+	uint32		highest;		/* the highest code */
+	int			common_length;
+	CommonValue *common;		/* the most common values, by rising code */
+	int			leaves_length;
+	Leaf	   *leaves;			/* NULL where its order isn't kept */
+} Column;
+
+typedef struct Making
+{
+	Relation	relation;
+	uint32		rows;
+	int			most_common;
+	int			most_leaves;
+	int			accuracy;
+	int			length;
+	Column	   *columns;
+	int64		lists;			/* how many were made */
+} Making;
+
+/* columns.c */
+extern void read_columns(Making *making);
+extern Column *referred_columns(const Making *making, const Column *along, ForeignKeyCacheInfo *reference, int *length);
+extern void end_columns(Column *columns, int length);
+
+/* counts.c */
+extern void keep_whole(Making *making);
+extern void keep_filters(Making *making, const Column *filters, int length);
+
+/* keep.c */
+extern bool has_order(Form_pg_attribute attribute);
+extern void save_pair(const Making *making, const Column *joined, const Column *filter, StringInfo bytes);
+
+#endif

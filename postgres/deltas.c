@@ -1,0 +1,380 @@
+/* Rows that came: written by triggers as one delta for each statement, and added to the lists by whoever reads them.
+
+   Deltas are only inserted, and deleted only by who counts the table anew, as far as its snapshot sees them. So a snapshot that sees a
+   row sees it counted in the lists or in a delta: both come with the same commit. */
+#include "watch.h"
+
+#include "access/genam.h"
+#include "access/htup_details.h"
+#include "access/table.h"
+#include "catalog/indexing.h"
+#include "catalog/pg_type.h"
+#include "commands/sequence.h"
+#include "utils/array.h"
+#include "utils/builtins.h"
+#include "utils/fmgroids.h"
+#include "utils/lsyscache.h"
+#include "utils/memutils.h"
+#include "utils/rel.h"
+#include "utils/snapmgr.h"
+
+/* The runs of a sum are as many as those of all parts: from so many on it is made shorter. */
+#define MANY_RUNS 64
+
+static Datum *
+array_datums(Datum array, Oid type, int *length)
+{
+	int16		size;
+	bool		by_value;
+	char		align;
+	Datum	   *values;
+	bool	   *nulls;
+
+	get_typlenbyvalalign(type, &size, &by_value, &align);
+	deconstruct_array(DatumGetArrayTypeP(array), type, size, by_value, align, &values, &nulls, length);
+	return values;
+}
+
+Bitmapset *
+array_numbers(Datum array)
+{
+	Bitmapset  *numbers = NULL;
+	int			length;
+	Datum	   *values = array_datums(array, INT2OID, &length);
+
+	for (int i = 0; i < length; i++)
+		numbers = bms_add_member(numbers, DatumGetInt16(values[i]));
+	return numbers;
+}
+
+/* Three numbers for each. */
+static List *
+array_referred(Datum array)
+{
+	List	   *referred = NIL;
+	int			length;
+	Datum	   *values = array_datums(array, INT8OID, &length);
+
+	for (int i = 0; i + 2 < length; i += 3)
+	{
+		ReferredTable *table = palloc(sizeof(ReferredTable));
+
+		*table = (ReferredTable) {(Oid) DatumGetInt64(values[i]), DatumGetInt64(values[i + 1]), DatumGetInt64(values[i + 2])};
+		referred = lappend(referred, table);
+	}
+	return referred;
+}
+
+static void
+read_seen(Relation tables, HeapTuple tuple, Seen *seen)
+{
+	Datum		row[TABLE_COLUMNS];
+	bool		nulls[TABLE_COLUMNS];
+
+	heap_deform_tuple(tuple, RelationGetDescr(tables), row, nulls);
+	*seen = (Seen) {
+		.relation = DatumGetObjectId(row[TABLE_RELATION - 1]),
+		.version = DatumGetInt64(row[TABLE_VERSION - 1]),
+		.common = DatumGetInt16(row[TABLE_COMMON - 1]),
+		.ranges = DatumGetInt16(row[TABLE_RANGES - 1]),
+		.accuracy = DatumGetInt16(row[TABLE_ACCURACY - 1])
+	};
+	if (!nulls[TABLE_SOURCES - 1])
+	{
+		int			length;
+		Datum	   *sources = array_datums(row[TABLE_SOURCES - 1], OIDOID, &length);
+
+		for (int i = 0; i < length; i++)
+			seen->sources = lappend_oid(seen->sources, DatumGetObjectId(sources[i]));
+	}
+	if (!nulls[TABLE_JOINED - 1])
+		seen->joined = array_numbers(row[TABLE_JOINED - 1]);
+	if (!nulls[TABLE_FILTERS - 1])
+		seen->filters = array_numbers(row[TABLE_FILTERS - 1]);
+	if (!nulls[TABLE_REFERRED - 1])
+		seen->referred = array_referred(row[TABLE_REFERRED - 1]);
+}
+
+/* A table's row as a snapshot sees it; with NULL, as it is now. False where the table isn't kept. */
+bool
+see_table(Oid relation, Snapshot snapshot, Seen *seen)
+{
+	Oid			tables_oid = extension_table("kept_table");
+	Relation	tables;
+	ScanKeyData key;
+	SysScanDesc scan;
+	HeapTuple	tuple;
+	bool		found;
+
+	if (!OidIsValid(tables_oid))
+		return false;
+	tables = table_open(tables_oid, AccessShareLock);
+	ScanKeyInit(&key, TABLE_RELATION, BTEqualStrategyNumber, F_OIDEQ, ObjectIdGetDatum(relation));
+	scan = systable_beginscan(tables, extension_table("kept_table_pkey"), true, snapshot, 1, &key);
+	tuple = systable_getnext(scan);
+	found = HeapTupleIsValid(tuple);
+	if (found)
+		read_seen(tables, tuple, seen);
+	systable_endscan(scan);
+	table_close(tables, AccessShareLock);
+	return found;
+}
+
+/* The tables that are kept and followed where a statement on `source` may bring rows to them, as it is now. */
+List *
+followers_of(Oid source)
+{
+	Relation	tables = table_open(extension_table("kept_table"), AccessShareLock);
+	SysScanDesc scan = systable_beginscan(tables, InvalidOid, false, NULL, 0, NULL);
+	List	   *followers = NIL;
+	HeapTuple	tuple;
+
+	while (HeapTupleIsValid(tuple = systable_getnext(scan)))
+	{
+		Seen	   *seen = palloc0(sizeof(Seen));
+
+		read_seen(tables, tuple, seen);
+		if (!OidIsValid(source) || list_member_oid(seen->sources, source))
+			followers = lappend(followers, seen);
+	}
+	systable_endscan(scan);
+	table_close(tables, AccessShareLock);
+	return followers;
+}
+
+static SysScanDesc
+begin_scan(Relation deltas, Oid relation, Snapshot snapshot)
+{
+	ScanKeyData key;
+
+	ScanKeyInit(&key, DELTA_RELATION, BTEqualStrategyNumber, F_OIDEQ, ObjectIdGetDatum(relation));
+	return systable_beginscan(deltas, extension_table("kept_delta_pkey"), true, snapshot, 1, &key);
+}
+
+static int64
+number_of(Relation deltas, HeapTuple tuple, int column)
+{
+	bool		null;
+
+	return DatumGetInt64(heap_getattr(tuple, column, RelationGetDescr(deltas), &null));
+}
+
+/* Whether there are rows that came without being counted. */
+bool
+has_mark(Oid relation, Snapshot snapshot)
+{
+	Relation	deltas = table_open(extension_table("kept_delta"), AccessShareLock);
+	SysScanDesc scan = begin_scan(deltas, relation, snapshot);
+	bool		found = false;
+	HeapTuple	tuple;
+
+	while (!found && HeapTupleIsValid(tuple = systable_getnext(scan)))
+		found = number_of(deltas, tuple, DELTA_ROWS) == NOT_COUNTED;
+	systable_endscan(scan);
+	table_close(deltas, AccessShareLock);
+	return found;
+}
+
+int64
+count_deltas(Oid relation, Snapshot snapshot)
+{
+	Relation	deltas = table_open(extension_table("kept_delta"), AccessShareLock);
+	SysScanDesc scan = begin_scan(deltas, relation, snapshot);
+	int64		count = 0;
+
+	while (HeapTupleIsValid(systable_getnext(scan)))
+		count++;
+	systable_endscan(scan);
+	table_close(deltas, AccessShareLock);
+	return count;
+}
+
+/* The tables that a table refers to and that still are what they were when it was counted. Under one version deltas only come, so that
+   as many are the same ones. */
+List *
+unchanged_references(const Seen *seen, Snapshot snapshot)
+{
+	List	   *unchanged = NIL;
+	ListCell   *cell;
+
+	foreach(cell, seen->referred)
+	{
+		ReferredTable *then = lfirst(cell);
+		Seen		now;
+
+		if (see_table(then->relation, snapshot, &now) && now.version == then->version && now.sources != NIL && !is_writing(&now) &&
+			count_deltas(then->relation, snapshot) == then->deltas)
+			unchanged = lappend_oid(unchanged, then->relation);
+	}
+	return unchanged;
+}
+
+static DegreeList *
+list_at(Deltas *deltas, AttrNumber number)
+{
+	for (int i = 0; i < deltas->lists_length; i++)
+		if (deltas->numbers[i] == number)
+			return &deltas->lists[i];
+	return NULL;
+}
+
+/* Of a column that a delta has no list of, all its rows may have one value. */
+static DegreeList
+one_value(uint64 rows)
+{
+	DegreeList	list = {rows, 1, palloc(sizeof(safebound_run))};
+
+	list.runs[0] = (safebound_run) {.degree = rows, .keys = 1};
+	return list;
+}
+
+static DegreeList
+short_sum(DegreeList one, DegreeList other, int accuracy)
+{
+	DegreeList	both = summed(one, other);
+
+	return both.length > MANY_RUNS ? compressed(both, accuracy) : both;
+}
+
+/* Adds one delta to the sums. */
+static void
+add_delta(Deltas *sums, const Seen *seen, Relation deltas, HeapTuple tuple)
+{
+	int64		rows = number_of(deltas, tuple, DELTA_ROWS);
+	bool		null;
+	bytea	   *bytes = DatumGetByteaP(heap_getattr(tuple, DELTA_LISTS, RelationGetDescr(deltas), &null));
+	const char *at = VARDATA_ANY(bytes);
+	const char *end = at + VARSIZE_ANY_EXHDR(bytes);
+	Bitmapset  *missing = bms_copy(seen->joined);
+	int			number = -1;
+
+	if (rows == NOT_COUNTED)
+		sums->not_counted = true;
+	if (rows <= 0)
+		return;
+	sums->rows += rows;
+	while (at < end)
+	{
+		AttrNumber	column = (AttrNumber) get_number(&at, end);
+		DegreeList	list = get_list(&at, end);
+		DegreeList *sum = list_at(sums, column);
+
+		if (sum != NULL)
+			*sum = short_sum(*sum, list, seen->accuracy);
+		missing = bms_del_member(missing, column);
+	}
+	while ((number = bms_next_member(missing, number)) >= 0)
+		*list_at(sums, number) = short_sum(*list_at(sums, number), one_value(rows), seen->accuracy);
+}
+
+/* The deltas that a snapshot sees, without their lists. */
+static Deltas *
+read_ids(const Seen *seen, Relation deltas, Snapshot snapshot)
+{
+	SysScanDesc scan = begin_scan(deltas, seen->relation, snapshot);
+	Deltas	   *sums = palloc0(sizeof(Deltas));
+	int			capacity = 16;
+	HeapTuple	tuple;
+
+	sums->ids = palloc(capacity * sizeof(int64));
+	while (HeapTupleIsValid(tuple = systable_getnext(scan)))
+	{
+		if (sums->length == capacity)
+			sums->ids = repalloc(sums->ids, (capacity *= 2) * sizeof(int64));
+		sums->ids[sums->length++] = number_of(deltas, tuple, DELTA_ID);
+	}
+	systable_endscan(scan);
+	return sums;
+}
+
+static void
+sum_deltas(Deltas *sums, const Seen *seen, Relation deltas, Snapshot snapshot)
+{
+	SysScanDesc scan = begin_scan(deltas, seen->relation, snapshot);
+	HeapTuple	tuple;
+	int			number = -1;
+
+	sums->numbers = palloc(sizeof(AttrNumber) * (bms_num_members(seen->joined) + 1));
+	sums->lists = palloc0(sizeof(DegreeList) * (bms_num_members(seen->joined) + 1));
+	while ((number = bms_next_member(seen->joined, number)) >= 0)
+		sums->numbers[sums->lists_length++] = number;
+	while (HeapTupleIsValid(tuple = systable_getnext(scan)))
+		add_delta(sums, seen, deltas, tuple);
+	systable_endscan(scan);
+}
+
+static bool
+same_ids(const Deltas *one, const Deltas *other)
+{
+	return one && one->length == other->length && memcmp(one->ids, other->ids, one->length * sizeof(int64)) == 0;
+}
+
+/* The sum of the deltas that a snapshot sees, in a memory context of its own below the current one; `known` where these are the ones that
+   were summed there. */
+Deltas *
+see_deltas(const Seen *seen, Snapshot snapshot, Deltas *known)
+{
+	Relation	deltas = table_open(extension_table("kept_delta"), AccessShareLock);
+	MemoryContext context = AllocSetContextCreate(CurrentMemoryContext, "safebound deltas", ALLOCSET_SMALL_SIZES);
+	MemoryContext before = MemoryContextSwitchTo(context);
+	Deltas	   *sums = read_ids(seen, deltas, snapshot);
+	bool		same = same_ids(known, sums);
+
+	sums->context = context;
+	if (!same)
+		sum_deltas(sums, seen, deltas, snapshot);
+	MemoryContextSwitchTo(before);
+	table_close(deltas, AccessShareLock);
+	if (!same)
+		return sums;
+	MemoryContextDelete(context);
+	return known;
+}
+
+/* A list of a table with the rows that came since. */
+DegreeList
+with_deltas(const KeptTable *table, AttrNumber joined, DegreeList list)
+{
+	DegreeList *came = table->deltas ? list_at(table->deltas, joined) : NULL;
+	DegreeList	all = list;
+
+	if (table->deltas == NULL || table->deltas->rows == 0)
+		return list;
+	if (joined != 0)
+		all = summed(list, came ? *came : one_value(table->deltas->rows));
+	all.rows = list.rows + table->deltas->rows;
+	return all;
+}
+
+/* Inserted into the heap itself, since who writes to a table has no right on the extension's. */
+void
+write_delta(Oid relation, int64 rows, StringInfo lists)
+{
+	Relation	deltas = table_open(extension_table("kept_delta"), RowExclusiveLock);
+	bytea	   *bytes = palloc(VARHDRSZ + lists->len);
+	bool		nulls[DELTA_LISTS] = {false};
+	Datum		values[DELTA_LISTS] = {
+		ObjectIdGetDatum(relation),
+		Int64GetDatum(nextval_internal(extension_table("versions"), false)),
+		Int64GetDatum(rows),
+		PointerGetDatum(bytes)};
+
+	SET_VARSIZE(bytes, VARHDRSZ + lists->len);
+	memcpy(VARDATA(bytes), lists->data, lists->len);
+	CatalogTupleInsert(deltas, heap_form_tuple(RelationGetDescr(deltas), values, nulls));
+	table_close(deltas, NoLock);
+}
+
+/* Deletes the deltas that a snapshot sees: what they count is counted by now. */
+void
+delete_deltas(Oid relation, Snapshot snapshot)
+{
+	Relation	deltas = table_open(extension_table("kept_delta"), RowExclusiveLock);
+	SysScanDesc scan = begin_scan(deltas, relation, snapshot);
+	HeapTuple	tuple;
+
+	while (HeapTupleIsValid(tuple = systable_getnext(scan)))
+		CatalogTupleDelete(deltas, &tuple->t_self);
+	systable_endscan(scan);
+	table_close(deltas, NoLock);
+}

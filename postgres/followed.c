@@ -1,0 +1,346 @@
+/* The triggers of tables that are watched.
+
+   A statement trigger counts the rows that a statement wrote. From its beginning until then the table isn't known to this backend, since
+   a query within the statement may see rows that aren't counted yet; other backends don't see them before the commit. Of rows that a
+   replica applies only row triggers are told: they mark the table as not known. */
+#include "watch.h"
+
+#include "access/xact.h"
+#include "catalog/pg_type.h"
+#include "commands/trigger.h"
+#include "executor/tuptable.h"
+#include "miscadmin.h"
+#include "replication/logicalworker.h"
+#include "utils/datum.h"
+#include "utils/lsyscache.h"
+#include "utils/memutils.h"
+#include "utils/rel.h"
+#include "utils/tuplesort.h"
+#include "utils/tuplestore.h"
+#include "utils/typcache.h"
+
+PG_FUNCTION_INFO_V1(safebound_follow);
+
+/* A statement that began to write to a table and wasn't counted yet. */
+typedef struct Writing
+{
+	Oid			source;
+	SubTransactionId subtransaction;
+} Writing;
+
+static List *writings;			/* of Writing, the latest last, in TopMemoryContext */
+
+static void
+begin_writing(Oid source)
+{
+	MemoryContext before = MemoryContextSwitchTo(TopMemoryContext);
+	Writing    *writing = palloc(sizeof(Writing));
+
+	*writing = (Writing) {source, GetCurrentSubTransactionId()};
+	writings = lappend(writings, writing);
+	MemoryContextSwitchTo(before);
+}
+
+static void
+end_writing(Oid source)
+{
+	for (int i = list_length(writings) - 1; i >= 0; i--)
+	{
+		Writing    *writing = list_nth(writings, i);
+
+		if (writing->source != source)
+			continue;
+		writings = list_delete_nth_cell(writings, i);
+		pfree(writing);
+		return;
+	}
+}
+
+/* Whether a statement of this backend is in the middle of writing to a table. */
+bool
+is_writing(const Seen *seen)
+{
+	ListCell   *cell;
+
+	foreach(cell, writings)
+		if (list_member_oid(seen->sources, ((Writing *) lfirst(cell))->source))
+			return true;
+	return false;
+}
+
+static void
+on_transaction_end(XactEvent event, void *argument)
+{
+	if (event == XACT_EVENT_COMMIT || event == XACT_EVENT_ABORT || event == XACT_EVENT_PREPARE)
+	{
+		list_free_deep(writings);
+		writings = NIL;
+	}
+}
+
+/* Statements of a subtransaction that is rolled back write no more. */
+static void
+on_subtransaction_end(SubXactEvent event, SubTransactionId mine, SubTransactionId parent, void *argument)
+{
+	ListCell   *cell;
+
+	if (event != SUBXACT_EVENT_ABORT_SUB)
+		return;
+	foreach(cell, writings)
+	{
+		Writing    *writing = lfirst(cell);
+
+		if (writing->subtransaction != mine)
+			continue;
+		writings = foreach_delete_current(writings, cell);
+		pfree(writing);
+	}
+}
+
+/* The mark that was written last, so that it isn't written for each row. */
+static Oid	marked_relation;
+static TransactionId marking_transaction;
+
+/* Rows came that are not counted. Once in a (sub)transaction is enough. */
+void
+mark_not_counted(Oid relation)
+{
+	StringInfoData none;
+
+	if (marked_relation == relation && marking_transaction == GetCurrentTransactionId())
+		return;
+	initStringInfo(&none);
+	write_delta(relation, NOT_COUNTED, &none);
+	marked_relation = relation;
+	marking_transaction = GetCurrentTransactionId();
+}
+
+/* Who counts a table takes its marks away. */
+void
+marks_are_gone(void)
+{
+	marked_relation = InvalidOid;
+}
+
+/* The rows that a statement wrote. */
+typedef struct NewRows
+{
+	TupleDesc	desc;
+	Tuplestorestate *rows;
+	TupleTableSlot *slot;
+	uint64		length;
+	bool	   *counts;			/* which of them; NULL: all */
+	uint64		counted;
+} NewRows;
+
+static void
+rewind_rows(Tuplestorestate *rows)
+{
+	tuplestore_select_read_pointer(rows, 0);
+	tuplestore_rescan(rows);
+}
+
+/* Whether an updated row has the same values as before in all columns that are kept. */
+static bool
+same_values(const Seen *seen, TupleDesc desc, TupleTableSlot *one, TupleTableSlot *other)
+{
+	Bitmapset  *columns = bms_union(seen->joined, seen->filters);
+	bool		same = true;
+	int			number = -1;
+
+	while (same && (number = bms_next_member(columns, number)) >= 0)
+	{
+		Form_pg_attribute attribute = number > 0 && number <= desc->natts ? TupleDescAttr(desc, number - 1) : NULL;
+		bool		one_null,
+					other_null;
+		Datum		value,
+					before;
+
+		if (attribute == NULL || attribute->attisdropped)
+			continue;
+		value = slot_getattr(one, number, &one_null);
+		before = slot_getattr(other, number, &other_null);
+		same = one_null == other_null && (one_null || datum_image_eq(value, before, attribute->attbyval, attribute->attlen));
+	}
+	bms_free(columns);
+	return same;
+}
+
+/* An update that changes no kept column adds nothing. Old and new rows stand in the same order, unless some were lost on their way to
+   another partition: then all new ones count. */
+static void
+leave_unchanged(const Seen *seen, NewRows *new, Tuplestorestate *old_rows)
+{
+	TupleTableSlot *old = MakeSingleTupleTableSlot(new->desc, &TTSOpsMinimalTuple);
+
+	if (tuplestore_tuple_count(old_rows) != (int64) new->length)
+		return;
+	new->counts = MemoryContextAllocHuge(CurrentMemoryContext, new->length + 1);
+	new->counted = 0;
+	rewind_rows(new->rows);
+	rewind_rows(old_rows);
+	for (uint64 row = 0; row < new->length; row++)
+	{
+		CHECK_FOR_INTERRUPTS();
+		if (!tuplestore_gettupleslot(new->rows, true, false, new->slot) || !tuplestore_gettupleslot(old_rows, true, false, old))
+			elog(ERROR, "a transition table ends too early");
+		new->counts[row] = !same_values(seen, new->desc, new->slot, old);
+		new->counted += new->counts[row];
+	}
+	ExecDropSingleTupleTableSlot(old);
+}
+
+/* Puts the column's values of the rows that count into a sort, and answers how many there are. */
+static uint64
+sort_values(NewRows *new, AttrNumber number, Tuplesortstate *sort)
+{
+	uint64		row = 0;
+	uint64		length = 0;
+
+	rewind_rows(new->rows);
+	for (; tuplestore_gettupleslot(new->rows, true, false, new->slot); row++)
+	{
+		bool		null;
+		Datum		value = slot_getattr(new->slot, number, &null);
+
+		CHECK_FOR_INTERRUPTS();
+		if (null || (new->counts && !new->counts[row]))
+			continue;
+		tuplesort_putdatum(sort, value, false);
+		length++;
+	}
+	tuplesort_performsort(sort);
+	return length;
+}
+
+/* The codes of sorted values: equal ones have the same. */
+static void
+code_values(Tuplesortstate *sort, Form_pg_attribute attribute, uint64 *codes)
+{
+	TypeCacheEntry *type = lookup_type_cache(attribute->atttypid, TYPECACHE_EQ_OPR_FINFO);
+	uint64		at = 0;
+	Datum		value,
+				last = (Datum) 0;
+	bool		null;
+
+	while (tuplesort_getdatum(sort, true, &value, &null, NULL))
+	{
+		bool		begins = at == 0 || !DatumGetBool(FunctionCall2Coll(&type->eq_opr_finfo, attribute->attcollation, last, value));
+
+		codes[at] = at == 0 ? 0 : codes[at - 1] + begins;
+		at++;
+		if (!attribute->attbyval && at > 1 && begins)
+			pfree(DatumGetPointer(last));
+		if (begins)
+			last = value;
+		else if (!attribute->attbyval)
+			pfree(DatumGetPointer(value));
+	}
+}
+
+static DegreeList
+list_of_column(NewRows *new, AttrNumber number)
+{
+	Form_pg_attribute attribute = TupleDescAttr(new->desc, number - 1);
+	TypeCacheEntry *type = lookup_type_cache(attribute->atttypid, TYPECACHE_LT_OPR);
+	Tuplesortstate *sort = tuplesort_begin_datum(attribute->atttypid, type->lt_opr, sort_collation(attribute->attcollation), false,
+												 work_mem, NULL, TUPLESORT_NONE);
+	uint64		length = sort_values(new, number, sort);
+	uint64	   *codes = MemoryContextAllocHuge(CurrentMemoryContext, (length + 1) * sizeof(uint64));
+	DegreeList	list = {new->counted, 0, NULL};
+
+	code_values(sort, attribute, codes);
+	tuplesort_end(sort);
+	if (length > 0)
+		list = degrees_of(codes, length, new->counted);
+	pfree(codes);
+	return list;
+}
+
+/* One row is the most frequent case: its value stands once, or it has none. */
+static DegreeList
+list_of_one(NewRows *new, AttrNumber number)
+{
+	static safebound_run single = {1, 1};
+	bool		null;
+
+	rewind_rows(new->rows);
+	if (!tuplestore_gettupleslot(new->rows, true, false, new->slot))
+		elog(ERROR, "a transition table ends too early");
+	slot_getattr(new->slot, number, &null);
+	return (DegreeList) {1, null ? 0 : 1, &single};
+}
+
+static void
+put_column(StringInfo into, const Seen *seen, NewRows *new, AttrNumber number)
+{
+	DegreeList	list = new->length == 1 ? list_of_one(new, number) : compressed(list_of_column(new, number), seen->accuracy);
+
+	put_number(into, number);
+	put_list(into, &list);
+}
+
+/* Writes the delta of a table for the rows of a statement on the table itself, or on one that it inherits from. */
+static void
+count_rows(const Seen *seen, TriggerData *trigger)
+{
+	NewRows		new = {.desc = RelationGetDescr(trigger->tg_relation),.rows = trigger->tg_newtable};
+	bool		own = RelationGetRelid(trigger->tg_relation) == seen->relation;
+	StringInfoData lists;
+	int			number = -1;
+
+	new.length = new.counted = tuplestore_tuple_count(new.rows);
+	new.slot = MakeSingleTupleTableSlot(new.desc, &TTSOpsMinimalTuple);
+	if (own && new.length > 0 && trigger->tg_oldtable)
+		leave_unchanged(seen, &new, trigger->tg_oldtable);
+	initStringInfo(&lists);
+	/* Columns have other numbers in the table above: its rows are told without lists. */
+	while (own && new.counted > 0 && (number = bms_next_member(seen->joined, number)) >= 0)
+		if (number > 0 && number <= new.desc->natts && !TupleDescAttr(new.desc, number - 1)->attisdropped)
+			put_column(&lists, seen, &new, number);
+	if (new.counted > 0)
+		write_delta(seen->relation, new.counted, &lists);
+	ExecDropSingleTupleTableSlot(new.slot);
+}
+
+static void
+end_statement(TriggerData *trigger)
+{
+	MemoryContext own = AllocSetContextCreate(CurrentMemoryContext, "safebound delta", ALLOCSET_DEFAULT_SIZES);
+	MemoryContext before = MemoryContextSwitchTo(own);
+	ListCell   *cell;
+
+	foreach(cell, followers_of(RelationGetRelid(trigger->tg_relation)))
+		count_rows(lfirst(cell), trigger);
+	MemoryContextSwitchTo(before);
+	MemoryContextDelete(own);
+	end_writing(RelationGetRelid(trigger->tg_relation));
+}
+
+Datum
+safebound_follow(PG_FUNCTION_ARGS)
+{
+	TriggerData *trigger = (TriggerData *) fcinfo->context;
+
+	if (!CALLED_AS_TRIGGER(fcinfo))
+		ereport(ERROR, (errcode(ERRCODE_E_R_I_E_TRIGGER_PROTOCOL_VIOLATED), errmsg("safebound.follow is called by triggers alone")));
+	if (!OidIsValid(extension_table("kept_delta")))
+		return PointerGetDatum(NULL);
+	if (TRIGGER_FIRED_FOR_ROW(trigger->tg_event))
+	{
+		if (IsLogicalWorker())
+			mark_not_counted(RelationGetRelid(trigger->tg_relation));
+	}
+	else if (TRIGGER_FIRED_BEFORE(trigger->tg_event))
+		begin_writing(RelationGetRelid(trigger->tg_relation));
+	else
+		end_statement(trigger);
+	return PointerGetDatum(NULL);
+}
+
+void
+followed_init(void)
+{
+	RegisterXactCallback(on_transaction_end, NULL);
+	RegisterSubXactCallback(on_subtransaction_end, NULL);
+}

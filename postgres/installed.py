@@ -1,0 +1,67 @@
+"""A PostgreSQL with the extension that changes nothing of the machine's own: its programs are copied into a folder, and the rest is linked.
+
+PostgreSQL finds its folders from the place of its program, so a copy of the program has extensions of its own.
+"""
+
+from __future__ import annotations
+
+import os
+import shutil
+import subprocess
+import sys
+import tempfile
+
+HERE = os.path.dirname(os.path.abspath(__file__))
+sys.path[:0] = [os.path.join(HERE, "..", "engines", "servers")]
+from server import Alone
+
+# What tests need of a server: plans don't depend on the compiler, and each session has the extension.
+SETTINGS = ("session_preload_libraries=safebound", "jit=off")
+
+
+def told(word: str) -> str:
+    return subprocess.run(["pg_config", word], check=True, text=True, stdout=subprocess.PIPE).stdout.strip()
+
+
+def link_all(source: str, into: str) -> None:
+    os.makedirs(into, exist_ok=True)
+    for name in os.listdir(source):
+        os.symlink(os.path.join(source, name), os.path.join(into, name))
+
+
+def lay_server(root: str) -> str:
+    """The folder of the copied programs, below `root`."""
+    programs = root + told("--bindir")
+    shutil.copytree(told("--bindir"), programs)
+    headers = told("--includedir")
+    os.makedirs(root + os.path.dirname(headers))
+    os.symlink(headers, root + headers)
+    link_all(told("--pkglibdir"), root + told("--pkglibdir"))
+    link_all(told("--sharedir"), root + told("--sharedir"))
+    extensions = os.path.join(root + told("--sharedir"), "extension")
+    os.remove(extensions)
+    link_all(os.path.join(told("--sharedir"), "extension"), extensions)
+    return programs
+
+
+def install() -> None:
+    """Into the server whose pg_config comes first on the PATH."""
+    for target in ([], ["install"]):
+        subprocess.run(["make", "-s", "-C", HERE, *target], check=True)
+
+
+class Installed(Alone):
+    """A server with the extension that starts on entering, and is gone on leaving."""
+
+    def __init__(self, settings: tuple[str, ...] = ()) -> None:
+        self.root = tempfile.mkdtemp(prefix="safebound-installed-")
+        os.chmod(self.root, 0o755)
+        os.environ["PATH"] = lay_server(self.root) + os.pathsep + os.environ["PATH"]
+        install()
+        super().__init__(SETTINGS + settings)
+
+    def __exit__(self, *raised: object) -> None:
+        try:
+            super().__exit__(*raised)
+        finally:
+            shutil.rmtree(self.root, ignore_errors=True)

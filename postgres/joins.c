@@ -1,0 +1,468 @@
+/* Row bounds of sets of relations and of joins, outer and semi-joins among them, by the library. */
+#include "planning.h"
+
+#include "catalog/pg_class.h"
+#include "nodes/nodeFuncs.h"
+#include "optimizer/optimizer.h"
+#include "optimizer/paths.h"
+#include "port/pg_bitutils.h"
+#include "utils/lsyscache.h"
+
+/* Of more outer and semi-joins in one join nothing is bounded: the ways in which their sides may be missing double with each. */
+#define MOST_SPECIAL_JOINS 6
+
+/* Longer lists are compressed before they are joined, since a plan waits for its bounds. */
+#define LONGEST_LIST 48
+#define PLANNING_ACCURACY 6
+
+/* Of more relations of one query no more are known: a set of them is a number of 64 bits. */
+#define MOST_KNOWN 64
+
+static Var *
+var_of(Expr *expression)
+{
+	while (expression && IsA(expression, RelabelType))
+		expression = ((RelabelType *) expression)->arg;
+	if (expression && IsA(expression, Var) && ((Var *) expression)->varlevelsup == 0 && ((Var *) expression)->varattno > 0)
+		return (Var *) expression;
+	return NULL;
+}
+
+static Entry *
+entry_of(BoundedQuery *query, int relid)
+{
+	return relid > 0 && relid < query->root->simple_rel_array_size && query->entries[relid].table ? &query->entries[relid] : NULL;
+}
+
+/* What conditions make of lists grows with each of them. */
+static DegreeList
+shortened(DegreeList list)
+{
+	return list.length > LONGEST_LIST ? compressed(list, PLANNING_ACCURACY) : list;
+}
+
+/* The number of a joined column, which is added where it is new; -1 where no list of it is kept. */
+static int
+joined_column(BoundedQuery *query, Var *var)
+{
+	Entry	   *entry = entry_of(query, var->varno);
+
+	if (entry == NULL || kept_pair(entry->table, var->varattno, 0) == NULL)
+		return -1;
+	for (int i = 0; i < query->columns_length; i++)
+		if (query->columns[i].relid == (Index) var->varno && query->columns[i].number == var->varattno)
+			return i;
+	if (query->columns_length == query->columns_capacity)
+		query->columns = repalloc(query->columns, (query->columns_capacity *= 2) * sizeof(JoinedColumn));
+	query->columns[query->columns_length] = (JoinedColumn) {
+		.relid = var->varno,
+		.number = var->varattno,
+		.list = shortened(list_under(entry->table, entry->rel, var->varattno, &entry->used))
+	};
+	return query->columns_length++;
+}
+
+static void
+add_class(BoundedQuery *query, EquivalenceClass *class)
+{
+	EqualColumns *equal = palloc0(sizeof(EqualColumns));
+	ListCell   *cell;
+
+	equal->columns = palloc((list_length(class->ec_members) + 1) * sizeof(int));
+	foreach(cell, class->ec_members)
+	{
+		EquivalenceMember *member = lfirst(cell);
+		Var		   *var = member->em_is_child || member->em_is_const ? NULL : var_of(member->em_expr);
+		Entry	   *entry = var ? entry_of(query, var->varno) : NULL;
+		int			column;
+
+		if (entry == NULL || !list_member_oid(class->ec_opfamilies, equality_family(entry->table->relation, var->varattno, class->ec_collation)))
+			continue;
+		column = joined_column(query, var);
+		if (column >= 0)
+			equal->columns[equal->length++] = column;
+	}
+	if (equal->length > 1)
+		query->equalities = lappend(query->equalities, equal);
+}
+
+/* A clause that is in no class: one of an outer join's ON. */
+static void
+add_clause(BoundedQuery *query, RestrictInfo *info)
+{
+	OpExpr	   *clause = (OpExpr *) info->clause;
+	Var		   *left = info->can_join && IsA(clause, OpExpr) ? var_of(linitial(clause->args)) : NULL;
+	Var		   *right = left ? var_of(lsecond(clause->args)) : NULL;
+	Entry	   *left_entry = left ? entry_of(query, left->varno) : NULL;
+	Entry	   *right_entry = right ? entry_of(query, right->varno) : NULL;
+	EqualColumns *equal = palloc0(sizeof(EqualColumns));
+
+	if (left_entry == NULL || right_entry == NULL || left->varno == right->varno ||
+		!is_equality(left_entry->table->relation, left->varattno, clause->opno, clause->inputcollid) ||
+		!is_equality(right_entry->table->relation, right->varattno, clause->opno, clause->inputcollid))
+		return;
+	equal->required = info->required_relids;
+	equal->length = 2;
+	equal->columns = palloc(2 * sizeof(int));
+	equal->columns[0] = joined_column(query, left);
+	equal->columns[1] = joined_column(query, right);
+	if (equal->columns[0] >= 0 && equal->columns[1] >= 0)
+		query->equalities = lappend(query->equalities, equal);
+}
+
+/* Each clause stands at both of its relations: it is taken at the first. */
+static void
+add_clauses(BoundedQuery *query, RelOptInfo *rel)
+{
+	ListCell   *cell;
+
+	foreach(cell, rel->joininfo)
+	{
+		RestrictInfo *info = lfirst_node(RestrictInfo, cell);
+
+		if (bms_num_members(info->clause_relids) == 2 && bms_next_member(info->clause_relids, -1) == (int) rel->relid)
+			add_clause(query, info);
+	}
+}
+
+static void
+add_carried(BoundedQuery *query, const EqualColumns *equal, const JoinedColumn *along, const JoinedColumn *key)
+{
+	Entry	   *referring = &query->entries[along->relid];
+	Entry	   *referred = &query->entries[key->relid];
+	Reference	reference = {along->number, referred->table->relation, key->number};
+	Carried    *carried;
+
+	if (along->relid == key->relid || referred->rel->baserestrictinfo == NIL || !has_pairs_along(referring->table, &reference))
+		return;
+	carried = palloc0(sizeof(Carried));
+	*carried = (Carried) {.referring = along->relid,.referred = key->relid,.required = equal->required,.reference = reference};
+	query->carried = lappend(query->carried, carried);
+}
+
+/* Where one of two equal columns refers to the other. */
+static void
+find_carried(BoundedQuery *query, const EqualColumns *equal)
+{
+	for (int i = 0; i < equal->length; i++)
+		for (int j = 0; j < equal->length; j++)
+			add_carried(query, equal, &query->columns[equal->columns[i]], &query->columns[equal->columns[j]]);
+}
+
+static void
+make_room_for_carried(BoundedQuery *query)
+{
+	ListCell   *cell;
+
+	foreach(cell, query->carried)
+	{
+		Carried    *carried = lfirst(cell);
+
+		carried->looked = palloc0((query->columns_length + 1) * sizeof(bool));
+		carried->lists = palloc0((query->columns_length + 1) * sizeof(DegreeList *));
+	}
+}
+
+/* The list of a column, by its number here, under the conditions of what its relation refers to. */
+static const DegreeList *
+carried_list(BoundedQuery *query, Carried *carried, int column)
+{
+	AttrNumber	joined = column < query->columns_length ? query->columns[column].number : 0;
+	DegreeList	list;
+
+	if (!carried->looked[column] &&
+		list_along(query->entries[carried->referring].table, &carried->reference, query->entries[carried->referred].rel, joined, &list, &carried->used))
+	{
+		carried->lists[column] = palloc(sizeof(DegreeList));
+		*carried->lists[column] = shortened(list);
+	}
+	carried->looked[column] = true;
+	return carried->lists[column];
+}
+
+/* A list of a relation, in a set of which it may refer to others. */
+static DegreeList
+list_in_set(BoundedQuery *query, Relids relids, Index relid, int column, DegreeList list)
+{
+	ListCell   *cell;
+
+	foreach(cell, query->carried)
+	{
+		Carried    *carried = lfirst(cell);
+		const DegreeList *other;
+
+		if (carried->referring != relid || !bms_is_member(carried->referred, relids) || !bms_is_subset(carried->required, relids))
+			continue;
+		other = carried_list(query, carried, column);
+		if (other != NULL)
+			list = lesser(list, *other);
+	}
+	return list;
+}
+
+static bool
+can_be_known(PlannerInfo *root, RelOptInfo *rel)
+{
+	RangeTblEntry *entry;
+
+	if (rel == NULL || rel->reloptkind != RELOPT_BASEREL || rel->rtekind != RTE_RELATION || IS_DUMMY_REL(rel))
+		return false;
+	entry = root->simple_rte_array[rel->relid];
+	return (entry->relkind == RELKIND_RELATION || entry->relkind == RELKIND_MATVIEW) && !entry->inh && entry->tablesample == NULL;
+}
+
+/* A set of relations, by their numbers, whose bound is known. */
+typedef struct KnownBound
+{
+	uint64		set;
+	uint64		bound;
+} KnownBound;
+
+static HTAB *
+known_bounds(void)
+{
+	HASHCTL		control = {.keysize = sizeof(uint64),.entrysize = sizeof(KnownBound),.hcxt = CurrentMemoryContext};
+
+	return hash_create("safebound bounds", 64, &control, HASH_ELEM | HASH_BLOBS | HASH_CONTEXT);
+}
+
+BoundedQuery *
+bounded_query(PlannerInfo *root)
+{
+	BoundedQuery *query = palloc0(sizeof(BoundedQuery));
+	int			number = 0;
+	ListCell   *cell;
+
+	query->root = root;
+	query->bounds = known_bounds();
+	query->entries = palloc0(root->simple_rel_array_size * sizeof(Entry));
+	query->columns_capacity = 8;
+	query->columns = palloc(query->columns_capacity * sizeof(JoinedColumn));
+	for (int i = 1; i < root->simple_rel_array_size; i++)
+	{
+		RelOptInfo *rel = root->simple_rel_array[i];
+		const KeptTable *table = can_be_known(root, rel) ? kept_table(root->simple_rte_array[i]->relid) : NULL;
+
+		if (table != NULL && number < MOST_KNOWN)
+		{
+			query->entries[i] = (Entry) {.table = table,.rel = rel,.number = number++};
+			query->entries[i].rows = list_under(table, rel, 0, &query->entries[i].used).rows;
+		}
+	}
+	foreach(cell, root->eq_classes)
+	{
+		EquivalenceClass *class = lfirst(cell);
+
+		if (!class->ec_has_volatile && class->ec_merged == NULL)
+			add_class(query, class);
+	}
+	for (int i = 1; i < root->simple_rel_array_size; i++)
+		if (query->entries[i].table)
+			add_clauses(query, query->entries[i].rel);
+	foreach(cell, query->equalities)
+		find_carried(query, lfirst(cell));
+	make_room_for_carried(query);
+	return query;
+}
+
+/* A call of the library, as its arrays. */
+typedef struct SetCall
+{
+	uint64		rows[SAFEBOUND_MOST_ENTRIES];
+	int			entries;
+	int		   *number;			/* of each relid's entry, -1 where it isn't in the set */
+	safebound_equality equalities[SAFEBOUND_MOST_EQUALITIES];
+	int			equalities_length;
+	bool	   *named;			/* the columns that an equality names */
+} SetCall;
+
+static bool
+add_equality(SetCall *call, BoundedQuery *query, int left, int right)
+{
+	JoinedColumn *one = &query->columns[left];
+	JoinedColumn *other = &query->columns[right];
+
+	if (call->equalities_length == SAFEBOUND_MOST_EQUALITIES)
+		return false;
+	call->equalities[call->equalities_length++] = (safebound_equality) {
+		.left_entry = call->number[one->relid],.left_column = left,
+		.right_entry = call->number[other->relid],.right_column = right
+	};
+	call->named[left] = call->named[right] = true;
+	return true;
+}
+
+/* The equalities of a class within the set: each column with the last one before it that is of another entry. */
+static void
+add_equal_columns(SetCall *call, BoundedQuery *query, const EqualColumns *equal)
+{
+	int			last = -1;
+
+	for (int i = 0; i < equal->length; i++)
+	{
+		int			column = equal->columns[i];
+		Index		relid = query->columns[column].relid;
+
+		if (call->number[relid] < 0 || (last >= 0 && query->columns[last].relid == relid))
+			continue;
+		if (last >= 0)
+			add_equality(call, query, last, column);
+		last = column;
+	}
+}
+
+static uint64
+call_library(SetCall *call, BoundedQuery *query, Relids relids)
+{
+	safebound_list *lists = palloc((query->columns_length + 1) * sizeof(safebound_list));
+	DegreeList *taken = palloc((query->columns_length + 1) * sizeof(DegreeList));
+	safebound_run *runs;
+	size_t		lists_length = 0;
+	size_t		runs_length = 0;
+	uint64		bound = 0;
+
+	for (int i = 0; i < query->columns_length; i++)
+	{
+		if (!call->named[i])
+			continue;
+		taken[i] = list_in_set(query, relids, query->columns[i].relid, i, query->columns[i].list);
+		runs_length += taken[i].length;
+	}
+	runs = palloc((runs_length + 1) * sizeof(safebound_run));
+	runs_length = 0;
+	for (int i = 0; i < query->columns_length; i++)
+	{
+		DegreeList *list = &taken[i];
+
+		if (!call->named[i])
+			continue;
+		lists[lists_length++] = (safebound_list) {
+			.entry = call->number[query->columns[i].relid],.column = i,
+			.first = list->length ? runs_length : SAFEBOUND_NO_VALUES,.length = list->length
+		};
+		memcpy(runs + runs_length, list->runs, list->length * sizeof(safebound_run));
+		runs_length += list->length;
+	}
+	library_check(safebound_set_bound(call->rows, call->entries, call->equalities, call->equalities_length, lists, lists_length,
+									  runs, runs_length, (UINT64_C(1) << call->entries) - 1, &bound), bound, "safebound_set_bound");
+	pfree(lists);
+	pfree(runs);
+	return bound;
+}
+
+/* Asks the library for the bound of so many relations. */
+static uint64
+new_bound(BoundedQuery *query, Relids relids, int entries)
+{
+	SetCall		call = {0};
+	int			relid = -1;
+	ListCell   *cell;
+
+	if (entries > SAFEBOUND_MOST_ENTRIES)
+		return UNKNOWN;
+	call.number = palloc(query->root->simple_rel_array_size * sizeof(int));
+	for (int i = 0; i < query->root->simple_rel_array_size; i++)
+		call.number[i] = -1;
+	while ((relid = bms_next_member(relids, relid)) >= 0)
+	{
+		call.number[relid] = call.entries;
+		call.rows[call.entries++] = list_in_set(query, relids, relid, query->columns_length, (DegreeList) {query->entries[relid].rows, 0, NULL}).rows;
+	}
+	if (call.entries <= 1)
+		return call.entries ? call.rows[0] : 1;
+	call.named = palloc0((query->columns_length + 1) * sizeof(bool));
+	foreach(cell, query->equalities)
+	{
+		EqualColumns *equal = lfirst(cell);
+
+		if (bms_is_subset(equal->required, relids))
+			add_equal_columns(&call, query, equal);
+	}
+	return call_library(&call, query, relids);
+}
+
+/* The bound of the inner join of a set of relations, which the library is asked once. */
+uint64
+bound_of_set(BoundedQuery *query, Relids relids)
+{
+	uint64		set = 0;
+	int			relid = -1;
+	KnownBound *known;
+	bool		found;
+
+	while ((relid = bms_next_member(relids, relid)) >= 0)
+	{
+		Entry	   *entry = entry_of(query, relid);
+
+		if (entry == NULL)
+			return UNKNOWN;
+		set |= UINT64CONST(1) << entry->number;
+	}
+	known = hash_search(query->bounds, &set, HASH_ENTER, &found);
+	if (!found)
+		known->bound = new_bound(query, relids, pg_popcount64(set));
+	return known->bound;
+}
+
+static uint64
+plus(uint64 one, uint64 other)
+{
+	return one > UNKNOWN - other ? UNKNOWN : one + other;
+}
+
+/* Whether a special join is a part of the join of these relations. */
+static bool
+is_within(SpecialJoinInfo *join, Relids relids)
+{
+	return bms_is_subset(join->min_lefthand, relids) && bms_is_subset(join->min_righthand, relids);
+}
+
+/* A row of a join is a choice of rows of some relations, where a side of an outer join may be missing. So the rows are at most the sum
+   over all ways in which sides may be missing, each an inner join of those that are left. `joins` are still to be looked at, the
+   outermost first, and `present` is what isn't missing yet. */
+static uint64
+bound_of_ways(BoundedQuery *query, Relids present, List *joins)
+{
+	SpecialJoinInfo *join;
+	List	   *rest;
+	Relids		without_right;
+	uint64		less;
+
+	if (joins == NIL)
+		return bound_of_set(query, present);
+	join = llast(joins);
+	rest = list_truncate(list_copy(joins), list_length(joins) - 1);
+	if (!bms_overlap(join->syn_righthand, present))
+		return bound_of_ways(query, present, rest);
+	without_right = bms_difference(present, join->syn_righthand);
+	less = bound_of_ways(query, without_right, rest);
+	switch (join->jointype)
+	{
+		case JOIN_ANTI:
+			return less;
+		case JOIN_SEMI:
+			return Min(less, bound_of_ways(query, present, rest));
+		case JOIN_LEFT:
+			/* Where the left side is missing, a strict condition on it finds no right side. */
+			if (join->lhs_strict && !bms_overlap(join->min_lefthand, present))
+				return less;
+			return plus(less, bound_of_ways(query, present, rest));
+		case JOIN_FULL:
+			return plus(plus(less, bound_of_ways(query, bms_difference(present, join->syn_lefthand), rest)), bound_of_ways(query, present, rest));
+		default:
+			return UNKNOWN;
+	}
+}
+
+/* The bound of a join relation's rows. */
+uint64
+bound_of_join(BoundedQuery *query, Relids relids)
+{
+	List	   *joins = NIL;
+	ListCell   *cell;
+
+	foreach(cell, query->root->join_info_list)
+		if (is_within(lfirst(cell), relids))
+			joins = lappend(joins, lfirst(cell));
+	return list_length(joins) > MOST_SPECIAL_JOINS ? UNKNOWN : bound_of_ways(query, relids, joins);
+}

@@ -1,0 +1,299 @@
+/* safebound.keep and safebound.forget: which columns of a table are counted, and where the lists are written. */
+#include "counting.h"
+#include "watch.h"
+
+#include "access/htup_details.h"
+#include "access/stratnum.h"
+#include "access/relation.h"
+#include "access/table.h"
+#include "access/tableam.h"
+#include "access/xact.h"
+#include "catalog/index.h"
+#include "catalog/pg_class.h"
+#include "catalog/pg_collation.h"
+#include "catalog/pg_type.h"
+#include "executor/spi.h"
+#include "executor/tuptable.h"
+#include "miscadmin.h"
+#include "storage/lmgr.h"
+#include "utils/acl.h"
+#include "utils/array.h"
+#include "utils/builtins.h"
+#include "utils/datum.h"
+#include "utils/inval.h"
+#include "utils/lsyscache.h"
+#include "utils/memutils.h"
+#include "utils/pg_locale.h"
+#include "utils/rel.h"
+#include "utils/snapmgr.h"
+#include "utils/tuplesort.h"
+#include "utils/typcache.h"
+
+PG_FUNCTION_INFO_V1(safebound_keep);
+PG_FUNCTION_INFO_V1(safebound_forget);
+
+static Oid
+owner_of(Oid relation)
+{
+	Relation	opened = relation_open(relation, AccessShareLock);
+	Oid			owner = opened->rd_rel->relowner;
+
+	relation_close(opened, AccessShareLock);
+	return owner;
+}
+
+/* Changes the extension's own tables, as their owner: who keeps a table has no rights on them. */
+uint64
+write_own(const char *statement, int length, Oid *types, Datum *values)
+{
+	Oid			user;
+	int			context;
+
+	GetUserIdAndSecContext(&user, &context);
+	SetUserIdAndSecContext(owner_of(extension_table("kept_lists")), context | SECURITY_LOCAL_USERID_CHANGE);
+	if (SPI_execute_with_args(statement, length, types, values, NULL, false, 0) < 0)
+		elog(ERROR, "can't be executed: %s", statement);
+	SetUserIdAndSecContext(user, context);
+	return SPI_processed;
+}
+
+void
+save_pair(const Making *making, const Column *joined, const Column *filter, StringInfo bytes)
+{
+	Oid			types[] = {REGCLASSOID, INT2OID, INT2OID, INT2OID, OIDOID, INT2OID, REGTYPEOID, REGTYPEOID, OIDOID, OIDOID, BYTEAOID};
+	bytea	   *lists = palloc(VARHDRSZ + bytes->len);
+	Datum		values[] = {
+		ObjectIdGetDatum(RelationGetRelid(making->relation)),
+		Int16GetDatum(joined ? joined->number : 0), Int16GetDatum(filter ? filter->number : 0),
+		Int16GetDatum(filter && filter->along ? filter->along->number : 0), ObjectIdGetDatum(filter ? filter->referred : InvalidOid),
+		Int16GetDatum(filter ? filter->key : 0),
+		ObjectIdGetDatum(joined ? joined->attribute->atttypid : InvalidOid),
+		ObjectIdGetDatum(filter ? filter->attribute->atttypid : InvalidOid),
+		ObjectIdGetDatum(joined ? joined->attribute->attcollation : InvalidOid),
+		ObjectIdGetDatum(filter ? filter->attribute->attcollation : InvalidOid),
+		PointerGetDatum(lists)};
+
+	SET_VARSIZE(lists, VARHDRSZ + bytes->len);
+	memcpy(VARDATA(lists), bytes->data, bytes->len);
+	write_own("INSERT INTO safebound.kept_lists VALUES ($1, $2, $3, $4, $5, $6, $7, $8, $9, $10, $11)", 11, types, values);
+}
+
+/* Whether a column has an order, so that equal values can be told. */
+bool
+has_order(Form_pg_attribute attribute)
+{
+	TypeCacheEntry *type = lookup_type_cache(attribute->atttypid, TYPECACHE_LT_OPR | TYPECACHE_EQ_OPR);
+
+	return OidIsValid(type->lt_opr) && OidIsValid(type->eq_opr);
+}
+
+/* The numbers of named columns; each has to be there and to have an order. */
+static Bitmapset *
+named_columns(Relation relation, ArrayType *names)
+{
+	Bitmapset  *numbers = bms_make_singleton(0);	/* no names aren't all names */
+	Datum	   *values;
+	bool	   *nulls;
+	int			length;
+
+	deconstruct_array(names, NAMEOID, NAMEDATALEN, false, TYPALIGN_CHAR, &values, &nulls, &length);
+	for (int i = 0; i < length; i++)
+	{
+		AttrNumber	number = nulls[i] ? InvalidAttrNumber : get_attnum(RelationGetRelid(relation), NameStr(*DatumGetName(values[i])));
+
+		if (number <= 0)
+			ereport(ERROR, (errcode(ERRCODE_UNDEFINED_COLUMN), errmsg("column \"%s\" of relation \"%s\" does not exist", nulls[i] ? "" : NameStr(*DatumGetName(values[i])), RelationGetRelationName(relation))));
+		if (!has_order(TupleDescAttr(RelationGetDescr(relation), number - 1)))
+			ereport(ERROR, (errcode(ERRCODE_FEATURE_NOT_SUPPORTED), errmsg("column \"%s\" has a type without an order", NameStr(*DatumGetName(values[i])))));
+		numbers = bms_add_member(numbers, number);
+	}
+	return numbers;
+}
+
+/* All columns of which equal values can be told. */
+static Bitmapset *
+all_columns(Relation relation)
+{
+	TupleDesc	desc = RelationGetDescr(relation);
+	Bitmapset  *numbers = NULL;
+
+	for (int i = 0; i < desc->natts; i++)
+		if (!TupleDescAttr(desc, i)->attisdropped && has_order(TupleDescAttr(desc, i)))
+			numbers = bms_add_member(numbers, i + 1);
+	return numbers;
+}
+
+static void
+choose_columns(Making *making, Bitmapset *joined, Bitmapset *filters)
+{
+	Bitmapset  *all = all_columns(making->relation);
+	Bitmapset  *joins = joined ? joined : all;
+	Bitmapset  *conditions = filters ? filters : all;
+	int			number = -1;
+
+	making->columns = palloc0(sizeof(Column) * (bms_num_members(all) + 1));
+	while ((number = bms_next_member(all, number)) >= 0)
+	{
+		Column		column = {.number = number, .joined = bms_is_member(number, joins), .filter = bms_is_member(number, conditions)};
+
+		column.attribute = TupleDescAttr(RelationGetDescr(making->relation), number - 1);
+		if (column.joined || column.filter)
+			making->columns[making->length++] = column;
+	}
+}
+
+/* Whether there can be lists along a reference: who keeps the table may read the other one whole, values are equal on both sides as they
+   are in each column, and numbers of them fit into the memory. */
+static bool
+may_follow(const Making *making, const Column *along, const ForeignKeyCacheInfo *reference)
+{
+	Relation	referred = table_open(reference->confrelid, AccessShareLock);
+	Form_pg_attribute key = TupleDescAttr(RelationGetDescr(referred), reference->confkey[0] - 1);
+	bool		may = referred->rd_rel->relkind == RELKIND_RELATION && !referred->rd_rel->relrowsecurity &&
+		!making->relation->rd_rel->relrowsecurity && reference->nkeys == 1 &&
+		pg_class_aclcheck(reference->confrelid, GetUserId(), ACL_SELECT) == ACLCHECK_OK &&
+		key->atttypid == along->attribute->atttypid && key->attcollation == along->attribute->attcollation &&
+		get_op_opfamily_strategy(reference->conpfeqop[0], lookup_type_cache(key->atttypid, TYPECACHE_BTREE_OPFAMILY)->btree_opf) == BTEqualStrategyNumber &&
+		((Size) along->highest + 1) * 2 * sizeof(uint32) <= (Size) maintenance_work_mem * 1024;
+
+	table_close(referred, NoLock);
+	return may;
+}
+
+/* Lists of this table's rows under conditions on a table to which they refer. */
+static void
+keep_along(Making *making, const Column *along, ForeignKeyCacheInfo *reference)
+{
+	MemoryContext own = AllocSetContextCreate(CurrentMemoryContext, "safebound reference", ALLOCSET_DEFAULT_SIZES);
+	MemoryContext before = MemoryContextSwitchTo(own);
+	int			length;
+	Column	   *columns = referred_columns(making, along, reference, &length);
+
+	keep_filters(making, columns, length);
+	end_columns(columns, length);
+	MemoryContextSwitchTo(before);
+	MemoryContextDelete(own);
+}
+
+static void
+keep_references(Making *making)
+{
+	List	   *references = copyObject(RelationGetFKeyList(making->relation));
+	ListCell   *cell;
+
+	foreach(cell, references)
+	{
+		ForeignKeyCacheInfo *reference = lfirst(cell);
+
+		for (int i = 0; i < making->length; i++)
+			if (making->columns[i].joined && making->columns[i].number == reference->conkey[0] && may_follow(making, &making->columns[i], reference))
+				keep_along(making, &making->columns[i], reference);
+	}
+}
+
+/* Only who owns a table keeps it. */
+Relation
+open_owned(Oid relation)
+{
+	Relation	opened = relation_open(relation, AccessShareLock);
+
+	if (!pg_class_ownercheck(relation, GetUserId()))
+		aclcheck_error(ACLCHECK_NOT_OWNER, OBJECT_TABLE, RelationGetRelationName(opened));
+	if (opened->rd_rel->relkind != RELKIND_RELATION && opened->rd_rel->relkind != RELKIND_MATVIEW)
+		ereport(ERROR, (errcode(ERRCODE_WRONG_OBJECT_TYPE), errmsg("\"%s\" is not a table or materialized view", RelationGetRelationName(opened))));
+	return opened;
+}
+
+static bool
+forget_table(Oid relation)
+{
+	Oid			types[] = {REGCLASSOID};
+	Datum		values[] = {ObjectIdGetDatum(relation)};
+
+	write_own("DELETE FROM safebound.kept_lists WHERE relation = $1", 1, types, values);
+	CacheInvalidateRelcacheByRelid(relation);
+	return write_own("DELETE FROM safebound.kept_table WHERE relation = $1", 1, types, values) > 0;
+}
+
+static void
+save_table(const Making *making)
+{
+	Oid			types[] = {REGCLASSOID, INT8OID, INT2OID, INT2OID, INT2OID};
+	Datum		values[] = {ObjectIdGetDatum(RelationGetRelid(making->relation)), Int64GetDatum(making->rows), Int16GetDatum(making->accuracy), Int16GetDatum(making->most_common), Int16GetDatum(making->most_leaves)};
+
+	write_own("INSERT INTO safebound.kept_table VALUES ($1, $2, $3, $4, $5, now())", 5, types, values);
+}
+
+static int
+within(int value, int least, int most, const char *name)
+{
+	if (value < least || value > most)
+		ereport(ERROR, (errcode(ERRCODE_INVALID_PARAMETER_VALUE), errmsg("%s has to be from %d to %d", name, least, most)));
+	return value;
+}
+
+/* Counts a table in a new snapshot. No columns: all that have an order. */
+int64
+keep_table(Oid relation, Bitmapset *joined, Bitmapset *filters, int most_common, int most_leaves, int accuracy, bool folding)
+{
+	Making		making = {.most_common = most_common,.most_leaves = most_leaves,.accuracy = accuracy,.relation = open_owned(relation)};
+	bool		followed;
+	Seen		before;
+
+	SPI_connect();
+	choose_columns(&making, joined, filters);
+	begin_counting(making.relation, folding, &before, &followed);
+	forget_table(relation);
+	read_columns(&making);
+	keep_whole(&making);
+	keep_filters(&making, making.columns, making.length);
+	keep_references(&making);
+	end_columns(making.columns, making.length);
+	save_table(&making);
+	end_counting(&before, followed);
+	SPI_finish();
+	relation_close(making.relation, NoLock);
+	return making.lists;
+}
+
+static Bitmapset *
+named_or_all(Oid relation, FunctionCallInfo fcinfo, int argument)
+{
+	Relation	opened;
+	Bitmapset  *numbers;
+
+	if (PG_ARGISNULL(argument))
+		return NULL;
+	opened = open_owned(relation);
+	numbers = named_columns(opened, PG_GETARG_ARRAYTYPE_P(argument));
+	relation_close(opened, NoLock);
+	return numbers;
+}
+
+Datum
+safebound_keep(PG_FUNCTION_ARGS)
+{
+	Oid			relation = PG_GETARG_OID(0);
+
+	if (PG_ARGISNULL(0) || PG_ARGISNULL(3) || PG_ARGISNULL(4) || PG_ARGISNULL(5))
+		PG_RETURN_NULL();
+	PG_RETURN_INT64(keep_table(relation, named_or_all(relation, fcinfo, 1), named_or_all(relation, fcinfo, 2),
+							   within(PG_GETARG_INT32(3), 0, 1000, "common"),
+							   within(PG_GETARG_INT32(4), 0, 1000, "ranges"),
+							   within(PG_GETARG_INT32(5), 1, SAFEBOUND_MOST_ACCURACY, "accuracy"), false));
+}
+
+Datum
+safebound_forget(PG_FUNCTION_ARGS)
+{
+	Relation	opened = open_owned(PG_GETARG_OID(0));
+	bool		were;
+
+	LockRelationOid(PG_GETARG_OID(0), ShareUpdateExclusiveLock);
+	SPI_connect();
+	were = forget_table(PG_GETARG_OID(0));
+	SPI_finish();
+	delete_deltas(PG_GETARG_OID(0), NULL);
+	relation_close(opened, NoLock);
+	PG_RETURN_BOOL(were);
+}

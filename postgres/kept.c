@@ -1,0 +1,362 @@
+/* The backend's memory of statistics: read when a table is first planned with, and dropped when the table changes its definition or
+   is kept anew. */
+#include "watch.h"
+
+#include "access/genam.h"
+#include "access/htup_details.h"
+#include "access/table.h"
+#include "catalog/namespace.h"
+#include "catalog/pg_type.h"
+#include "utils/builtins.h"
+#include "utils/datum.h"
+#include "utils/fmgroids.h"
+#include "utils/hsearch.h"
+#include "utils/inval.h"
+#include "utils/lsyscache.h"
+#include "utils/memutils.h"
+#include "utils/rel.h"
+#include "utils/snapmgr.h"
+#include "utils/syscache.h"
+
+/* The columns of safebound.kept_lists. */
+enum
+{
+	LISTS_RELATION = 1,
+	LISTS_JOINED,
+	LISTS_FILTER,
+	LISTS_ALONG,
+	LISTS_REFERRED,
+	LISTS_KEY,
+	LISTS_JOINED_TYPE,
+	LISTS_FILTER_TYPE,
+	LISTS_JOINED_COLLATION,
+	LISTS_FILTER_COLLATION,
+	LISTS_BYTES,
+	LISTS_COLUMNS = LISTS_BYTES
+};
+
+static HTAB *tables;
+
+/* Statistics that are no longer true, but that a plan in the making may still point to. */
+static KeptTable *dropped;
+static List *dropped_deltas;
+
+/* A table of the extension; InvalidOid where the extension isn't created in this database. */
+Oid
+extension_table(const char *name)
+{
+	Oid			schema = get_namespace_oid("safebound", true);
+
+	return OidIsValid(schema) ? get_relname_relid(name, schema) : InvalidOid;
+}
+
+/* What changed since the statistics were made may have other values: a column of another type or collation. */
+static bool
+same_column(Oid relation, AttrNumber number, Oid type, Oid collation)
+{
+	HeapTuple	tuple;
+	bool		same;
+
+	if (number == 0)
+		return true;
+	tuple = SearchSysCache2(ATTNUM, ObjectIdGetDatum(relation), Int16GetDatum(number));
+	if (!HeapTupleIsValid(tuple))
+		return false;
+	same = ((Form_pg_attribute) GETSTRUCT(tuple))->atttypid == type && ((Form_pg_attribute) GETSTRUCT(tuple))->attcollation == collation;
+	ReleaseSysCache(tuple);
+	return same;
+}
+
+static Datum
+get_value(const char **at, const char *end, Oid type)
+{
+	uint64		size = get_number(at, end);
+	int16		length;
+	bool		by_value;
+	Datum		value;
+
+	get_typlenbyval(type, &length, &by_value);
+	if (by_value)
+		size = sizeof(Datum);
+	if (size > (uint64) (end - *at))
+		ereport(ERROR, (errcode(ERRCODE_DATA_CORRUPTED), errmsg("a kept list ends too early")));
+	if (by_value)
+		memcpy(&value, *at, sizeof(Datum));
+	else
+		value = PointerGetDatum(memcpy(palloc(size), *at, size));
+	*at += size;
+	return value;
+}
+
+static KeptPair
+read_pair(Datum *row)
+{
+	KeptPair	pair = {
+		.joined = DatumGetInt16(row[LISTS_JOINED - 1]),.filter = DatumGetInt16(row[LISTS_FILTER - 1]),
+		.along = DatumGetInt16(row[LISTS_ALONG - 1]),.referred = DatumGetObjectId(row[LISTS_REFERRED - 1]),
+		.key = DatumGetInt16(row[LISTS_KEY - 1])
+	};
+	bytea	   *bytes = DatumGetByteaP(row[LISTS_BYTES - 1]);
+	const char *at = VARDATA_ANY(bytes);
+	const char *end = at + VARSIZE_ANY_EXHDR(bytes);
+	int			capacity = 4;
+
+	pair.lists = palloc(capacity * sizeof(KeptList));
+	while (at < end)
+	{
+		KeptList	list = {.kind = (ListKind) *at++};
+
+		if (list.kind == LIST_VALUE || list.kind == LIST_LEAF)
+			list.value = get_value(&at, end, DatumGetObjectId(row[LISTS_FILTER_TYPE - 1]));
+		list.list = get_list(&at, end);
+		if (pair.length == capacity)
+			pair.lists = repalloc(pair.lists, (capacity *= 2) * sizeof(KeptList));
+		if (list.kind == LIST_LEAF && pair.leaves++ == 0)
+			pair.first_leaf = pair.length;
+		pair.lists[pair.length++] = list;
+	}
+	return pair;
+}
+
+static int
+compared(uint64 one, uint64 other)
+{
+	return (one > other) - (one < other);
+}
+
+static int
+by_columns(const void *left, const void *right)
+{
+	const KeptPair *one = left;
+	const KeptPair *other = right;
+	int			order = compared(one->referred, other->referred);
+
+	if (order == 0)
+		order = compared(((uint64) (uint16) one->along << 48) | ((uint64) (uint16) one->key << 32) | ((uint64) (uint16) one->joined << 16) | (uint16) one->filter,
+						 ((uint64) (uint16) other->along << 48) | ((uint64) (uint16) other->key << 32) | ((uint64) (uint16) other->joined << 16) | (uint16) other->filter);
+	return order;
+}
+
+static void
+read_table(KeptTable *table, Relation lists, Snapshot snapshot)
+{
+	ScanKeyData key;
+	SysScanDesc scan;
+	HeapTuple	tuple;
+	int			capacity = 16;
+
+	table->pairs = palloc(capacity * sizeof(KeptPair));
+	ScanKeyInit(&key, LISTS_RELATION, BTEqualStrategyNumber, F_OIDEQ, ObjectIdGetDatum(table->relation));
+	scan = systable_beginscan(lists, extension_table("kept_lists_pkey"), true, snapshot, 1, &key);
+	while (HeapTupleIsValid(tuple = systable_getnext(scan)))
+	{
+		Datum		row[LISTS_COLUMNS];
+		bool		nulls[LISTS_COLUMNS];
+
+		heap_deform_tuple(tuple, RelationGetDescr(lists), row, nulls);
+		if (!same_column(table->relation, DatumGetInt16(row[LISTS_JOINED - 1]), DatumGetObjectId(row[LISTS_JOINED_TYPE - 1]), DatumGetObjectId(row[LISTS_JOINED_COLLATION - 1])) ||
+			!same_column(OidIsValid(DatumGetObjectId(row[LISTS_REFERRED - 1])) ? DatumGetObjectId(row[LISTS_REFERRED - 1]) : table->relation, DatumGetInt16(row[LISTS_FILTER - 1]), DatumGetObjectId(row[LISTS_FILTER_TYPE - 1]), DatumGetObjectId(row[LISTS_FILTER_COLLATION - 1])))
+			continue;
+		if (table->length == capacity)
+			table->pairs = repalloc(table->pairs, (capacity *= 2) * sizeof(KeptPair));
+		table->pairs[table->length++] = read_pair(row);
+	}
+	systable_endscan(scan);
+	qsort(table->pairs, table->length, sizeof(KeptPair), by_columns);
+	table->known = kept_pair(table, 0, 0) != NULL;
+}
+
+/* Below the current context, so that nothing of it stays after an error. */
+static KeptTable *
+loaded(const Seen *seen, Snapshot snapshot)
+{
+	Oid			lists_oid = extension_table("kept_lists");
+	MemoryContext context = AllocSetContextCreate(CurrentMemoryContext, "safebound statistics", ALLOCSET_SMALL_SIZES);
+	MemoryContext before = MemoryContextSwitchTo(context);
+	KeptTable  *table = palloc0(sizeof(KeptTable));
+
+	table->relation = seen->relation;
+	table->version = seen->version;
+	table->context = context;
+	if (OidIsValid(lists_oid))
+	{
+		Relation	lists = table_open(lists_oid, AccessShareLock);
+
+		read_table(table, lists, snapshot);
+		table_close(lists, AccessShareLock);
+	}
+	MemoryContextSwitchTo(before);
+	return table;
+}
+
+typedef struct TableEntry
+{
+	Oid			relation;
+	KeptTable  *table;
+} TableEntry;
+
+static void
+drop_deltas(Deltas *deltas)
+{
+	if (deltas != NULL)
+		dropped_deltas = lappend(dropped_deltas, deltas);
+}
+
+static void
+drop(KeptTable *table)
+{
+	table->next = dropped;
+	dropped = table;
+}
+
+/* How many plans are in the making or being admitted. */
+static int	holders;
+
+void
+kept_hold(void)
+{
+	holders++;
+}
+
+void
+kept_release(void)
+{
+	holders--;
+}
+
+/* Called where no plan is in the making. */
+void
+kept_free_dropped(void)
+{
+	while (dropped != NULL && holders == 0)
+	{
+		KeptTable  *next = dropped->next;
+
+		if (dropped->deltas)
+			MemoryContextDelete(dropped->deltas->context);
+		MemoryContextDelete(dropped->context);
+		dropped = next;
+	}
+	while (dropped_deltas != NIL && holders == 0)
+	{
+		MemoryContextDelete(((Deltas *) linitial(dropped_deltas))->context);
+		dropped_deltas = list_delete_first(dropped_deltas);
+	}
+}
+
+static KeptTable *
+table_of_version(const Seen *seen, Snapshot snapshot)
+{
+	bool		found;
+	TableEntry *entry = hash_search(tables, &seen->relation, HASH_FIND, &found);
+	KeptTable  *table;
+
+	if (found && entry->table->version == seen->version)
+		return entry->table;
+	table = loaded(seen, snapshot);
+	entry = hash_search(tables, &seen->relation, HASH_ENTER, &found);
+	if (found)
+		drop(entry->table);
+	MemoryContextSetParent(table->context, CacheMemoryContext);
+	entry->table = table;
+	return table;
+}
+
+static void
+take_deltas(KeptTable *table, const Seen *seen, Snapshot snapshot)
+{
+	Deltas	   *deltas = see_deltas(seen, snapshot, table->deltas);
+	MemoryContext before = MemoryContextSwitchTo(CacheMemoryContext);
+
+	if (deltas != table->deltas)
+		drop_deltas(table->deltas);
+	MemoryContextSetParent(deltas->context, CacheMemoryContext);
+	table->deltas = deltas;
+	MemoryContextSwitchTo(before);
+}
+
+bool		kept_fresh_only = false;
+
+/* The statistics of a table as the active snapshot sees them, or NULL. What is dropped meanwhile stays until no plan is in the making.
+   The memory of them is of one version, and a snapshot may see another one. */
+const KeptTable *
+kept_table(Oid relation)
+{
+	Snapshot	snapshot = ActiveSnapshotSet() ? GetActiveSnapshot() : GetTransactionSnapshot();
+	KeptTable  *table,
+			   *view;
+	Seen		seen;
+
+	if (!see_table(relation, snapshot, &seen) || (kept_fresh_only && seen.sources == NIL) || is_writing(&seen))
+		return NULL;
+	table = table_of_version(&seen, snapshot);
+	if (!table->known)
+		return NULL;
+	if (seen.sources != NIL)
+		take_deltas(table, &seen, snapshot);
+	if (table->deltas && table->deltas->not_counted)
+		return NULL;
+	view = palloc(sizeof(KeptTable));
+	*view = *table;
+	view->unchanged = unchanged_references(&seen, snapshot);
+	return view;
+}
+
+const KeptPair *
+kept_pair(const KeptTable *table, AttrNumber joined, AttrNumber filter)
+{
+	return kept_pair_along(table, joined, filter, NULL);
+}
+
+/* The same along a reference; NULL: of the table's own column. */
+const KeptPair *
+kept_pair_along(const KeptTable *table, AttrNumber joined, AttrNumber filter, const Reference *reference)
+{
+	KeptPair	wanted = {.joined = joined,.filter = filter};
+
+	if (reference)
+	{
+		wanted.along = reference->along;
+		wanted.referred = reference->referred;
+		wanted.key = reference->key;
+	}
+	return bsearch(&wanted, table->pairs, table->length, sizeof(KeptPair), by_columns);
+}
+
+bool
+has_pairs_along(const KeptTable *table, const Reference *reference)
+{
+	for (int i = 0; i < table->length; i++)
+		if (table->pairs[i].along == reference->along && table->pairs[i].referred == reference->referred && table->pairs[i].key == reference->key)
+			return true;
+	return false;
+}
+
+static void
+drop_entry(TableEntry *entry)
+{
+	drop(entry->table);
+	hash_search(tables, &entry->relation, HASH_REMOVE, NULL);
+}
+
+/* With InvalidOid all tables may have changed. */
+static void
+on_invalidation(Datum argument, Oid relation)
+{
+	HASH_SEQ_STATUS status;
+	TableEntry *entry;
+
+	hash_seq_init(&status, tables);
+	while ((entry = hash_seq_search(&status)) != NULL)
+		if (!OidIsValid(relation) || entry->relation == relation)
+			drop_entry(entry);
+}
+
+void
+kept_init(void)
+{
+	HASHCTL		control = {.keysize = sizeof(Oid), .entrysize = sizeof(TableEntry)};
+
+	tables = hash_create("safebound tables", 64, &control, HASH_ELEM | HASH_BLOBS);
+	CacheRegisterRelcacheCallback(on_invalidation, (Datum) 0);
+}

@@ -1,0 +1,247 @@
+/* Degree lists: from the library, their bytes in the extension's table, and what conditions make of them. */
+#include "statistics.h"
+
+#include "common/int.h"
+
+/* The library answers statuses; all values are checked before, so that only memory can be wanting. */
+void
+library_check(safebound_status status, uint64 detail, const char *call)
+{
+	if (status == SAFEBOUND_NO_MEMORY)
+		ereport(ERROR, (errcode(ERRCODE_OUT_OF_MEMORY), errmsg("out of memory")));
+	if (status != SAFEBOUND_OK)
+		elog(ERROR, "%s: %s, at %llu", call, safebound_status_text(status), (unsigned long long) detail);
+}
+
+/* The degree sequence of keys, of a part of a table with so many rows. */
+DegreeList
+degrees_of(const uint64 *keys, size_t length, uint64 rows)
+{
+	DegreeList	list = {rows, 0, NULL};
+	uint64		detail = 0;
+	size_t		room = 64;
+	safebound_status status;
+
+	list.runs = palloc(room * sizeof(safebound_run));
+	while ((status = safebound_degrees(keys, length, list.runs, room, &detail)) == SAFEBOUND_ROOM)
+	{
+		room = detail;
+		list.runs = repalloc(list.runs, room * sizeof(safebound_run));
+	}
+	library_check(status, detail, "safebound_degrees");
+	list.length = detail;
+	return list;
+}
+
+DegreeList
+compressed(DegreeList list, int accuracy)
+{
+	DegreeList	few = {list.rows, 0, palloc((list.length + 1) * sizeof(safebound_run))};
+	uint64		detail = 0;
+
+	if (list.length == 0)
+		return few;
+	library_check(safebound_compress(list.runs, list.length, accuracy, few.runs, list.length + 1, &detail), detail, "safebound_compress");
+	few.length = detail;
+	return few;
+}
+
+/* The list of rows of which each is in one or the other. */
+DegreeList
+summed(DegreeList one, DegreeList other)
+{
+	size_t		room = one.length + other.length + 1;
+	DegreeList	both = {one.rows + other.rows, 0, palloc(room * sizeof(safebound_run))};
+	uint64		detail = 0;
+
+	if (one.length == 0 || other.length == 0)
+	{
+		DegreeList	full = one.length ? one : other;
+
+		full.rows = both.rows;
+		return full;
+	}
+	library_check(safebound_append(one.runs, one.length, other.runs, other.length, both.runs, room, &detail), detail, "safebound_append");
+	both.length = detail;
+	return both;
+}
+
+/* A place within a list: how many keys are passed, and how many rows they have. */
+typedef struct Place
+{
+	const DegreeList *list;
+	int			run;
+	uint64		passed;			/* keys of this run */
+	uint64		sum;
+} Place;
+
+static uint64
+degree_at(const Place *place)
+{
+	return place->run < place->list->length ? place->list->runs[place->run].degree : 0;
+}
+
+static uint64
+left_at(const Place *place)
+{
+	return place->run < place->list->length ? place->list->runs[place->run].keys - place->passed : PG_UINT64_MAX;
+}
+
+static void
+advance(Place *place, uint64 keys)
+{
+	place->sum += degree_at(place) * keys;
+	place->passed += keys;
+	if (left_at(place) == 0)
+	{
+		place->run++;
+		place->passed = 0;
+	}
+}
+
+static void
+put_run(DegreeList *into, uint64 degree, uint64 keys)
+{
+	if (degree == 0 || keys == 0)
+		return;
+	if (into->length > 0 && into->runs[into->length - 1].degree == degree)
+		into->runs[into->length - 1].keys += keys;
+	else
+		into->runs[into->length++] = (safebound_run) {.degree = degree, .keys = keys};
+}
+
+/* The greater degree at each rank: it dominates what one of both dominates. */
+DegreeList
+greatest(DegreeList one, DegreeList other)
+{
+	Place		first = {&one, 0, 0, 0};
+	Place		second = {&other, 0, 0, 0};
+	DegreeList	both = {Max(one.rows, other.rows), 0, palloc((one.length + other.length + 1) * sizeof(safebound_run))};
+
+	while (degree_at(&first) > 0 || degree_at(&second) > 0)
+	{
+		uint64		keys = Min(left_at(&first), left_at(&second));
+
+		put_run(&both, Max(degree_at(&first), degree_at(&second)), keys);
+		advance(&first, keys);
+		advance(&second, keys);
+	}
+	return both;
+}
+
+/* Whether a list has nothing that is greater in the other one. */
+bool
+dominates(const DegreeList *one, const DegreeList *other)
+{
+	Place		first = {one, 0, 0, 0};
+	Place		second = {other, 0, 0, 0};
+
+	while (degree_at(&second) > 0)
+	{
+		uint64		keys = Min(left_at(&first), left_at(&second));
+
+		if (degree_at(&first) < degree_at(&second))
+			return false;
+		advance(&first, keys);
+		advance(&second, keys);
+	}
+	return one->rows >= other->rows;
+}
+
+/* How many of the next keys the lower of two places stays the lower one: it stands `gap` rows lower and gains `gain` a key. */
+static uint64
+keys_until_crossing(uint64 gap, uint64 lower, uint64 upper)
+{
+	return lower <= upper ? PG_UINT64_MAX : gap / (lower - upper);
+}
+
+/* The list whose running sums are the lesser of both: it stands for rows that are in both. */
+DegreeList
+lesser(DegreeList one, DegreeList other)
+{
+	Place		low = {&one, 0, 0, 0};
+	Place		high = {&other, 0, 0, 0};
+	DegreeList	both = {Min(one.rows, other.rows), 0, palloc(3 * (one.length + other.length + 2) * sizeof(safebound_run))};
+
+	while (degree_at(&low) > 0 || degree_at(&high) > 0)
+	{
+		uint64		keys = Min(left_at(&low), left_at(&high));
+		uint64		before;
+
+		if (low.sum > high.sum || (low.sum == high.sum && degree_at(&low) > degree_at(&high)))
+		{
+			Place		swapped = low;
+
+			low = high;
+			high = swapped;
+		}
+		before = low.sum;
+		keys = Min(keys, keys_until_crossing(high.sum - low.sum, degree_at(&low), degree_at(&high)));
+		if (keys > 0)
+			put_run(&both, degree_at(&low), keys);
+		else
+		{
+			/* They cross within the next key. */
+			keys = 1;
+			put_run(&both, high.sum + degree_at(&high) - before, 1);
+		}
+		advance(&low, keys);
+		advance(&high, keys);
+	}
+	return both;
+}
+
+/* Numbers of seven bits a byte, the least first. */
+void
+put_number(StringInfo into, uint64 number)
+{
+	for (; number >= 128; number >>= 7)
+		appendStringInfoCharMacro(into, (char) (128 | (number & 127)));
+	appendStringInfoCharMacro(into, (char) number);
+}
+
+uint64
+get_number(const char **at, const char *end)
+{
+	uint64		number = 0;
+	unsigned char byte = 128;
+
+	for (int shift = 0; byte & 128; shift += 7)
+	{
+		if (*at >= end || shift > 63)
+			ereport(ERROR, (errcode(ERRCODE_DATA_CORRUPTED), errmsg("a kept list ends too early")));
+		byte = (unsigned char) *(*at)++;
+		number |= ((uint64) (byte & 127)) << shift;
+	}
+	return number;
+}
+
+void
+put_list(StringInfo into, const DegreeList *list)
+{
+	put_number(into, list->rows);
+	put_number(into, list->length);
+	for (int i = 0; i < list->length; i++)
+	{
+		put_number(into, list->runs[i].degree);
+		put_number(into, list->runs[i].keys);
+	}
+}
+
+DegreeList
+get_list(const char **at, const char *end)
+{
+	DegreeList	list;
+
+	list.rows = get_number(at, end);
+	list.length = (int) get_number(at, end);
+	if (list.length < 0 || list.length > end - *at)
+		ereport(ERROR, (errcode(ERRCODE_DATA_CORRUPTED), errmsg("a kept list ends too early")));
+	list.runs = palloc((list.length + 1) * sizeof(safebound_run));
+	for (int i = 0; i < list.length; i++)
+	{
+		list.runs[i].degree = get_number(at, end);
+		list.runs[i].keys = get_number(at, end);
+	}
+	return list;
+}

@@ -1,0 +1,327 @@
+/* Row numbers from bounds, given to PostgreSQL's planner at the hooks where it makes paths. Each hook calls the one that was there
+   before. What has no bound keeps PostgreSQL's number. */
+#include "planning.h"
+
+#include <math.h>
+
+#include "optimizer/cost.h"
+#include "optimizer/geqo.h"
+#include "optimizer/optimizer.h"
+#include "optimizer/pathnode.h"
+#include "optimizer/paths.h"
+#include "optimizer/planner.h"
+#include "tcop/tcopprot.h"
+#include "utils/hsearch.h"
+
+int			estimates_mode = ESTIMATES_OFF;
+
+static planner_hook_type planner_before;
+static set_rel_pathlist_hook_type rel_paths_before;
+static set_join_pathlist_hook_type join_paths_before;
+static join_search_hook_type join_search_before;
+
+/* One call of the planner. A function that it evaluates may call it again. */
+typedef struct Planning
+{
+	struct Planning *outer;
+	List	   *queries;		/* of BoundedQuery, one for each PlannerInfo that has joins or scans */
+	List	  **told;			/* where they are told, if anywhere */
+} Planning;
+
+static Planning *planning;
+
+/* Where the next call tells its queries. */
+static List **told_next;
+
+/* What PostgreSQL by itself expects of a relation. A join relation that is in the table has its rows. */
+typedef struct OwnRows
+{
+	RelOptInfo *rel;
+	double		rows;
+} OwnRows;
+
+static HTAB *
+own_rows_table(void)
+{
+	HASHCTL		control = {.keysize = sizeof(RelOptInfo *),.entrysize = sizeof(OwnRows),.hcxt = CurrentMemoryContext};
+
+	return hash_create("safebound rows", 32, &control, HASH_ELEM | HASH_BLOBS | HASH_CONTEXT);
+}
+
+double
+own_rows(BoundedQuery *query, RelOptInfo *rel)
+{
+	OwnRows    *own = hash_search(query->estimates, &rel, HASH_FIND, NULL);
+
+	return own ? own->rows : rel->rows;
+}
+
+static void
+note_own_rows(BoundedQuery *query, RelOptInfo *rel, double rows)
+{
+	OwnRows    *own = hash_search(query->estimates, &rel, HASH_ENTER, NULL);
+
+	own->rows = rows;
+}
+
+/* The number to plan with: the bound, or the geometric mean of bound and estimate, which is never above the bound. */
+static double
+rows_by_mode(double bound, double estimate)
+{
+	double		mean = estimates_mode == ESTIMATES_MEAN ? sqrt(bound) * sqrt(Max(estimate, 1)) : bound;
+
+	return clamp_row_est(Min(bound, mean));
+}
+
+/* All base relations get their numbers before the first of them has its paths for good: the paths of one cost by the rows of others. */
+static void
+set_base_rows(BoundedQuery *query)
+{
+	for (int i = 1; i < query->root->simple_rel_array_size; i++)
+	{
+		Entry	   *entry = &query->entries[i];
+
+		if (entry->table == NULL)
+			continue;
+		note_own_rows(query, entry->rel, entry->rel->rows);
+		if (estimates_mode != ESTIMATES_OFF)
+			entry->rel->rows = rows_by_mode((double) entry->rows, entry->rel->rows);
+	}
+}
+
+static BoundedQuery *
+query_of(PlannerInfo *root, bool make)
+{
+	BoundedQuery *query;
+	MemoryContext before;
+	ListCell   *cell;
+
+	foreach(cell, planning->queries)
+		if (((BoundedQuery *) lfirst(cell))->root == root)
+			return lfirst(cell);
+	if (!make)
+		return NULL;
+	before = MemoryContextSwitchTo(root->planner_cxt);
+	query = bounded_query(root);
+	query->estimates = own_rows_table();
+	planning->queries = lappend(planning->queries, query);
+	set_base_rows(query);
+	MemoryContextSwitchTo(before);
+	return query;
+}
+
+/* What allpaths.c makes for a plain table. */
+static void
+make_scan_paths(PlannerInfo *root, RelOptInfo *rel)
+{
+	rel->pathlist = NIL;
+	rel->partial_pathlist = NIL;
+	add_path(rel, create_seqscan_path(root, rel, rel->lateral_relids, 0));
+	if (rel->consider_parallel && rel->lateral_relids == NULL)
+	{
+		int			workers = compute_parallel_worker(rel, rel->pages, -1, max_parallel_workers_per_gather);
+
+		if (workers > 0)
+			add_partial_path(rel, create_seqscan_path(root, rel, NULL, workers));
+	}
+	create_index_paths(root, rel);
+	create_tidscan_paths(root, rel);
+}
+
+/* A scan that is repeated for each row of others: what the bound of the join leaves for each of their rows. */
+static void
+set_parameterised_rows(BoundedQuery *query, RelOptInfo *rel, ParamPathInfo *info)
+{
+	uint64		outer = bound_of_set(query, info->ppi_req_outer);
+	uint64		joined = outer == UNKNOWN ? UNKNOWN : bound_of_set(query, bms_union(info->ppi_req_outer, rel->relids));
+
+	if (joined != UNKNOWN)
+		info->ppi_rows = Min(rel->rows, rows_by_mode((double) joined / Max(outer, 1), info->ppi_rows));
+}
+
+static void
+on_rel_paths(PlannerInfo *root, RelOptInfo *rel, Index rti, RangeTblEntry *rte)
+{
+	if (planning != NULL && (estimates_mode != ESTIMATES_OFF || planning->told))
+	{
+		BoundedQuery *query = query_of(root, true);
+		ListCell   *cell;
+
+		if (estimates_mode != ESTIMATES_OFF && rti < (Index) root->simple_rel_array_size && query->entries[rti].rel == rel && query->entries[rti].table)
+		{
+			rel->ppilist = NIL;
+			make_scan_paths(root, rel);
+			foreach(cell, rel->ppilist)
+				set_parameterised_rows(query, rel, lfirst(cell));
+			if (rel->ppilist != NIL)
+				make_scan_paths(root, rel);
+		}
+	}
+	if (rel_paths_before)
+		rel_paths_before(root, rel, rti, rte);
+}
+
+/* What PostgreSQL would expect of a join, had it expected its own rows of both sides. */
+static double
+own_join_rows(BoundedQuery *query, RelOptInfo *joinrel, RelOptInfo *outer, RelOptInfo *inner, JoinType type)
+{
+	double		rows = joinrel->rows * own_rows(query, outer) / Max(outer->rows, 1);
+
+	if (type != JOIN_SEMI && type != JOIN_ANTI)
+		rows *= own_rows(query, inner) / Max(inner->rows, 1);
+	return clamp_row_est(rows);
+}
+
+/* Sets a join relation's rows and takes its paths away, where it has a bound; they are to be made again. */
+static bool
+set_join_rows(BoundedQuery *query, RelOptInfo *joinrel, double estimate)
+{
+	uint64		bound = bound_of_join(query, joinrel->relids);
+
+	note_own_rows(query, joinrel, estimate);
+	if (bound == UNKNOWN)
+		return false;
+	joinrel->rows = rows_by_mode((double) bound, estimate);
+	joinrel->pathlist = NIL;
+	joinrel->partial_pathlist = NIL;
+	joinrel->ppilist = NIL;
+	return true;
+}
+
+static bool
+is_new(BoundedQuery *query, RelOptInfo *joinrel)
+{
+	return joinrel->reloptkind == RELOPT_JOINREL && hash_search(query->estimates, &joinrel, HASH_FIND, NULL) == NULL;
+}
+
+/* At a join relation's first pair its rows are set, and the pair's paths are made again. */
+static void
+on_join_paths(PlannerInfo *root, RelOptInfo *joinrel, RelOptInfo *outer, RelOptInfo *inner, JoinType type, JoinPathExtraData *extra)
+{
+	BoundedQuery *query = estimates_mode != ESTIMATES_OFF && planning && !root->join_search_private ? query_of(root, false) : NULL;
+
+	if (query != NULL && is_new(query, joinrel) &&
+		set_join_rows(query, joinrel, own_join_rows(query, joinrel, outer, inner, extra->sjinfo->jointype)))
+		return add_paths_to_joinrel(root, joinrel, outer, inner, type, extra->sjinfo, extra->restrictlist);
+	if (join_paths_before)
+		join_paths_before(root, joinrel, outer, inner, type, extra);
+}
+
+/* Joins with a condition that names no relation don't come to the hook above. A level that has such a join is made once more. */
+static void
+search_level(PlannerInfo *root, BoundedQuery *query, int level)
+{
+	bool		again = false;
+	ListCell   *cell;
+
+	join_search_one_level(root, level);
+	foreach(cell, root->join_rel_level[level])
+	{
+		RelOptInfo *rel = lfirst(cell);
+
+		if (is_new(query, rel) && !IS_DUMMY_REL(rel) && set_join_rows(query, rel, rel->rows))
+			again = true;
+	}
+	if (again)
+		join_search_one_level(root, level);
+}
+
+/* What allpaths.c does once a level has its relations. */
+static void
+finish_level(PlannerInfo *root, int level)
+{
+	ListCell   *cell;
+
+	foreach(cell, root->join_rel_level[level])
+	{
+		RelOptInfo *rel = lfirst(cell);
+
+		generate_partitionwise_join_paths(root, rel);
+		if (!bms_equal(rel->relids, root->all_baserels))
+			generate_useful_gather_paths(root, rel, false);
+		set_cheapest(rel);
+	}
+}
+
+/* PostgreSQL's own search, with a look at each level. */
+static RelOptInfo *
+on_join_search(PlannerInfo *root, int levels, List *initial)
+{
+	BoundedQuery *query = estimates_mode != ESTIMATES_OFF && planning ? query_of(root, false) : NULL;
+	RelOptInfo *rel;
+
+	if (join_search_before)
+		return join_search_before(root, levels, initial);
+	if (enable_geqo && levels >= geqo_threshold)
+		return geqo(root, levels, initial);
+	if (query == NULL)
+		return standard_join_search(root, levels, initial);
+	root->join_rel_level = palloc0((levels + 1) * sizeof(List *));
+	root->join_rel_level[1] = initial;
+	for (int level = 2; level <= levels; level++)
+	{
+		search_level(root, query, level);
+		finish_level(root, level);
+	}
+	rel = linitial(root->join_rel_level[levels]);
+	root->join_rel_level = NULL;
+	return rel;
+}
+
+static PlannedStmt *
+on_planner(Query *parse, const char *text, int options, ParamListInfo parameters)
+{
+	Planning	mine = {.outer = planning,.told = told_next};
+	PlannedStmt *plan;
+
+	if (planning == NULL)
+		kept_free_dropped();
+	told_next = NULL;
+	planning = &mine;
+	PG_TRY();
+	{
+		plan = planner_before ? planner_before(parse, text, options, parameters) : standard_planner(parse, text, options, parameters);
+	}
+	PG_FINALLY();
+	{
+		planning = mine.outer;
+	}
+	PG_END_TRY();
+	if (mine.told)
+		*mine.told = mine.queries;
+	return plan;
+}
+
+/* Plans a query as this session does, and tells what is known of each part of it. */
+PlannedStmt *
+plan_and_tell(Query *query, const char *text, List **queries)
+{
+	PlannedStmt *plan;
+
+	*queries = NIL;
+	told_next = queries;
+	PG_TRY();
+	{
+		plan = pg_plan_query(query, text, CURSOR_OPT_PARALLEL_OK, NULL);
+	}
+	PG_FINALLY();
+	{
+		/* Another hook may have failed before ours took it. */
+		told_next = NULL;
+	}
+	PG_END_TRY();
+	return plan;
+}
+
+void
+planning_init(void)
+{
+	planner_before = planner_hook;
+	planner_hook = on_planner;
+	rel_paths_before = set_rel_pathlist_hook;
+	set_rel_pathlist_hook = on_rel_paths;
+	join_paths_before = set_join_pathlist_hook;
+	set_join_pathlist_hook = on_join_paths;
+	join_search_before = join_search_hook;
+	join_search_hook = on_join_search;
+}

@@ -1,0 +1,83 @@
+/* What one PlannerInfo's relations and equalities are to the library. */
+#ifndef SAFEBOUND_PLANNING_H
+#define SAFEBOUND_PLANNING_H
+
+#include "statistics.h"
+
+#include "nodes/plannodes.h"
+#include "utils/hsearch.h"
+
+/* No row bound is known. */
+#define UNKNOWN PG_UINT64_MAX
+
+typedef enum EstimatesMode
+{
+	ESTIMATES_OFF,
+	ESTIMATES_MEAN,
+	ESTIMATES_BOUND
+} EstimatesMode;
+
+extern int	estimates_mode;
+
+/* A relation of FROM with kept statistics. */
+typedef struct Entry
+{
+	const KeptTable *table;		/* NULL: nothing is known of it */
+	RelOptInfo *rel;
+	uint64		rows;			/* its row bound */
+	int			number;			/* among the relations that are known */
+	Bitmapset  *used;			/* the columns whose conditions have lists */
+} Entry;
+
+/* A joined column under its entry's own conditions. */
+typedef struct JoinedColumn
+{
+	Index		relid;
+	AttrNumber	number;
+	DegreeList	list;
+} JoinedColumn;
+
+/* Columns that are equal in each row in which `required` are joined. */
+typedef struct EqualColumns
+{
+	Relids		required;		/* NULL: any two of them, as an equivalence class has it */
+	int			length;
+	int		   *columns;
+} EqualColumns;
+
+/* A relation that refers to another one, by an equality of both: it has lists under the other one's conditions. */
+typedef struct Carried
+{
+	Index		referring;
+	Index		referred;
+	Relids		required;		/* as of the equality */
+	Reference	reference;
+	bool	   *looked;			/* by column, and the last one is its rows alone: whether the list was looked for */
+	DegreeList **lists;			/* NULL where there is none */
+	Bitmapset  *used;			/* the columns of the referred relation whose conditions have lists */
+} Carried;
+
+typedef struct BoundedQuery
+{
+	PlannerInfo *root;
+	Entry	   *entries;		/* by relid */
+	int			columns_length;
+	int			columns_capacity;
+	JoinedColumn *columns;
+	List	   *equalities;		/* of EqualColumns */
+	List	   *carried;		/* of Carried */
+	HTAB	   *bounds;			/* of the sets that were asked for */
+	HTAB	   *estimates;		/* PostgreSQL's own rows, by relation */
+} BoundedQuery;
+
+/* joins.c */
+extern BoundedQuery *bounded_query(PlannerInfo *root);
+extern uint64 bound_of_set(BoundedQuery *query, Relids relids);
+extern uint64 bound_of_join(BoundedQuery *query, Relids relids);
+
+/* planning.c */
+extern double own_rows(BoundedQuery *query, RelOptInfo *rel);
+extern PlannedStmt *plan_and_tell(Query *query, const char *text, List **queries);
+extern void planning_init(void);
+
+#endif

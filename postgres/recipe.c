@@ -1,0 +1,290 @@
+/* What the bounds of a plan's joins are made of, kept with the plan, so that they can be made again when it runs.
+
+   A finished plan has no equivalence classes and no conditions as they were. They are copied into the plan as an entry of its range
+   table that nothing names, of the kind that is a single row without columns: the lists of its values hold them. Such an entry lies in
+   no table, takes no lock and is asked for no right; plans that are cached or copied keep it. A parallel worker doesn't get it. */
+#include "admit.h"
+
+#include "nodes/makefuncs.h"
+#include "nodes/nodeFuncs.h"
+#include "optimizer/clauses.h"
+#include "optimizer/optimizer.h"
+
+/* The name that marks the entry. */
+#define RECIPE_NAME "*safebound*"
+
+/* The lists of a part, one for each thing that bounded_query reads. */
+enum
+{
+	PART_ENTRIES,				/* a range table entry for each relation, from 1 on */
+	PART_CONDITIONS,			/* for each relation the conditions on it alone */
+	PART_CLASSES,				/* equivalence classes: families, collation, members */
+	PART_CLAUSES,				/* other join clauses, each with the relations that it needs */
+	PART_SPECIAL,				/* outer and semi-joins */
+	PART_JOINS,					/* the joins of the plan */
+	PART_LENGTH
+};
+
+static List *
+numbers_of(Relids relids)
+{
+	List	   *numbers = NIL;
+	int			number = -1;
+
+	while ((number = bms_next_member(relids, number)) >= 0)
+		numbers = lappend_int(numbers, number);
+	return numbers;
+}
+
+static Relids
+relids_of(List *numbers)
+{
+	Relids		relids = NULL;
+	ListCell   *cell;
+
+	foreach(cell, numbers)
+		relids = bms_add_member(relids, lfirst_int(cell));
+	return relids;
+}
+
+/* What is known of an entry without its columns: which table it is, or that it is none. */
+static RangeTblEntry *
+slim_entry(PlannerInfo *root, int relid)
+{
+	RangeTblEntry *entry = root->simple_rte_array[relid];
+	RelOptInfo *rel = root->simple_rel_array[relid];
+	RangeTblEntry *slim = makeNode(RangeTblEntry);
+
+	slim->rtekind = RTE_RESULT;
+	if (entry == NULL)
+		return slim;
+	slim->eref = makeAlias(entry->eref->aliasname, NIL);
+	if (rel == NULL || rel->reloptkind != RELOPT_BASEREL || entry->rtekind != RTE_RELATION)
+		return slim;
+	slim->rtekind = RTE_RELATION;
+	slim->relid = entry->relid;
+	slim->relkind = entry->relkind;
+	slim->inh = entry->inh;
+	slim->tablesample = copyObject(entry->tablesample);
+	return slim;
+}
+
+/* The conditions on a relation alone. Those with subqueries bound nothing. */
+static List *
+conditions_of(RelOptInfo *rel)
+{
+	List	   *conditions = NIL;
+	ListCell   *cell;
+
+	foreach(cell, rel ? rel->baserestrictinfo : NIL)
+	{
+		Node	   *clause = (Node *) lfirst_node(RestrictInfo, cell)->clause;
+
+		if (!contain_subplans(clause))
+			conditions = lappend(conditions, copyObject(clause));
+	}
+	return conditions;
+}
+
+/* An equivalence class of columns; NIL where it is none. */
+static List *
+class_lists(EquivalenceClass *class)
+{
+	List	   *members = NIL;
+	ListCell   *cell;
+
+	if (class->ec_has_volatile || class->ec_merged)
+		return NIL;
+	foreach(cell, class->ec_members)
+	{
+		EquivalenceMember *member = lfirst(cell);
+
+		if (!member->em_is_child && !member->em_is_const && !contain_subplans((Node *) member->em_expr))
+			members = lappend(members, copyObject(member->em_expr));
+	}
+	return list_make3(list_copy(class->ec_opfamilies), list_make1_oid(class->ec_collation), members);
+}
+
+/* Each clause stands at all of its relations: it is taken at the first. */
+static List *
+clauses_of(RelOptInfo *rel)
+{
+	List	   *clauses = NIL;
+	ListCell   *cell;
+
+	foreach(cell, rel ? rel->joininfo : NIL)
+	{
+		RestrictInfo *info = lfirst_node(RestrictInfo, cell);
+
+		if (info->can_join && bms_next_member(info->clause_relids, -1) == (int) rel->relid && !contain_subplans((Node *) info->clause))
+			clauses = lappend(clauses, list_make2(copyObject(info->clause), numbers_of(info->required_relids)));
+	}
+	return clauses;
+}
+
+static List *
+part_of_root(PlannerInfo *root, List *joins)
+{
+	List	   *parts[PART_LENGTH] = {NIL};
+	List	   *part = NIL;
+	ListCell   *cell;
+
+	for (int i = 1; i < root->simple_rel_array_size; i++)
+	{
+		parts[PART_ENTRIES] = lappend(parts[PART_ENTRIES], slim_entry(root, i));
+		parts[PART_CONDITIONS] = lappend(parts[PART_CONDITIONS], conditions_of(root->simple_rel_array[i]));
+		parts[PART_CLAUSES] = list_concat(parts[PART_CLAUSES], clauses_of(root->simple_rel_array[i]));
+	}
+	foreach(cell, root->eq_classes)
+		if (class_lists(lfirst(cell)) != NIL)
+			parts[PART_CLASSES] = lappend(parts[PART_CLASSES], class_lists(lfirst(cell)));
+	parts[PART_SPECIAL] = copyObject(root->join_info_list);
+	foreach(cell, joins)
+	{
+		PlanJoin   *join = lfirst(cell);
+		List	   *numbers = join->root == root ? numbers_of(join->relids) : NIL;
+
+		if (numbers != NIL && !list_member(parts[PART_JOINS], numbers))
+			parts[PART_JOINS] = lappend(parts[PART_JOINS], numbers);
+	}
+	for (int i = 0; i < PART_LENGTH; i++)
+		part = lappend(part, parts[i]);
+	return part;
+}
+
+/* Keeps with a plan what the bounds of its joins are made of. The first value is how many joins can't be told. */
+void
+put_recipe(PlannedStmt *plan, List *joins)
+{
+	RangeTblEntry *entry = makeNode(RangeTblEntry);
+	List	   *roots = NIL;
+	int			untold = 0;
+	ListCell   *cell;
+
+	foreach(cell, joins)
+	{
+		PlanJoin   *join = lfirst(cell);
+
+		if (join->root == NULL)
+			untold++;
+		else
+			roots = list_append_unique_ptr(roots, join->root);
+	}
+	entry->rtekind = RTE_RESULT;
+	entry->eref = makeAlias(RECIPE_NAME, NIL);
+	entry->values_lists = list_make1(list_make1_int(untold));
+	foreach(cell, roots)
+		entry->values_lists = lappend(entry->values_lists, part_of_root(lfirst(cell), joins));
+	plan->rtable = lappend(plan->rtable, entry);
+}
+
+/* What was kept with a plan; NIL where nothing was. */
+List *
+recipe_of(PlannedStmt *plan)
+{
+	RangeTblEntry *last = plan->rtable ? llast_node(RangeTblEntry, plan->rtable) : NULL;
+
+	return last && last->rtekind == RTE_RESULT && last->eref && strcmp(last->eref->aliasname, RECIPE_NAME) == 0 ? last->values_lists : NIL;
+}
+
+List *
+joins_of_part(List *part)
+{
+	return list_nth(part, PART_JOINS);
+}
+
+static RestrictInfo *
+clause_info(PlannerInfo *root, Expr *clause, Relids required)
+{
+	RestrictInfo *info = makeNode(RestrictInfo);
+
+	info->clause = clause;
+	info->clause_relids = pull_varnos(root, (Node *) clause);
+	info->required_relids = required;
+	return info;
+}
+
+/* A relation with its conditions, in which parameters have their values. */
+static RelOptInfo *
+rel_of(PlannerInfo *root, int relid, List *conditions)
+{
+	RelOptInfo *rel = makeNode(RelOptInfo);
+	ListCell   *cell;
+
+	rel->reloptkind = RELOPT_BASEREL;
+	rel->relid = relid;
+	rel->relids = bms_make_singleton(relid);
+	rel->rtekind = root->simple_rte_array[relid]->rtekind;
+	foreach(cell, conditions)
+	{
+		Node	   *clause = eval_const_expressions(root, lfirst(cell));
+
+		rel->baserestrictinfo = lappend(rel->baserestrictinfo, clause_info(root, (Expr *) clause, rel->relids));
+	}
+	return rel;
+}
+
+static EquivalenceClass *
+class_of(PlannerInfo *root, List *lists)
+{
+	EquivalenceClass *class = makeNode(EquivalenceClass);
+	ListCell   *cell;
+
+	class->ec_opfamilies = linitial(lists);
+	class->ec_collation = linitial_oid((List *) lsecond(lists));
+	foreach(cell, (List *) lthird(lists))
+	{
+		EquivalenceMember *member = makeNode(EquivalenceMember);
+
+		member->em_expr = lfirst(cell);
+		member->em_relids = pull_varnos(root, lfirst(cell));
+		class->ec_members = lappend(class->ec_members, member);
+		class->ec_relids = bms_add_members(class->ec_relids, member->em_relids);
+	}
+	return class;
+}
+
+static void
+add_clause(PlannerInfo *root, Expr *clause, List *required)
+{
+	RestrictInfo *info = clause_info(root, clause, relids_of(required));
+	int			relid = -1;
+
+	info->can_join = true;
+	if (is_opclause(clause) && list_length(((OpExpr *) clause)->args) == 2)
+	{
+		info->left_relids = pull_varnos(root, linitial(((OpExpr *) clause)->args));
+		info->right_relids = pull_varnos(root, lsecond(((OpExpr *) clause)->args));
+	}
+	while ((relid = bms_next_member(info->clause_relids, relid)) >= 0)
+		if (root->simple_rel_array[relid])
+			root->simple_rel_array[relid]->joininfo = lappend(root->simple_rel_array[relid]->joininfo, info);
+}
+
+/* A part of the planner as far as bounded_query reads it, with the parameters of this run. */
+PlannerInfo *
+root_of_part(List *part, ParamListInfo parameters)
+{
+	PlannerInfo *root = makeNode(PlannerInfo);
+	List	   *entries = list_nth(part, PART_ENTRIES);
+	ListCell   *cell;
+
+	root->glob = makeNode(PlannerGlobal);
+	root->glob->boundParams = parameters;
+	root->planner_cxt = CurrentMemoryContext;
+	root->simple_rel_array_size = list_length(entries) + 1;
+	root->simple_rel_array = palloc0(root->simple_rel_array_size * sizeof(RelOptInfo *));
+	root->simple_rte_array = palloc0(root->simple_rel_array_size * sizeof(RangeTblEntry *));
+	for (int i = 1; i < root->simple_rel_array_size; i++)
+	{
+		root->simple_rte_array[i] = list_nth(entries, i - 1);
+		if (root->simple_rte_array[i]->rtekind == RTE_RELATION)
+			root->simple_rel_array[i] = rel_of(root, i, list_nth(list_nth(part, PART_CONDITIONS), i - 1));
+	}
+	foreach(cell, (List *) list_nth(part, PART_CLASSES))
+		root->eq_classes = lappend(root->eq_classes, class_of(root, lfirst(cell)));
+	foreach(cell, (List *) list_nth(part, PART_CLAUSES))
+		add_clause(root, linitial((List *) lfirst(cell)), lsecond((List *) lfirst(cell)));
+	root->join_info_list = list_nth(part, PART_SPECIAL);
+	return root;
+}

@@ -1,0 +1,94 @@
+-- x stands 5, 3 and 1 times in r, and 3, 2, 2 and 1 times in s: at most 5 * 3 + 3 * 2 + 1 * 2 rows join.
+CREATE TABLE r (x integer, c text);
+INSERT INTO r VALUES (8, 'a'), (8, 'a'), (8, 'a'), (8, 'b'), (8, 'b'), (2, 'a'), (2, NULL), (2, 'a'), (5, 'b'), (NULL, 'b');
+CREATE TABLE s (x bigint);
+INSERT INTO s VALUES (8), (8), (8), (2), (2), (5), (5), (1);
+SELECT safebound.keep('r', accuracy => 64) > 0 AS r, safebound.keep('s', accuracy => 64) > 0 AS s;
+CREATE FUNCTION rows_of(query text) RETURNS integer LANGUAGE plpgsql AS $$
+DECLARE told json;
+BEGIN
+    EXECUTE 'EXPLAIN (FORMAT JSON) ' || query INTO told;
+    RETURN told->0->'Plan'->>'Plan Rows';
+END $$;
+SET safebound.estimates = bound;
+SELECT rows_of('SELECT FROM r JOIN s USING (x)') = 23 AS joined;
+SELECT rows_of('SELECT FROM r LEFT JOIN s USING (x)') = 23 + 10 AS left_join;
+SELECT rows_of('SELECT FROM r FULL JOIN s USING (x)') = 23 + 10 + 8 AS full_join;
+SELECT rows_of('SELECT FROM r WHERE NOT EXISTS (SELECT FROM s WHERE r.x = s.x)') = 10 AS anti_join;
+SELECT rows_of('SELECT FROM r WHERE c = ''a''') = 5 AS one_value, rows_of('SELECT FROM r WHERE c IS NULL') = 1 AS no_value;
+SELECT rows_of('SELECT FROM r WHERE c IN (''a'', ''b'')') = 9 AS two_values, rows_of('SELECT FROM r WHERE c IS NULL OR c = ''b''') = 5 AS either;
+-- Of the rows with a, x stands 3 and 2 times.
+SELECT rows_of('SELECT FROM r JOIN s USING (x) WHERE c = ''a''') = 3 * 3 + 2 * 2 AS filtered;
+-- One of s stands beside five of r.
+CREATE TABLE one (x integer);
+INSERT INTO one VALUES (8);
+SELECT safebound.keep('one') > 0 AS one;
+SELECT rows_of('SELECT FROM r WHERE EXISTS (SELECT FROM one WHERE r.x = one.x)') = 5 AS semi_join,
+       rows_of('SELECT FROM r WHERE r.x IN (SELECT x FROM s)') BETWEEN 8 AND 10 AS within;
+-- A condition above an outer join isn't one of the scan below it, and one of its ON is.
+CREATE FUNCTION scanned(query text, alias text) RETURNS integer LANGUAGE plpgsql AS $$
+DECLARE told jsonb;
+BEGIN
+    EXECUTE 'EXPLAIN (FORMAT JSON) ' || query INTO told;
+    RETURN jsonb_path_query_first(told, '$.**{2 to last} ? (@.Alias == $alias)."Plan Rows"', jsonb_build_object('alias', alias));
+END $$;
+SELECT scanned('SELECT FROM r FULL JOIN s USING (x) WHERE c IS NULL', 'r') = 10 AS above_full,
+       scanned('SELECT FROM s LEFT JOIN r USING (x) WHERE c IS NULL', 'r') = 10 AS above_left,
+       scanned('SELECT FROM s LEFT JOIN r ON r.x = s.x AND c IS NULL', 'r') = 1 AS within;
+-- Three rows: 1 of s has no partner, so that c is NULL beside it; the row of r without c meets two of s.
+CREATE VIEW apart AS SELECT s.x FROM (one RIGHT JOIN r ON one.x = r.x) FULL JOIN s ON r.x = s.x
+    WHERE NOT EXISTS (SELECT FROM one e WHERE r.x = e.x) AND r.c IS NULL;
+SELECT count(*), rows_of('SELECT FROM apart') >= count(*) AS enough FROM apart;
+DROP VIEW apart;
+DROP FUNCTION scanned;
+-- A parameter may be any value.
+PREPARE with_parameter(text) AS SELECT FROM r WHERE c = $1;
+SET plan_cache_mode = force_generic_plan;
+SELECT rows_of('EXECUTE with_parameter(''b'')') = 5 AS parameter;
+RESET plan_cache_mode;
+-- Under another collation a value may be equal to more values.
+CREATE COLLATION caseless (provider = icu, locale = 'und-u-ks-level2', deterministic = false);
+CREATE TABLE cases (c text, d text COLLATE caseless);
+INSERT INTO cases VALUES ('a', 'a'), ('A', 'A'), ('A', 'A'), ('b', 'B');
+SELECT safebound.keep('cases') > 0 AS cases;
+SELECT rows_of('SELECT FROM cases WHERE c = ''a''') = 1 AS own, rows_of('SELECT FROM cases WHERE c = ''a'' COLLATE caseless') = 4 AS other,
+       rows_of('SELECT FROM cases WHERE d = ''a''') = 3 AS caseless, rows_of('SELECT FROM cases WHERE d = ''a'' COLLATE "C"') = 4 AS bytes,
+       rows_of('SELECT FROM cases JOIN cases o ON cases.c = o.d') = 4 * 4 AS mixed, rows_of('SELECT FROM cases JOIN cases o USING (d)') = 3 * 3 + 1 AS joined;
+DROP TABLE one, cases;
+DROP COLLATION caseless;
+-- 64 parts of 1000 values: one ends at 250, one at 500 and one at 750.
+CREATE TABLE n (k integer, x integer, c text COLLATE "C");
+INSERT INTO n SELECT i, i % 10, CASE WHEN i <= 300 THEN 'aa' WHEN i <= 500 THEN 'ab' ELSE 'b_' END || i % 3 FROM generate_series(1, 1000) i;
+INSERT INTO n VALUES (NULL, 1, NULL);
+CREATE TABLE m (x integer, k smallint);
+INSERT INTO m SELECT i, i FROM generate_series(0, 9) i;
+SELECT safebound.keep('n', accuracy => 64) > 0 AS n, safebound.keep('m') > 0 AS m;
+SELECT rows_of('SELECT FROM n WHERE k <= 250') = 250 AS up_to, rows_of('SELECT FROM n WHERE 250::bigint >= k') = 250 AS turned,
+       rows_of('SELECT FROM n WHERE k > 250') = 750 AS above, rows_of('SELECT FROM n WHERE k >= 250') BETWEEN 751 AND 766 AS from_there;
+SELECT rows_of('SELECT FROM n WHERE k > 250 AND k <= 500') = 250 AS both_ends, rows_of('SELECT FROM n WHERE k <= 250 OR k > 750') = 500 AS either_end,
+       rows_of('SELECT FROM n WHERE k BETWEEN 300 AND 305') BETWEEN 6 AND 32 AS few, rows_of('SELECT FROM n WHERE k > 1000') = 1 AS none;
+SELECT rows_of('SELECT FROM n JOIN m USING (x) WHERE n.k > 250 AND n.k <= 500') = 250 AS joined;
+-- Nine texts, each a part: aa0 to aa2 stand 100 times each, ab0 to ab2 66 or 67 times. The part with the first text behind counts too.
+SELECT rows_of('SELECT FROM n WHERE c LIKE ''a%''') BETWEEN 500 AND 667 AS front, rows_of('SELECT FROM n WHERE c LIKE ''b\_1''') = 500 AS escaped,
+       rows_of('SELECT FROM n WHERE c LIKE ''%a''') = 1000 AS no_front, rows_of('SELECT FROM n WHERE c LIKE ''aa_''') BETWEEN 300 AND 367 AS longer;
+DROP TABLE n, m;
+-- Of 158 rows two refer to rows with a; one value alone stands in 100.
+CREATE TABLE d (k integer PRIMARY KEY, c text, n integer);
+INSERT INTO d SELECT i, CASE WHEN i IN (3, 4) THEN 'a' ELSE 'b' END, i FROM generate_series(1, 10) i;
+CREATE TABLE f (k integer REFERENCES d, x integer);
+INSERT INTO f SELECT k, i % 7 FROM d, generate_series(1, CASE k WHEN 1 THEN 100 WHEN 2 THEN 50 ELSE 1 END) i;
+INSERT INTO f VALUES (NULL, 5);
+SELECT safebound.keep('d', accuracy => 64) > 0 AS d, safebound.keep('f', accuracy => 64) > 0 AS f;
+SELECT rows_of('SELECT FROM f JOIN d USING (k) WHERE c = ''a''') = 2 AS along, rows_of('SELECT FROM f JOIN d USING (k) WHERE c IN (''a'', ''b'')') = 158 AS both,
+       rows_of('SELECT FROM f JOIN d USING (k) WHERE n > 2') = 8 AS part, rows_of('SELECT FROM f JOIN d USING (k) WHERE n = 1') = 100 AS one,
+       rows_of('SELECT d.c FROM f LEFT JOIN d ON f.k = d.k AND c = ''a''') = 159 + 2 AS left_join;
+SELECT rows_of('SELECT FROM f JOIN d USING (k) JOIN f g USING (x) WHERE c = ''a''') = 2 * 31 AS further;
+SELECT relations, bound, estimate > 0 AS estimate, statistics FROM safebound.bounds('SELECT FROM f JOIN d USING (k) JOIN f g USING (x) WHERE c = ''a'' AND g.k > 2') WHERE cardinality(relations) = 3;
+SET join_collapse_limit = 1;
+SELECT relations, bound >= (SELECT count(*) FROM f JOIN f g USING (x)) AS whole FROM safebound.bounds('SELECT FROM (f JOIN f g USING (x)) JOIN d ON f.k = d.k WHERE c = ''a''') WHERE 'd' <> ALL (relations);
+RESET join_collapse_limit;
+SELECT safebound.bounds('VACUUM');
+DROP TABLE f, d;
+SET safebound.estimates = off;
+DROP TABLE r, s;
+DROP FUNCTION rows_of;

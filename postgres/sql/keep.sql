@@ -1,0 +1,10 @@
+CREATE EXTENSION safebound;
+CREATE TABLE r (x integer, c text);
+INSERT INTO r VALUES (8, 'a'), (8, 'a'), (8, 'a'), (8, 'b'), (8, 'b'), (2, 'a'), (2, NULL), (2, 'a'), (5, 'b'), (NULL, 'b');
+SELECT safebound.keep('r') > 0 AS made;
+SELECT "table", columns, rows, bytes > 0 AS bytes FROM safebound.kept;
+SELECT safebound.keep('r', '{y}');
+SELECT safebound.keep('r', accuracy => 65);
+SELECT safebound.forget('r'), safebound.forget('r');
+SELECT count(*) FROM safebound.kept;
+DROP TABLE r;

@@ -1,0 +1,305 @@
+"""Random queries over random tables: no scan and no join of a plan has more rows than its bound.
+
+    postgres/tests/never_under.py URL [SEED [TABLES [QUERIES]]]
+
+The server at URL has the extension installed. For each of TABLES sets of tables QUERIES queries are planned with
+safebound.estimates = bound and run by EXPLAIN ANALYZE, which counts the rows of each node. Tables are plain, partitioned or
+have children; queries read them alone, by a view, a subquery or WITH. Where a join reads what isn't known, PostgreSQL's own
+number stands, and isn't looked at.
+"""
+
+from __future__ import annotations
+
+import json
+import random
+import sys
+
+import psycopg
+
+# Types whose values compare across columns, with a text for a small number.
+TYPES = {
+    "integer": "{n}",
+    "bigint": "{n}",
+    "numeric": "{n}.{zeros}",
+    "text": "'v{n}'",
+    'text COLLATE "C"': "'v{n}'",
+    "caseless": "'{case}{n}'",
+    "varchar(9)": "'v{n}'",
+    "small": "{n}",
+}
+COMPARABLE = [["integer", "bigint", "small"], ["text", "varchar(9)"], ['text COLLATE "C"'], ["caseless"], ["numeric"]]
+JOINS = ("Nested Loop", "Hash Join", "Merge Join")
+SCANS = ("Seq Scan", "Index Scan", "Index Only Scan", "Bitmap Heap Scan")
+# What stands between a join and the tables below it without other rows of its own.
+PASSES = ("Hash", "Sort", "Incremental Sort", "Materialize", "Memoize", "Bitmap Index Scan", "BitmapOr", "BitmapAnd")
+# Of more outer and semi-joins no join is bounded.
+MOST_SPECIAL_JOINS = 6
+KINDS = ("plain", "plain", "plain", "hash", "list", "children")
+PRELUDE = """
+CREATE EXTENSION IF NOT EXISTS safebound;
+CREATE COLLATION IF NOT EXISTS caseless (provider = icu, locale = 'und-u-ks-level2', deterministic = false);
+DO $$ BEGIN CREATE DOMAIN caseless AS text COLLATE caseless; EXCEPTION WHEN duplicate_object THEN NULL; END $$;
+DO $$ BEGIN CREATE DOMAIN small AS integer CHECK (VALUE < 100000); EXCEPTION WHEN duplicate_object THEN NULL; END $$;
+"""
+
+
+def value(r: random.Random, of: str, distinct: int, null: float) -> str:
+    if r.random() < null:
+        return "NULL"
+    skewed = min(r.randrange(distinct), r.randrange(distinct))
+    return TYPES[of].format(n=skewed, zeros="0" * r.randint(1, 3), case=r.choice("vV"))
+
+
+class Table:
+    def __init__(self, r: random.Random, name: str, kinds: tuple[str, ...] = KINDS) -> None:
+        self.name, self.r, self.kind, self.bare = name, r, r.choice(kinds), kinds == ("plain",)
+        self.has_key = False
+        family = r.choice(COMPARABLE)
+        self.columns = [r.choice(family if r.random() < 0.5 else r.choice(COMPARABLE)) for _ in range(r.randint(2, 4))]
+        self.distinct = [r.choice([1, 3, 8, 40]) for _ in self.columns]
+
+    def parts(self) -> list[str]:
+        """The tables with rows of their own, beside the first one's."""
+        if self.kind == "plain":
+            return []
+        return [f"{self.name}_{i}" for i in range(2)]
+
+    def create(self, connection: psycopg.Connection) -> None:
+        columns = ", ".join(f"c{i} {of}" for i, of in enumerate(self.columns))
+        by = {"hash": " PARTITION BY HASH (c0)", "list": " PARTITION BY LIST (c0)"}.get(self.kind, "")
+        connection.execute(f"DROP TABLE IF EXISTS {self.name} CASCADE")
+        connection.execute(f"CREATE TABLE {self.name} ({columns}){by}")
+        for i, part in enumerate(self.parts()):
+            of = {
+                "hash": f"PARTITION OF {self.name} FOR VALUES WITH (MODULUS 2, REMAINDER {i})",
+                "list": f"PARTITION OF {self.name} " + ("DEFAULT" if i else f"FOR VALUES IN (NULL, {TYPES[self.columns[0]].format(n=0, zeros='0', case='v')})"),
+                "children": f"() INHERITS ({self.name})",
+            }[self.kind]
+            connection.execute(f"CREATE TABLE {part} {of}")
+        connection.execute(f"CREATE VIEW {self.name}_view AS SELECT * FROM {self.name}")
+
+    def make_key(self, connection: psycopg.Connection) -> None:
+        """The first column becomes the key: rows without a value there, and all but one of each value, go."""
+        connection.execute(f"DELETE FROM {self.name} a WHERE c0 IS NULL OR EXISTS (SELECT FROM {self.name} b WHERE a.c0 = b.c0 AND a.ctid < b.ctid)")
+        connection.execute(f"ALTER TABLE {self.name} ADD PRIMARY KEY (c0)")
+        self.has_key = True
+
+    def refer(self, connection: psycopg.Connection, other: Table) -> None:
+        """Each column of the other one's type refers to its key: other values go."""
+        for i, of in enumerate(self.columns):
+            if other.has_key and of == other.columns[0] and (i > 0 or not self.has_key):
+                connection.execute(f"UPDATE {self.name} SET c{i} = NULL WHERE NOT EXISTS (SELECT FROM {other.name} o WHERE o.c0 = {self.name}.c{i})")
+                connection.execute(f"ALTER TABLE {self.name} ADD FOREIGN KEY (c{i}) REFERENCES {other.name}")
+
+    def make(self, connection: psycopg.Connection, others: list[Table]) -> None:
+        r = self.r
+        self.create(connection)
+        rows = r.choice([0, 1, 10, 40, 120, 400])
+        nulls = [r.choice([0, 0, 0.2, 0.9]) for _ in self.columns]
+        if rows:
+            tuples = (f"({', '.join(value(r, of, d, n) for of, d, n in zip(self.columns, self.distinct, nulls))})" for _ in range(rows))
+            connection.execute(f"INSERT INTO {self.name} VALUES {', '.join(tuples)}")
+            if self.kind == "children":
+                connection.execute(f"INSERT INTO {self.name}_0 SELECT * FROM ONLY {self.name} LIMIT 30")
+        if self.kind == "plain" and r.random() < 0.5:
+            self.make_key(connection)
+        for other in others:
+            self.refer(connection, other)
+        if r.random() < 0.5:
+            connection.execute(f"CREATE INDEX ON {self.name} (c{r.randrange(len(self.columns))})")
+        for kept in self.parts() + ([] if self.kind in ("hash", "list") else [self.name]):
+            options = f"common => {r.choice([0, 1, 3, 100])}, ranges => {r.choice([0, 1, 3, 64])}, accuracy => {r.choice([1, 2, 8, 64])}"
+            connection.execute(f"SELECT safebound.keep('{kept}', {options})")
+
+    def read(self, alias: str, alone: set[str]) -> str:
+        """What stands in FROM for the table, without its alias, which is noted where a part is read alone."""
+        parts = self.parts() + ([f"ONLY {self.name}"] if self.kind == "children" else [])
+        if parts and self.r.random() < 0.6:
+            alone.add(alias)
+            return self.r.choice(parts)
+        if self.bare:
+            return self.name
+        return self.r.choice([self.name, self.name, self.name, f"{self.name}_view", f"(SELECT * FROM {self.name})", f"(SELECT DISTINCT * FROM {self.name})", f"with_{self.name}"])
+
+
+def condition(r: random.Random, alias: str, table: Table) -> str:
+    i = r.randrange(len(table.columns))
+    column, one = f"{alias}.c{i}", lambda: value(r, table.columns[i], table.distinct[i] + 2, 0)
+    kind = r.randrange(11)
+    if kind == 0:
+        return f"{column} IN ({', '.join(one() for _ in range(r.randint(1, 4)))})"
+    if kind == 1:
+        return f"{column} IS {r.choice(['', 'NOT '])}NULL"
+    if kind == 2:
+        return f"({column} = {one()} OR {condition(r, alias, table)})"
+    if kind == 3:
+        return f"{column} {r.choice(['<', '>=', '<>'])} {one()}"
+    if kind == 5:
+        return f"{column} {r.choice(['>', '>='])} {one()} AND {column} {r.choice(['<', '<='])} {one()}"
+    if kind == 6:
+        return f"{one()} {r.choice(['<', '>', '<=', '>='])} {column}"
+    if kind == 7 and "text" in table.columns[i]:
+        return f"{column} LIKE 'v{r.choice(['1%', '2_', '%', '3', '1%2', ''])}'"
+    if kind == 4:
+        literal = one()
+        return f"{column} = (SELECT {literal}::{'text' if literal.startswith(chr(39)) else 'numeric'})"
+    return f"{column} = {one()}"
+
+
+def equality(r: random.Random, left: tuple[str, Table], right: tuple[str, Table]) -> str:
+    pairs = [
+        (i, j)
+        for i, a in enumerate(left[1].columns)
+        for j, b in enumerate(right[1].columns)
+        if any(a in family and b in family for family in COMPARABLE)
+    ]
+    if not pairs:
+        return "true"
+    return " AND ".join(f"{left[0]}.c{i} = {right[0]}.c{j}" for i, j in r.sample(pairs, min(len(pairs), r.choice([1, 1, 2]))))
+
+
+def with_tables(r: random.Random, tables: list[Table]) -> str:
+    how = ("", "NOT MATERIALIZED", "MATERIALIZED")
+    return "WITH " + ", ".join(f"with_{t.name} AS {r.choice(how)} (SELECT * FROM {t.name})" for t in tables)
+
+
+def leaf(r: random.Random, number: int, tables: list[Table], alone: set[str]) -> tuple[str, list[tuple[str, Table]]]:
+    """A table, or the rows of it that have a partner in another one, or that have none."""
+    alias, table = f"t{number}", r.choice(tables)
+    text = f"{table.read(alias, alone)} {alias}"
+    if r.random() < 0.15:
+        within, other = f"s{number}", r.choice(tables)
+        partner = f"SELECT FROM {other.read(within, alone)} {within} WHERE {equality(r, (alias, table), (within, other))}"
+        text = f"(SELECT {alias}.* FROM {text} WHERE {r.choice(['', 'NOT '])}EXISTS ({partner})) {alias}"
+    return text, [(alias, table)]
+
+
+def is_null(r: random.Random, entry: tuple[str, Table]) -> str:
+    return f"{entry[0]}.c{r.randrange(len(entry[1].columns))} IS NULL"
+
+
+def outer_joins(r: random.Random, numbers: range, tables: list[Table], alone: set[str]) -> tuple[str, list[tuple[str, Table]]]:
+    """Joins of any shape, most of them outer ones, and the tables that they join."""
+    if len(numbers) == 1:
+        return leaf(r, numbers[0], tables, alone)
+    middle = r.randint(1, len(numbers) - 1)
+    left, lefts = outer_joins(r, numbers[:middle], tables, alone)
+    right, rights = outer_joins(r, numbers[middle:], tables, alone)
+    kind = r.choice(["JOIN", "LEFT JOIN", "LEFT JOIN", "RIGHT JOIN", "FULL JOIN", "FULL JOIN"])
+    on = equality(r, r.choice(lefts), r.choice(rights))
+    if kind != "FULL JOIN" and r.random() < 0.4:
+        entry = r.choice(lefts + rights)
+        on += f" AND {is_null(r, entry) if r.random() < 0.5 else condition(r, *entry)}"
+    return f"({left} {kind} {right} ON {on})", lefts + rights
+
+
+def special_joins(text: str) -> int:
+    return sum(text.count(words) for words in ("LEFT JOIN", "RIGHT JOIN", "FULL JOIN", "EXISTS"))
+
+
+def outer_query(r: random.Random, tables: list[Table]) -> tuple[str, set[str]]:
+    """Outer joins above each other under conditions on sides that may be missing, and the aliases of the parts that it reads alone."""
+    alone: set[str] = set()
+    text, visible = outer_joins(r, range(r.randint(3, 6)), tables, alone)
+    room = MOST_SPECIAL_JOINS - special_joins(text)
+    if room < 0:
+        return outer_query(r, tables)
+    wheres = [is_null(r, r.choice(visible)) for _ in range(r.choice([0, 1, 1, 2]))]
+    for i in range(min(room, r.choice([0, 0, 1, 2]))):
+        table = r.choice(tables)
+        on = equality(r, r.choice(visible), (f"e{i}", table))
+        wheres.append(f"{r.choice(['', 'NOT ', 'NOT '])}EXISTS (SELECT FROM {table.read(f'e{i}', alone)} e{i} WHERE {on})")
+    if r.random() < 0.3:
+        wheres.append(condition(r, *r.choice(visible)))
+    return f"{with_tables(r, tables)} SELECT 1 FROM {text}" + (f" WHERE {' AND '.join(wheres)}" if wheres else ""), alone
+
+
+def query(r: random.Random, tables: list[Table]) -> tuple[str, set[str]]:
+    """A query, and the aliases of the parts that it reads alone."""
+    if r.random() < 0.4:
+        return outer_query(r, tables)
+    alone: set[str] = set()
+    entries = [(f"t{i}", r.choice(tables)) for i in range(r.randint(1, 5))]
+    text, wheres, visible = f"{entries[0][1].read('t0', alone)} t0", [], [entries[0]]
+    for entry in entries[1:]:
+        on = equality(r, r.choice(visible), entry)
+        kind = r.choice(["JOIN", "JOIN", "JOIN", "LEFT JOIN", "RIGHT JOIN", "FULL JOIN", "EXISTS", "NOT EXISTS"])
+        if kind.endswith("EXISTS"):
+            more = f" AND {condition(r, *entry)}" if r.random() < 0.3 else ""
+            wheres.append(f"{kind} (SELECT FROM {entry[1].read(entry[0], alone)} {entry[0]} WHERE {on}{more})")
+            continue
+        if kind != "FULL JOIN" and r.random() < 0.3:
+            on += f" AND {condition(r, *r.choice([entry, r.choice(visible)]))}"
+        text = f"({text} {kind} {entry[1].read(entry[0], alone)} {entry[0]} ON {on})"
+        visible.append(entry)
+    wheres += [condition(r, *r.choice(visible)) for _ in range(r.choice([0, 1, 1, 2]))]
+    return f"{with_tables(r, tables)} SELECT 1 FROM {text}" + (f" WHERE {' AND '.join(wheres)}" if wheres else ""), alone
+
+
+def is_known(plan: dict, known: set[str]) -> bool:
+    """Whether a plan reads known tables alone, and joins them and does nothing else.
+
+    Known are names of plain tables, and aliases by which a part is read alone. A part that is read as one of a whole is
+    PostgreSQL's to estimate.
+    """
+    if plan["Node Type"] in SCANS:
+        return plan["Relation Name"] in known or plan["Alias"] in known
+    below = [part for part in plan.get("Plans", []) if part["Parent Relationship"] in ("Outer", "Inner", "Member")]
+    return plan["Node Type"] in (*JOINS, *PASSES) and all(is_known(part, known) for part in below)
+
+
+def nodes(plan: dict, known: set[str], repeated: bool = False):
+    """The scans and joins whose bound stands for all of their rows: not those that are repeated for each row of others."""
+    kind = plan["Node Type"]
+    if not repeated and plan["Actual Loops"] == 1 and kind in (*JOINS, *SCANS) and is_known(plan, known):
+        yield plan
+    for below in plan.get("Plans", []):
+        yield from nodes(below, known, repeated or (kind == "Nested Loop" and below["Parent Relationship"] == "Inner"))
+
+
+def main() -> int:
+    url = sys.argv[1]
+    numbers = [int(word) for word in sys.argv[2:5]]
+    seed, sets, queries = numbers + [1, 20, 40][len(numbers) :]
+    r = random.Random(seed)
+    under = joins = scans = failed = 0
+    tight: list[float] = []
+    with psycopg.connect(url, autocommit=True) as connection:
+        connection.execute(PRELUDE)
+        connection.execute("SET jit = off; SET max_parallel_workers_per_gather = 0; SET statement_timeout = '1s'")
+        for _ in range(sets):
+            tables = [Table(r, f"nu{i}") for i in range(3)]
+            for i, table in enumerate(tables):
+                table.make(connection, tables[:i])
+            connection.execute("ANALYZE nu0, nu1, nu2; SET safebound.estimates = bound")
+            known = {table.name for table in tables if table.kind == "plain"}
+            for method in ("hashjoin", "mergejoin", "nestloop"):
+                connection.execute(f"SET enable_{method} = {r.choice(['on', 'on', 'off'])}")
+            for _ in range(queries):
+                text, alone = query(r, tables)
+                try:
+                    told = connection.execute(f"EXPLAIN (ANALYZE, TIMING OFF, FORMAT JSON) {text}").fetchone()[0]
+                except (psycopg.errors.QueryCanceled, psycopg.errors.FeatureNotSupported, psycopg.errors.UndefinedFunction, psycopg.errors.DatatypeMismatch) as error:
+                    failed += 1
+                    if "-v" in sys.argv:
+                        print(text, error)
+                    continue
+                for node in nodes(told[0]["Plan"], known | alone):
+                    if node["Node Type"] in JOINS:
+                        joins += 1
+                        tight.append(node["Plan Rows"] / max(1, node["Actual Rows"]))
+                    else:
+                        scans += 1
+                    if node["Actual Rows"] > node["Plan Rows"]:
+                        under += 1
+                        if "-v" in sys.argv:
+                            print(text, json.dumps(told, indent=1))
+                            return 1
+                        print(f"seed {seed}: {node['Node Type']} has {node['Actual Rows']} rows, bound {node['Plan Rows']}: {text}")
+    tight.sort()
+    print(f"{sets * queries - failed} queries ({failed} not run), {scans} scans and {joins} joins, {under} under; bound by rows of a join: median {tight[len(tight) // 2]:.2f}, 90th percentile {tight[len(tight) * 9 // 10]:.1f}")
+    return 1 if under or not joins else 0
+
+
+if __name__ == "__main__":
+    sys.exit(main())

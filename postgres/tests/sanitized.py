@@ -1,0 +1,51 @@
+"""The regression and isolation tests with the extension built for AddressSanitizer and for undefined behaviour.
+
+    postgres/tests/sanitized.py
+
+PostgreSQL itself isn't built so: what is seen is the extension's stack and globals, and memory that it or the library takes by malloc.
+"""
+
+from __future__ import annotations
+
+import os
+import shutil
+import subprocess
+import sys
+import tempfile
+from pathlib import Path
+
+sys.dont_write_bytecode = True
+HERE = Path(__file__).resolve().parent
+ROOT = HERE.parents[1]
+sys.path[:0] = [str(HERE.parent)]
+from installed import SETTINGS, Alone, lay_server
+
+FLAGS = "-fsanitize=address,undefined -fno-sanitize=alignment -fno-sanitize-recover=undefined"
+
+
+def library() -> str:
+    return subprocess.run(["gcc", "-print-file-name=libasan.so"], check=True, text=True, stdout=subprocess.PIPE).stdout.strip()
+
+
+def main() -> int:
+    with tempfile.TemporaryDirectory(prefix="safebound-sanitized-") as root:
+        os.chmod(root, 0o755)
+        os.environ["PATH"] = lay_server(root) + os.pathsep + os.environ["PATH"]
+        for name in ("include", "dist", "library"):
+            os.symlink(ROOT / name, Path(root) / name)
+        folder = Path(root) / "postgres"
+        shutil.copytree(HERE.parent, folder, ignore=shutil.ignore_patterns("*.o", "*.so", "results"))
+        for target in ("all", "install"):
+            subprocess.run(["make", "-s", "-C", str(folder), f"COPT={FLAGS}", target], check=True)
+        os.environ.update(LD_PRELOAD=library(), ASAN_OPTIONS="detect_leaks=0:abort_on_error=1")
+        with Alone(SETTINGS) as server:
+            reach = {**os.environ, "PGHOST": server.folder, "PGUSER": "postgres", "LD_PRELOAD": ""}
+            failed = subprocess.run(["make", "-s", "-C", str(folder), "installcheck"], env=reach).returncode
+            with open(os.path.join(server.folder, "log"), encoding="utf-8", errors="replace") as log:
+                found = [line for line in log if "Sanitizer" in line or "runtime error" in line]
+    print("".join(found) or "no fault of memory was seen")
+    return 1 if failed or found else 0
+
+
+if __name__ == "__main__":
+    sys.exit(main())

@@ -1,0 +1,142 @@
+"""Wrong bodies: each is an edit that a test has to fail for.
+
+    postgres/tests/wrong_bodies.py [WORD]
+
+The extension is built anew with each edit whose name has WORD in it, and tested on a server of its own.
+"""
+
+from __future__ import annotations
+
+import os
+import shutil
+import subprocess
+import sys
+import tempfile
+from dataclasses import dataclass
+from pathlib import Path
+
+sys.dont_write_bytecode = True
+HERE = Path(__file__).resolve().parent
+ROOT = HERE.parents[1]
+sys.path[:0] = [str(HERE.parent)]
+from installed import SETTINGS, Alone, lay_server
+
+
+@dataclass
+class Edit:
+    """What goes wrong, in which file, by which edits, and the regression or isolation test that fails."""
+
+    name: str
+    file: str
+    edits: list[tuple[str, str]]
+    test: str
+
+
+EDITS = [
+    Edit("the lesser where the sum belongs", "conditions.c", [("		*list = summed(*list, one);", "		*list = cell == list_head(clauses) ? one : lesser(*list, one);")], "estimates"),
+    Edit("a range leaves its last part out", "conditions.c", [("end = range->last + 1", "end = range->last")], "estimates"),
+    Edit("a range ends before its value", "conditions.c", [("range->last = Min(range->last, leaf_at(pair, less,", "range->last = Min(range->last, -1 + leaf_at(pair, less,")], "estimates"),
+    Edit("the other values' list of a common value", "conditions.c", [("kept->kind == LIST_VALUE &&", "false &&")], "estimates"),
+    Edit("a parameter is no common value", "conditions.c", [("list_of_kind(pair, LIST_ANY)", "list_of_kind(pair, LIST_OTHER)")], "estimates"),
+    Edit("collations are mixed", "conditions.c", [("	if (collation != own && OidIsValid(collation)", "	if (false && OidIsValid(collation)")], "estimates"),
+    Edit("a semi-join is bounded by its right side", "joins.c",
+         [("return Min(less, bound_of_ways(query, present, rest));", "return Min(less, bound_of_ways(query, join->syn_righthand, rest));")], "estimates"),
+    Edit("a condition above an outer join is one of its scan", "conditions.c",
+         [("list = list_of_all(&of, rel->baserestrictinfo, &list)", "list = list_of_all(&of, list_concat_copy(rel->baserestrictinfo, rel->joininfo), &list)")], "estimates"),
+    Edit("the missing side of a full join has no rows", "joins.c", [("return plus(plus(less, bound_of_ways(query, bms_difference(present, join->syn_lefthand), rest)), ", "return plus(less, ")], "estimates"),
+    Edit("the missing side of a left join has no rows", "joins.c", [("			return plus(less, bound_of_ways(query, present, rest));", "			return bound_of_ways(query, present, rest);")], "estimates"),
+    Edit("a list along a reference is taken without what is referred to", "joins.c", [("!bms_is_member(carried->referred, relids)", "false")], "estimates"),
+    Edit("rows that refer count once for each value", "columns.c", [("coding->weights ? coding->weights[row] : 1", "1")], "estimates"),
+    Edit("the last degree of a group is lost", "counts.c", [("	add_degree(&degrees, (last & mask) == 0 ? 0 : degree);\n	end_group", "	end_group")], "estimates"),
+    Edit("NULLs join", "counts.c", [("			add_degree(&degrees, (last & mask) == 0 ? 0 : degree);", "			add_degree(&degrees, degree);")], "estimates"),
+    Edit("a delta isn't read", "deltas.c", [("table->deltas == NULL || table->deltas->rows == 0", "true")], "rows"),
+    Edit("deltas have no rows", "deltas.c", [("all.rows = list.rows + table->deltas->rows", "all.rows = list.rows")], "rows"),
+    Edit("values that a delta doesn't tell are different ones", "deltas.c", [("{.degree = rows, .keys = 1}", "{.degree = 1, .keys = rows}")], "rows"),
+    Edit("deltas that can't be read stay in memory", "deltas.c", [('(CurrentMemoryContext, "safebound deltas"', '(CacheMemoryContext, "safebound deltas"')], "rows"),
+    Edit("lists that can't be read stay in memory", "kept.c", [('(CurrentMemoryContext, "safebound statistics"', '(CacheMemoryContext, "safebound statistics"')], "rows"),
+    Edit("updates change nothing", "followed.c", [("!same_values(seen, new->desc, new->slot, old)", "false")], "rows"),
+    Edit("a table is known in the midst of a statement", "kept.c", [(" || is_writing(&seen)", "")], "rows"),
+    Edit("marks aren't looked at", "kept.c", [("table->deltas && table->deltas->not_counted", "false")], "rows"),
+    Edit("triggers that are gone aren't missed", "watch.c", [("return statements == 3 && (rows == 1 || !itself)", "return true")], "rows"),
+    Edit("triggers of a table above are made anew when it is watched itself", "watch.c", [("	if (statements != 3)", "	if (statements != 3 || (itself && rows != 1))")], "rows"),
+    Edit("triggers of a table above go with its own statistics", "watch.c", [("	if (followers_of(source) != NIL)", "	if (false)")], "rows"),
+    Edit("tables above bring no rows", "watch.c", [("list_append_unique_oid(sources, ((Form_pg_inherits) GETSTRUCT(tuple))->inhparent)", "sources")], "rows"),
+    Edit("rows that are written anew are the same", "watch.c", [("		mark_rewritten();", "		;")], "rows"),
+    Edit("a materialized view stays as it was", "watch.c", [("		mark_refreshed();", "		;")], "rows"),
+    Edit("statistics of a table that was dropped and made anew", "watch.c", [("			forget_dropped(seen->relation);", "			continue;")], "rows"),
+    Edit("what a table refers to is as it was", "deltas.c", [("count_deltas(then->relation, snapshot) == then->deltas", "true")], "rows"),
+    Edit("what a table refers to was counted anew", "deltas.c", [("now.version == then->version", "true")], "rows"),
+    Edit("the rows that refer are those that did", "conditions.c", [("	*list = with_deltas(table, joined, *list);\n	return true;", "	return true;")], "rows"),
+    Edit("whoever may write may count", "keep.c", [("if (!pg_class_ownercheck(relation, GetUserId()))", "if (false)")], "rows"),
+    Edit("statistics are those of now, not of the snapshot", "kept.c", [("see_table(relation, snapshot, &seen)", "see_table(relation, NULL, &seen)")], "counting"),
+    Edit("the memory of statistics has no version", "kept.c", [("found && entry->table->version == seen->version", "found")], "admission"),
+    Edit("who counts takes no new snapshot", "watch.c", [("	if (IsolationUsesXactSnapshot())\n	{\n		PushCopied", "	if (true)\n	{\n		PushCopied")], "counting"),
+    Edit("who counts other columns waits for nobody", "watch.c", [("if (*was_followed && !folding)", "if (false)")], "counting"),
+    Edit("deltas stay when they are counted", "watch.c", [("	delete_deltas(id, GetActiveSnapshot());", "")], "counting"),
+    Edit("the budget is looked at only in the planner", "admit.c",
+         [("	if (joins != NIL)\n		put_recipe(plan, joins);", "	if (joins != NIL)\n		put_recipe(plan, joins);\n	check_plan(plan, parameters);"),
+          ("static void\non_budget", "static void check_plan(PlannedStmt *plan, ParamListInfo parameters);\n\nstatic void\non_budget"),
+          ("if (budget > 0 && !admission_paused && !(flags", "if (false && !admission_paused && !(flags"), ("static void\nadmit(", "__attribute__((unused)) static void\nadmit(")], "admission"),
+    Edit("a plan is bounded in the snapshot of another statement", "admit.c", [("PushActiveSnapshot(query->snapshot)", "PushActiveSnapshot(GetTransactionSnapshot())")], "admission"),
+    Edit("a budget counts on tables that nobody watches", "admit.c", [("kept_fresh_only = true", "kept_fresh_only = false")], "budget"),
+    Edit("EXPLAIN is refused", "admit.c", [("EXEC_FLAG_EXPLAIN_ONLY | ", "")], "budget"),
+    Edit("parameters have no value", "recipe.c", [("root->glob->boundParams = parameters", "root->glob->boundParams = NULL")], "budget"),
+    Edit("plans that are kept aren't made anew", "admit.c", [("		ResetPlanCache();", "		;")], "budget"),
+    Edit("joins of subqueries aren't looked at", "plan_joins.c", [("		if (lfirst(cell) != NULL)\n			scans_below", "		if (false)\n			scans_below")], "budget"),
+    Edit("rows that no scan makes are none", "plan_joins.c", [("return (Scans) {NULL, is_empty(plan)}", "return (Scans) {NULL, true}")], "budget"),
+    Edit("any user changes the budget", "admit.c", [("INT_MAX, PGC_SUSET", "INT_MAX, PGC_USERSET")], "budget"),
+]
+
+
+def apply(edit: Edit, folder: Path) -> None:
+    file = folder / edit.file
+    text = file.read_text()
+    for old, new in edit.edits:
+        if text.count(old) != 1:
+            raise SystemExit(f"{edit.name}: stands {text.count(old)} times in {edit.file}: {old}")
+        text = text.replace(old, new)
+    file.write_text(text)
+
+
+def passes(folder: Path, test: str) -> bool:
+    """Whether one test passes, on a server with what stands in the folder."""
+    kind = "ISOLATION" if (folder / "specs" / f"{test}.spec").exists() else "REGRESS"
+    other = {"ISOLATION": "REGRESS", "REGRESS": "ISOLATION"}[kind]
+    with Alone(SETTINGS) as server:
+        reach = {**os.environ, "PGHOST": server.folder, "PGUSER": "postgres"}
+        words = [f"{kind}={test}", f"{other}=", "REGRESS_OPTS=--load-extension=safebound --dbname=contrib_regression"]
+        return subprocess.run(["make", "-s", "-C", str(folder), "installcheck", *words], env=reach, capture_output=True).returncode == 0
+
+
+def build(folder: Path, *targets: str) -> None:
+    for target in targets:
+        subprocess.run(["make", "-s", "-C", str(folder), target], check=True, capture_output=True)
+
+
+def main() -> int:
+    word = sys.argv[1] if len(sys.argv) > 1 else ""
+    missed = 0
+    with tempfile.TemporaryDirectory(prefix="safebound-wrong-") as root:
+        os.chmod(root, 0o755)
+        os.environ["PATH"] = lay_server(root) + os.pathsep + os.environ["PATH"]
+        for name in ("include", "dist", "library"):
+            os.symlink(ROOT / name, Path(root) / name)
+        built, folder = Path(root) / "built", Path(root) / "postgres"
+        shutil.copytree(HERE.parent, built)
+        build(built, "all")
+        for edit in [Edit("nothing", "watch.c", [], test) for test in sorted({edit.test for edit in EDITS})] + EDITS:
+            if word not in edit.name:
+                continue
+            shutil.copytree(built, folder)
+            apply(edit, folder)
+            build(folder, "all", "install")
+            caught = not passes(folder, edit.test)
+            wrong = caught != bool(edit.edits)
+            missed += wrong
+            print(f"{'MISSED' if wrong else 'caught' if caught else 'passes'}: {edit.name} ({edit.test})", flush=True)
+            shutil.rmtree(folder)
+    return 1 if missed else 0
+
+
+if __name__ == "__main__":
+    sys.exit(main())

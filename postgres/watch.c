@@ -1,0 +1,533 @@
+/* safebound.watch, unwatch and fold; and changes of a table that its triggers don't see. */
+#include "watch.h"
+
+#include "access/genam.h"
+#include "access/htup_details.h"
+#include "access/relation.h"
+#include "access/table.h"
+#include "access/xact.h"
+#include "catalog/pg_class.h"
+#include "catalog/pg_inherits.h"
+#include "catalog/pg_trigger.h"
+#include "catalog/pg_type.h"
+#include "commands/defrem.h"
+#include "commands/event_trigger.h"
+#include "commands/trigger.h"
+#include "executor/spi.h"
+#include "miscadmin.h"
+#include "parser/parse_func.h"
+#include "storage/lmgr.h"
+#include "tcop/utility.h"
+#include "utils/acl.h"
+#include "utils/array.h"
+#include "utils/builtins.h"
+#include "utils/fmgroids.h"
+#include "utils/lsyscache.h"
+#include "utils/rel.h"
+#include "utils/snapmgr.h"
+#include "utils/syscache.h"
+
+PG_FUNCTION_INFO_V1(safebound_watch);
+PG_FUNCTION_INFO_V1(safebound_unwatch);
+PG_FUNCTION_INFO_V1(safebound_fold);
+PG_FUNCTION_INFO_V1(safebound_on_change);
+
+/* As many deltas are folded by who analyzes. */
+#define MANY_DELTAS 100
+
+/* What keep takes where it isn't told. */
+#define COMMON 100
+#define RANGES 64
+#define ACCURACY 8
+
+static ProcessUtility_hook_type utility_before;
+
+/* A table and all that it inherits from: a statement on each of them may write to it. */
+static List *
+sources_of(Oid relation)
+{
+	Relation	inherits = table_open(InheritsRelationId, AccessShareLock);
+	List	   *sources = list_make1_oid(relation);
+
+	for (int i = 0; i < list_length(sources); i++)
+	{
+		ScanKeyData key;
+		SysScanDesc scan;
+		HeapTuple	tuple;
+
+		ScanKeyInit(&key, Anum_pg_inherits_inhrelid, BTEqualStrategyNumber, F_OIDEQ, ObjectIdGetDatum(list_nth_oid(sources, i)));
+		scan = systable_beginscan(inherits, InheritsRelidSeqnoIndexId, true, NULL, 1, &key);
+		while (HeapTupleIsValid(tuple = systable_getnext(scan)))
+			sources = list_append_unique_oid(sources, ((Form_pg_inherits) GETSTRUCT(tuple))->inhparent);
+		systable_endscan(scan);
+	}
+	table_close(inherits, AccessShareLock);
+	list_sort(sources, list_oid_cmp);
+	return sources;
+}
+
+/* How many of a source's triggers for statements and for rows are there and fire always. */
+static void
+count_triggers(Oid source, int *statements, int *rows)
+{
+	Relation	opened = relation_open(source, AccessShareLock);
+	TriggerDesc *triggers = opened->trigdesc;
+	Oid			follow = LookupFuncName(list_make2(makeString("safebound"), makeString("follow")), 0, NULL, true);
+
+	*statements = *rows = 0;
+	for (int i = 0; triggers && i < triggers->numtriggers; i++)
+	{
+		Trigger    *trigger = &triggers->triggers[i];
+
+		if (trigger->tgfoid != follow)
+			continue;
+		if (TRIGGER_FOR_ROW(trigger->tgtype))
+			*rows += trigger->tgenabled == TRIGGER_FIRES_ON_REPLICA;
+		else
+			*statements += trigger->tgenabled == TRIGGER_FIRES_ALWAYS;
+	}
+	relation_close(opened, AccessShareLock);
+}
+
+/* Whether all triggers of a source are there: three for statements, and on the table itself one for rows. */
+static bool
+has_triggers(Oid source, bool itself)
+{
+	int			statements,
+				rows;
+
+	count_triggers(source, &statements, &rows);
+	return statements == 3 && (rows == 1 || !itself);
+}
+
+/* Whether all that brings rows to a table is still followed. */
+static bool
+is_intact(Oid relation, List *followed)
+{
+	List	   *sources = sources_of(relation);
+	ListCell   *cell;
+
+	if (!equal(sources, followed))
+		return false;
+	if (get_rel_relkind(relation) == RELKIND_MATVIEW)
+		return true;
+	foreach(cell, sources)
+		if (!has_triggers(lfirst_oid(cell), lfirst_oid(cell) == relation))
+			return false;
+	return true;
+}
+
+static void
+refuse_old_snapshot(void)
+{
+	if (IsolationUsesXactSnapshot())
+		ereport(ERROR, (errcode(ERRCODE_ACTIVE_SQL_TRANSACTION),
+						errmsg("a table that is watched can be counted in READ COMMITTED only"),
+						errdetail("In the snapshot of a transaction rows may be missing that came since and that other transactions see.")));
+}
+
+/* Locks a table against others that count it, and takes a new snapshot. Who counts other columns waits for all writers too, since their
+   triggers look at the columns. The deltas that the snapshot sees go: their rows are counted now. */
+void
+begin_counting(Relation relation, bool folding, Seen *before, bool *was_followed)
+{
+	Oid			id = RelationGetRelid(relation);
+
+	LockRelationOid(id, ShareUpdateExclusiveLock);
+	*before = (Seen) {.relation = id};
+	*was_followed = see_table(id, NULL, before) && before->sources != NIL;
+	if (*was_followed && !folding)
+		LockRelationOid(id, ShareRowExclusiveLock);
+	if (*was_followed)
+		refuse_old_snapshot();
+	CommandCounterIncrement();
+	if (IsolationUsesXactSnapshot())
+	{
+		PushCopiedSnapshot(GetActiveSnapshot());
+		UpdateActiveSnapshotCommandId();
+	}
+	else
+		PushActiveSnapshot(GetTransactionSnapshot());
+	delete_deltas(id, GetActiveSnapshot());
+	marks_are_gone();
+}
+
+static Datum
+oid_array(List *oids)
+{
+	Datum	   *values = palloc(sizeof(Datum) * (list_length(oids) + 1));
+	ListCell   *cell;
+
+	foreach(cell, oids)
+		values[foreach_current_index(cell)] = ObjectIdGetDatum(lfirst_oid(cell));
+	return PointerGetDatum(construct_array(values, list_length(oids), OIDOID, 4, true, TYPALIGN_INT));
+}
+
+/* Says of the statistics that were just made which columns they are of, and who brings rows. */
+static void
+note_sources(Oid relation, List *sources)
+{
+	Oid			types[] = {REGCLASSOID, OIDARRAYOID};
+	Datum		values[] = {ObjectIdGetDatum(relation), oid_array(sources)};
+
+	write_own("UPDATE safebound.kept_table SET sources = nullif($2, '{}'::oid[]),"
+			  " joined = ARRAY(SELECT joined FROM safebound.kept_lists WHERE relation = $1 AND along = 0 AND filter = 0 AND joined > 0),"
+			  " filters = ARRAY(SELECT filter FROM safebound.kept_lists WHERE relation = $1 AND along = 0 AND joined = 0 AND filter > 0)"
+			  " WHERE relation = $1", 2, types, values);
+}
+
+/* The columns of which changes are told, of a table that is watched and known; NULL where it isn't. */
+static Bitmapset *
+columns_told(Oid relation, Seen *seen)
+{
+	if (!see_table(relation, GetActiveSnapshot(), seen) || seen->sources == NIL || has_mark(relation, GetActiveSnapshot()))
+		return NULL;
+	return bms_union(seen->joined, seen->filters);
+}
+
+/* What the lists along a reference were made of, as the active snapshot sees it: three numbers for each table of which all changes to
+   their columns are told. */
+static List *
+references_told(Oid relation, uint64 rows, SPITupleTable *lists)
+{
+	List	   *told = NIL;
+
+	for (uint64 at = 0; at < rows; at++)
+	{
+		bool		null;
+		Oid			referred = DatumGetObjectId(SPI_getbinval(lists->vals[at], lists->tupdesc, 1, &null));
+		Seen		seen;
+		Bitmapset  *columns = columns_told(referred, &seen);
+		ReferredTable *table = palloc(sizeof(ReferredTable));
+
+		if (columns == NULL || !bms_is_subset(array_numbers(SPI_getbinval(lists->vals[at], lists->tupdesc, 2, &null)), columns))
+			continue;
+		*table = (ReferredTable) {referred, seen.version, count_deltas(referred, GetActiveSnapshot())};
+		told = lappend(told, table);
+	}
+	return told;
+}
+
+static void
+note_references(Oid relation)
+{
+	Oid			types[] = {REGCLASSOID, INT8ARRAYOID};
+	Datum		values[2] = {ObjectIdGetDatum(relation)};
+	List	   *told;
+	Datum	   *numbers;
+	ListCell   *cell;
+	int			length = 0;
+
+	write_own("SELECT referred, array_agg(DISTINCT filter) || array_agg(DISTINCT key) FROM safebound.kept_lists"
+			  " WHERE relation = $1 AND along > 0 GROUP BY referred", 1, types, values);
+	told = references_told(relation, SPI_processed, SPI_tuptable);
+	numbers = palloc(sizeof(Datum) * 3 * (list_length(told) + 1));
+	foreach(cell, told)
+	{
+		ReferredTable *table = lfirst(cell);
+
+		numbers[length++] = Int64GetDatum(table->relation);
+		numbers[length++] = Int64GetDatum(table->version);
+		numbers[length++] = Int64GetDatum(table->deltas);
+	}
+	values[1] = PointerGetDatum(construct_array(numbers, length, INT8OID, 8, FLOAT8PASSBYVAL, TYPALIGN_DOUBLE));
+	write_own("UPDATE safebound.kept_table SET referred = $2 WHERE relation = $1", 2, types, values);
+}
+
+void
+end_counting(const Seen *before, bool was_followed)
+{
+	note_references(before->relation);
+	PopActiveSnapshot();
+	note_sources(before->relation, was_followed && is_intact(before->relation, before->sources) ? before->sources : NIL);
+}
+
+static void
+execute(const char *format, const char *table)
+{
+	char	   *statement = psprintf(format, table);
+
+	if (SPI_execute(statement, false, 0) < 0)
+		elog(ERROR, "can't be executed: %s", statement);
+}
+
+static char *
+quoted_name(Oid relation)
+{
+	return quote_qualified_identifier(get_namespace_name(get_rel_namespace(relation)), get_rel_name(relation));
+}
+
+static void
+make_statement_triggers(const char *name)
+{
+	execute("CREATE OR REPLACE TRIGGER safebound_begin BEFORE INSERT OR UPDATE ON %s FOR EACH STATEMENT EXECUTE FUNCTION safebound.follow()", name);
+	execute("CREATE OR REPLACE TRIGGER safebound_insert AFTER INSERT ON %s REFERENCING NEW TABLE AS new_rows FOR EACH STATEMENT EXECUTE FUNCTION safebound.follow()", name);
+	execute("CREATE OR REPLACE TRIGGER safebound_update AFTER UPDATE ON %s REFERENCING OLD TABLE AS old_rows NEW TABLE AS new_rows FOR EACH STATEMENT EXECUTE FUNCTION safebound.follow()", name);
+	execute("ALTER TABLE %s ENABLE ALWAYS TRIGGER safebound_begin, ENABLE ALWAYS TRIGGER safebound_insert, ENABLE ALWAYS TRIGGER safebound_update", name);
+}
+
+/* Makes the triggers of a source, and waits for all who are writing to it. Those that are there stay: tables below need them, and would
+   count as unknown once they are made anew. */
+static void
+make_triggers(Oid source, bool itself)
+{
+	char	   *name = quoted_name(source);
+	int			statements,
+				rows;
+
+	LockRelationOid(source, ShareRowExclusiveLock);
+	count_triggers(source, &statements, &rows);
+	if (statements != 3)
+		make_statement_triggers(name);
+	if (!itself || rows == 1)
+		return;
+	execute("CREATE OR REPLACE TRIGGER safebound_applied AFTER INSERT OR UPDATE ON %s FOR EACH ROW EXECUTE FUNCTION safebound.follow()", name);
+	execute("ALTER TABLE %s ENABLE REPLICA TRIGGER safebound_applied", name);
+}
+
+/* Drops the triggers of a table that is no longer watched, as far as tables below it don't need them. */
+static void
+drop_triggers(Oid source)
+{
+	char	   *name = quoted_name(source);
+
+	execute("DROP TRIGGER IF EXISTS safebound_applied ON %s", name);
+	if (followers_of(source) != NIL)
+		return;
+	execute("DROP TRIGGER IF EXISTS safebound_begin ON %s", name);
+	execute("DROP TRIGGER IF EXISTS safebound_insert ON %s", name);
+	execute("DROP TRIGGER IF EXISTS safebound_update ON %s", name);
+}
+
+/* Makes the statistics anew, of the same columns where there are some. */
+static int64
+keep_again(Oid relation, bool folding)
+{
+	Seen		seen;
+
+	if (!see_table(relation, NULL, &seen))
+		return keep_table(relation, NULL, NULL, COMMON, RANGES, ACCURACY, folding);
+	/* A set with 0 alone is no column; NULL would be all. */
+	return keep_table(relation, bms_add_member(seen.joined, 0), bms_add_member(seen.filters, 0), seen.common, seen.ranges, seen.accuracy, folding);
+}
+
+/* Looks whether the caller may count a table, and answers whether it has triggers: a materialized view has none. */
+static bool
+may_have_triggers(Oid relation)
+{
+	Relation	opened = open_owned(relation);
+	bool		may = opened->rd_rel->relkind == RELKIND_RELATION;
+
+	/* It is dropped at the end of the session without an event. */
+	if (opened->rd_rel->relpersistence == RELPERSISTENCE_TEMP)
+		ereport(ERROR, (errcode(ERRCODE_FEATURE_NOT_SUPPORTED), errmsg("\"%s\" is a temporary table, and can't be watched", get_rel_name(relation))));
+	/* Its triggers change while nobody here has it open. */
+	relation_close(opened, NoLock);
+	return may;
+}
+
+Datum
+safebound_watch(PG_FUNCTION_ARGS)
+{
+	Oid			relation = PG_GETARG_OID(0);
+	bool		triggers = may_have_triggers(relation);
+	List	   *sources = sources_of(relation);
+	int64		lists;
+	ListCell   *cell;
+
+	refuse_old_snapshot();
+	SPI_connect();
+	foreach(cell, triggers ? sources : NIL)
+		make_triggers(lfirst_oid(cell), lfirst_oid(cell) == relation);
+	LockRelationOid(relation, ShareRowExclusiveLock);
+	CommandCounterIncrement();
+	lists = keep_again(relation, false);
+	if (!is_intact(relation, sources))
+		ereport(ERROR, (errcode(ERRCODE_OBJECT_IN_USE), errmsg("what \"%s\" inherits from changed meanwhile", get_rel_name(relation))));
+	note_sources(relation, sources);
+	SPI_finish();
+	PG_RETURN_INT64(lists);
+}
+
+/* The triggers of tables above stay, since other tables may need them; without followers they count nothing. */
+Datum
+safebound_unwatch(PG_FUNCTION_ARGS)
+{
+	Oid			relation = PG_GETARG_OID(0);
+	bool		triggers = may_have_triggers(relation);
+	Seen		seen = {0};
+	bool		were = see_table(relation, NULL, &seen) && seen.sources != NIL;
+
+	SPI_connect();
+	if (were)
+		note_sources(relation, NIL);
+	if (triggers)
+		drop_triggers(relation);
+	SPI_finish();
+	PG_RETURN_BOOL(were);
+}
+
+Datum
+safebound_fold(PG_FUNCTION_ARGS)
+{
+	Oid			relation = PG_GETARG_OID(0);
+	Seen		seen;
+
+	if (!see_table(relation, NULL, &seen))
+		ereport(ERROR, (errcode(ERRCODE_OBJECT_NOT_IN_PREREQUISITE_STATE), errmsg("no statistics of \"%s\" are kept", get_rel_name(relation))));
+	PG_RETURN_INT64(keep_again(relation, true));
+}
+
+/* Who analyzes folds: all that he owns, or what he names. */
+static void
+fold_full(List *named)
+{
+	ListCell   *cell;
+
+	foreach(cell, followers_of(InvalidOid))
+	{
+		Seen	   *seen = lfirst(cell);
+
+		if (seen->sources != NIL && (named == NIL || list_member_oid(named, seen->relation)) &&
+			SearchSysCacheExists1(RELOID, ObjectIdGetDatum(seen->relation)) &&
+			pg_class_ownercheck(seen->relation, GetUserId()) && count_deltas(seen->relation, NULL) >= MANY_DELTAS)
+			keep_again(seen->relation, true);
+	}
+}
+
+static bool
+analyzes(Node *statement)
+{
+	VacuumStmt *vacuum = (VacuumStmt *) statement;
+	ListCell   *cell;
+
+	if (!IsA(statement, VacuumStmt))
+		return false;
+	if (!vacuum->is_vacuumcmd)
+		return true;
+	foreach(cell, vacuum->options)
+		if (strcmp(lfirst_node(DefElem, cell)->defname, "analyze") == 0 && defGetBoolean(lfirst_node(DefElem, cell)))
+			return true;
+	return false;
+}
+
+static List *
+named_tables(VacuumStmt *vacuum)
+{
+	List	   *named = NIL;
+	ListCell   *cell;
+
+	foreach(cell, vacuum->rels)
+		if (lfirst_node(VacuumRelation, cell)->relation)
+			named = lappend_oid(named, RangeVarGetRelid(lfirst_node(VacuumRelation, cell)->relation, NoLock, true));
+	return named;
+}
+
+static void
+on_utility(PlannedStmt *statement, const char *text, bool read_only, ProcessUtilityContext context, ParamListInfo parameters,
+		   QueryEnvironment *environment, DestReceiver *destination, QueryCompletion *completion)
+{
+	bool		folds = analyzes(statement->utilityStmt) && !IsolationUsesXactSnapshot();
+	List	   *named = folds ? named_tables((VacuumStmt *) statement->utilityStmt) : NIL;
+
+	if (utility_before)
+		utility_before(statement, text, read_only, context, parameters, environment, destination, completion);
+	else
+		standard_ProcessUtility(statement, text, read_only, context, parameters, environment, destination, completion);
+	if (folds && OidIsValid(extension_table("kept_delta")))
+	{
+		PushActiveSnapshot(GetTransactionSnapshot());
+		fold_full(named);
+		PopActiveSnapshot();
+	}
+}
+
+/* A table that isn't followed any more as it was. Where a mark is there already and nobody is about to take it away, it is enough. */
+static void
+mark_broken(Oid relation)
+{
+	if (!has_mark(relation, NULL) || !ConditionalLockRelationOid(relation, ShareUpdateExclusiveLock))
+		mark_not_counted(relation);
+}
+
+static void
+forget_dropped(Oid relation)
+{
+	Oid			types[] = {REGCLASSOID};
+	Datum		values[] = {ObjectIdGetDatum(relation)};
+
+	write_own("DELETE FROM safebound.kept_lists WHERE relation = $1", 1, types, values);
+	write_own("DELETE FROM safebound.kept_delta WHERE relation = $1", 1, types, values);
+	write_own("DELETE FROM safebound.kept_table WHERE relation = $1", 1, types, values);
+}
+
+static void
+check_all(void)
+{
+	ListCell   *cell;
+
+	foreach(cell, followers_of(InvalidOid))
+	{
+		Seen	   *seen = lfirst(cell);
+
+		if (!SearchSysCacheExists1(RELOID, ObjectIdGetDatum(seen->relation)))
+			forget_dropped(seen->relation);
+		else if (seen->sources != NIL && !is_intact(seen->relation, seen->sources))
+			mark_broken(seen->relation);
+	}
+}
+
+/* A materialized view that is refreshed has other rows. */
+static void
+mark_refreshed(void)
+{
+	if (SPI_execute("SELECT objid FROM pg_catalog.pg_event_trigger_ddl_commands()", false, 0) < 0)
+		elog(ERROR, "can't read what was refreshed");
+	for (uint64 i = 0; i < SPI_processed; i++)
+	{
+		bool		null;
+		Oid			relation = DatumGetObjectId(SPI_getbinval(SPI_tuptable->vals[i], SPI_tuptable->tupdesc, 1, &null));
+		Seen		seen;
+
+		if (see_table(relation, NULL, &seen))
+			mark_not_counted(relation);
+	}
+}
+
+/* The table whose rows ALTER TABLE writes anew, maybe with other values. */
+static void
+mark_rewritten(void)
+{
+	Oid			relation = DatumGetObjectId(OidFunctionCall0(F_PG_EVENT_TRIGGER_TABLE_REWRITE_OID));
+	Seen		seen;
+
+	if (see_table(relation, NULL, &seen))
+		mark_not_counted(relation);
+}
+
+Datum
+safebound_on_change(PG_FUNCTION_ARGS)
+{
+	EventTriggerData *event = (EventTriggerData *) fcinfo->context;
+
+	if (!CALLED_AS_EVENT_TRIGGER(fcinfo))
+		ereport(ERROR, (errcode(ERRCODE_E_R_I_E_EVENT_TRIGGER_PROTOCOL_VIOLATED), errmsg("safebound.on_change is called by event triggers alone")));
+	if (!OidIsValid(extension_table("kept_delta")))
+		return PointerGetDatum(NULL);
+	SPI_connect();
+	if (strcmp(event->event, "table_rewrite") == 0)
+		mark_rewritten();
+	else if (event->tag == CMDTAG_REFRESH_MATERIALIZED_VIEW)
+		mark_refreshed();
+	else
+		check_all();
+	SPI_finish();
+	return PointerGetDatum(NULL);
+}
+
+void
+watch_init(void)
+{
+	utility_before = ProcessUtility_hook;
+	ProcessUtility_hook = on_utility;
+}
