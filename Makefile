@@ -30,8 +30,8 @@ COMPILE :=
 ## make postgres  builds the extension for PostgreSQL 15 over the library, or where it isn't built over the release's, and tests it on a
 ##                server of its own (docs/POSTGRES.md; minutes)
 ## make release   builds the last commit twice, from clean clones, and lays the result in dist/ (minutes, where the proofs are kept)
-## make test      the gate: every proof, the gate's own edits, every test (about 40 minutes from nothing; it says how far it is)
-## make checks    the gate's tests of what is built, side by side (minutes)
+## make test      the gate: every proof, the gate's own edits, every test (from nothing about 75 minutes, eight where all is kept; it says how far it is)
+## make checks    the gate's tests of what is built, side by side (five minutes)
 ## make edits     every wrong body that a contract must refuse (two hours); make edits CRATES="plans set_bounds" some of them
 ## make bench     measures beside plain Rust and databases (minutes, once built)
 ## make memory    runs with each request for memory refused in turn (minutes)
@@ -90,6 +90,9 @@ CHECKS := engines postgres library command install friendly browser differential
 FEATURES := run,plan,audit,stats,append,many-entries,filters,words,accuracy,reduce,bushy,keys
 
 .PHONY: $(CHECKS:%=check-%)
+
+# A make that a test calls knows nothing of this one's jobs.
+unexport MAKEFLAGS
 
 checks:
 	@$(MAKE) --jobs=$$(nproc) --keep-going --output-sync=target --no-print-directory $(CHECKS:%=check-%)

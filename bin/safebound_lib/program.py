@@ -105,8 +105,9 @@ def run_and_read(path: str, words: list[str]) -> tuple[int, bytes]:
         ready, _, _ = select.select([r.stream for r in relays if r.is_open], [], [], TICK if progress else None)
         if progress:
             progress.clear() if ready else progress.show(sum(map(len, notes.kept)), rows is not None)
-        # Notes first: what was written on them before the rows that are ready is there by now.
-        for relay in relays:
+        # Notes first: what was written on them before the rows that are ready is there by now. Where nothing was ready,
+        # what has come since waits until the line of progress is cleared.
+        for relay in relays if ready else []:
             if relay is notes or relay.stream in ready:
                 relay.hand_on()
     return child.wait(), b"".join(notes.kept)

@@ -76,7 +76,7 @@ def compress(runs: Runs, accuracy: SupportsIndex) -> list[Run]:
 def append(runs: Runs, others: Runs) -> list[Run]:
     """The rank-wise sum of two lists: a list of a column's old rows and of rows that came later.
 
-    It is also the list of the rows that satisfy at least one of two conditions (OR), from a list of those that satisfy
+    It is also a list for the rows that satisfy at least one of two conditions (OR), from a list of those that satisfy
     each.
 
     Args:
@@ -98,7 +98,7 @@ def append(runs: Runs, others: Runs) -> list[Run]:
 
 
 def lesser(runs: Runs, others: Runs) -> list[Run]:
-    """The list of the rows that satisfy two conditions (AND), from a list of those that satisfy each.
+    """A list for the rows that satisfy two conditions (AND), from a list of those that satisfy each.
 
     At each rank its degrees sum, from the first on, to the lesser of what those of the two lists sum to. The lesser
     degree at each rank would be too low.
@@ -121,7 +121,7 @@ def lesser(runs: Runs, others: Runs) -> list[Run]:
 
 
 def greater(runs: Runs, others: Runs) -> list[Run]:
-    """The list of the rows of any one of two values, whichever it is, from a list of the rows of each.
+    """A list for the rows of any one of two values, whichever it is, from a list of the rows of each.
 
     It is the greater degree at each rank. For the rows of both values together take `append`.
 

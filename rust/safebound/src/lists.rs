@@ -94,7 +94,7 @@ pub fn compress(runs: &[Run], accuracy: u64) -> Result<Vec<Run>, Error> {
 
 /// The rank-wise sum of two lists: a list of a column's old rows and of rows that came later, whichever values repeat.
 ///
-/// It is also the list of the rows that satisfy at least one of two conditions (OR), from a list of those that satisfy each.
+/// It is also a list for the rows that satisfy at least one of two conditions (OR), from a list of those that satisfy each.
 ///
 /// ```
 /// use safebound::{append, Run};
@@ -112,7 +112,7 @@ pub fn append(runs: &[Run], others: &[Run]) -> Result<Vec<Run>, Error> {
     calls::append(runs, others).map_err(|refusal| Error::of_lists(refusal, runs, others))
 }
 
-/// The list of the rows that satisfy two conditions (AND), from a list of those that satisfy each.
+/// A list for the rows that satisfy two conditions (AND), from a list of those that satisfy each.
 ///
 /// At each rank its degrees sum, from the first on, to the lesser of what those of the two lists sum to. The lesser degree at
 /// each rank would be too low.
@@ -132,7 +132,7 @@ pub fn lesser(runs: &[Run], others: &[Run]) -> Result<Vec<Run>, Error> {
     calls::lesser(runs, others).map_err(|refusal| Error::of_lists(refusal, runs, others))
 }
 
-/// The list of the rows of any one of two values, whichever it is, from a list of the rows of each.
+/// A list for the rows of any one of two values, whichever it is, from a list of the rows of each.
 ///
 /// It is the greater degree at each rank. For the rows of both values together take [`append`].
 ///
