@@ -7,15 +7,18 @@ PREFIX ?= /usr/local
 # Where `make deb` leaves the packages.
 PACKAGES := out
 
-# What `make run` runs: a folder of yours (DATA) or one of examples/, and the command line.
+# What `make run` runs: a folder of yours (DATA) or one of examples/, the command line (tools/run says which without one), and with
+# COMPILE=yes a program that the kit compiles now.
 EXAMPLE := trips
 DATA := examples/$(EXAMPLE)
-WORDS := run schema.sql query.sql
+WORDS :=
+COMPILE :=
 
 .PHONY: help run archive build install uninstall deb release library command engines test checks edits bench memory limits clean
 
 ## make run       runs a query over examples/trips, or over a folder of yours: make run DATA=FOLDER
-##                (2 seconds with the built program, or where the kit isn't here with the release's; else a minute, and nothing is proved)
+##                (2 seconds, with the built program or else the release's; with COMPILE=yes a minute, by one that the kit compiles
+##                now, of which nothing is proved)
 ## make archive   fetches what Debian's archive says of itself by apt (55 MB), makes tables of 2,400,000 rows of it, and answers one
 ##                question, with bounds, rows and a picture (about two minutes; Debian only)
 ## make build     proves and builds the program (the first time 18 minutes, when there were 54 crates; it says how long is left)
@@ -37,9 +40,9 @@ WORDS := run schema.sql query.sql
 help:
 	@sed -n 's/^## //p' Makefile
 
-# The proved program where `make build` left it, else one that is compiled now.
+# The proved program where `make build` left it, else the release's.
 run:
-	@tools/run "$(DATA)" $(WORDS)
+	@tools/run $(if $(COMPILE),--compile) "$(DATA)" $(WORDS)
 
 # One question over real rows: the packages of Debian's archive.
 archive:
@@ -81,7 +84,7 @@ test:
 	.ci/run
 
 # What the gate does behind its proofs, side by side, the longest first: each reads what was built, and writes into folders of its own.
-CHECKS := engines library command install friendly browser differential process pages cases examples memory-there release
+CHECKS := engines library command install friendly browser differential process pages cases examples memory-there python release
 FEATURES := run,plan,audit,stats,append,many-entries,filters,words,accuracy,reduce,bushy,keys
 
 .PHONY: $(CHECKS:%=check-%)
@@ -112,7 +115,9 @@ check-command: command
 check-install: library command
 	library/test-install
 check-engines: library
-	engines/test --queries 50
+	engines/test --gate
+check-python:
+	tools/check-python
 check-release:
 	tools/release --check
 

@@ -1,25 +1,54 @@
 """`safebound convert`: a file in another encoding or with other separators, written as the program reads it."""
+from __future__ import annotations
+
 import codecs
 import csv
 import io
+import itertools
 import os
+import re
+import shlex
 import tempfile
+from collections.abc import Iterator
 from dataclasses import dataclass
 
 from . import program
+from .decimals import in_whole_numbers
 from .near import listed
 from .spot import plain
-from .table import ENCODING, OUTPUT
+from .table import CENTS, DIGITS, ENCODING, OUTPUT
 from .words import Line, Misused, places
 
 SEPARATORS = {",": "commas", ";": "semicolons", "\t": "tabs", "|": "bars"}
 LOOKED_AT = 100
-MARKS = ((codecs.BOM_UTF8, "utf-8-sig"), (codecs.BOM_UTF32_LE, "utf-32"), (codecs.BOM_UTF32_BE, "utf-32"), (codecs.BOM_UTF16_LE, "utf-16"), (codecs.BOM_UTF16_BE, "utf-16"))
-SPOKEN = {"utf-8": "UTF-8", "utf-8-sig": "UTF-8 with a byte order mark", "cp1252": "Windows-1252 (Latin-1)", "latin-1": "Latin-1",
-          "utf-16": "UTF-16", "utf-16-le": "UTF-16", "utf-16-be": "UTF-16", "utf-32": "UTF-32"}
-PACKED = ((b"PK\x03\x04", "is a workbook or an archive, and no text. Save its sheet as CSV (in Excel: CSV UTF-8), and take that"),
-          (b"\xd0\xcf\x11\xe0", "is a workbook of an old Excel, and no text. Save its sheet as CSV (in Excel: CSV UTF-8), and take that"),
-          (b"\x1f\x8b", "is packed: unpack it first (gunzip)"))
+MARKS = (
+    (codecs.BOM_UTF8, "utf-8-sig"),
+    (codecs.BOM_UTF32_LE, "utf-32"),
+    (codecs.BOM_UTF32_BE, "utf-32"),
+    (codecs.BOM_UTF16_LE, "utf-16"),
+    (codecs.BOM_UTF16_BE, "utf-16"),
+)
+SPOKEN = {
+    "utf-8": "UTF-8",
+    "utf-8-sig": "UTF-8 with a byte order mark",
+    "cp1252": "Windows-1252 (Latin-1)",
+    "latin-1": "Latin-1",
+    "utf-16": "UTF-16",
+    "utf-16-le": "UTF-16",
+    "utf-16-be": "UTF-16",
+    "utf-32": "UTF-32",
+}
+PACKED = (
+    (
+        b"PK\x03\x04",
+        "is a workbook or an archive, and no text. Save its sheet as CSV (in Excel: CSV UTF-8), and take that",
+    ),
+    (
+        b"\xd0\xcf\x11\xe0",
+        "is a workbook of an old Excel, and no text. Save its sheet as CSV (in Excel: CSV UTF-8), and take that",
+    ),
+    (b"\x1f\x8b", "is packed: unpack it first (gunzip)"),
+)
 
 
 @dataclass
@@ -27,37 +56,68 @@ class Sheet:
     """A text of records: how its fields are separated, how many lines stand before them, and its records."""
     separator: str
     lines_before: int
-    records: list
+    records: list[list[str]]
 
 
 def convert(line: Line) -> int:
     files = places(line.words[1:])
     if len(files) != 1:
-        raise Misused("convert takes one file: safebound convert FILE")
+        one = shlex.quote(files[0]) if files else "FILE"
+        raise Misused(f"convert takes one file{' at a time' * (len(files) > 1)}:\n    safebound convert {plain(one)}")
     file, data = files[0], read(files[0])
     encoding = line.own.get(ENCODING.word) or encoding_of(data)
     text = decoded(file, data, encoding)
-    is_sql = file.lower().endswith(".sql")
-    sheet = None if is_sql else sheet_of(text)
+    sheet = None if file.lower().endswith(".sql") else sheet_of(text)
+    commas = " with commas" if sheet else ""
     output = line.own.get(OUTPUT.word)
-    if output is None and encoding == "utf-8" and (is_sql or sheet.separator == "," and not sheet.lines_before):
-        program.write(1, f"{plain(file)}: is UTF-8{'' if is_sql else ' with commas'} already; nothing was written\n")
+    cents = in_cents(line, file, sheet)
+    is_right = encoding == "utf-8" and (not sheet or sheet.separator == "," and not sheet.lines_before)
+    if output is None and not cents and is_right:
+        program.write(1, f"{plain(file)}: is UTF-8{commas} already; nothing was written\n")
         return 0
-    new = (text if is_sql else written(sheet)).encode()
-    was = SPOKEN.get(encoding, encoding) + ("" if is_sql else f", separated by {SEPARATORS[sheet.separator]}")
-    return laid(file, data, new, output, f"{was}; now it is UTF-8{'' if is_sql else ' with commas'}", ragged(sheet) if sheet else "")
+    new = (written(sheet) if sheet else text).encode()
+    was = SPOKEN.get(encoding, encoding) + (f", separated by {SEPARATORS[sheet.separator]}" if sheet else "")
+    says = f"{was}; now it is UTF-8{commas}{cents}"
+    return laid(file, data, new, output, says, ragged(sheet) if sheet else "", bool(cents))
+
+
+def in_cents(line: Line, file: str, sheet: Sheet | None) -> str:
+    """Writes the column of `--cents` in whole numbers, and says so; nothing where that isn't asked for."""
+    name, digits = line.own.get(CENTS.word), line.own.get(DIGITS.word, "2")
+    if name is None and DIGITS.word not in line.own:
+        return ""
+    if name is None or sheet is None:
+        raise Misused(f"{DIGITS.word} stands beside {CENTS.word}, and both are for tables alone")
+    if not re.fullmatch("[1-9]|1[0-8]", digits):
+        raise Misused(f"{DIGITS.word} takes a number from 1 to 18: {DIGITS.spelled}")
+    return f". {in_whole_numbers(file, sheet.records, name, int(digits))}"
 
 
 def read(file: str) -> bytes:
     try:
         with open(file, "rb") as f:
             data = f.read()
+    except IsADirectoryError:
+        raise Misused(of_folder(file)) from None
     except OSError as fault:
         raise Misused(f"{plain(file)}: {fault.strerror}") from None
-    for start, says in PACKED:
-        if data.startswith(start):
-            raise Misused(f"{plain(file)} {says}")
+    if packed(data):
+        raise Misused(f"{plain(file)} {packed(data)}")
     return data
+
+
+def packed(data: bytes) -> str:
+    """What a file is that holds no text, and what to do; nothing of others."""
+    return next((says for start, says in PACKED if data.startswith(start)), "")
+
+
+def of_folder(folder: str) -> str:
+    tables = sorted(name for name in os.listdir(folder) if name.lower().endswith((".csv", ".txt", ".tsv")))
+    file = os.path.join(folder, tables[0]) if tables else "FILE"
+    return (
+        f"{plain(folder)} is a folder, and convert takes one file at a time:\n    safebound convert"
+        f" {plain(shlex.quote(file))}"
+    )
 
 
 def encoding_of(data: bytes) -> str:
@@ -85,7 +145,9 @@ def decoded(file: str, data: bytes, encoding: str) -> str:
     try:
         return data.decode(encoding).removeprefix("\ufeff")
     except LookupError:
-        raise Misused(f"there is no encoding {plain(encoding)}; some are utf-8, latin-1, cp1252, cp850, utf-16") from None
+        raise Misused(
+            f"there is no encoding {plain(encoding)}; some are utf-8, latin-1, cp1252, cp850, utf-16"
+        ) from None
     except UnicodeError:
         raise Misused(f"{plain(file)} is not in {plain(encoding)}: give another {ENCODING.word}") from None
 
@@ -100,13 +162,13 @@ def sheet_of(text: str) -> Sheet:
     return Sheet(separator, 0, list(parsed(text, separator)))
 
 
-def parsed(text: str, separator: str):
+def parsed(text: str, separator: str) -> Iterator[list[str]]:
     csv.field_size_limit(2**31 - 1)
     return (record for record in csv.reader(io.StringIO(text, newline=""), delimiter=separator) if record)
 
 
-def evenness(text: str, separator: str):
-    """How well a separator fits: whether it is in the header, how many records then have as many fields, and how many fields."""
+def evenness(text: str, separator: str) -> tuple[bool, int, int]:
+    """How well a separator fits: whether the header has it, how many records then are as wide, and how wide."""
     widths = [len(record) for _, record in zip(range(LOOKED_AT), parsed(text, separator))]
     wide = widths[0] if widths else 1
     return wide > 1, widths.count(wide), wide
@@ -126,22 +188,35 @@ def ragged(sheet: Sheet) -> str:
     return f"The header has {wide} fields, and {said} has another number.\n" if found else ""
 
 
-def laid(file: str, old: bytes, new: bytes, output: str, says: str, warning: str) -> int:
+def free(name: str) -> str:
+    """A name that no file has: this one, or one with a number behind it."""
+    number = next(n for n in itertools.count(1) if not os.path.lexists(f"{name}{n if n > 1 else ''}"))
+    return f"{name}{number if number > 1 else ''}"
+
+
+def laid(file: str, old: bytes, new: bytes, output: str | None, says: str, warning: str, numbers_kept: bool) -> int:
     """Writes what came out. No file is written over: one that keeps its name is kept under another name first."""
     folder, base = os.path.split(file)
-    target = output or os.path.join(folder, base.lower() if base.lower().endswith((".csv", ".sql")) else os.path.splitext(base)[0].lower() + ".csv")
-    kept = f"{file}.original" if os.path.exists(target) and os.path.samefile(file, target) else None
+    target = output or os.path.join(
+        folder, base.lower() if base.lower().endswith((".csv", ".sql")) else os.path.splitext(base)[0].lower() + ".csv"
+    )
+    is_same = os.path.exists(target) and os.path.samefile(file, target)
+    kept = (free(f"{file}.original") if numbers_kept else f"{file}.original") if is_same else None
     if target == "-":
         program.write(1, new.decode())
         return 0
     if os.path.exists(target) and not kept:
-        raise Misused(f"{plain(target)} is there already, and nothing is written over: {OUTPUT.word} FILE names another file")
+        raise Misused(
+            f"{plain(target)} is there already, and nothing is written over: {OUTPUT.word} FILE names another file"
+        )
     try:
         if kept:
             write_new(kept, old)
         replace(target, new, os.stat(file).st_mode & 0o777)
     except FileExistsError:
-        raise Misused(f"{plain(kept)} is there already, and nothing is written over: give that file another name") from None
+        raise Misused(
+            f"{plain(kept or target)} is there already, and nothing is written over: give that file another name"
+        ) from None
     except OSError as fault:
         raise Misused(f"{plain(fault.filename or target)}: {fault.strerror}") from None
     was = f"The file as it was is {plain(kept)}." if kept else f"{plain(file)} is as it was."

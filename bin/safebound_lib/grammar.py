@@ -1,4 +1,13 @@
 """Reading tokens by a grammar, rule by rule, and what could have stood where that goes wrong."""
+from __future__ import annotations
+
+from collections.abc import Callable
+from typing import NoReturn, TYPE_CHECKING, TypeVar
+
+if TYPE_CHECKING:
+    from .tokens import Token
+
+Read = TypeVar("Read")
 
 
 class Wrong(Exception):
@@ -8,14 +17,15 @@ class Wrong(Exception):
 class Reader:
     """Goes along the tokens. It remembers the furthest place that it tested, and all that it tested for there."""
 
-    def __init__(self, tokens):
-        self.tokens, self.at, self.furthest, self.tested = tokens, 0, 0, []
+    def __init__(self, tokens: list[Token]) -> None:
+        self.tokens, self.at, self.furthest = tokens, 0, 0
+        self.tested: list[str] = []
 
     @property
-    def token(self):
+    def token(self) -> Token | None:
         return self.tokens[self.at] if self.at < len(self.tokens) else None
 
-    def test(self, passes, what):
+    def test(self, passes: Callable[[Token], bool], what: str) -> bool:
         """Whether the next token passes; `what` it was tested for is remembered."""
         if self.at > self.furthest:
             self.furthest, self.tested = self.at, []
@@ -23,33 +33,33 @@ class Reader:
             self.tested.append(what)
         return self.token is not None and passes(self.token)
 
-    def has(self, *sources):
+    def has(self, *sources: str) -> bool:
         return self.test(lambda token: token.is_one(*sources), " or ".join(sources))
 
-    def maybe(self, *sources):
+    def maybe(self, *sources: str) -> Token | None:
         """Takes the next token where it is one of these words or symbols."""
         return self.next() if self.has(*sources) else None
 
-    def take(self, *sources):
+    def take(self, *sources: str) -> Token:
         return self.maybe(*sources) or self.wrong()
 
-    def has_kind(self, kind, what):
+    def has_kind(self, kind: str, what: str) -> bool:
         return self.test(lambda token: token.kind == kind, what)
 
-    def has_name(self, what):
+    def has_name(self, what: str) -> bool:
         return self.test(lambda token: token.is_name, what)
 
-    def take_name(self, what):
+    def take_name(self, what: str) -> Token:
         return self.next() if self.has_name(what) else self.wrong()
 
-    def next(self):
+    def next(self) -> Token:
         self.at += 1
         return self.tokens[self.at - 1]
 
-    def wrong(self):
+    def wrong(self) -> NoReturn:
         raise Wrong()
 
-    def many(self, rule, separator=","):
+    def many(self, rule: Callable[[], Read], separator: str = ",") -> list[Read]:
         """A list of what a rule reads, with separators between."""
         found = [rule()]
         while self.maybe(separator):

@@ -1,31 +1,47 @@
-"""The lists of degrees that the bounds of a plan are made from, as a file of statistics has them (docs/DEFINITIONS.md, "Conditional statistics")."""
+"""The lists of degrees that the bounds of a plan are made from, as a file of statistics has them (docs/DEFINITIONS.md,
+"Conditional statistics").
+"""
+from __future__ import annotations
+
 from dataclasses import dataclass, field
+from typing import Any, Dict, List, Tuple, TYPE_CHECKING
 
 from .query import Joined, Literal, Reference, equality, meant, references_of
 from .tokens import number_of
+
+if TYPE_CHECKING:
+    from .query import Entry, Query, Test as Comparison
+    from .schema import Schema
 
 OPPOSITE = {"=": "<>", "<": ">=", ">": "<=", "BETWEEN": "NOT BETWEEN", "IN": "NOT IN"}
 OPPOSITE.update({other: one for one, other in OPPOSITE.items()})
 TURNED = {"<": ">", ">": "<", "<=": ">=", ">=": "<="}
 LEAVES = 32
+Runs = List[Tuple[int, int]]
+# A number or a text. Those of one column are of one kind, so that they compare.
+Value = Any
+# By the names of a table, a filter column and a joined column.
+Pairs = Dict[Tuple[str, str, str], "Pair"]
+# A joined column, what the list is of, and its runs.
+Listed = Tuple[str, str, Runs]
 
 
 @dataclass
 class Pair:
     """What a file has of a filter column and a joined column: lists as their runs, `(degree, values)`."""
-    whole: list = None
-    rest: list = None
-    frequent: dict = field(default_factory=dict)
-    cuts: list = field(default_factory=list)
-    nodes: list = field(default_factory=list)
+    whole: Runs | None = None
+    rest: Runs | None = None
+    frequent: dict[Value, Runs | None] = field(default_factory=dict)
+    cuts: list[Value] = field(default_factory=list)
+    nodes: list[Runs | None] = field(default_factory=list)
 
-    def of_value(self, value):
+    def of_value(self, value: Value) -> Runs | None:
         return self.frequent.get(value, self.rest)
 
-    def leaf(self, value):
+    def leaf(self, value: Value) -> int:
         return max([0, *(number for number, cut in enumerate(self.cuts) if cut <= value)])
 
-    def of_range(self, low, high):
+    def of_range(self, low: Value, high: Value) -> Runs | None:
         """The list of the least node that has the leaves of both ends."""
         if not self.nodes:
             return self.whole
@@ -34,15 +50,16 @@ class Pair:
         return self.nodes[2 * LEAVES - 2 * LEAVES // size + first // size]
 
 
-def read_pairs(text):
+def read_pairs(text: str) -> Pairs:
     """The pairs of a file of statistics, by table, filter column and joined column."""
-    found, table, pair = {}, None, None
+    found: Pairs = {}
+    table, pair = "", Pair()
     for line in text.splitlines():
         kind, *words = line.split(" ")
         if kind == "table":
-            table = value_of(words[0])
+            table = text_of(words[0])
         elif kind == "pair":
-            pair = found[table, value_of(words[0]), value_of(words[1])] = Pair()
+            pair = found[table, text_of(words[0]), text_of(words[1])] = Pair()
         elif kind == "frequent":
             pair.frequent[value_of(words[0])] = runs(words[1:])
         elif kind == "cut":
@@ -54,111 +71,142 @@ def read_pairs(text):
     return found
 
 
-def value_of(word):
-    return bytes.fromhex(word[1:]).decode("utf-8", "replace") if word.startswith("x") else int(word)
+def text_of(word: str) -> str:
+    return bytes.fromhex(word[1:]).decode("utf-8", "replace")
 
 
-def runs(words):
-    return [tuple(map(int, word.split("*"))) for word in words if word != "-"]
+def value_of(word: str) -> Value:
+    return text_of(word) if word.startswith("x") else int(word)
+
+
+def runs(words: list[str]) -> Runs:
+    pairs = [word.split("*") for word in words if word != "-"]
+    return [(int(degree), int(values)) for degree, values in pairs]
 
 
 @dataclass(frozen=True)
 class Test:
     """A comparison of a column with a value, NOT moved into it. Any other comparison has no column."""
-    column: str = None
-    operator: str = None
-    value: object = None
+    column: str = ""
+    operator: str = ""
+    value: Value = None
 
 
-def normal(condition, is_not=False):
-    """A condition as ("AND", members), ("OR", members) or a test."""
+@dataclass(frozen=True)
+class Group:
+    """Conditions joined by AND, or by OR."""
+    by: str
+    members: list[Test | Group]
+
+
+def normal(condition: Joined | Comparison, is_not: bool = False) -> Test | Group:
+    """A condition without NOT."""
     if isinstance(condition, Joined):
         if condition.by == "NOT":
             return normal(condition.members[0], not is_not)
-        return ("OR" if is_not == (condition.by == "AND") else "AND", [normal(member, is_not) for member in condition.members])
+        by = "OR" if is_not == (condition.by == "AND") else "AND"
+        return Group(by, [normal(member, is_not) for member in condition.members])
     operator = OPPOSITE[condition.operator] if is_not else condition.operator
+    is_negated = operator.startswith("NOT")
     left, *others = condition.operands
     if operator.endswith("BETWEEN"):
-        ends = ("<", ">") if operator.startswith("NOT") else (">=", "<=")
-        return ("OR" if operator.startswith("NOT") else "AND", [test(left, end, other) for end, other in zip(ends, others)])
+        ends = ("<", ">") if is_negated else (">=", "<=")
+        return Group("OR" if is_negated else "AND", [test(left, end, other) for end, other in zip(ends, others)])
     if operator.endswith("IN"):
-        return ("AND", [test(left, "<>", other) for other in others]) if operator.startswith("NOT") else ("OR", [test(left, "=", other) for other in others])
+        return Group("AND" if is_negated else "OR", [test(left, "<>" if is_negated else "=", o) for o in others])
     return test(left, operator, others[0])
 
 
-def test(left, operator, right):
+def test(left: Reference | Literal, operator: str, right: Reference | Literal) -> Test:
     if isinstance(left, Literal):
         left, operator, right = right, TURNED.get(operator, operator), left
-    if not isinstance(left, Reference) or not isinstance(right, Literal):
+    if not isinstance(left, Reference) or not isinstance(right, Literal) or left.column is None:
         return Test()
     return Test(left.column.name, operator, literal_value(right))
 
 
-def literal_value(literal):
+def literal_value(literal: Literal) -> Value:
     source = "".join(token.source for token in literal.tokens)
     return number_of(source) if literal.is_number else source[1:-1].replace("''", "'")
 
 
-def flat(condition):
+@dataclass(frozen=True)
+class Asked:
+    """What is asked of a column's statistics: the list of a value, or of a range (None: it is open there)."""
+    column: str
+    low: Value
+    high: Value
+    is_value: bool = False
+
+
+def flat(condition: Test | Group) -> list[Test | Group]:
     """The members of an AND, through those of ANDs in it."""
-    if isinstance(condition, Test) or condition[0] == "OR":
+    if isinstance(condition, Test) or condition.by == "OR":
         return [condition]
-    return [found for member in condition[1] for found in flat(member)]
+    return [found for member in condition.members for found in flat(member)]
 
 
-def asked(condition):
-    """What a condition asks of statistics: `(column, low, high)`, a range, or `(column, value)`. The ranges of one AND on a column are one."""
-    found, ranges = [], {}
+def asked(condition: Test | Group) -> list[Asked]:
+    """What a condition asks of statistics. The ranges of one AND on a column are one."""
+    found: list[Asked] = []
+    ranges: dict[str, tuple[list[Value], list[Value]]] = {}
     for member in flat(condition):
         if not isinstance(member, Test):
-            found += [one for part in member[1] for one in asked(part)]
+            found += [one for part in member.members for one in asked(part)]
         elif member.operator == "=":
-            found.append((member.column, member.value))
+            found.append(Asked(member.column, member.value, member.value, is_value=True))
         elif member.operator == "<>":
-            found += [(member.column, None, member.value), (member.column, member.value, None)]
-        elif member.column is not None:
+            found += [Asked(member.column, None, member.value), Asked(member.column, member.value, None)]
+        elif member.column:
             ranges.setdefault(member.column, ([], []))[member.operator.startswith("<")].append(member.value)
-    return found + [(column, max(low, default=None), min(high, default=None)) for column, (low, high) in ranges.items()]
+    ends = ((column, max(low, default=None), min(high, default=None)) for column, (low, high) in ranges.items())
+    return found + [Asked(*one) for one in ends]
 
 
-def said(one):
+def said(one: Asked) -> str:
     """What a list is of, in words."""
-    column, *ends = one
-    first, last = (None if end is None else written(end) for end in (ends[0], ends[-1]))
-    if len(ends) == 1:
-        return f"rows with {column} = {first}"
-    return f"rows with {column} {f'up to {last}' if first is None else f'from {first} on' if last is None else f'from {first} to {last}'}"
+    if one.is_value:
+        return f"rows with {one.column} = {written(one.low)}"
+    if one.low is None:
+        return f"rows with {one.column} up to {written(one.high)}"
+    return f"rows with {one.column} from {written(one.low)} {'on' if one.high is None else f'to {written(one.high)}'}"
 
 
-def written(value):
-    return str(value) if isinstance(value, int) else "'" + value.replace("'", "''") + "'"
+def written(value: Value) -> str:
+    return str(value) if isinstance(value, int) else "'" + str(value).replace("'", "''") + "'"
 
 
-def joined_columns(query, schema, entry):
+def joined_columns(query: Query, schema: Schema, entry: Entry) -> list[str]:
     """The columns of an entry that equalities join, each once."""
-    found = []
+    found: list[str] = []
     for condition in query.conjuncts():
         if equality(query, condition, schema):
-            sides = [meant(query, operand, schema) for operand in condition.operands]
-            found += [column.name for one, _, column in sides if one is entry and column.name not in found]
+            sides = [meant(query, reference, schema) for reference in references_of(condition)]
+            found += [s[2].name for s in sides if s and s[0] is entry and s[2].name not in found]
     return found
 
 
-def lists_of(query, schema, text):
-    """For each entry of a query its lists: `(joined column, what the list is of, its runs)`, those of all rows first."""
+def entries_of(query: Query, schema: Schema, condition: Joined | Comparison) -> set[str]:
+    """The names of the entries that a condition names."""
+    return {found[0].name for r in references_of(condition) for found in [meant(query, r, schema)] if found}
+
+
+def lists_of(query: Query, schema: Schema, text: str) -> dict[str, list[Listed]]:
+    """For each entry of a query its lists, those of all rows first."""
     pairs, found = read_pairs(text), {}
     for entry in query.entries:
-        own = [c for c in query.conjuncts() if {meant(query, r, schema)[0].name for r in references_of(c)} == {entry.name}]
-        asks = asked(("AND", [normal(c) for c in own]))
-        found[entry.name] = [line for column in joined_columns(query, schema, entry) for line in lines(pairs, entry.table.name, column, asks)]
+        own = [c for c in query.conjuncts() if entries_of(query, schema, c) == {entry.name}]
+        asks = asked(Group("AND", [normal(c) for c in own]))
+        columns = joined_columns(query, schema, entry)
+        found[entry.name] = [line for column in columns for line in lines(pairs, entry.table.name, column, asks)]
     return found
 
 
-def lines(pairs, table, column, asks):
+def lines(pairs: Pairs, table: str, column: str, asks: list[Asked]) -> list[Listed]:
     of_column = {names[1]: pair for names, pair in pairs.items() if names[0] == table and names[2] == column}
-    found = [(column, "all rows", next(iter(of_column.values())).whole)] if of_column else []
+    found = [("all rows", pair.whole) for pair in list(of_column.values())[:1]]
     for one in asks:
-        pair = of_column.get(one[0])
+        pair = of_column.get(one.column)
         if pair:
-            found.append((column, said(one), pair.of_value(one[1]) if len(one) == 2 else pair.of_range(*one[1:])))
-    return found
+            found.append((said(one), pair.of_value(one.low) if one.is_value else pair.of_range(one.low, one.high)))
+    return [(column, of, runs or []) for of, runs in found]

@@ -1,15 +1,21 @@
 """The friendly command: own options and commands here, all other words to the program."""
+from __future__ import annotations
+
 import os
-import sys
+from collections.abc import Callable
+from typing import TYPE_CHECKING
 
 from . import VERSION, program
 from .table import BY_WORD, DATA, EXPLAIN, HELP, JSON, VERSION as VERSION_OPTION
 from .words import Misused, lacks_schema, options, read_line
 
+if TYPE_CHECKING:
+    from .words import Line
+
 MISUSED = 2
 
 
-def main(words):
+def main(words: list[str]) -> int:
     try:
         line = read_line(words)
         if HELP.word in line.own:
@@ -28,7 +34,7 @@ def main(words):
         return misused(f"safebound: {fault}")
 
 
-def misused(text):
+def misused(text: str) -> int:
     """Says what the friendly command can't take, on a terminal within its width."""
     if program.is_terminal(2):
         from .explain import wrapped
@@ -37,27 +43,44 @@ def misused(text):
     return MISUSED
 
 
-def refuse_strange(line):
-    """Own options stand only with commands that have them, and own commands have no others. What else isn't there is the program's to refuse."""
+def refuse_strange(line: Line) -> None:
+    """Own options stand only with commands that have them, and own commands have no others. The program refuses the
+    rest.
+    """
     command = BY_WORD.get(line.command)
     known = {option.word for option in command.options} if command else ()
     for word in [*line.own, *(options(line.words[1:]) if command.is_own else [])] if command else ():
         if word not in known and word != EXPLAIN.word:
             from .near import hint
-            raise Misused(f"{line.command} has no option {word}.{hint(word, known)} `safebound help {line.command}` lists those that it has")
+            raise Misused(
+                f"{line.command} has no option {word}.{hint(word, known)} `safebound help {line.command}` lists those"
+                " that it has"
+            )
 
 
-def enter(line):
+def enter(line: Line) -> None:
     """Goes into the folder of `--data`."""
     folder = line.own[DATA.word]
     try:
         line.before = os.getcwd()
         os.chdir(folder)
     except OSError as fault:
-        raise Misused(f"{DATA.word} {folder}: {fault.strerror}") from None
+        raise Misused(f"{DATA.word} {folder}: {no_folder(folder) or fault.strerror}") from None
 
 
-def with_schema(line, run):
+def no_folder(folder: str) -> str:
+    """Why a folder isn't one, and which may be meant."""
+    if os.path.isfile(folder):
+        return f"this is a file, and the option takes its folder: {DATA.word} {os.path.dirname(folder) or '.'}"
+    above = os.path.dirname(folder) or "."
+    if os.path.exists(folder) or not os.path.isdir(above):
+        return ""
+    from .near import hint
+    beside = [name for name in os.listdir(above) if os.path.isdir(os.path.join(above, name))]
+    return f"there is no folder {folder}.{hint(os.path.basename(folder), beside)}"
+
+
+def with_schema(line: Line, run: Callable[[Line], int]) -> int:
     """Runs a line, or where it lacks a schema, the line with one that is proposed."""
     if not lacks_schema(line):
         return run(line)
@@ -66,13 +89,15 @@ def with_schema(line, run):
         return run(whole)
 
 
-def run_program(line, is_last):
-    """The program's own commands. It is run so that its notes are seen only where a fault may be explained; `is_last` says that nothing has to be done behind it."""
+def run_program(line: Line, is_last: bool) -> int:
+    """The program's own commands. It is run so that its notes are seen only where a fault may be explained; `is_last`
+    says that nothing has to be done behind it.
+    """
     path = program.found()
     if JSON.word in line.own:
         from .json_plan import show
         return show(path, line)
-    explains = EXPLAIN.word in line.own or program.is_terminal(2)
+    explains = is_explained(line)
     if is_last and not explains:
         program.become(path, line.words)
     status, notes = program.run_and_read(path, line.words)
@@ -81,16 +106,31 @@ def run_program(line, is_last):
     return status
 
 
-def explain(path, line, status, notes):
+def is_explained(line: Line) -> bool:
+    """Whether a fault is explained: on a terminal, where a person left the schema out, and where that is asked for,
+    rightly spelled or not.
+    """
+    from .near import nearest
+    command = BY_WORD.get(line.command)
+    strange = [
+        word for word in options(line.words[1:]) if command and word not in {option.word for option in command.options}
+    ]
+    return (
+        EXPLAIN.word in line.own or line.is_proposed or program.is_terminal(2)
+        or any(nearest(word, [EXPLAIN.word], 0.8) for word in strange)
+    )
+
+
+def explain(path: str, line: Line, status: int, notes: bytes) -> None:
     """What stands below the line of a fault; below a plan only that entries aren't connected."""
     from .explain import Run, explained, not_connected
     from .faults import fault_of
-    run = Run(line.words, path, line.before)
+    run = Run(line.words, path, line.before, line.is_proposed)
     fault = fault_of(notes) if status else None
     program.say(explained(fault, run) if fault else not_connected(run) if status == 0 else "")
 
 
-def own_command(line):
+def own_command(line: Line) -> int:
     from . import own
     if line.command == "convert":
         from .convert import convert
@@ -98,30 +138,36 @@ def own_command(line):
     if line.command == "schema":
         from .propose import schema
         return schema(line)
-    return {"help": lambda: show_help(line.words[1:]), "new": lambda: own.new(line.words[1:]), "check": lambda: own.check(program.found(), line),
-            "picture": lambda: own.picture(program.found(), line), "completion": lambda: own.completion(line.words[1:])}[line.command]()
+    does: dict[str, Callable[[], int]] = {
+        "help": lambda: show_help(line.words[1:]), "new": lambda: own.new(line.words[1:]),
+        "check": lambda: own.check(program.found(), line), "picture": lambda: own.picture(program.found(), line),
+        "completion": lambda: own.completion(line.words[1:]),
+    }
+    return does[line.command]()
 
 
-def show_overview():
+def show_overview() -> int:
     """Where no command is given the help stands on standard error, in the place of a line that says so."""
     from . import pages
     program.say(pages.overview(2))
     return MISUSED
 
 
-def show_help(topics):
+def show_help(topics: list[str]) -> int:
     from . import pages
     if len(topics) > 1:
         raise Misused("help takes one word: a command, or errors")
     text = pages.topic(topics[0]) if topics else pages.overview()
     if text is None:
         from .near import hint, listed
-        raise Misused(f"there is no help on {topics[0]}.{hint(topics[0], pages.TOPICS)} There is help on {listed(pages.TOPICS)}")
+        raise Misused(
+            f"there is no help on {topics[0]}.{hint(topics[0], pages.TOPICS)} There is help on {listed(pages.TOPICS)}"
+        )
     program.write(1, text)
     return 0
 
 
-def show_version():
+def show_version() -> int:
     from . import places
     path = places.program()
     said = f"{path}: {program.released()}" if path == places.RELEASED else path or "not built yet (make build)"
@@ -129,7 +175,7 @@ def show_version():
     return 0
 
 
-def run(words):
+def run(words: list[str]) -> int:
     """The exit status of the command, with Python's own interruptions as a shell expects them."""
     try:
         return program.end_as(main(words))

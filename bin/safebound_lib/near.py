@@ -1,23 +1,26 @@
 """The nearest of some names, and names as a list in a sentence."""
+from __future__ import annotations
+
 import difflib
+from collections.abc import Iterable
 
 
-def nearest(name, names, cutoff=0.6):
+def nearest(name: str, names: Iterable[str], cutoff: float = 0.6) -> str | None:
     """The name that is nearest to one, upper and lower case alike, or nothing."""
     by_fold = {other.casefold(): other for other in reversed(list(names)) if other != name}
     found = difflib.get_close_matches(name.casefold(), by_fold, 1, cutoff)
     return by_fold[found[0]] if found else None
 
 
-def hint(name, names):
+def hint(name: str, names: Iterable[str]) -> str:
     """A sentence that asks for the nearest name, or nothing."""
     found = nearest(name, names)
     return f" Did you mean {found}?" if found else ""
 
 
-def listed(names, last="and", most=12):
+def listed(names: Iterable[str], last: str = "and", most: int = 12) -> str:
     """Names in a sentence: `A, B and C`."""
-    names = list(names)
-    if len(names) > most:
-        names = names[:most - 1] + [f"{len(names) - most + 1} more"]
-    return names[0] if len(names) == 1 else f"{', '.join(names[:-1])} {last} {names[-1]}" if names else "none"
+    found = list(names)
+    if len(found) > most:
+        found = found[:most - 1] + [f"{len(found) - most + 1} more"]
+    return found[0] if len(found) == 1 else f"{', '.join(found[:-1])} {last} {found[-1]}" if found else "none"

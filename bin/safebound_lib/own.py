@@ -1,7 +1,12 @@
 """The commands that the program doesn't have: `new`, `check`, `picture`, `completion`."""
+from __future__ import annotations
+
 import os
+import shlex
 import shutil
+import sys
 import tempfile
+from typing import TYPE_CHECKING
 
 from . import pages, places, program
 from .explain import Run, explained, not_connected, read
@@ -18,10 +23,16 @@ from .shown import shown_of
 from .table import ACCURACY, BUDGET, KEYS, OUTPUT, REDUCE, SHELLS, USUAL_BUDGET
 from .words import Misused, places as places_of
 
+if TYPE_CHECKING:
+    from .lists import Listed
+    from .faults import Fault
+    from .shown import Shown
+    from .words import Line
+
 PARTS_OF_EXAMPLE = (".sql", ".csv")
 
 
-def new(words):
+def new(words: list[str]) -> int:
     """Copies the example's texts and tables into a new folder."""
     if len(words) != 1:
         raise Misused("new takes one word, the folder: safebound new FOLDER")
@@ -35,12 +46,20 @@ def new(words):
             shutil.copyfile(os.path.join(source, name), os.path.join(folder, name))
     except OSError as fault:
         raise Misused(f"{folder}: {fault.strerror}") from None
-    program.write(1, f"{folder}: {listed(names)}\nRun it, and then edit it:\n    safebound run schema.sql query.sql --data {folder}\n")
+    line = f"    {called()} run schema.sql query.sql --data {folder}\n"
+    program.write(1, f"{folder}: {listed(names)}\nRun it, and then edit it:\n{line}")
     return 0
 
 
-def check(path, line):
-    """The texts alone: the program plans them where no table lies, and a table that it can't read shows that both are right."""
+def called() -> str:
+    """The command as it was called, where a shell wouldn't find it by its name."""
+    found = shutil.which("safebound")
+    is_it = found is not None and os.path.realpath(found) == os.path.realpath(sys.argv[0])
+    return "safebound" if is_it or os.path.basename(sys.argv[0]) != "safebound" else shlex.quote(sys.argv[0])
+
+
+def check(path: str, line: Line) -> int:
+    """The texts alone, planned where no table lies: a table that can't be read shows that both are right."""
     files = places_of(line.words[1:])
     if len(files) not in (1, 2) or len(files) != len([w for w in line.words[1:] if w != "--"]):
         raise Misused("check takes the schema and maybe the query: safebound check SCHEMA [QUERY]")
@@ -51,60 +70,69 @@ def check(path, line):
         absolute = [os.path.abspath(file) for file in files] + [query]
         status, _, notes = program.answer(path, ["plan", "--", *absolute[:2]], empty)
     fault = fault_of(notes)
-    is_right = fault is not None and (fault["kind"] == "read" and fault["file"] not in absolute or len(files) == 1 and fault["kind"] == "query")
+    is_right = fault is not None and (
+        fault.kind == "read" and fault.file not in absolute or len(files) == 1 and fault.kind == "query"
+    )
     if is_right:
         program.write(1, found_right(files))
         return 0
     return tell(notes, fault, Run(["plan", "--", *files], path, line.before), dict(zip(absolute, files)), status)
 
 
-def tell(notes, fault, run, names, status):
+def tell(notes: bytes, fault: Fault | None, run: Run, names: dict[str, str], status: int) -> int:
     """The line of the fault, with the file's name as it was given, and its explanation."""
-    if fault and fault.get("file") in names:
-        fault["file"] = names[fault["file"]]
-        notes = notes.replace(os.fsencode(os.path.abspath(fault["file"])), os.fsencode(fault["file"]))
+    if fault and fault.file in names:
+        fault.file = names[fault.file]
+        notes = notes.replace(os.fsencode(os.path.abspath(fault.file)), os.fsencode(fault.file))
     program.say(notes.decode("utf-8", "surrogateescape") + (explained(fault, run) if fault else ""))
     return status
 
 
-def found_right(files):
+def found_right(files: list[str]) -> str:
     """What was read, in a line for each text."""
     schema = read_schema(read(files[0]))
-    said = f"{files[0]}: right. Tables: {listed((f'{t.name} ({len(t.columns)} columns)' for t in schema.tables), most=64)}\n"
+    said = (
+        f"{files[0]}: right. Tables:"
+        f" {listed((f'{t.name} ({len(t.columns)} columns)' for t in schema.tables), most=64)}\n"
+    )
     if len(files) == 2:
         query = read_query(read(files[1]))
-        entries = listed(e.name if e.name == e.table.name else f"{e.name} (table {e.table.name})" for e in query.entries)
+        entries = listed(
+            e.name if e.name == e.table.name else f"{e.name} (table {e.table.name})" for e in query.entries
+        )
         said += f"{files[1]}: right. Entries: {entries}\n" + not_connected(Run(["plan", "--", *files]))
     return said
 
 
-def picture(path, line):
-    """One audit, and the picture of its plan and its rows; of a query that is refused by its budget, the plan's bounds beside that."""
+def picture(path: str, line: Line) -> int:
+    """The picture of an audit's plan and rows; where the budget refuses the query, of its plan beside the budget."""
     words = ["audit", *line.words[1:]]
     run = Run(words, path, line.before)
     status, out, notes = program.answer(path, words)
-    budget = option_of(words, BUDGET.word)
+    given_budget = option_of(words, BUDGET.word)
+    budget = int(given_budget) if given_budget else None
+    rows: list[int] | None = None
     if status:
         tell(notes, fault_of(notes), run, {}, status)
-        plan, rows, budget = refused(run, fault_of(notes)), None, int(budget or USUAL_BUDGET)
+        plan, budget = refused(run, fault_of(notes)), budget or USUAL_BUDGET
         if plan is None:
             return status
     else:
         plan = read_plan(notes.decode())
-        rows, budget = read_audit(out.decode(), plan), int(budget) if budget else None
+        rows = read_audit(out.decode(), plan)
     to = line.own.get(OUTPUT.word, "plan.svg")
     return save(drawn(run, shown_of(run, plan, rows, budget), to), to, run) or status
 
 
-def refused(run, fault):
+def refused(run: Run, fault: Fault | None) -> Plan | None:
     """The plan that a budget refuses, where the greatest budget lets it be seen, or nothing."""
-    if not fault or fault["kind"] != "budget" or fault["least"] > most_of(run):
+    if not fault or fault.kind != "budget" or fault.least > most_of(run):
         return None
-    plan = with_words(run, given(run, fault["least"]))
+    plan = with_words(run, given(run, fault.least))
     return plan if isinstance(plan, Plan) else None
 
 
-def drawn(run, shown, to):
+def drawn(run: Run, shown: Shown, to: str) -> str:
     """The picture, or where its file is one of HTML the page."""
     if not to.lower().endswith((".html", ".htm")):
         return draw(shown)
@@ -112,14 +140,17 @@ def drawn(run, shown, to):
     return page(shown, {} if REDUCE.word in flags else lists_beside(run), flags)
 
 
-def lists_beside(run):
-    """The lists of the run's entries, from the file of statistics that the program makes of its query; none where it makes no file."""
+def lists_beside(run: Run) -> dict[str, list[Listed]]:
+    """The lists of the run's entries, from the program's statistics of its query; none where it makes no file."""
     accuracy = option_of(run.words, ACCURACY.word)
-    status, text, _ = program.answer(run.program, ["stats", *([ACCURACY.word, accuracy] if accuracy else []), "--", run.schema_file, run.query_file])
+    status, text, _ = program.answer(
+        run.program or "",
+        ["stats", *([ACCURACY.word, accuracy] if accuracy else []), "--", run.schema_file, run.query_file],
+    )
     return lists_of(run.query, run.schema, text.decode()) if status == 0 else {}
 
 
-def save(text, to, run):
+def save(text: str, to: str, run: Run) -> int:
     if to == "-":
         program.write(1, text)
         return 0
@@ -132,7 +163,7 @@ def save(text, to, run):
     return 0
 
 
-def completion(words):
+def completion(words: list[str]) -> int:
     if len(words) != 1 or words[0] not in SHELLS:
         raise Misused(f"completion takes one word: {listed(SHELLS, 'or')}")
     program.write(1, pages.completion(words[0]))

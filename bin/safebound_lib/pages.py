@@ -1,66 +1,96 @@
 """Help, the man page and completion, all from the table of commands."""
+from __future__ import annotations
+
 import re
 import textwrap
+from typing import TYPE_CHECKING
 
 from . import VERSION
 from .places import page
 from .table import BY_WORD, COMMANDS, HELP, SHELLS, VERSION as VERSION_OPTION, numbered
 from .terminal import columns
 
+if TYPE_CHECKING:
+    from .table import Command, Option
+
 SUMMARY = "joins tables with bounds that are proved"
-ABOUT = ("A schema text, a query text (select-project-join SQL-92) and one CSV file for each table: SafeBound bounds every scan and every "
-         "intermediate join, picks the best order, refuses a query whose bound passes the budget, and then lists every row. No bound is too low; that is proved.")
-OWN_OPTIONS = ("Options of this command stand before `--`; all other words go to the proved program as they are, and its streams and exit status come "
-               "back as they are. Where standard error is a terminal, a fault is explained below its line.")
-STATUSES = "0 done; 2 the words; 3 a file; 4 the schema; 5 the query; 6 a table; 7 a limit; 8 the budget; 9 past every budget; 10 a stream; 11 memory; 14 a statistics file; 16 a limit of memory. `safebound help errors` lists each line."
+ABOUT = (
+    "A schema text, a query text (select-project-join SQL-92) and one CSV file for each table: SafeBound bounds every"
+    " scan and every intermediate join, picks the best order, refuses a query whose bound passes the budget, and then"
+    " lists every row. No bound is too low; that is proved."
+)
+OWN_OPTIONS = (
+    "Options of this command stand before `--`; all other words go to the proved program as they are, and its streams"
+    " and exit status come back as they are. Where standard error is a terminal, a fault is explained below its line."
+)
+STATUSES = (
+    "0 done; 2 the words; 3 a file; 4 the schema; 5 the query; 6 a table; 7 a limit; 8 the budget; 9 past every budget;"
+    " 10 a stream; 11 memory; 14 a statistics file; 16 a limit of memory. `safebound help errors` lists each line."
+)
 LIMITS = "One to 12 entries in FROM; 64 MiB and 4,000,000 rows for each table; budgets up to 20,000,000."
 
 
-def options_of(command):
+def options_of(command: Command) -> list[Option]:
     return [*command.options, HELP]
 
 
-def overview(stream=1):
+def overview(stream: int = 1) -> str:
     """The help, as wide as the terminal of a stream."""
     wide = columns(stream)
     lines = [*wrapped(f"safebound {VERSION}: {SUMMARY}", wide), "", *wrapped(ABOUT, wide), "", "Commands:"]
     lines += [entry(" ".join([c.word, *places_of(c)]), c.help, wide) for c in COMMANDS]
-    lines += ["", *wrapped(OWN_OPTIONS, wide), "", *wrapped("Limits: " + LIMITS, wide), "", "Begin with:", "    safebound new trips", "    cd trips", "    safebound run schema.sql query.sql", "",
-              *wrapped("`safebound help COMMAND` says more of one, with examples; `safebound help errors` lists the faults.", wide)]
+    lines += [
+        "",
+        *wrapped(OWN_OPTIONS, wide),
+        "",
+        *wrapped("Limits: " + LIMITS, wide),
+        "",
+        "Begin with:",
+        "    safebound new trips",
+        "    cd trips",
+        "    safebound run schema.sql query.sql",
+        "",
+        *wrapped(
+            "`safebound help COMMAND` says more of one, with examples; `safebound help errors` lists the faults.", wide
+        ),
+    ]
     return "\n".join(lines) + "\n"
 
 
-def places_of(command):
+def places_of(command: Command) -> list[str]:
     needed = len(command.places) - command.optional
     return [place if i < needed else f"[{place}]" for i, place in enumerate(command.places)]
 
 
-def of_command(command):
+def of_command(command: Command) -> str:
     wide = columns(1)
-    lines = wrapped(f"safebound {command.spelled}", wide, "    ") + [""] + wrapped(f"{command.help[0].upper()}{command.help[1:]}. {command.more}".strip(), wide)
+    lines = (
+        wrapped(f"safebound {command.spelled}", wide, "    ") + [""]
+        + wrapped(f"{command.help[0].upper()}{command.help[1:]}. {command.more}".strip(), wide)
+    )
     lines += ["", "Options:", *(entry(o.spelled, described(o), wide) for o in options_of(command))]
     if command.examples:
         lines += ["", "Examples:", *(f"    {example}" for example in command.examples)]
     return "\n".join(lines) + "\n"
 
 
-def described(option):
+def described(option: Option) -> str:
     """The option's help with its range."""
     return option.help + (f" ({option.least:,} to {option.most:,})" if option.least is not None else "")
 
 
-def wrapped(text, wide, indent="", first=""):
+def wrapped(text: str, wide: int, indent: str = "", first: str = "") -> list[str]:
     return textwrap.wrap(text, wide, initial_indent=first, subsequent_indent=indent, break_on_hyphens=False)
 
 
-def entry(word, text, wide):
+def entry(word: str, text: str, wide: int) -> str:
     """A word and what it says, the text in a column of its own; below a word that is too long for its column."""
     first = f"  {word:<22} " if len(word) <= 22 else f"  {word}\n{'':25}"
     above, _, indent = first.rpartition("\n")
     return (above and above + "\n") + "\n".join(wrapped(text, wide, " " * 25, indent))
 
 
-def errors():
+def errors() -> str:
     """The table of docs/ERRORS.md, laid out for a terminal."""
     with open(page("ERRORS.md"), encoding="utf-8") as f:
         lines = f.read().splitlines()
@@ -74,50 +104,73 @@ def errors():
     return "\n".join(found)
 
 
-def plain(text):
+def plain(text: str) -> str:
     """A page's text as a terminal shows it: without its marks, and with the paths where other pages lie here."""
-    text = re.sub(r"\[([^\]]*)\]\((\w+\.md)[^)]*\)", lambda found: f"docs/{found[2]}" if found[1] == found[2] else f"{found[1]} (docs/{found[2]})", text.replace("`", ""))
+    text = re.sub(
+        r"\[([^\]]*)\]\((\w+\.md)[^)]*\)",
+        lambda found: f"docs/{found[2]}" if found[1] == found[2] else f"{found[1]} (docs/{found[2]})",
+        text.replace("`", ""),
+    )
     return re.sub(r"\bdocs/(\w+\.md)", lambda found: page(found[1]), text)
 
 
-def indented(text):
-    return textwrap.wrap(text, columns(1), initial_indent="    ", subsequent_indent="    ", break_on_hyphens=False, break_long_words=False)
+def indented(text: str) -> list[str]:
+    return textwrap.wrap(
+        text, columns(1), initial_indent="    ", subsequent_indent="    ", break_on_hyphens=False,
+        break_long_words=False,
+    )
 
 
-def man():
+def man() -> str:
     """The man page, in the macros of man(7)."""
     lines = [f'.TH SAFEBOUND 1 "" "safebound {VERSION}"', ".SH NAME", f"safebound \\- {SUMMARY}", ".SH SYNOPSIS"]
-    lines += [part for c in COMMANDS for part in (f".B safebound {roff(c.word)}", roff(" ".join([*places_of(c), *(f"[{o.spelled}]" for o in c.options)])), ".br")]
+    lines += [
+        part
+        for c in COMMANDS
+        for part in (
+            f".B safebound {roff(c.word)}", roff(" ".join([*places_of(c), *(f"[{o.spelled}]" for o in c.options)])),
+            ".br",
+        )
+    ]
     lines += [".SH DESCRIPTION", roff(ABOUT), ".PP", roff(OWN_OPTIONS), ".SH COMMANDS"]
     for command in COMMANDS:
-        lines += [".TP", f".B {roff(' '.join([command.word, *places_of(command)]))}", roff(f"{command.help[0].upper()}{command.help[1:]}. {command.more}".strip())]
+        lines += [
+            ".TP", f".B {roff(' '.join([command.word, *places_of(command)]))}",
+            roff(f"{command.help[0].upper()}{command.help[1:]}. {command.more}".strip()),
+        ]
     lines.append(".SH OPTIONS")
     for option in dict.fromkeys(o for c in COMMANDS for o in c.options):
         of = ", ".join(c.word for c in COMMANDS if option in c.options)
         lines += [".TP", f".B {roff(option.spelled)}", roff(f"{described(option)}. With {of}.")]
-    lines += [".SH EXIT STATUS", roff(STATUSES), ".SH LIMITS", roff(LIMITS), ".SH EXAMPLES", ".nf", *(roff(e) for c in COMMANDS for e in c.examples), ".fi"]
+    lines += [
+        ".SH EXIT STATUS", roff(STATUSES), ".SH LIMITS", roff(LIMITS), ".SH EXAMPLES", ".nf",
+        *(roff(e) for c in COMMANDS for e in c.examples), ".fi",
+    ]
     return "\n".join(lines) + "\n"
 
 
-def roff(text):
+def roff(text: str) -> str:
     return re.sub(r"^([.'])", r"\\&\1", text.replace("\\", "\\e").replace("-", "\\-"))
 
 
-def topic(name):
+def topic(name: str) -> str | None:
     """The page of a topic, or nothing."""
     if name in BY_WORD:
         return of_command(BY_WORD[name])
-    return {"errors": errors, "man": man}.get(name, lambda: None)()
+    return errors() if name == "errors" else man() if name == "man" else None
 
 
 TOPICS = tuple(BY_WORD) + ("errors", "man")
 
 
-def completion(shell):
+def completion(shell: str) -> str:
     words = {c.word: " ".join(o.word for o in options_of(c)) for c in COMMANDS}
     cases = "\n".join(f"        {word}) known={options!r};;" for word, options in words.items())
     commands = " ".join([*words, HELP.word, VERSION_OPTION.word])
-    return {"bash": BASH, "zsh": ZSH}[shell].format(commands=commands, cases=cases, numbers="|".join(sorted(numbered())), topics=" ".join(TOPICS), shells=" ".join(SHELLS))
+    return {"bash": BASH, "zsh": ZSH}[shell].format(
+        commands=commands, cases=cases, numbers="|".join(sorted(numbered())), topics=" ".join(TOPICS),
+        shells=" ".join(SHELLS),
+    )
 
 
 BASH = """# bash completion for safebound

@@ -1,13 +1,22 @@
-"""The picture of a plan as one SVG: its order from left to right, and each scan's and level's bound as a bar. Of a join tree each node has
-a bar between those of the two nodes that it joins, and the tree stands below. Behind all come the conditions, step by step.
+"""The picture of a plan as one SVG: its order from left to right, and each scan's and level's bound as a bar. Of a join
+tree each node has a bar between those of the two nodes that it joins, and the tree stands below. Behind all come the
+conditions, step by step.
 
-Heights are logarithms: a step of the grid is a factor of ten. True rows stand within a bar, and the budget is a line that no number cuts.
+Heights are logarithms: a step of the grid is a factor of ten. True rows stand within a bar, and the budget is a line
+that no number cuts.
 """
+from __future__ import annotations
+
 import math
 import textwrap
 from xml.sax.saxutils import escape, quoteattr
+from typing import TYPE_CHECKING
 
 from .spot import plain
+
+if TYPE_CHECKING:
+    from .plans import Plan
+    from .shown import Shown
 
 TOP, HEIGHT, LEFT, RIGHT = 92, 240, 100, 24
 COLUMN, BAR, GAP, NODE, STEP = 160, 56, 12, 84, 34
@@ -16,63 +25,81 @@ DASHES = ' stroke-dasharray="5 4"'
 NAMES, WORDS = LEFT + 96, LEFT + 188
 
 
-def short(name, most):
+def short(name: str, most: int) -> str:
     return name if len(name) <= most else name[:most - 1] + "…"
 
 
-def safe(text):
+def safe(text: str) -> str:
     """A text as it may stand in a picture or a page: no mark of theirs, and no control character."""
     return escape(plain(text))
 
 
-def width_of(words, size):
+def width_of(words: str, size: int) -> float:
     """About how many points wide a text is."""
     return 0.64 * size * len(words)
 
 
 class Picture:
-    def __init__(self, shown, wide, is_linked):
+    def __init__(self, shown: Shown, wide: int, is_linked: bool) -> None:
         plan = shown.plan
-        self.shown, self.is_linked, self.foot, self.parts, self.numbers = shown, is_linked, TOP + HEIGHT, [], []
+        self.shown, self.is_linked, self.foot = shown, is_linked, TOP + HEIGHT
+        self.parts: list[str] = []
+        self.numbers: list[tuple[float, float, str]] = []
         self.decades = max(1, math.ceil(math.log10(max([*plan.scans.values(), *plan.bounds, shown.budget or 1]))))
-        self.width = math.ceil(max(LEFT + wide + RIGHT, LEFT + self.legend(), LEFT + width_of(shown.title, 15) + RIGHT, 620))
+        self.width = math.ceil(
+            max(LEFT + wide + RIGHT, LEFT + self.legend(), LEFT + width_of(shown.title, 15) + RIGHT, 620)
+        )
         self.text(LEFT, 26, shown.title, 15, "start", weight="bold")
         self.grid()
 
-    def height(self, value):
+    def height(self, value: int) -> float:
         """A foot of a few points, so that a bar of 1 is seen; none for 0."""
         return 0 if value == 0 else 8 + (HEIGHT - 8) * math.log10(value) / self.decades
 
-    def text(self, x, y, words, size=12, anchor="middle", ink=INK, weight="normal"):
-        self.parts.append(f'<text x="{x:.1f}" y="{y:.1f}" font-size="{size}" text-anchor="{anchor}" fill="{ink}" font-weight="{weight}" stroke="white" stroke-width="3" paint-order="stroke">{safe(words)}</text>')
+    def text(
+        self, x: float, y: float, words: str, size: int = 12, anchor: str = "middle", ink: str = INK,
+        weight: str = "normal",
+    ) -> None:
+        self.parts.append(
+            f'<text x="{x:.1f}" y="{y:.1f}" font-size="{size}" text-anchor="{anchor}" fill="{ink}"'
+            f' font-weight="{weight}" stroke="white" stroke-width="3" paint-order="stroke">{safe(words)}</text>'
+        )
 
-    def bar(self, x, width, value, ink, says, to):
+    def bar(self, x: float, width: int, value: int, ink: str, says: str, to: str) -> None:
         high = self.height(value)
-        drawn = f'<rect x="{x:.1f}" y="{self.foot - high:.1f}" width="{width}" height="{high:.1f}" fill="{ink}"><title>{safe(says)}</title></rect>'
+        drawn = (
+            f'<rect x="{x:.1f}" y="{self.foot - high:.1f}" width="{width}" height="{high:.1f}"'
+            f' fill="{ink}"><title>{safe(says)}</title></rect>'
+        )
         self.parts.append(f"<a href={quoteattr('#' + to)}>{drawn}</a>" if self.is_linked else drawn)
 
-    def number(self, x, value):
-        """The number of a bar, above it; where the budget's line would go through it, above that. All stand in front of the line."""
+    def number(self, x: float, value: int) -> None:
+        """The number of a bar, above it, or above the budget's line where that would go through it."""
         y, budget = self.foot - self.height(value) - 5, self.shown.budget
         line = self.foot - self.height(budget) if budget else None
         self.numbers.append((x, line - 5 if line is not None and y - 11 <= line <= y + 4 else y, f"{value:,}"))
 
-    def line(self, value, ink, dashes=""):
+    def line(self, value: int, ink: str, dashes: str = "") -> float:
         y = self.foot - self.height(value)
         self.parts.append(f'<path d="M{LEFT} {y:.1f}H{self.width - RIGHT}" stroke="{ink}"{dashes}/>')
         return y
 
-    def grid(self):
+    def grid(self) -> None:
         self.text(LEFT - 92, TOP - 20, "rows; each line is ten times the one below (logarithmic)", 11, "start")
         for power in range(self.decades + 1):
             self.text(LEFT - 8, self.line(10**power, GRID) + 4, f"{10**power:,}", 11, "end")
         self.parts.append(f'<path d="M{LEFT} {self.foot}H{self.width - RIGHT}" stroke="{INK}"/>')
 
-    def legend(self):
+    def legend(self) -> float:
         """Draws what the colours mean, and gives its width."""
-        shown, step, x = self.shown, self.shown.step, LEFT
-        has_steps, past = bool(shown.plan.levels or shown.plan.nodes), any(shown.is_past(bound) for bound in shown.plan.bounds)
-        of_steps = [(LEVEL, f"bound of the {step}")] + [(PAST, f"{step} past the budget")] * past + [(TRUE, "its true rows")] * (shown.rows is not None)
+        shown, step = self.shown, self.shown.step
+        x: float = LEFT
+        has_steps = bool(shown.plan.levels or shown.plan.nodes)
+        past = any(shown.is_past(bound) for bound in shown.plan.bounds)
+        of_steps = (
+            [(LEVEL, f"bound of the {step}")] + [(PAST, f"{step} past the budget")] * past
+            + [(TRUE, "its true rows")] * (shown.rows is not None)
+        )
         for ink, words in [(SCAN, "bound of the scan")] + of_steps * has_steps:
             self.parts.append(f'<rect x="{x}" y="38" width="12" height="12" fill="{ink}"/>')
             self.text(x + 18, 48, words, 12, "start")
@@ -83,11 +110,13 @@ class Picture:
             x += 44 + width_of(f"budget {shown.budget:,}", 12)
         return x - LEFT
 
-    def conditions(self, below):
+    def conditions(self, below: int) -> int:
         """The conditions of each step, a line each; gives the height of the whole picture."""
         y = self.foot + below
         for name, kind, words in self.shown.said():
-            lines = textwrap.wrap(words, max(20, int((self.width - RIGHT - WORDS) / width_of("m", 11))), break_long_words=True)
+            lines = textwrap.wrap(
+                words, max(20, int((self.width - RIGHT - WORDS) / width_of("m", 11))), break_long_words=True
+            )
             self.text(LEFT, y, short(name, 12), 11, "start", weight="bold")
             self.text(NAMES, y, kind, 11, "start")
             for number, line in enumerate(lines):
@@ -95,25 +124,32 @@ class Picture:
             y += 16 * len(lines)
         return y
 
-    def svg(self, below):
+    def svg(self, below: int) -> str:
         if self.shown.budget is not None:
             self.line(self.shown.budget, BUDGET, DASHES)
         for x, y, words in self.numbers:
             self.text(x, y, words, 11)
         height = self.conditions(below)
-        # On a page it becomes a little smaller where there is less room, and is moved under it where there is less still.
-        fits = f' style="width:100%;height:auto;max-width:{self.width}px;min-width:{self.width * 3 // 4}px"' if self.is_linked else ""
-        return "\n".join([
-            f'<svg xmlns="http://www.w3.org/2000/svg" width="{self.width}" height="{height}"{fits} viewBox="0 0 {self.width} {height}" font-family="DejaVu Sans, Verdana, sans-serif">',
-            f"<title>{safe(self.shown.title)}</title>", f'<rect width="{self.width}" height="{height}" fill="white"/>', *self.parts, "</svg>", ""])
+        # On a page it becomes a little smaller where there is less room, and is moved under it where there is less
+        # still.
+        fits = (
+            f' style="width:100%;height:auto;max-width:{self.width}px;min-width:{self.width * 3 // 4}px"'
+            if self.is_linked else ""
+        )
+        head = (
+            f'<svg xmlns="http://www.w3.org/2000/svg" width="{self.width}" height="{height}"{fits}'
+            f' viewBox="0 0 {self.width} {height}" font-family="DejaVu Sans, Verdana, sans-serif">'
+        )
+        ground = f'<rect width="{self.width}" height="{height}" fill="white"/>'
+        return "\n".join([head, f"<title>{safe(self.shown.title)}</title>", ground, *self.parts, "</svg>", ""])
 
 
-def draw(shown, is_linked=False):
-    """The SVG of what is shown of a plan. With links a click on a bar leads to the part of a page that says more of it."""
+def draw(shown: Shown, is_linked: bool = False) -> str:
+    """The SVG of what is shown of a plan. With links a click on a bar leads to its part of a page."""
     return (draw_tree if shown.plan.is_tree else draw_order)(shown, is_linked)
 
 
-def draw_order(shown, is_linked):
+def draw_order(shown: Shown, is_linked: bool) -> str:
     picture = Picture(shown, len(shown.plan.levels) * COLUMN, is_linked)
     for number, (alias, bound) in enumerate(shown.plan.levels):
         left = LEFT + number * COLUMN + (COLUMN - 2 * BAR - GAP) / 2
@@ -132,13 +168,13 @@ def draw_order(shown, is_linked):
     return picture.svg(92)
 
 
-def draw_scan(picture, alias, left):
+def draw_scan(picture: Picture, alias: str, left: float) -> None:
     bound = picture.shown.plan.scans[alias]
     picture.bar(left, BAR, bound, SCAN, f"scan {alias}: at most {bound:,} rows", picture.shown.entry_id(alias))
     picture.number(left + BAR / 2, bound)
 
 
-def draw_step(picture, at, left, bound):
+def draw_step(picture: Picture, at: int, left: float, bound: int) -> None:
     """The bar of the level or inner node at this place among them, with its true rows within."""
     shown = picture.shown
     name, to = shown.step_name(at), shown.step_id(at)
@@ -148,7 +184,7 @@ def draw_step(picture, at, left, bound):
         picture.bar(left + 8, BAR - 16, shown.rows[at], TRUE, f"{name}: {shown.rows[at]:,} rows", to)
 
 
-def depths(plan):
+def depths(plan: Plan) -> list[int]:
     """How far each node stands above the leaves below it."""
     found = [0] * len(plan.scans)
     for node in plan.nodes:
@@ -156,7 +192,7 @@ def depths(plan):
     return found
 
 
-def in_order(plan, number):
+def in_order(plan: Plan, number: int) -> list[int]:
     """The numbers of a node and of all below it: those on its left, its own, those on its right."""
     if number < len(plan.scans):
         return [number]
@@ -164,7 +200,7 @@ def in_order(plan, number):
     return in_order(plan, node.left) + [number] + in_order(plan, node.right)
 
 
-def draw_tree(shown, is_linked):
+def draw_tree(shown: Shown, is_linked: bool) -> str:
     plan = shown.plan
     leaves, last = len(plan.scans), len(plan.scans) + len(plan.nodes) - 1
     columns, depth = in_order(plan, last), depths(plan)
@@ -173,7 +209,10 @@ def draw_tree(shown, is_linked):
     low = {number: picture.foot + 20 + STEP * depth[number] for number in columns}
     for number, node in enumerate(plan.nodes, leaves):
         for other in (node.left, node.right):
-            picture.parts.append(f'<path d="M{middle[other]:.1f} {low[other] + 4 + 16 * (other < leaves)}V{low[number]}H{middle[number]:.1f}" stroke="{INK}" fill="none"/>')
+            top = low[other] + 4 + 16 * (other < leaves)
+            picture.parts.append(
+                f'<path d="M{middle[other]:.1f} {top}V{low[number]}H{middle[number]:.1f}" stroke="{INK}" fill="none"/>'
+            )
     for number in columns:
         draw_leaf(picture, number, middle, low) if number < leaves else draw_node(picture, number, middle, low)
     foot = 20 + STEP * depth[last] + 32
@@ -182,7 +221,7 @@ def draw_tree(shown, is_linked):
     return picture.svg(foot + 32)
 
 
-def draw_leaf(picture, number, middle, low):
+def draw_leaf(picture: Picture, number: int, middle: dict[int, float], low: dict[int, int]) -> None:
     alias, x = picture.shown.plan.entries[number], middle[number]
     draw_scan(picture, alias, x - BAR / 2)
     picture.text(x, low[number], f"{number}  {short(alias, 8)}", 13, weight="bold")
@@ -190,7 +229,7 @@ def draw_leaf(picture, number, middle, low):
         picture.text(x, low[number] + 15, short(picture.shown.table(alias), 12), 11)
 
 
-def draw_node(picture, number, middle, low):
+def draw_node(picture: Picture, number: int, middle: dict[int, float], low: dict[int, int]) -> None:
     shown, x = picture.shown, middle[number]
     at = number - len(shown.plan.scans)
     draw_step(picture, at, x - BAR / 2, shown.plan.nodes[at].bound)

@@ -1,4 +1,6 @@
 """Where the program and the pages lie, in a copy of the repository and where `make install` put them."""
+from __future__ import annotations
+
 import os
 import platform
 
@@ -13,7 +15,7 @@ RELEASE = os.path.join(TOP, "dist", "RELEASE")
 RELEASED = os.path.join(TOP, "dist", "safebound_cli")
 
 
-def program():
+def program() -> str | None:
     """The path of the proved program, or nothing where there is none. SAFEBOUND_PROGRAM names another one.
 
     The release's is the last choice: it may be older than the other files of the repository.
@@ -23,26 +25,26 @@ def program():
     return next((os.path.abspath(path) for path in candidates if os.path.isfile(path)), None)
 
 
-def is_for_releases():
+def is_for_releases() -> bool:
     """Whether releases are built for this machine."""
     return (platform.system(), platform.machine()) == ("Linux", "x86_64")
 
 
-def release():
+def release() -> dict[str, str]:
     """What dist/RELEASE says: the version, the commit and what built it."""
     with open(RELEASE, encoding="utf-8") as f:
         return dict(line.rstrip("\n").split(" ", 1) for line in f)
 
 
-def page(name):
+def page(name: str) -> str:
     """The path of a page of docs/."""
     return first(os.path.join(TOP, "docs", name), os.path.join(SHARED, name))
 
 
-def example():
+def example() -> str:
     """The folder of the example that `safebound new` lays."""
     return first(os.path.join(TOP, "examples", "trips"), os.path.join(SHARED, "trips"))
 
 
-def first(*paths):
+def first(*paths: str) -> str:
     return next((path for path in paths if os.path.exists(path)), paths[0])

@@ -1,35 +1,38 @@
 """Running the proved program, with its words, streams and exit status as they are."""
+from __future__ import annotations
+
 import os
 import select
 import signal
 import subprocess
 import sys
+from typing import IO
 
 from . import places
 
 TICK = 0.25
 NO_PROGRAM = """safebound: the proved program isn't here. In the repository, `make build` proves and builds it;
-`make run DATA=FOLDER` tries a folder of yours within a minute, with nothing proved.
+`make run DATA=FOLDER COMPILE=yes` tries a folder of yours within a minute, with nothing proved.
 SAFEBOUND_PROGRAM names a program that lies elsewhere."""
 
 
-def found():
-    """The program's path; without one the command ends. A terminal is told where the release's program runs in place of a built one."""
+def found() -> str:
+    """The program's path; without one the command ends. A terminal is told where it is the release's."""
     path = places.program()
     if path is None:
         sys.exit(NO_PROGRAM)
     if path == places.RELEASED and is_terminal(2):
-        say(f"Nothing is built here (make build), so {released()} runs.\n")
+        say(f"{released()[:1].upper()}{released()[1:]} runs. `make build` proves and builds one here.\n")
     return path
 
 
-def released():
+def released() -> str:
     """What a reader calls the release's program."""
     told = places.release()
     return f"the program of release {told['version']} (dist/, built from commit {told['commit'][:12]})"
 
 
-def become(path, words):
+def become(path: str, words: list[str]) -> None:
     """Turns into the program. Signals that Python ignores are as they were before it began."""
     for name in (signal.SIGPIPE, signal.SIGXFSZ):
         signal.signal(name, signal.SIG_DFL)
@@ -39,7 +42,9 @@ def become(path, words):
         sys.exit(f"safebound: {path} can't be run: {fault.strerror}")
 
 
-def answer(path, words, folder=None, seconds=None):
+def answer(
+    path: str, words: list[str], folder: str | None = None, seconds: int | None = None
+) -> tuple[int, bytes, bytes]:
     """The exit status, standard output and standard error of a run that nobody sees."""
     done = subprocess.run([path, *words], cwd=folder, stdin=subprocess.DEVNULL, capture_output=True, timeout=seconds)
     return done.returncode, done.stdout, done.stderr
@@ -48,11 +53,12 @@ def answer(path, words, folder=None, seconds=None):
 class Relay:
     """Hands bytes on to one of our own streams until that fails."""
 
-    def __init__(self, stream, to):
-        self.stream, self.to, self.kept, self.is_open = stream, to, [], True
+    def __init__(self, stream: IO[bytes], to: int) -> None:
+        self.stream, self.to, self.is_open = stream, to, True
+        self.kept: list[bytes] = []
         os.set_blocking(stream.fileno(), False)
 
-    def hand_on(self):
+    def hand_on(self) -> None:
         """Hands on what is there."""
         while self.is_open:
             try:
@@ -63,20 +69,21 @@ class Relay:
                 self.is_open = False
                 self.stream.close()
 
-    def write(self, part):
+    def write(self, part: bytes) -> bool:
         if self.to == 2:
             self.kept.append(part)
         try:
             while part:
                 part = part[os.write(self.to, part):]
         except OSError:
-            # A terminal that went away: the program is told so by its own stream. Its notes are still read, for their fault.
+            # A terminal that went away: the program is told so by its own stream. Its notes are still read, for their
+            # fault.
             return self.to == 2
         return True
 
 
-def run_and_read(path, words):
-    """Runs the program on our streams. The exit status, below 0 where a signal ended it, and what it wrote on standard error.
+def run_and_read(path: str, words: list[str]) -> tuple[int, bytes]:
+    """Runs the program on our streams. The exit status, below 0 after a signal, and what it wrote on standard error.
 
     Where both streams are terminals, rows go by us too: else they could overtake the plan that was written before them.
     """
@@ -90,8 +97,9 @@ def run_and_read(path, words):
         sys.exit(f"safebound: {path} can't be run: {fault.strerror}")
     for name in (signal.SIGTERM, signal.SIGHUP):
         signal.signal(name, lambda number, _: child.send_signal(number))
+    assert child.stderr
     notes = Relay(child.stderr, 2)
-    relays = [notes] + ([Relay(child.stdout, 1)] if rows else [])
+    relays = [notes] + ([Relay(child.stdout, 1)] if child.stdout else [])
     progress = Progress(child.pid, words) if is_terminal(2) else None
     while any(relay.is_open for relay in relays):
         ready, _, _ = select.select([r.stream for r in relays if r.is_open], [], [], TICK if progress else None)
@@ -104,7 +112,7 @@ def run_and_read(path, words):
     return child.wait(), b"".join(notes.kept)
 
 
-def end_as(status):
+def end_as(status: int) -> int:
     """The status as it is; a program that a signal ended is followed by that signal."""
     if status < 0:
         if -status not in (signal.SIGKILL, signal.SIGSTOP):
@@ -113,19 +121,19 @@ def end_as(status):
     return status
 
 
-def is_terminal(number):
+def is_terminal(number: int) -> bool:
     try:
         return os.isatty(number)
     except OSError:
         return False
 
 
-def say(text):
+def say(text: str) -> None:
     """Writes on standard error, whatever the text holds."""
     write(2, text)
 
 
-def write(number, text):
+def write(number: int, text: str) -> None:
     data = text.encode("utf-8", "surrogateescape")
     try:
         while data:

@@ -1,11 +1,13 @@
-"""What a program that runs is doing, as the system tells it: which table it has come to, and how much it has written."""
+"""What a running program is doing, as the system tells it: which table it has come to, how much it has written."""
+from __future__ import annotations
+
 import itertools
 import os
 import time
 from typing import Optional
 
 from . import terminal
-from .explain import Run
+from .explain import UNEXPLAINED, Run
 
 AFTER = 1.0
 
@@ -23,7 +25,7 @@ def counted(pid: int, what: str) -> int:
         return 0
 
 
-def open_files(pid: int) -> list:
+def open_files(pid: int) -> list[str]:
     """The names of the files that a process has open, without their folders."""
     try:
         return [os.path.basename(os.readlink(f"/proc/{pid}/fd/{name}")) for name in os.listdir(f"/proc/{pid}/fd")]
@@ -31,30 +33,32 @@ def open_files(pid: int) -> list:
         return []
 
 
-def tables_of(words: list) -> list:
+def tables_of(words: list[str]) -> list[tuple[str, int]]:
     """The files of the tables that a query names, each with its size; none where that can't be told."""
     try:
         run = Run(words)
-        files = dict.fromkeys(entry.table.name.lower() + ".csv" for entry in run.query.entries) if run.stats_file is None else ()
+        entries = run.query.entries if run.stats_file is None else []
+        files = dict.fromkeys(entry.table.name.lower() + ".csv" for entry in entries)
         return [(file, os.path.getsize(file)) for file in files]
-    except Exception:
-        # Whatever goes wrong here, the run goes on.
+    except UNEXPLAINED:
         return []
 
 
 class Progress:
     """A line on the terminal, from a second on."""
 
-    def __init__(self, pid: int, words: list):
-        self.pid, self.words, self.began, self.tables, self.is_shown = pid, words, time.monotonic(), None, False
+    def __init__(self, pid: int, words: list[str]) -> None:
+        self.pid, self.words, self.began, self.is_shown = pid, words, time.monotonic(), False
+        self.tables: list[tuple[str, int]] = []
+        self.is_looked_up = False
 
     def show(self, notes: int, shows_rows: bool) -> None:
         """`notes` says how many bytes of the plan have come, and `shows_rows` whether rows go to this terminal."""
         seconds = time.monotonic() - self.began
         if seconds < AFTER or notes and shows_rows:
             return
-        if self.tables is None:
-            self.tables = tables_of(self.words)
+        if not self.is_looked_up:
+            self.tables, self.is_looked_up = tables_of(self.words), True
         terminal.show(f"{self.says(notes)} ({seconds:.0f} s)")
         self.is_shown = True
 

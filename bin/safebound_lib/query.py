@@ -1,8 +1,16 @@
 """Query texts: entries, references and conditions, and where one goes wrong (docs/DEFINITIONS.md, "Query texts")."""
+from __future__ import annotations
+
 from dataclasses import dataclass, field
+from collections.abc import Callable
+from typing import TYPE_CHECKING, cast
 
 from .grammar import Reader, Wrong
 from .tokens import LEAST_NUMBER, MOST_NUMBER, number_of, tokens_of
+
+if TYPE_CHECKING:
+    from .schema import Column, Schema, Table
+    from .tokens import Token
 
 OPERATORS = ("=", "<>", "<", "<=", ">", ">=")
 
@@ -10,49 +18,49 @@ OPERATORS = ("=", "<>", "<", "<=", ">", ">=")
 @dataclass
 class Entry:
     """An entry of FROM; `first` is the number of the first entry of its part."""
-    table: object
-    alias: object
+    table: Token
+    alias: Token | None
     first: int
 
     @property
-    def name(self):
+    def name(self) -> str:
         return (self.alias or self.table).name
 
 
 @dataclass
 class Reference:
     """`ENTRY.COLUMN` or `COLUMN`, or `ENTRY.*`, whose `column` is nothing; it sees the entries of `scope`."""
-    entry: object
-    column: object
-    scope: range = None
+    entry: Token | None
+    column: Token | None
+    scope: range = range(0)
 
     @property
-    def token(self):
-        return self.entry or self.column
+    def token(self) -> Token:
+        return cast("Token", self.entry or self.column)
 
     @property
-    def end(self):
-        return (self.column or self.entry).end
+    def end(self) -> int:
+        return cast("Token", self.column or self.entry).end
 
 
 @dataclass
 class Literal:
-    tokens: list
+    tokens: list[Token]
 
     @property
-    def token(self):
+    def token(self) -> Token:
         return self.tokens[0]
 
     @property
-    def end(self):
+    def end(self) -> int:
         return self.tokens[-1].end
 
     @property
-    def is_number(self):
+    def is_number(self) -> bool:
         return self.tokens[-1].kind == "number"
 
     @property
-    def fits(self):
+    def fits(self) -> bool:
         return not self.is_number or LEAST_NUMBER <= number_of("".join(t.source for t in self.tokens)) <= MOST_NUMBER
 
 
@@ -60,7 +68,7 @@ class Literal:
 class Test:
     """A comparison, BETWEEN or IN over its operands."""
     operator: str
-    operands: list
+    operands: list[Reference | Literal]
     start: int
     end: int
 
@@ -69,7 +77,7 @@ class Test:
 class Joined:
     """Conditions joined by AND or OR, or one under NOT."""
     by: str
-    members: list
+    members: list[Test | Joined]
     start: int
     end: int
 
@@ -77,26 +85,25 @@ class Joined:
 @dataclass
 class Query:
     """What was read of a query text: all of it where `tested` is empty, else what lies before the token `wrong`."""
-    tokens: list
-    outs: list = field(default_factory=list)
-    entries: list = field(default_factory=list)
-    conditions: list = field(default_factory=list)
-    references: list = field(default_factory=list)
-    tests: list = field(default_factory=list)
-    literals: list = field(default_factory=list)
-    wrong: int = None
-    tested: tuple = ()
+    tokens: list[Token]
+    entries: list[Entry] = field(default_factory=list)
+    conditions: list[Test | Joined] = field(default_factory=list)
+    references: list[Reference] = field(default_factory=list)
+    tests: list[Test] = field(default_factory=list)
+    literals: list[Literal] = field(default_factory=list)
+    wrong: int | None = None
+    tested: tuple[str, ...] = ()
 
-    def conjuncts(self):
+    def conjuncts(self) -> list[Joined | Test]:
         return [member for condition in self.conditions for member in members(condition)]
 
 
 class QueryReader(Reader):
-    def __init__(self, tokens):
+    def __init__(self, tokens: list[Token]) -> None:
         super().__init__(tokens)
         self.query = Query(tokens)
 
-    def read(self):
+    def read(self) -> None:
         self.take("SELECT")
         if not self.maybe("*"):
             self.many(self.out)
@@ -109,7 +116,7 @@ class QueryReader(Reader):
         if self.token is not None:
             self.wrong()
 
-    def out(self):
+    def out(self) -> None:
         first = self.take_name("a column")
         if not self.maybe("."):
             self.refer(None, first)
@@ -120,16 +127,16 @@ class QueryReader(Reader):
             self.refer(first, self.take_name("a column"))
         self.second_name("a name for it")
 
-    def second_name(self, what):
+    def second_name(self, what: str) -> Token | None:
         if self.maybe("AS"):
             return self.take_name(what)
         return self.next() if self.has_name(what) else None
 
-    def refer(self, entry, column):
+    def refer(self, entry: Token | None, column: Token) -> Reference:
         self.query.references.append(Reference(entry, column))
         return self.query.references[-1]
 
-    def part(self):
+    def part(self) -> None:
         first = len(self.query.entries)
         self.source(first)
         while self.has("INNER") or self.has("JOIN"):
@@ -143,23 +150,23 @@ class QueryReader(Reader):
             for reference in self.query.references[seen:]:
                 reference.scope = range(first, len(self.query.entries))
 
-    def source(self, first):
+    def source(self, first: int) -> None:
         table = self.take_name("a table")
         self.query.entries.append(Entry(table, self.second_name("an alias"), first))
 
-    def condition(self):
+    def condition(self) -> Joined | Test:
         return self.joined("OR", lambda: self.joined("AND", self.factor))
 
-    def joined(self, by, rule):
+    def joined(self, by: str, rule: Callable[[], Joined | Test]) -> Joined | Test:
         found = self.many(rule, by)
         return found[0] if len(found) == 1 else Joined(by, found, found[0].start, found[-1].end)
 
-    def factor(self):
+    def factor(self) -> Joined | Test:
         word = self.maybe("NOT")
         found = self.test_or_condition()
         return Joined("NOT", [found], word.start, found.end) if word else found
 
-    def test_or_condition(self):
+    def test_or_condition(self) -> Joined | Test:
         if not self.has("("):
             return self.predicate()
         start = self.next().start
@@ -168,7 +175,7 @@ class QueryReader(Reader):
         # With its parentheses, so that the text of it stays a condition.
         return Joined(found.by, found.members, start, end) if isinstance(found, Joined) else found
 
-    def predicate(self):
+    def predicate(self) -> Test:
         left = self.operand()
         negated = self.maybe("NOT")
         if self.maybe("BETWEEN"):
@@ -184,17 +191,17 @@ class QueryReader(Reader):
         operator = self.take(*OPERATORS)
         return self.tested_by(operator.source, [left, self.operand()])
 
-    def tested_by(self, operator, operands, end=None):
+    def tested_by(self, operator: str, operands: list[Reference | Literal], end: int | None = None) -> Test:
         self.query.tests.append(Test(operator, operands, operands[0].token.start, end or operands[-1].end))
         return self.query.tests[-1]
 
-    def operand(self):
+    def operand(self) -> Literal | Reference:
         if not self.has_name("a column"):
             return self.literal()
         first = self.next()
         return self.refer(first, self.take_name("a column")) if self.maybe(".") else self.refer(None, first)
 
-    def literal(self):
+    def literal(self) -> Literal:
         sign = self.maybe("+", "-")
         if self.has_kind("number", "a number") or not sign and self.has_kind("text", "a text in single quotes"):
             self.query.literals.append(Literal([sign, self.next()] if sign else [self.next()]))
@@ -202,21 +209,21 @@ class QueryReader(Reader):
         return self.wrong()
 
 
-def members(condition):
+def members(condition: Joined | Test) -> list[Joined | Test]:
     """The members of a condition at AND, through parentheses."""
     if isinstance(condition, Joined) and condition.by == "AND":
         return [found for member in condition.members for found in members(member)]
     return [condition]
 
 
-def references_of(condition):
+def references_of(condition: Joined | Test) -> list[Reference]:
     """The references in a condition."""
     if isinstance(condition, Joined):
         return [found for member in condition.members for found in references_of(member)]
     return [operand for operand in condition.operands if isinstance(operand, Reference)]
 
 
-def read_query(text):
+def read_query(text: bytes) -> Query:
     """The query of a text's bytes, or of as much of it as is right."""
     reader = QueryReader(tokens_of(text))
     try:
@@ -228,7 +235,7 @@ def read_query(text):
     return reader.query
 
 
-def visible(query, reference, schema):
+def visible(query: Query, reference: Reference, schema: Schema) -> list[tuple[Entry, Table, Column]]:
     """The entries in scope that a reference may mean, each with its table and the column."""
     found = []
     for number in reference.scope:
@@ -236,29 +243,38 @@ def visible(query, reference, schema):
         table = schema.table(entry.table.name)
         if reference.entry and entry.name != reference.entry.name:
             continue
-        column = table and reference.column and table.column(reference.column.name)
-        if column:
+        column = table.column(reference.column.name) if table and reference.column else None
+        if table and column:
             found.append((entry, table, column))
     return found
 
 
-def meant(query, reference, schema):
+def meant(query: Query, reference: Reference, schema: Schema) -> tuple[Entry, Table, Column] | None:
     """The entry, the table and the column that a reference stands for, or nothing."""
     found = visible(query, reference, schema)
     return found[0] if len(found) == 1 else None
 
 
-def equality(query, condition, schema):
+def found_of(query: Query, reference: Reference, schema: Schema) -> tuple[Entry, Table, Column]:
+    """The same of a reference that the program has found."""
+    return visible(query, reference, schema)[0]
+
+
+def equality(query: Query, condition: Joined | Test, schema: Schema) -> tuple[int, int] | None:
     """The two entries of an equality between columns of two entries, by number, or nothing."""
     if not isinstance(condition, Test) or condition.operator != "=":
         return None
-    sides = [isinstance(o, Reference) and meant(query, o, schema) for o in condition.operands]
-    if not all(sides) or sides[0][0] is sides[1][0]:
+    one, other = (meant(query, o, schema) if isinstance(o, Reference) else None for o in condition.operands)
+    if not one or not other or one[0] is other[0]:
         return None
-    return tuple(next(i for i, entry in enumerate(query.entries) if entry is side[0]) for side in sides)
+    return number_of_entry(query, one[0]), number_of_entry(query, other[0])
 
 
-def groups(query, schema):
+def number_of_entry(query: Query, entry: Entry) -> int:
+    return next(i for i, one in enumerate(query.entries) if one is entry)
+
+
+def groups(query: Query, schema: Schema) -> list[list[int]]:
     """The entries in groups that equalities connect, each group by the numbers of its entries."""
     found = [[i] for i in range(len(query.entries))]
     for condition in query.conjuncts():

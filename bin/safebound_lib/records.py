@@ -1,8 +1,11 @@
 """The records of a table file, each with the line on which it begins."""
+from __future__ import annotations
+
 import csv
 import io
 import re
 import sys
+from collections.abc import Iterator
 
 # A field in quotes, what ends a field, and what ends a line.
 CLOSED = re.compile(r'"(?:[^"]|"")*"(?!")')
@@ -10,21 +13,22 @@ FIELD_END = re.compile(r"[,\r\n]|$(?![\r\n])")
 LINE_END = re.compile(r"\r\n|\r|\n")
 
 
-def records(data):
-    """Pairs of a line and the fields of the record that begins there. Lines without characters are no records."""
+def records(data: bytes, first: int = 0) -> Iterator[tuple[int, list[str]]]:
+    """Pairs of a line and the fields of the record that begins there, from one on. Empty lines are no records."""
     csv.field_size_limit(sys.maxsize)
-    reader = csv.reader(io.StringIO(text_of(data), newline=""))
+    reader, number = csv.reader(io.StringIO(text_of(data), newline="")), 0
     while True:
         line = reader.line_num + 1
         try:
             fields = next(reader)
         except StopIteration:
             return
-        if fields:
+        if fields and number >= first:
             yield line, fields
+        number += bool(fields)
 
 
-def chosen(data, *numbers):
+def chosen(data: bytes, *numbers: int) -> list[tuple[int, list[str]]]:
     """The records with these numbers; record 0 is the header."""
     found = {}
     for number, record in enumerate(records(data)):
@@ -35,11 +39,11 @@ def chosen(data, *numbers):
     return [found[number] for number in numbers]
 
 
-def text_of(data):
+def text_of(data: bytes) -> str:
     return data.decode("utf-8", "surrogateescape").removeprefix("\ufeff")
 
 
-def left_open(data, number):
+def left_open(data: bytes, number: int) -> int | None:
     """The place in bytes of the quote of this record that nothing closes, or nothing."""
     mark = len(data) - len(data.removeprefix(b"\xef\xbb\xbf"))
     text = data[mark:].decode("latin-1")
@@ -50,24 +54,30 @@ def left_open(data, number):
             if not closed:
                 return mark + at
             at = closed.end()
-        at = FIELD_END.search(text, at).end()
+        at = end_of(FIELD_END, text, at)
         if text[at - 1:at] in ("\r", "\n"):
             return None
     return None
 
 
-def begin_of(text, line):
+def begin_of(text: str, line: int) -> int:
     """The place where a line begins, counted from 1. Lines end as the csv module has them: in CR, LF or both."""
     at = 0
     for _ in range(line - 1):
-        at = LINE_END.search(text, at).end()
+        at = end_of(LINE_END, text, at)
     return at
 
 
-def same(name):
+def end_of(pattern: re.Pattern[str], text: str, at: int) -> int:
+    """Where the next match ends; without one the text's end."""
+    found = pattern.search(text, at)
+    return found.end() if found else len(text)
+
+
+def same(name: str) -> str:
     """A name as headers are compared: ASCII letters of either case are the same."""
     return "".join(c.upper() if c.isascii() else c for c in name)
 
 
-def column_place(header, name):
+def column_place(header: list[str], name: str) -> int:
     return [same(field) for field in header].index(same(name))

@@ -1,84 +1,91 @@
 """Schema texts: the tables that one declares, and where it goes wrong (docs/DEFINITIONS.md, "Schema texts")."""
+from __future__ import annotations
+
 from dataclasses import dataclass, field
+from collections.abc import Callable
+from typing import TYPE_CHECKING
 
 from .grammar import Reader, Wrong
 from .tokens import number_of, tokens_of
+
+if TYPE_CHECKING:
+    from .tokens import Token
 
 NUMBERS = ("INT", "INTEGER", "SMALLINT", "BIGINT")
 
 
 @dataclass
 class Column:
-    token: object
+    token: Token
     type: str
-    length: int = None
+    length: int | None = None
     is_whole: bool = False
 
     @property
-    def name(self):
+    def name(self) -> str:
         return self.token.name
 
     @property
-    def is_number(self):
+    def is_number(self) -> bool:
         return self.length is None
 
 
 @dataclass
 class Reference:
-    target: object
-    columns: list
-    of: list
+    target: Token
+    columns: list[Token]
+    of: list[Token]
 
 
 @dataclass
 class Table:
-    token: object
-    columns: list = field(default_factory=list)
-    keys: list = field(default_factory=list)
-    primary: list = field(default_factory=list)
-    references: list = field(default_factory=list)
+    token: Token
+    columns: list[Column] = field(default_factory=list)
+    keys: list[list[Token]] = field(default_factory=list)
+    primary: list[tuple[Token, list[Token]]] = field(default_factory=list)
+    references: list[Reference] = field(default_factory=list)
 
     @property
-    def name(self):
+    def name(self) -> str:
         return self.token.name
 
     @property
-    def file(self):
+    def file(self) -> str:
         return self.name.lower() + ".csv"
 
-    def column(self, name):
+    def column(self, name: str) -> Column | None:
         return next((column for column in self.columns if column.name == name), None)
 
 
 @dataclass
 class Schema:
     """What was read of a schema text: all of it where `tested` is empty, else what lies before the token `wrong`."""
-    tables: list
-    tokens: list
-    wrong: int = None
-    tested: tuple = ()
+    tables: list[Table]
+    tokens: list[Token]
+    wrong: int | None = None
+    tested: tuple[str, ...] = ()
 
-    def table(self, name):
+    def table(self, name: str) -> Table | None:
         return next((table for table in self.tables if table.name == name), None)
 
 
 class SchemaReader(Reader):
-    def __init__(self, tokens):
+    def __init__(self, tokens: list[Token]) -> None:
         super().__init__(tokens)
-        self.tables = []
+        self.tables: list[Table] = []
 
-    def schema(self):
+    def schema(self) -> None:
         self.table()
         while self.maybe(";") and not self.test_end():
             self.table()
         if not self.test_end():
             self.wrong()
 
-    def test_end(self):
+    def test_end(self) -> bool:
         self.test(lambda token: False, "the end of the text")
         return self.token is None
 
-    def table(self):
+    def table(self) -> None:
         self.take("CREATE")
         self.take("TABLE")
         self.tables.append(Table(self.take_name("a table's name")))
@@ -86,14 +93,17 @@ class SchemaReader(Reader):
         self.many(self.element)
         self.take(")")
 
-    def element(self):
+    def element(self) -> None:
         table = self.tables[-1]
         if self.maybe("CONSTRAINT"):
             self.take_name("a rule's name")
-            return self.table_rule(table) or self.wrong()
-        return self.table_rule(table) or self.column(table)
+            if not self.table_rule(table):
+                self.wrong()
+            return
+        if not self.table_rule(table):
+            self.column(table)
 
-    def table_rule(self, table):
+    def table_rule(self, table: Table) -> bool:
         if self.has("PRIMARY"):
             self.primary(table, [self.next()], self.names)
         elif self.maybe("UNIQUE"):
@@ -107,20 +117,20 @@ class SchemaReader(Reader):
             return False
         return True
 
-    def primary(self, table, words, columns):
+    def primary(self, table: Table, words: list[Token], columns: Callable[[], list[Token]]) -> None:
         self.take("KEY")
         found = columns()
         table.keys.append(found)
         table.primary.append((words[0], found))
 
-    def column(self, table):
+    def column(self, table: Table) -> None:
         column = Column(self.take_name("a column's name"), "")
         self.type(column)
         table.columns.append(column)
         while self.column_rule(table, column):
             pass
 
-    def column_rule(self, table, column):
+    def column_rule(self, table: Table, column: Column) -> bool:
         named = self.maybe("CONSTRAINT")
         if named:
             self.take_name("a rule's name")
@@ -137,13 +147,13 @@ class SchemaReader(Reader):
             return self.wrong() if named else False
         return True
 
-    def names(self):
+    def names(self) -> list[Token]:
         self.take("(")
         found = self.many(lambda: self.take_name("a column's name"))
         self.take(")")
         return found
 
-    def target(self, table, columns):
+    def target(self, table: Table, columns: list[Token]) -> None:
         target = self.take_name("a table's name")
         table.references.append(Reference(target, self.names() if self.has("(") else [], columns))
         while self.maybe("ON"):
@@ -155,7 +165,7 @@ class SchemaReader(Reader):
             else:
                 self.take("CASCADE")
 
-    def type(self, column):
+    def type(self, column: Column) -> None:
         if self.has("INTEGER", "INT", "SMALLINT", "BIGINT"):
             column.type = self.next().word
             return
@@ -164,14 +174,16 @@ class SchemaReader(Reader):
         else:
             self.take("VARCHAR")
         self.take("(")
-        if not self.test(lambda token: token.kind == "number" and number_of(token.source) > 0, "a length of at least 1"):
+        if not self.test(
+            lambda token: token.kind == "number" and number_of(token.source) > 0, "a length of at least 1"
+        ):
             self.wrong()
         column.length = number_of(self.next().source)
         column.type = f"VARCHAR({column.length})"
         self.take(")")
 
 
-def read_schema(text):
+def read_schema(text: bytes) -> Schema:
     """The schema of a text's bytes, or of as much of it as is right."""
     reader = SchemaReader(tokens_of(text))
     try:

@@ -1,10 +1,15 @@
 """Table files as a schema is proposed from them: their names, columns and values, and what stands in the way."""
 import os
 import re
+import shlex
+from collections.abc import Iterator
 from dataclasses import dataclass, field
 from functools import cached_property
+from typing import Optional
 
-from .convert import SEPARATORS, encoding_of
+from .convert import SEPARATORS, encoding_of, packed
+from .decimals import of_decimals
+from .explain.tables import all_differ, closed_late, number_expected, quoted as marked
 from .near import listed
 from .records import left_open, records, same
 from .spot import plain
@@ -16,22 +21,25 @@ WORD, TABLE_NAME = re.compile(r"[A-Za-z][A-Za-z0-9_]*"), re.compile(r"[A-Za-z0-9
 # A number that loses nothing when it is printed as one: no leading zeros, no sign +.
 NUMBER = re.compile(r"0|-?[1-9][0-9]*")
 LIKE_A_VALUE = re.compile(r"[+-]?[0-9][0-9.,:/ -]*|\d{4}-\d{2}-\d{2}.*")
+NO_RECORD: tuple[int, list[str]] = (0, [])
 
 
-class NoTable(Exception):
+class NoTable(ValueError):
     """A file from which no table is proposed: a sentence says why, and what to do."""
 
 
 @dataclass
 class Column:
-    """A column by its name as a schema has it, and the different values that stand in it."""
+    """A column by its name as a schema has it, and its different values, each with the line of its first row."""
     name: str
     place: int
-    values: set = field(default_factory=set)
+    values: dict[str, int] = field(default_factory=dict)
 
     @cached_property
     def is_number(self) -> bool:
-        return bool(self.values) and all(NUMBER.fullmatch(value) and LEAST_NUMBER <= int(value) <= MOST_NUMBER for value in self.values)
+        return bool(self.values) and all(
+            NUMBER.fullmatch(value) and LEAST_NUMBER <= int(value) <= MOST_NUMBER for value in self.values
+        )
 
     @property
     def length(self) -> int:
@@ -40,17 +48,31 @@ class Column:
     @property
     def has_gaps(self) -> bool:
         """Whether some fields are empty and all others are numbers."""
-        return "" in self.values and len(self.values) > 1 and all(NUMBER.fullmatch(value) for value in self.values if value)
+        return (
+            "" in self.values and len(self.values) > 1
+            and all(NUMBER.fullmatch(value) for value in self.values if value)
+        )
+
+    @property
+    def odd(self) -> Optional[str]:
+        """The first value that makes a text of a column of numbers. One with a leading zero is none: it is meant."""
+        found = [value for value in self.values if value and not value.isdigit() and not NUMBER.fullmatch(value)]
+        return found[0] if found and few(len(found), len(self.values)) else None
+
+    @property
+    def over_lines(self) -> Optional[str]:
+        """The first value that holds line ends and commas, as one does whose quote takes in rows."""
+        return next((value for value in self.values if "\n" in value and "," in value), None)
 
 
 @dataclass
 class Sheet:
-    """A table file: its table's name as a schema has it, its columns, how many rows it has, and sentences on what a user has to know."""
+    """A table file: its table's name as a schema has it, its columns, its rows, and what a user has to know."""
     file: str
     name: str
-    columns: list
+    columns: list[Column]
     rows: int = 0
-    says: list = field(default_factory=list)
+    says: list[str] = field(default_factory=list)
 
     def is_key(self, column: Column) -> bool:
         """Whether a column repeats nothing. Of fewer than two rows that says nothing."""
@@ -64,92 +86,237 @@ def written(name: str) -> str:
     return '"' + name.replace('"', '""') + '"'
 
 
-def sheet_of(file: str) -> Sheet:
-    """The table of a file."""
-    sheet = Sheet(file, table_name(file), [])
+def few(some: int, of: int) -> bool:
+    """Whether some are so few that they look like slips: one of three or more, or at most a tenth."""
+    return some == 1 and of > 2 or some * 10 <= of
+
+
+def sheet_of(file: str, word: str) -> Sheet:
+    """The table of a file; `word` is the file's name as a word of the user's command line."""
+    sheet = Sheet(file, table_name(file, word), [])
     base = os.path.basename(file)
     if base != base.lower():
         sheet.says.append(f"The program looks for {plain(base.lower())}, in lower case: rename {plain(base)}.")
     if sheet.name.startswith('"'):
-        sheet.says.append(f"A query writes this table in double quotes too, {sheet.name}: the word can't be a name without them.")
-    data = bytes_of(file)
+        sheet.says.append(
+            f"A query writes this table in double quotes too, {sheet.name}: the word can't be a name without them."
+        )
+    others = [name for name in os.listdir(os.path.dirname(file) or ".") if name.lower() == base.lower() != name]
+    if others and base == base.lower():
+        said = listed(map(plain, sorted(others)))
+        sheet.says.append(f"{said} is there too, and isn't read: upper and lower case count.")
+    data = bytes_of(file, word)
     found = records(data)
-    line, header = next(found, (0, None))
-    refuse_header(file, header)
+    line, header = next(found, NO_RECORD)
+    refuse_header(word, header)
+    refuse_title(data, header)
     add_columns(sheet, header)
     with saying(f"looking at {plain(file)} .."):
         fill(sheet, found, len(header), data)
     for column in sheet.columns:
-        if column.has_gaps:
-            sheet.says.append(f"{column.name} has empty fields beside its numbers, and tables have no nulls: it is proposed as a text. To compare numbers, write one for none, as 0 or -1.")
-    if sheet.rows == 0:
+        decimals = of_decimals(column.name, column.values, word)
+        sheet.says += [decimals] if decimals else of_values(column)
+        sheet.says += of_repeats(sheet, column, data)
+    if sheet.rows == 0 and next(records(data, 1), None) is None:
         sheet.says.append("There are no rows: types and lengths are guesses.")
     return sheet
 
 
-def table_name(file: str) -> str:
+def of_values(column: Column) -> list[str]:
+    """Sentences on values that make a column another one than was meant."""
+    says, odd, long = [], column.odd, column.over_lines
+    if odd is not None:
+        says.append(
+            f"{column.name} has {marked(odd)} on line {column.values[odd]}, and nearly all its other values are"
+            " numbers: so it is proposed as a text, and can't be compared with numbers."
+            f" {number_expected(odd, 'Write a number there, or leave the record out.')}"
+        )
+    elif column.has_gaps:
+        says.append(
+            f"{column.name} has empty fields beside its numbers, first on line {column.values['']}, and tables have no"
+            " nulls: it is proposed as a text. To compare numbers, write one for none, as 0 or -1."
+        )
+    if long is not None:
+        says.append(
+            f'On line {column.values[long]} begins a value of {column.name} that holds line ends and commas:'
+            f' {marked(long)}. If these are rows of their own, a " is missing that closes the value, or one too many'
+            ' opens it.'
+        )
+    return says
+
+
+def of_repeats(sheet: Sheet, column: Column, data: bytes) -> list[str]:
+    """A sentence on values that repeat in a column that is named like the table's key."""
+    repeats = sheet.rows - len(column.values)
+    if (
+        not repeats or not few(repeats, sheet.rows) or not KEY_NAME.fullmatch(column.name)
+        and not is_of(column.name, sheet.name)
+    ):
+        return []
+    seen: dict[str, int] = {}
+    for line, fields in records(data, 1):
+        value = fields[column.place] if column.place < len(fields) else None
+        if value in seen:
+            return [
+                f"{column.name} is named like a key, and {marked(value)} stands there on lines {seen[value]} and"
+                f" {line}: so it is no key. Give one of the two another value, or remove one."
+            ]
+        if value is not None:
+            seen[value] = line
+    return []
+
+
+KEY_NAME = re.compile("ID|NO|NR|NUM|NUMBER|CODE|KEY")
+
+
+def is_of(name: str, table: str) -> bool:
+    """Whether a column is called like the key of a table: PUPIL_ID or PUPILID in PUPILS."""
+    stem = re.sub("_?(ID|NO|NR|NUM|NUMBER|CODE|KEY)$", "", name)
+    return stem != name and stem in (table, table.removesuffix("S"))
+
+
+def table_name(file: str, word: str) -> str:
     base = os.path.basename(file)
     stem, ending = os.path.splitext(base)
+    if ending.lower() == ".sql":
+        folder = shlex.quote(os.path.dirname(file) or ".")
+        raise NoTable(
+            "It is the text of a query or a schema, and no table. This proposes a schema from all tables of its"
+            f" folder:\n    safebound schema {plain(folder)}"
+        )
     if ending.lower() != ".csv":
-        raise NoTable(f"A table's file ends in .csv. This writes it as one: safebound convert {plain(file)}")
+        raise NoTable(f"A table's file ends in .csv. This writes it as one:\n    safebound convert {plain(word)}")
     if not TABLE_NAME.fullmatch(stem):
         better = re.sub("[^a-z0-9_]+", "_", stem.lower()).strip("_") or "table1"
-        raise NoTable(f"The file's name is no table's name, which has letters from A to Z, digits and _ alone. Rename it, as to {better}.csv")
+        raise NoTable(
+            "The file's name is no table's name, which has letters from A to Z, digits and _ alone. Rename it, as to"
+            f" {better}.csv"
+        )
     return written(stem.upper())
 
 
-def bytes_of(file: str) -> bytes:
+def bytes_of(file: str, word: str) -> bytes:
     try:
         with open(file, "rb") as f:
             data = f.read(MOST_BYTES + 1)
     except OSError as fault:
         raise NoTable(f"It can't be read: {fault.strerror}.") from None
     if len(data) > MOST_BYTES:
-        raise NoTable("It is longer than 64 MiB, which is the most for a table. Leave out columns and rows that no query needs.")
+        raise NoTable(
+            "It is longer than 64 MiB, which is the most for a table. Leave out columns and rows that no query needs."
+        )
+    if packed(data):
+        raise NoTable(f"It {packed(data)}.")
     if encoding_of(data) not in ("utf-8", "utf-8-sig"):
-        raise NoTable(f"It isn't in UTF-8. This writes it so: safebound convert {plain(file)}")
+        first = first_strange(data)
+        raise NoTable(f"It isn't in UTF-8{first}. This writes it so:\n    safebound convert {plain(word)}")
     return data
 
 
-def refuse_header(file: str, header: list) -> None:
+def first_strange(data: bytes) -> str:
+    """Where the first byte stands that is no UTF-8: its line, and the value's text as Windows-1252 has it."""
+    try:
+        data.decode()
+    except UnicodeDecodeError as fault:
+        line = data[:fault.start].count(b"\n") + 1
+        around = re.split(rb"[,;\t\r\n]", data[:fault.start])[-1] + re.split(rb"[,;\t\r\n]", data[fault.start:])[0]
+        return f", first on line {line}, in {marked(around.decode('latin-1'))}" if 0 not in around else ""
+    return ""
+
+
+def refuse_header(word: str, header: list[str]) -> None:
     """The first record has to name columns."""
-    if header is None:
+    if not header:
         raise NoTable("It holds nothing. Its first line names the columns, separated by commas.")
     separator = next((s for s in SEPARATORS if s != "," and len(header) == 1 and s in header[0]), None)
+    if separator and header[0] == f"sep={separator}":
+        raise NoTable(
+            f"Its first line, {plain(header[0])}, is a sign for Excel and no header, and it is separated by"
+            f" {SEPARATORS[separator]}. This leaves that line out, and writes commas:\n    safebound convert"
+            f" {plain(word)}"
+        )
     if separator:
-        raise NoTable(f"It is separated by {SEPARATORS[separator]}. This writes it with commas: safebound convert {plain(file)}")
+        raise NoTable(
+            f"It is separated by {SEPARATORS[separator]}. This writes it with commas:\n    safebound convert"
+            f" {plain(word)}"
+        )
     if any(LIKE_A_VALUE.fullmatch(name) for name in header):
         names = ",".join(f"COLUMN{number}" for number in range(1, len(header) + 1))
-        raise NoTable(f"Its first line looks like a row ({plain(','.join(header))[:60]}), and has to name the columns. Write a line of names above it, as {names[:60]}; if it is names, give them others that don't begin with a digit.")
+        raise NoTable(
+            f"Its first line looks like a row ({plain(','.join(header))[:60]}), and has to name the columns. Write a"
+            f" line of names above it, as {names[:60]}; if it is names, give them others that don't begin with a digit."
+        )
 
 
-def add_columns(sheet: Sheet, header: list) -> None:
+def refuse_title(data: bytes, header: list[str]) -> None:
+    """A title above the names: one field of the first line is filled, and all of the second, none by a value."""
+    line, second = next(records(data, 1), NO_RECORD)
+    named = sum(name != "" for name in header)
+    if len(header) == 1 < len(second) and (line > 2 or " " in header[0]) and is_header(second):
+        raise NoTable(
+            f"Line 1 looks like a title, and line {line} like the header. Delete the lines above the header."
+        )
+    if (
+        named == 1 < len(header) - 1 and len(second) == len(header) and is_header(second)
+    ):
+        raise NoTable(
+            f"The first line names 1 of its {len(header)} columns, and line {line} looks like the header. Delete what"
+            " stands above that."
+        )
+
+
+def is_header(names: list[str]) -> bool:
+    """Whether fields look like the names of columns."""
+    return all(names) and not any(map(LIKE_A_VALUE.fullmatch, names))
+
+
+def add_columns(sheet: Sheet, header: list[str]) -> None:
     """The columns that can be declared, and sentences on the others, which a run passes over."""
     folded = [same(name) for name in header]
     unnamed = [str(place + 1) for place, name in enumerate(header) if not name]
     twice = list(dict.fromkeys(name for place, name in enumerate(header) if name and folded.count(folded[place]) > 1))
+    padded = [name for name in header if name != name.strip()]
     strange = [name for name in header if any(ord(c) < 32 or "\udc80" <= c <= "\udcff" for c in name)]
     for place, name in enumerate(header):
         if name and name not in strange and folded.count(folded[place]) == 1:
             sheet.columns.append(Column(written(name), place))
+    if padded:
+        sheet.says.append(
+            "In the header"
+            f" {listed(map(marked, padded), most=8)} {'have blanks' if len(padded) > 1 else 'has a blank'} beside the"
+            " name, and blanks count. Take them away."
+        )
     if unnamed:
-        sheet.says.append(f"Column {listed(unnamed)} has no name in the header, and is left out: give it one to use it.")
+        sheet.says.append(
+            f"Column {listed(unnamed)} has no name in the header, and is left out: give it one to use it."
+        )
     if twice:
-        sheet.says.append(f"The header names {listed(map(plain, twice))} more than once (upper and lower case count as one): rename one of each to use them.")
+        sheet.says.append(
+            f"The header names {listed(map(plain, twice))} more than once (upper and lower case count as one): rename"
+            " one of each to use them."
+        )
     if strange:
-        sheet.says.append(f"The header has control characters in {listed(map(plain, strange))}: rename them to use them.")
+        sheet.says.append(
+            f"The header has control characters in {listed(map(plain, strange))}: rename them to use them."
+        )
     if len(sheet.columns) > MOST_COLUMNS:
         left = [column.name for column in sheet.columns[MOST_COLUMNS:]]
-        sheet.says.append(f"A table has at most 64 columns, and this file has {len(sheet.columns)}: the first 64 are declared, and these aren't: {listed(left, most=8)}. Put those that a query needs in the place of others.")
+        sheet.says.append(
+            f"A table has at most 64 columns, and this file has {len(sheet.columns)}: the first 64 are declared, and"
+            f" these aren't: {listed(left, most=8)}. Put those that a query needs in the place of others."
+        )
         del sheet.columns[MOST_COLUMNS:]
     quoted = [column.name for column in sheet.columns if column.name.startswith('"')]
-    if quoted:
-        sheet.says.append(f"A query writes these names in double quotes too, as they stand here: {listed(map(plain, quoted), most=8)}.")
+    if quoted and not padded:
+        sheet.says.append(
+            "A query writes these names in double quotes too, as they stand here:"
+            f" {listed(map(plain, quoted), most=8)}."
+        )
     if not sheet.columns:
         raise NoTable(" ".join(sheet.says) or "The header names no column.")
 
 
-def fill(sheet: Sheet, found, wide: int, data: bytes) -> None:
+def fill(sheet: Sheet, found: Iterator[tuple[int, list[str]]], wide: int, data: bytes) -> None:
     """The values of the records that have as many fields as the header, and a sentence on the others."""
     ragged, first = 0, None
     for number, (line, fields) in enumerate(found, 1):
@@ -158,14 +325,26 @@ def fill(sheet: Sheet, found, wide: int, data: bytes) -> None:
             continue
         sheet.rows += 1
         for column in sheet.columns:
-            column.values.add(fields[column.place])
+            column.values.setdefault(fields[column.place], line)
     if first:
         sheet.says.append(ragged_records(ragged, first, wide, data))
 
 
-def ragged_records(ragged: int, first: tuple, wide: int, data: bytes) -> str:
+def ragged_records(ragged: int, first: tuple[int, int, int], wide: int, data: bytes) -> str:
     number, line, has = first
+    whole = all_differ(data)
+    if whole:
+        return f"{whole} A run will refuse the file until then."
+    late = "" if left_open(data, number) is not None else closed_late(data, number)
+    if late:
+        return f"{late} A run will refuse the file until then."
     others = f", and {ragged - 1} more records differ too" if ragged > 1 else ""
-    why = "A quote of that record isn't closed." if left_open(data, number) is not None else \
-        'An unquoted comma is often the cause: a value with a comma stands in double quotes, as "Paris, capital".' if has > wide else "An empty field keeps its comma."
+    why = (
+        "A quote of that record isn't closed."
+        if left_open(data, number) is not None
+        else (
+            'An unquoted comma is often the cause: a value with a comma stands in double quotes, as "Paris, capital".'
+            if has > wide else "An empty field keeps its comma."
+        )
+    )
     return f"Line {line} has {has} field{'s' * (has != 1)}, and the header {wide}{others}: a run will refuse it. {why}"

@@ -1,80 +1,105 @@
-"""What a picture or a page shows of a plan: its steps, their bounds, their true rows where an audit has them, and their conditions."""
+"""What a picture or a page shows of a plan: its steps, their bounds, their true rows where an audit has them, and their
+conditions.
+"""
+from __future__ import annotations
+
 import os
 from dataclasses import dataclass, field
+from typing import TYPE_CHECKING
 
 from .plans import Plan
+
+if TYPE_CHECKING:
+    from .explain import Run
 
 NO_CONDITION = "no condition: each row meets each row"
 
 
 @dataclass
 class Shown:
-    """`own` has the conditions on one entry alone, by entry, and `at` all others, by the number of the first level or node where they hold."""
+    """`own` has the conditions on one entry alone, by entry, and `at` all others, by the number of the first level or
+    node where they hold.
+    """
     title: str
     plan: Plan
-    rows: list = None
-    budget: int = None
-    tables: dict = field(default_factory=dict)
-    own: dict = field(default_factory=dict)
-    at: dict = None
+    rows: list[int] | None = None
+    budget: int | None = None
+    tables: dict[str, str] = field(default_factory=dict)
+    own: dict[str, list[str]] = field(default_factory=dict)
+    at: dict[int, list[str]] | None = None
 
     @property
-    def step(self):
+    def step(self) -> str:
         return "node" if self.plan.is_tree else "level"
 
-    def is_past(self, bound):
+    def is_past(self, bound: int) -> bool:
         return self.budget is not None and bound > self.budget
 
-    def table(self, alias):
+    def table(self, alias: str) -> str:
         return self.tables.get(alias, alias)
 
-    def number(self, at):
+    def number(self, at: int) -> int:
         """The printed number of the level or inner node at this place among them."""
         return at + (len(self.plan.scans) if self.plan.is_tree else 1)
 
-    def step_name(self, at):
+    def step_name(self, at: int) -> str:
         if self.plan.is_tree:
             return f"node {self.number(at)}, of {' '.join(self.plan.leaves(self.number(at)))}"
         return f"level {at + 1} {self.plan.levels[at][0]}"
 
-    def step_id(self, at):
+    def step_id(self, at: int) -> str:
         return f"step-{self.number(at)}"
 
-    def entry_id(self, alias):
+    def entry_id(self, alias: str) -> str:
         return f"entry-{self.plan.entries.index(alias)}"
 
-    def joined_by(self, at):
-        """The conditions that hold from this level or inner node on. A join without any is said too, where conditions are known."""
+    def joined_by(self, at: int) -> list[str]:
+        """The conditions that hold from this level or inner node on; where they are known, also that there is none."""
         found = (self.at or {}).get(self.number(at), [])
         is_join = self.plan.is_tree or at > 0
         return found or [NO_CONDITION] * (is_join and self.at is not None)
 
-    def said(self):
+    def said(self) -> list[tuple[str, str, str]]:
         """The lines below the picture: of which step or entry, what it is of it, and the condition."""
         if self.plan.is_tree:
-            lines = [(f"{number}  {alias}", "its own", words) for number, alias in enumerate(self.plan.entries) for words in self.own.get(alias, [])]
-            lines += [(str(self.number(at)), "joined by", words) for at in range(len(self.plan.nodes)) for words in self.joined_by(at)]
+            lines = [
+                (f"{number}  {alias}", "its own", words) for number, alias in enumerate(self.plan.entries)
+                for words in self.own.get(alias, [])
+            ]
+            lines += [
+                (str(self.number(at)), "joined by", words) for at in range(len(self.plan.nodes))
+                for words in self.joined_by(at)
+            ]
         else:
-            lines = [(f"{at + 1}  {alias}", kind, words) for at, (alias, _) in enumerate(self.plan.levels)
-                     for kind, found in (("its own", self.own.get(alias, [])), ("joined by", self.joined_by(at))) for words in found]
-        return [("" if at and lines[at - 1][0] == name else name, kind, words) for at, (name, kind, words) in enumerate(lines)]
+            lines = [
+                (f"{at + 1}  {alias}", kind, words) for at, (alias, _) in enumerate(self.plan.levels)
+                for kind, found in (("its own", self.own.get(alias, [])), ("joined by", self.joined_by(at)))
+                for words in found
+            ]
+        return [
+            ("" if at and lines[at - 1][0] == name else name, kind, words)
+            for at, (name, kind, words) in enumerate(lines)
+        ]
 
 
-def shown_of(run, plan, rows, budget):
+def shown_of(run: Run, plan: Plan, rows: list[int] | None, budget: int | None) -> Shown:
     """What is shown of a plan whose texts are those of a run."""
     from .json_plan import conditions_of
-    conditions, own, at = conditions_of(run, plan), {}, {}
-    for condition in conditions:
-        if len(condition["entries"]) == 1:
-            own.setdefault(condition["entries"][0], []).append(condition["text"])
+    own: dict[str, list[str]] = {}
+    at: dict[int, list[str]] = {}
+    for condition in conditions_of(run, plan):
+        if len(condition.entries) == 1:
+            own.setdefault(condition.entries[0], []).append(condition.text)
         else:
-            at.setdefault(condition["node" if plan.is_tree else "level"], []).append(condition["text"])
+            at.setdefault(condition.step, []).append(condition.text)
     tables = {entry.name: entry.table.name for entry in run.query.entries}
     return Shown(title_of(os.path.basename(run.query_file), plan, budget), plan, rows, budget, tables, own, at)
 
 
-def title_of(file, plan, budget):
-    shape, step, most = ("join tree", "node", max(plan.bounds)) if plan.is_tree else ("order", "level", max(plan.bounds))
+def title_of(file: str, plan: Plan, budget: int | None) -> str:
+    shape, step, most = (
+        ("join tree", "node", max(plan.bounds)) if plan.is_tree else ("order", "level", max(plan.bounds))
+    )
     if budget is not None and most > budget:
         return f"{file} is refused: its best {shape} has a {step} of up to {most:,} rows, past the budget"
     return f"{file}: the best {shape}; no {step} has more than {most:,} rows"

@@ -1,4 +1,6 @@
 """A place of a file: its line and column, and the line with a mark below the place."""
+from __future__ import annotations
+
 import unicodedata
 
 from .terminal import columns
@@ -6,16 +8,22 @@ from .terminal import columns
 INDENT, DOTS = 4, "..."
 
 
-def plain(text):
+def plain(text: str) -> str:
     """Text as it may stand on a terminal: control characters, and bytes that are no UTF-8, as escapes."""
-    return "".join(c if c.isprintable() else f"\\x{ord(c) - 0xDC00:02x}" if "\udc80" <= c <= "\udcff" else c.encode("unicode_escape").decode() for c in text)
+    return "".join(
+        (
+            c if c.isprintable()
+            else f"\\x{ord(c) - 0xDC00:02x}" if "\udc80" <= c <= "\udcff" else c.encode("unicode_escape").decode()
+        )
+        for c in text
+    )
 
 
-def width(text):
+def width(text: str) -> int:
     return sum(2 if unicodedata.east_asian_width(c) in "WF" else 0 if unicodedata.combining(c) else 1 for c in text)
 
 
-def spot(file, data, at, length=1):
+def spot(file: str, data: bytes, at: int, length: int = 1) -> str:
     """`FILE, line L, column C`, the line and a mark below the place; columns are characters, counted from 1."""
     at = min(at, len(data))
     while data[at:at + 1] >= b"\xc0" and b"\x80" <= data[at + length:at + length + 1] < b"\xc0":
@@ -24,12 +32,16 @@ def spot(file, data, at, length=1):
     end = data.find(b"\n", at)
     line = data[start:len(data) if end < 0 else end].rstrip(b"\r")
     number = data.count(b"\n", 0, at) + 1
-    text = lambda part: part.decode("utf-8", "surrogateescape").replace("\ufeff", "")
-    before, marked, behind = (text(part) for part in (line[:at - start], line[at - start:at - start + length], line[at - start + length:]))
+    head, tail = at - start, at - start + length
+    before, marked, behind = map(without_mark, (line[:head], line[head:tail], line[tail:]))
     return f"{plain(file)}, line {number}, column {len(before) + 1}\n" + marked_line(before, marked, behind)
 
 
-def cut(text, most, at_front=False):
+def without_mark(part: bytes) -> str:
+    return part.decode("utf-8", "surrogateescape").replace("\ufeff", "")
+
+
+def cut(text: str, most: int, at_front: bool = False) -> str:
     """Text as it may stand on a terminal, cut at its end or its front to what fits."""
     text = plain(text.replace("\t", " "))
     if width(text) <= most:
@@ -40,7 +52,7 @@ def cut(text, most, at_front=False):
     return DOTS + kept if at_front else kept + DOTS
 
 
-def marked_line(before, marked, behind):
+def marked_line(before: str, marked: str, behind: str) -> str:
     """The line, cut to what fits, and the mark."""
     room = columns() - INDENT
     before = cut(before, room * 3 // 5, at_front=True)

@@ -1,4 +1,6 @@
 """The table of commands and options. One line adds one: help, man page, completion and explanations all read it."""
+from __future__ import annotations
+
 from dataclasses import dataclass
 
 MOST_BUDGET, MOST_BUDGET_OF_A_TREE, USUAL_BUDGET = 20_000_000, 4_000_000, 1_000_000
@@ -6,52 +8,98 @@ MOST_BUDGET, MOST_BUDGET_OF_A_TREE, USUAL_BUDGET = 20_000_000, 4_000_000, 1_000_
 
 @dataclass(frozen=True)
 class Option:
-    """A word with a value (`value` is its name in the help), or a flag. Own options are taken out before the program runs."""
+    """A word with a value (`value` is its name in the help), or a flag. The program gets no own options."""
     word: str
-    value: str
+    value: str | None
     help: str
-    least: int = None
-    most: int = None
+    least: int | None = None
+    most: int | None = None
     is_own: bool = False
 
     @property
-    def spelled(self):
+    def spelled(self) -> str:
         return f"{self.word} {self.value}" if self.value else self.word
 
 
 @dataclass(frozen=True)
 class Command:
     word: str
-    places: tuple
+    places: tuple[str, ...]
     help: str
-    options: tuple = ()
+    options: tuple[Option, ...] = ()
     more: str = ""
-    examples: tuple = ()
+    examples: tuple[str, ...] = ()
     is_own: bool = False
     optional: int = 0
 
     @property
-    def spelled(self):
+    def spelled(self) -> str:
         needed = len(self.places) - self.optional
         places = [place if i < needed else f"[{place}]" for i, place in enumerate(self.places)]
         return " ".join([self.word, *places, *(f"[{option.spelled}]" for option in self.options)])
 
 
-BUDGET = Option("--budget", "N", "the most rows that the bound of any level may say; 1,000,000 without it", 1, MOST_BUDGET)
-ACCURACY = Option("--accuracy", "K", "how closely lists of degrees are kept: more takes longer and mostly lowers bounds; 1 without it", 1, 64)
+BUDGET = Option(
+    "--budget", "N", "the most rows that the bound of any level may say; 1,000,000 without it", 1, MOST_BUDGET
+)
+ACCURACY = Option(
+    "--accuracy", "K",
+    "how closely lists of degrees are kept: more takes longer and mostly lowers bounds; 1 without it", 1, 64,
+)
 REDUCE = Option("--reduce", None, "puts rows aside that lack a partner, and makes bounds over those that are left")
-BUSHY = Option("--bushy", None, "joins by the best tree of any shape and not along an order; a budget is then at most 4,000,000")
-KEYS = Option("--keys", None, "carries conditions on a table to those that refer to its key; stands beside neither --reduce nor --bushy")
-MEMORY = Option("--memory", "N", "the most bytes that the buffers of the plan may take; the plan then ends with a line of its bytes", 1, 2**40)
+BUSHY = Option(
+    "--bushy", None, "joins by the best tree of any shape and not along an order; a budget is then at most 4,000,000"
+)
+KEYS = Option(
+    "--keys", None,
+    "carries conditions on a table to those that refer to its key; stands beside neither --reduce nor --bushy",
+)
+MEMORY = Option(
+    "--memory", "N",
+    "the most bytes that the buffers of the plan may take; the plan then ends with a line of its bytes", 1, 2**40,
+)
 OF_PLANS = (BUDGET, ACCURACY, MEMORY, REDUCE, BUSHY, KEYS)
-STATS = Option("--stats", "FILE", "plans from this statistics file, which `stats` wrote, and reads no table; beside it only --budget and --memory may stand")
+STATS = Option(
+    "--stats",
+    "FILE",
+    (
+        "plans from this statistics file, which `stats` wrote, and reads no table; beside it only --budget and --memory"
+        " may stand"
+    ),
+)
 
-DATA = Option("--data", "DIR", "runs in the folder DIR, where the tables are; SCHEMA and QUERY are looked up there too. With QUERY alone, a schema is proposed from the tables and shown on standard error", is_own=True)
+DATA = Option(
+    "--data",
+    "DIR",
+    (
+        "runs in the folder DIR, where the tables are; SCHEMA and QUERY are looked up there too. With QUERY alone, a"
+        " schema is proposed from the tables and shown on standard error"
+    ),
+    is_own=True,
+)
 EXPLAIN = Option("--explain", None, "explains a fault also where standard error is no terminal", is_own=True)
 JSON = Option("--json", None, "writes the plan as JSON on standard output: tables, conditions and bounds", is_own=True)
-OUTPUT = Option("--output", "FILE", "where the picture goes: plan.svg without it, and - is standard output; to a name in .html goes a page on which a click says more", is_own=True)
+OUTPUT = Option(
+    "--output",
+    "FILE",
+    (
+        "where the picture goes: plan.svg without it, and - is standard output; to a name in .html goes a page on which"
+        " a click says more"
+    ),
+    is_own=True,
+)
 RESULT = Option("--output", "FILE", "writes to FILE, which may not be there yet; - is standard output", is_own=True)
-ENCODING = Option("--encoding", "NAME", "the encoding that the file has, as latin-1 or cp850; without it, it is found from the bytes", is_own=True)
+ENCODING = Option(
+    "--encoding", "NAME", "the encoding that the file has, as latin-1 or cp850; without it, it is found from the bytes",
+    is_own=True,
+)
+CENTS = Option(
+    "--cents",
+    "COLUMN",
+    "writes a column of decimals in whole cents, 1250 for 12.50, under a name of its own",
+    is_own=True,
+)
+DIGITS = Option("--digits", "N", "beside --cents: how many digits behind the point are kept; 2 without it", is_own=True)
 HELP = Option("--help", None, "this help", is_own=True)
 VERSION = Option("--version", None, "the version of this command, and which program it runs", is_own=True)
 
@@ -59,47 +107,112 @@ TEXTS = ("SCHEMA", "QUERY")
 OF_APPEND = ("SCHEMA", "STATS", "TABLE", "ROWS")
 SHELLS = ("bash", "zsh")
 COMMANDS = (
-    Command("run", TEXTS, "the plan on standard error, and every row on standard output, as CSV",
-            (*OF_PLANS, DATA, EXPLAIN),
-            "Where the bound of some level is past the budget, nothing is joined and the least budget is told.",
-            ("safebound run schema.sql query.sql", "safebound run schema.sql query.sql --data shop --budget 50000 > rows.csv")),
-    Command("plan", TEXTS, "the plan on standard error, and no rows",
-            (*OF_PLANS, STATS, DATA, EXPLAIN, JSON), "",
-            ("safebound plan schema.sql query.sql --accuracy 8", "safebound plan schema.sql query.sql --json",
-             "safebound plan schema.sql query.sql --stats trips.stats")),
-    Command("audit", TEXTS, "the plan, and beside each level's bound the number of its rows",
-            (*OF_PLANS, DATA, EXPLAIN, JSON), "",
-            ("safebound audit schema.sql query.sql --reduce",)),
-    Command("stats", TEXTS, "the statistics file of the query's tables on standard output, for `plan --stats`",
-            (ACCURACY, DATA, EXPLAIN), "The file serves every query that compares and joins the same columns. Make it anew where rows have changed.",
-            ("safebound stats schema.sql query.sql > trips.stats",)),
-    Command("append", OF_APPEND, "the statistics file STATS with new rows of one of its tables, on standard output",
-            (DATA, EXPLAIN), "TABLE is the table's name, and ROWS a CSV file of the new rows alone, with a header. The old rows aren't read, and keys are looked at among "
-            "the new rows alone. Write to another file than STATS.",
-            ("safebound append schema.sql trips.stats TRIP new.csv > trips.new",)),
-    Command("demo", ("NUMBER",), "the audit of a query over a shop of 670,000 rows, made in memory",
-            (EXPLAIN,), "NUMBER is from 0 to 4,294,967,295, and another one makes other rows.",
-            ("safebound demo 7",)),
-    Command("schema", ("FILE..",), "proposes a schema text from the headers and values of table files, on standard output",
-            (RESULT,), "A column of whole numbers is INTEGER, any other a text of its greatest length. Where a column repeats nothing it is a key, and where all its values are in another table's key it "
-            "refers to it. What stands in the way is said on standard error, file by file, with what to do; the exit status is then 6 where a file gives no table. A folder stands for its files.",
-            ("safebound schema *.csv > schema.sql", "safebound schema shop --output schema.sql"), is_own=True),
-    Command("convert", ("FILE",), "writes a file of another encoding, or with semicolons or tabs, as the program reads it: UTF-8 with commas",
-            (RESULT, ENCODING), "The new file keeps the name, and the file as it was gets a name that ends in .original. Another ending than .csv becomes .csv. "
-            "A text of SQL only gets another encoding. Nothing is written over.",
-            ("safebound convert city.csv", "safebound convert Export.txt --output shop/city.csv", "safebound convert city.csv --encoding cp850"), is_own=True),
-    Command("check", TEXTS, "reads the two texts alone, without any table, and says what is wrong with them",
-            (DATA,), "The query may be left out. The exit status is 0 where the texts are right.",
-            ("safebound check schema.sql", "safebound check schema.sql query.sql"), is_own=True, optional=1),
-    Command("picture", TEXTS, "draws the plan, with each level's bound and true rows, as one SVG or one page of HTML",
-            (*OF_PLANS, DATA, OUTPUT), "It runs an audit, so the query is joined. Of a query that its budget refuses it draws the bounds and the budget.",
-            ("safebound picture schema.sql query.sql", "safebound picture schema.sql query.sql --output plan.html"), is_own=True),
-    Command("new", ("FOLDER",), "lays a small example in a new folder, to edit",
-            (), "", ("safebound new trips",), is_own=True),
-    Command("help", ("COMMAND",), "this help, or that of one command; `help errors` lists every fault with what to do",
-            (), "", ("safebound help run", "safebound help errors"), is_own=True, optional=1),
-    Command("completion", ("SHELL",), "prints the completion for bash or zsh",
-            (), "", ("source <(safebound completion bash)",), is_own=True),
+    Command(
+        "run",
+        TEXTS,
+        "the plan on standard error, and every row on standard output, as CSV",
+        (*OF_PLANS, DATA, EXPLAIN),
+        "Where the bound of some level is past the budget, nothing is joined and the least budget is told.",
+        (
+            "safebound run schema.sql query.sql",
+            "safebound run schema.sql query.sql --data shop --budget 50000 > rows.csv",
+        ),
+    ),
+    Command(
+        "plan",
+        TEXTS,
+        "the plan on standard error, and no rows",
+        (*OF_PLANS, STATS, DATA, EXPLAIN, JSON),
+        "",
+        (
+            "safebound plan schema.sql query.sql --accuracy 8", "safebound plan schema.sql query.sql --json",
+            "safebound plan schema.sql query.sql --stats trips.stats",
+        ),
+    ),
+    Command(
+        "audit", TEXTS, "the plan, and beside each level's bound the number of its rows",
+        (*OF_PLANS, DATA, EXPLAIN, JSON), "", ("safebound audit schema.sql query.sql --reduce",),
+    ),
+    Command(
+        "stats", TEXTS, "the statistics file of the query's tables on standard output, for `plan --stats`",
+        (ACCURACY, DATA, EXPLAIN),
+        "The file serves every query that compares and joins the same columns. Make it anew where rows have changed.",
+        ("safebound stats schema.sql query.sql > trips.stats",),
+    ),
+    Command(
+        "append",
+        OF_APPEND,
+        "the statistics file STATS with new rows of one of its tables, on standard output",
+        (DATA, EXPLAIN),
+        (
+            "TABLE is the table's name, and ROWS a CSV file of the new rows alone, with a header. The old rows aren't"
+            " read, and keys are looked at among the new rows alone. Write to another file than STATS."
+        ),
+        ("safebound append schema.sql trips.stats TRIP new.csv > trips.new",),
+    ),
+    Command(
+        "demo", ("NUMBER",), "the audit of a query over a shop of 670,000 rows, made in memory", (EXPLAIN,),
+        "NUMBER is from 0 to 4,294,967,295, and another one makes other rows.", ("safebound demo 7",),
+    ),
+    Command(
+        "schema",
+        ("FILE..",),
+        "proposes a schema text from the headers and values of table files, on standard output",
+        (RESULT,),
+        (
+            "A column of whole numbers is INTEGER, any other a text of its greatest length. Where a column repeats"
+            " nothing it is a key, and where all its values are in another table's key it refers to it. What stands in"
+            " the way is said on standard error, file by file, with what to do; the exit status is then 6 where a file"
+            " gives no table. A folder stands for its files."
+        ),
+        ("safebound schema *.csv > schema.sql", "safebound schema shop --output schema.sql"),
+        is_own=True,
+    ),
+    Command(
+        "convert",
+        ("FILE",),
+        "writes a file of another encoding, or with semicolons or tabs, as the program reads it: UTF-8 with commas",
+        (RESULT, ENCODING, CENTS, DIGITS),
+        (
+            "The new file keeps the name, and the file as it was gets a name that ends in .original. Another ending"
+            " than .csv becomes .csv. A text of SQL only gets another encoding. Nothing is written over."
+        ),
+        (
+            "safebound convert city.csv", "safebound convert Export.txt --output shop/city.csv",
+            "safebound convert city.csv --encoding cp850",
+            "safebound convert shop.csv --cents PRICE",
+        ),
+        is_own=True,
+    ),
+    Command(
+        "check", TEXTS, "reads the two texts alone, without any table, and says what is wrong with them", (DATA,),
+        "The query may be left out. The exit status is 0 where the texts are right.",
+        ("safebound check schema.sql", "safebound check schema.sql query.sql"), is_own=True, optional=1,
+    ),
+    Command(
+        "picture",
+        TEXTS,
+        "draws the plan, with each level's bound and true rows, as one SVG or one page of HTML",
+        (*OF_PLANS, DATA, OUTPUT),
+        (
+            "It runs an audit, so the query is joined. Of a query that its budget refuses it draws the bounds and the"
+            " budget."
+        ),
+        ("safebound picture schema.sql query.sql", "safebound picture schema.sql query.sql --output plan.html"),
+        is_own=True,
+    ),
+    Command(
+        "new", ("FOLDER",), "lays a small example in a new folder, to edit", (), "", ("safebound new trips",),
+        is_own=True,
+    ),
+    Command(
+        "help", ("COMMAND",), "this help, or that of one command; `help errors` lists every fault with what to do", (),
+        "", ("safebound help run", "safebound help errors"), is_own=True, optional=1,
+    ),
+    Command(
+        "completion", ("SHELL",), "prints the completion for bash or zsh", (), "",
+        ("source <(safebound completion bash)",), is_own=True,
+    ),
 )
 # What the table holds by name.
 BY_WORD = {command.word: command for command in COMMANDS}
@@ -107,22 +220,22 @@ PROGRAM_COMMANDS = tuple(command for command in COMMANDS if not command.is_own)
 MOST_SEED = 2**32 - 1
 
 
-def program_options(command):
+def program_options(command: Command) -> list[Option]:
     """The options of a command that the program itself reads."""
     return [option for option in command.options if not option.is_own]
 
 
-def valued():
+def valued() -> set[str]:
     """The words of all options of the program that have a value."""
     return {o.word for command in COMMANDS for o in program_options(command) if o.value}
 
 
-def numbered():
+def numbered() -> set[str]:
     """Those of the options whose value is a number."""
     return {o.word for command in COMMANDS for o in program_options(command) if o.least is not None}
 
 
-def own_options():
+def own_options() -> dict[str, Option]:
     """All options of the friendly command, by their words."""
     found = {o.word: o for command in COMMANDS for o in command.options if o.is_own}
     return {**found, HELP.word: HELP, "-h": HELP, VERSION.word: VERSION}

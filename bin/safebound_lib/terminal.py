@@ -1,4 +1,6 @@
-"""The terminal that explanations go to: its width, its colours, and a line there that says what is being done and is taken away again."""
+"""The terminal that explanations go to: its width, its colours, and a line there that says what is being done and is
+taken away again.
+"""
 import contextlib
 import os
 import re

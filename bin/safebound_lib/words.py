@@ -1,33 +1,40 @@
 """Reading the command line: own options are taken out, and every other word stays as it is."""
+from __future__ import annotations
+
 from dataclasses import dataclass, field
+from typing import TYPE_CHECKING
 
 from .table import BY_WORD, DATA, TEXTS, own_options, valued
 
+if TYPE_CHECKING:
+    from .table import Option
 
-class Misused(Exception):
+
+class Misused(ValueError):
     """Words that the friendly command itself can't take."""
 
 
 @dataclass
 class Line:
-    """The words that are left for the program, the own options by word, and the folder that `--data` left."""
-    words: list = field(default_factory=list)
-    own: dict = field(default_factory=dict)
-    before: str = None
+    """The words for the program, the own options' values by word, and the folder that `--data` left."""
+    words: list[str] = field(default_factory=list)
+    own: dict[str, str] = field(default_factory=dict)
+    before: str | None = None
+    is_proposed: bool = False
 
     @property
-    def command(self):
+    def command(self) -> str:
         return self.words[0] if self.words else ""
 
 
-def lacks_schema(line):
+def lacks_schema(line: Line) -> bool:
     """Whether a line has a query alone where a schema stands before it, and says where the tables are."""
     command = BY_WORD.get(line.command)
     takes_texts = command is not None and command.places == TEXTS and not command.optional
     return takes_texts and DATA.word in line.own and len(places(line.words[1:])) == 1
 
 
-def options(words):
+def options(words: list[str]) -> list[str]:
     """The words among those behind the command that stand as options, each without its value."""
     found, left, with_value = [], list(words), valued()
     while left and left[0] != "--":
@@ -39,7 +46,7 @@ def options(words):
     return found
 
 
-def read_line(words):
+def read_line(words: list[str]) -> Line:
     """The line of a list of words. Behind `--` and as another option's value, a word is no option of ours."""
     line, left, own, with_value = Line(), list(words), own_options(), valued()
     while left:
@@ -58,7 +65,7 @@ def read_line(words):
     return line
 
 
-def add_own(line, option, value, left):
+def add_own(line: Line, option: Option, value: str | None, left: list[str]) -> None:
     if option.word in line.own:
         raise Misused(f"{option.word} stands twice")
     if option.value and value is None:
@@ -67,12 +74,13 @@ def add_own(line, option, value, left):
         value = left.pop(0)
     if option.value and not value:
         raise Misused(f"{option.word} has an empty value: {option.spelled}")
-    line.own[option.word] = value if option.value else True
+    line.own[option.word] = value or ""
 
 
-def places(words):
+def places(words: list[str]) -> list[str]:
     """The place words among those behind the command: what is no option and no option's value."""
-    found, left, with_value = [], list(words), valued()
+    found: list[str] = []
+    left, with_value = list(words), valued()
     while left:
         word = left.pop(0)
         if word == "--":

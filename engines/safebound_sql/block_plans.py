@@ -1,23 +1,25 @@
 """Plans of queries with several blocks, and of outer joins: each block is counted, planned and bounded by itself.
 
-A block's rows are a bound for the block above it, which counts nothing of them: a query in FROM has at most as many rows as
-its joins, and of one column that it groups by each value once. Entries are counted under own conditions alone.
+A block's rows are a bound for the block above it, which counts nothing of them: a query in FROM has at most as many
+rows as its joins, and of one column that it groups by each value once. Entries are counted under own conditions
+alone.
 
-Rows behind outer joins are of several kinds, by the entries that found a partner: each kind is a join of these entries, so
-that their bounds are added up.
+Rows behind outer joins are of several kinds, by the entries that found a partner: each kind is a join of these
+entries, so that their bounds are added up.
 """
 
 from __future__ import annotations
 
 from dataclasses import dataclass, field
-from typing import Iterator, Union
+from types import ModuleType
+from typing import Iterator
 
 from .blocks import Core, Finder, Part, Query as Several
 from .choosing import choosing
 from .counting import Counts, counts_among, histograms
 from .engine import Engine
 from .faults import EngineFault, Missing, NoBound, PastBudget, Refused, WrongCounts
-from .levels import MOST_BUDGET, NO_VALUE, library
+from .levels import MOST_BUDGET, Equal, Lists, equalities_of, library, lists_of
 from .meaning import refuse_fickle
 from .names import Names, alias_of, subqueries
 from .progress import Progress
@@ -60,7 +62,8 @@ class BlockPlan:
 
 
 class BlockNames(Names):
-    """Names of a block, whose entries may be queries in FROM and parts of WITH, and whose subqueries may name its entries."""
+    """Names of a block, whose entries may be queries in FROM and parts of WITH, and whose subqueries may name its
+    entries."""
 
     looks_into_subqueries = True
 
@@ -75,7 +78,9 @@ class BlockNames(Names):
     def _about(self, source: Source) -> Table | None:
         number = len(self.entries)
         if source.is_query:
-            inner = next((inner for inner in self.core.inner if self.plans.pieces[inner.start].at == source.table[1].at), None)
+            inner = next(
+                (inner for inner in self.core.inner if self.plans.pieces[inner.start].at == source.table[1].at), None
+            )
             if inner is None:
                 raise self.statement.refuse(source.alias, "only a SELECT is bounded here")
             return self._given(number, inner, self.plans.source_of(inner), source.columns, source)
@@ -93,11 +98,15 @@ class BlockNames(Names):
         """The columns of a query, of which the rows are bounded and not counted."""
         rows = self.plans.rows_of(query)
         if rows is None or rows > MOST_ROWS:
-            raise self.statement.refuse(source.alias, "its rows aren't bounded" + ("" if rows is None else f" by {MOST_ROWS} or fewer"))
+            raise self.statement.refuse(
+                source.alias, "its rows aren't bounded" + ("" if rows is None else f" by {MOST_ROWS} or fewer")
+            )
         found = self.engine.described(self.plans.with_parts(self.visible, text))
         names = [self.key(token) for token in columns if token.names]
         found = [column._replace(name=name) for name, column in zip(names, found)] + found[len(names) :]
-        self.given[number] = rows, {self.engine.key(name, True) for name in self.plans.unique(query, [c.name for c in found])}
+        self.given[number] = rows, {
+            self.engine.key(name, True) for name in self.plans.unique(query, [c.name for c in found])
+        }
         return Table(tuple(found), {self.engine.key(column.name, True): column for column in found})
 
 
@@ -107,16 +116,23 @@ class Block:
     def __init__(self, plans: Planner, core: Core, visible: list[Part]) -> None:
         self.plans, self.core, self.visible, self.engine = plans, core, visible, plans.engine
         pieces = plans.pieces[core.start : core.end]
-        self.statement = read(plans.text, list(pieces), self.engine.comma_binds_less, self.engine.plain_words, in_blocks=True)
+        self.statement = read(
+            plans.text, list(pieces), self.engine.comma_binds_less, self.engine.plain_words, in_blocks=True
+        )
         if self.statement.usings:
-            raise self.statement.refuse(self.statement.usings[0].names[0], "USING of one of several blocks isn't read; write it with ON", "USING")
+            raise self.statement.refuse(
+                self.statement.usings[0].names[0], "USING of one of several blocks isn't read; write it with ON",
+                "USING",
+            )
         self.outside = plans.aliases_outside(core)
         self.names = BlockNames(self.statement, self.engine, plans, core, visible)
         self.query = Query(self.names.entries)
         self.steps = self.statement.steps
         self.turns = any(step.kind in ("RIGHT", "FULL") for step in self.steps)
         self.island = self._island()
-        self.on: dict[int, list[str]] = {step.source: [self._text(piece) for piece in step.conditions] for step in self.steps}
+        self.on: dict[int, list[str]] = {
+            step.source: [self._text(piece) for piece in step.conditions] for step in self.steps
+        }
         self.left_over: list[tuple[str, frozenset[int] | None]] = []
         self.not_used: list[Tokens] = []
         self.outputs = {self.names.key(alias) for output in self.statement.outputs if (alias := alias_of(output))}
@@ -144,8 +160,8 @@ class Block:
         return self.plans.text_of(piece)
 
     def _condition(self, piece: Tokens, of_on: bool = False) -> None:
-        """A condition of WHERE or of an inner join's ON. Where rows may come without the entries joined first, that of WHERE is
-        tested at the end, and that of ON before."""
+        """A condition of WHERE or of an inner join's ON. Where rows may come without the entries joined first, that
+        of WHERE is tested at the end, and that of ON before."""
         self._check(piece)
         entries = self._entries(piece)
         outer = self._names_outside(piece)
@@ -207,7 +223,9 @@ class Block:
             if behind and behind[0].says("."):
                 if key in aliases and key not in self.names.by_alias:
                     return True
-            elif (key in columns or token.kind == "quoted") and not any(key in entry.about.by_key for entry in self.query.entries):
+            elif (key in columns or token.kind == "quoted") and not any(
+                key in entry.about.by_key for entry in self.query.entries
+            ):
                 return True
         return False
 
@@ -226,21 +244,24 @@ class Block:
 
     def planned(self) -> BlockPlan:
         """Counts the block's entries and plans its joins."""
+        self.engine.joins(entry.about for entry in self.query.entries)
         counts = self._counted()
         proved = library()
         names = [entry.name for entry in self.query.entries]
-        lists = {column: proved.compress(runs or NO_VALUE, self.plans.accuracy) for column, runs in counts.runs.items()}
-        equalities = [tuple((names[side.entry], side.column.name) for side in equality) for equality in self.query.equalities]
+        lists = lists_of(counts, self.plans.accuracy)
+        equalities = equalities_of(self.query)
         self.bounds = proved.Query(names, equalities, counts.rows, lists).bounds()
         self.order = self._order(proved, names, equalities, counts, lists)
         plan = BlockPlan(self.core)
-        kinds = [frozenset()]
+        kinds: list[frozenset[int]] = [frozenset()]
         for position, number in enumerate(self.order):
             kinds, word = self._joined(kinds, number, first=position == 0)
             entry = self.query.entries[number]
             of = "a query" if self.statement.sources[number].is_query else entry.table
             bound = sum(self._bound(kind) for kind in kinds)
-            plan.levels.append(BlockLevel(f"{word}{entry.name}", of, counts.rows[entry.name], bound, self.order[: position + 1]))
+            plan.levels.append(
+                BlockLevel(f"{word}{entry.name}", of, counts.rows[entry.name], bound, self.order[: position + 1])
+            )
         plan.rows = self._rows(plan.levels[-1].bound)
         plan.notes = [f"not used for bounds: {written(piece)}" for piece in self.not_used]
         return plan
@@ -251,7 +272,8 @@ class Block:
         own = [entry for entry in query.entries if entry.number not in given]
         asked = {entry.name: query.joined(entry.number) for entry in own}
         selects = [
-            text for entry in own
+            text
+            for entry in own
             for text in histograms(Counted(entry, own_conditions(entry)), asked[entry.name], self.engine)
         ]
         counts = counts_among(asked, self.engine.rows("\nUNION ALL ".join(selects)) if selects else [])
@@ -263,7 +285,9 @@ class Block:
                 counts.runs[entry.name, column.name] = [(1, rows) if once else (rows, 1)] if rows else []
         return counts
 
-    def _order(self, proved, names: list[str], equalities: list, counts: Counts, lists: dict) -> list[int]:
+    def _order(
+        self, proved: ModuleType, names: list[str], equalities: list[Equal], counts: Counts, lists: Lists
+    ) -> list[int]:
         """The best order of what is joined first, and behind it the others as they were written."""
         some = {names[number] for number in self.island}
         within = [(one, other) for one, other in equalities if one[0] in some and other[0] in some]
@@ -284,12 +308,12 @@ class Block:
         if kind == "INNER":
             return matched, ""
         alone = [frozenset([number])]
-        return {
-            "LEFT": matched + kinds, "RIGHT": matched + alone, "FULL": matched + kinds + alone,
-        }[kind], f"{kind} JOIN "
+        return {"LEFT": matched + kinds, "RIGHT": matched + alone, "FULL": matched + kinds + alone}[
+            kind
+        ], f"{kind} JOIN "
 
     def _bound(self, some: frozenset[int]) -> int:
-        bound = self.bounds[{self.query.entries[number].name for number in some}]
+        bound: int | None = self.bounds[{self.query.entries[number].name for number in some}]
         if bound is None:
             raise NoBound
         return bound
@@ -297,7 +321,10 @@ class Block:
     def _rows(self, joined: int) -> int | None:
         """The most rows of the block, by those of its joins; None where what stands above may make more."""
         above, outputs = self.statement.above, [token for piece in self.statement.outputs for token in piece]
-        sets = any(token.says(*SETS_OF_GROUPS) or (token.says("(") and behind.says(")")) for token, behind in zip(above, above[1:]))
+        sets = any(
+            token.says(*SETS_OF_GROUPS) or (token.says("(") and behind.says(")"))
+            for token, behind in zip(above, above[1:])
+        )
         if sets or self.engine.makes_rows(outputs):
             return None
         if above and above[0].says("GROUP"):
@@ -314,7 +341,7 @@ class Block:
 
     def _join(self, levels: int) -> tuple[str, list[str]]:
         some = frozenset(self.order[:levels])
-        text, done = "", []
+        text, done = "", list[str]()
         for position, number in enumerate(self.order[:levels]):
             entry, before = self.query.entries[number], frozenset(self.order[:position])
             source = f"{entry.table} AS {entry.alias}{written(self.statement.sources[number].columns)}"
@@ -325,15 +352,25 @@ class Block:
                 text += f"\n  {kind} JOIN {source} ON {' AND '.join(map(bracketed, self.on[number]))}"
             else:
                 text += self._inner_join(source, before, before | {number}, done)
-        own = [condition for number in self.island if number in some for condition in own_conditions(self.query.entries[number])]
+        own = [
+            condition
+            for number in self.island
+            if number in some
+            for condition in own_conditions(self.query.entries[number])
+        ]
         rest = [bracketed(text) for text, entries in self.left_over if entries and entries <= some and text not in done]
         return f"FROM {text}", own + rest
 
     def _inner_join(self, source: str, before: frozenset[int], after: frozenset[int], done: list[str]) -> str:
-        conditions = self.on[max(after - before)] if not after <= set(self.island) else [
-            text for text, entries in self.left_over
-            if entries and entries <= after and not entries <= before and len(entries) > 1
-        ]
+        conditions = (
+            self.on[max(after - before)]
+            if not after <= set(self.island)
+            else [
+                text
+                for text, entries in self.left_over
+                if entries and entries <= after and not entries <= before and len(entries) > 1
+            ]
+        )
         done += conditions
         if not conditions:
             return f"\n  CROSS JOIN {source}"
@@ -416,8 +453,9 @@ class Planner:
         """The most rows of a query: sums over UNION, the left side's of EXCEPT, the lesser side's of INTERSECT."""
         if query.refused:
             return None
-        rows = [self.rows_of(m) if isinstance(m, Several) else self.plans[m.start].rows for m in query.members]
-        if None in rows or not rows:
+        found = [self.rows_of(m) if isinstance(m, Several) else self.plans[m.start].rows for m in query.members]
+        rows = [number for number in found if number is not None]
+        if len(rows) < len(found) or not rows:
             return None
         if len(set(word.split()[0] for word in query.operators)) > 1:
             return sum(rows)
@@ -431,7 +469,11 @@ class Planner:
 
     def unique(self, query: Several, names: list[str]) -> set[str]:
         """The columns of a query in which no value stands twice: the only one that it groups by."""
-        if len(query.members) != 1 or not isinstance(query.members[0], Core) or query.members[0].start not in self.blocks:
+        if (
+            len(query.members) != 1
+            or not isinstance(query.members[0], Core)
+            or query.members[0].start not in self.blocks
+        ):
             return set()
         block = self.blocks[query.members[0].start]
         above, outputs = block.statement.above, block.statement.outputs
@@ -440,8 +482,16 @@ class Planner:
         if above and above[0].says("GROUP"):
             by = _grouped(above)
             column = block.names.side(by) if by else None
-            return {name for name, piece in zip(names, outputs) if column and block.names.side(_without_alias(piece)) == column}
-        only = block.statement.distinct and block.statement.distinct[0].says("DISTINCT") and len(outputs) == len(block.statement.distinct) == 1
+            return {
+                name
+                for name, piece in zip(names, outputs)
+                if column and block.names.side(_without_alias(piece)) == column
+            }
+        only = (
+            block.statement.distinct
+            and block.statement.distinct[0].says("DISTINCT")
+            and len(outputs) == len(block.statement.distinct) == 1
+        )
         return set(names) if only else set()
 
     def aliases_outside(self, core: Core) -> tuple[set[str], set[str]]:
@@ -452,7 +502,9 @@ class Planner:
             core = core.outside
             try:
                 pieces = list(self.pieces[core.start : core.end])
-                statement = read(self.text, pieces, self.engine.comma_binds_less, self.engine.plain_words, in_blocks=True)
+                statement = read(
+                    self.text, pieces, self.engine.comma_binds_less, self.engine.plain_words, in_blocks=True
+                )
             except Refused:
                 # It can't be told what it has: whatever is written with a table may be of it.
                 names = [token for token in self.pieces[core.start : core.end] if token.names]
@@ -476,7 +528,8 @@ class Planner:
         """Whether a block among these tokens has several entries."""
         first, last = inner[0].at, inner[-1].at
         return any(
-            first <= self.pieces[core.start].at <= last and not (core.start in self.blocks and len(self.blocks[core.start].order) == 1)
+            first <= self.pieces[core.start].at <= last
+            and not (core.start in self.blocks and len(self.blocks[core.start].order) == 1)
             for core in self.query.cores()
         )
 
@@ -503,8 +556,10 @@ class Planner:
 
     def _inner_queries(self, start: int, end: int) -> list[Several]:
         """The outermost queries in parentheses among the tokens."""
-        queries = [inner for core in self.query.cores() for inner in core.inner if start <= inner.start and inner.end <= end]
-        outermost = []
+        queries = [
+            inner for core in self.query.cores() for inner in core.inner if start <= inner.start and inner.end <= end
+        ]
+        outermost: list[Several] = []
         for query in sorted(queries, key=lambda query: (query.start, -query.end)):
             if not outermost or query.start >= outermost[-1].end:
                 outermost.append(query)
@@ -519,7 +574,9 @@ class Planner:
 
     def planned_text(self, query: Several) -> str:
         """A query with each of its blocks in its planned order. All else is as it was written."""
-        spans: list[tuple[int, int, str]] = [(part.query.start, part.query.end, self.planned_text(part.query)) for part in query.parts]
+        spans: list[tuple[int, int, str]] = [
+            (part.query.start, part.query.end, self.planned_text(part.query)) for part in query.parts
+        ]
         for member in query.members:
             if isinstance(member, Several):
                 spans.append((member.start, member.end, self.planned_text(member)))
@@ -548,16 +605,23 @@ class Planner:
     @property
     def unbounded(self) -> list[str]:
         recursive = [part.query.refused for part in self.query.parts if part.query.refused]
-        return list(dict.fromkeys(recursive)) + [f"{plan.core.called}: {plan.refused}" for plan in self.plans.values() if plan.refused]
+        return list(dict.fromkeys(recursive)) + [
+            f"{plan.core.called}: {plan.refused}" for plan in self.plans.values() if plan.refused
+        ]
 
     def true_rows(self) -> None:
-        """Asks for the rows of each level, of the blocks that stand by themselves and are no part of a WITH RECURSIVE."""
+        """Asks for the rows of each level, of the blocks that stand by themselves and are no part of a WITH
+        RECURSIVE."""
         self.engine.keep_order()
         for start, block in self.blocks.items():
             if any(part.query.refused and part.query.start <= start < part.query.end for part in self.query.parts):
                 continue
-            if any(self.aliases_outside(block.core)) and any(map(block._names_outside, [*block.statement.conditions, *(
-                    piece for step in block.steps for piece in step.conditions)])):
+            if any(self.aliases_outside(block.core)) and any(
+                map(
+                    block._names_outside,
+                    [*block.statement.conditions, *(piece for step in block.steps for piece in step.conditions)],
+                )
+            ):
                 continue
             with self.progress.doing(f"counting the rows of {block.core.called}"):
                 for number, level in enumerate(self.plans[start].levels, 1):
@@ -611,18 +675,26 @@ def several(text: str, engine: Engine) -> bool:
     """Whether the text has blocks within its one SELECT, or joins that aren't inner ones."""
     pieces = tokens(text, engine.rules)
     query = Finder(text, pieces).found()
-    if query.parts or query.operators or len(query.members) != 1 or not isinstance(query.members[0], Core):
+    core = query.members[0] if len(query.members) == 1 else None
+    if query.parts or query.operators or not isinstance(core, Core):
         return True
-    [core] = query.members
     try:
         statement = read(text, list(pieces), engine.comma_binds_less, engine.plain_words, in_blocks=True)
     except Refused:
-        return any(token.says("LEFT", "RIGHT", "FULL") and behind.says("JOIN", "OUTER") for token, behind in zip(pieces, pieces[1:]))
+        return any(
+            token.says("LEFT", "RIGHT", "FULL") and behind.says("JOIN", "OUTER")
+            for token, behind in zip(pieces, pieces[1:])
+        )
     if any(step.kind != "INNER" for step in statement.steps) or any(source.is_query for source in statement.sources):
         return True
     for inner in core.inner:
         piece = pieces[inner.start : inner.end]
-        if any(token.says("JOIN") for token in piece) or len(list(inner.cores())) > 1 or _joins(text, piece, engine) or engine.stands_alone(piece):
+        if (
+            any(token.says("JOIN") for token in piece)
+            or len(list(inner.cores())) > 1
+            or _joins(text, piece, engine)
+            or engine.stands_alone(piece)
+        ):
             return True
     return False
 

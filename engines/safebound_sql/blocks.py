@@ -1,4 +1,5 @@
-"""The blocks of a query: each SELECT of it with its FROM, by itself, in WITH, in FROM, in a condition or beside UNION and its kin."""
+"""The blocks of a query: each SELECT of it with its FROM, by itself, in WITH, in FROM, in a condition or beside UNION
+and its kin."""
 
 from __future__ import annotations
 

@@ -1,4 +1,5 @@
-"""What may choose other rows, or put them in another order, at each call: it is counted in one statement and joined in another.
+"""What may choose other rows, or put them in another order, at each call: it is counted in one statement and joined
+in another.
 
 Only what stands below the join matters, in subqueries and views: there the rows have to be those that were counted.
 """
@@ -13,11 +14,12 @@ from .tokens import Token, closing, part_of_name, written
 WORDS = ("LIMIT", "OFFSET", "FETCH", "TABLESAMPLE")
 # Alike for rows that tie, as long as no frame counts rows.
 WINDOWS_WITH_TIES = (
-    "RANK", "DENSE_RANK", "PERCENT_RANK", "CUME_DIST", "COUNT", "MIN", "MAX", "SUM", "AVG", "TOTAL", "BOOL_AND", "BOOL_OR", "EVERY",
+    "RANK", "DENSE_RANK", "PERCENT_RANK", "CUME_DIST", "COUNT", "MIN", "MAX", "SUM", "AVG", "TOTAL", "BOOL_AND",
+    "BOOL_OR", "EVERY",
 )
 IN_ORDER = (
-    "ARRAY_AGG", "STRING_AGG", "JSON_AGG", "JSONB_AGG", "JSON_OBJECT_AGG", "JSONB_OBJECT_AGG", "XMLAGG", "GROUP_CONCAT",
-    "JSON_GROUP_ARRAY", "JSON_GROUP_OBJECT", "MODE", "ANY_VALUE", "LISTAGG",
+    "ARRAY_AGG", "STRING_AGG", "JSON_AGG", "JSONB_AGG", "JSON_OBJECT_AGG", "JSONB_OBJECT_AGG", "XMLAGG",
+    "GROUP_CONCAT", "JSON_GROUP_ARRAY", "JSON_GROUP_OBJECT", "MODE", "ANY_VALUE", "LISTAGG",
 )
 AGGREGATES = ("COUNT", "SUM", "AVG", "TOTAL", "MIN", "MAX", *IN_ORDER)
 BEHIND_GROUPS = ("HAVING", "WINDOW", "ORDER", "LIMIT", "UNION", "INTERSECT", "EXCEPT")
@@ -80,7 +82,8 @@ def _before(pieces: Tokens, at: int) -> Token | None:
 
 
 def _bare_columns(pieces: Tokens) -> Iterator[tuple[Token, str]]:
-    """Columns beside GROUP BY or an aggregate that are neither grouped nor within one: SQLite takes them from some row."""
+    """Columns beside GROUP BY or an aggregate that are neither grouped nor within one: SQLite takes them from some
+    row."""
     for at, token in enumerate(pieces):
         if not token.says("SELECT") or part_of_name(pieces, at):
             continue
@@ -92,9 +95,16 @@ def _bare_columns(pieces: Tokens) -> Iterator[tuple[Token, str]]:
         for place in own:
             name = outputs[place]
             behind = outputs[place + 1] if place + 1 < len(outputs) else None
-            if name.names and not name.says("DISTINCT", "ALL", "AS", "CASE", "WHEN", "THEN", "ELSE", "END", "NULL", "CAST", "AND", "OR", "NOT", "IS") \
-                    and not (behind and behind.says("(", ".")) and not (place and outputs[place - 1].says("AS")) \
-                    and name.text.lower() not in grouped:
+            if (
+                name.names
+                and not name.says(
+                    "DISTINCT", "ALL", "AS", "CASE", "WHEN", "THEN", "ELSE", "END", "NULL", "CAST", "AND", "OR",
+                    "NOT", "IS",
+                )
+                and not (behind and behind.says("(", "."))
+                and not (place and outputs[place - 1].says("AS"))
+                and name.text.lower() not in grouped
+            ):
                 yield name, f"{name.text} beside GROUP BY or an aggregate"
 
 

@@ -4,9 +4,10 @@ from __future__ import annotations
 
 import argparse
 import contextlib
+import io
 import os
 import sys
-from typing import Sequence
+from typing import Callable, NoReturn, Sequence
 
 from . import block_plans, output, stops
 from .dialects import DIALECTS, Unreached
@@ -33,11 +34,11 @@ NO_ROOM_FOR_OUTPUT = 10
 class Words(argparse.ArgumentParser):
     """A command line that isn't understood is a fault like others."""
 
-    def error(self, message: str):
+    def error(self, message: str) -> NoReturn:
         raise Usage(f"{message} (safebound-sql --help tells more)")
 
 
-def number(least: int, most: int):
+def number(least: int, most: int) -> Callable[[str], int]:
     def read(word: str) -> int:
         if not (word.isascii() and word.isdigit() and least <= int(word) <= most):
             raise argparse.ArgumentTypeError(f"a number from {least} to {most}, not {word!r}")
@@ -54,20 +55,32 @@ def words() -> Words:
         unreached = name in ("plan", "sql", "counts")
         command.add_argument("--db", required=not unreached, metavar="DB", help="postgresql://.. or sqlite:FILE")
         if unreached:
-            command.add_argument("--dialect", choices=DIALECTS, help="in place of --db, of an engine that isn't reached from here")
-            command.add_argument("--schema", metavar="FILE", help="with --dialect: the CREATE TABLEs of the query's tables")
-        command.add_argument("--timeout", type=number(1, 10**6), metavar="SECONDS", help="ends a statement that takes longer")
+            command.add_argument(
+                "--dialect", choices=DIALECTS, help="in place of --db, of an engine that isn't reached from here"
+            )
+            command.add_argument(
+                "--schema", metavar="FILE", help="with --dialect: the CREATE TABLEs of the query's tables"
+            )
+        command.add_argument(
+            "--timeout", type=number(1, 10**6), metavar="SECONDS", help="ends a statement that takes longer"
+        )
         if name == "append":
             command.add_argument("--kept", required=True, metavar="FILE", help="the kept counts")
-            command.add_argument("--where", required=True, metavar="CONDITION", help="true of the rows that came later alone")
+            command.add_argument(
+                "--where", required=True, metavar="CONDITION", help="true of the rows that came later alone"
+            )
             command.add_argument("table", metavar="TABLE", help="the table, as a query names it")
             continue
         if name == "export":
             command.add_argument("folder", metavar="DIR", help="a folder that is new or empty")
         else:
-            command.add_argument("--no-reduce", action="store_true", help="count under own conditions alone, without semi-joins")
+            command.add_argument(
+                "--no-reduce", action="store_true", help="count under own conditions alone, without semi-joins"
+            )
         if name == "counts":
-            command.add_argument("--keep", metavar="FILE", help="count whole tables, and keep that in a file for later plans")
+            command.add_argument(
+                "--keep", metavar="FILE", help="count whole tables, and keep that in a file for later plans"
+            )
         if name in ("plan", "sql", "run", "audit"):
             _plan_words(command, name)
         command.add_argument("query", metavar="QUERY", help="a file with the query, or - for standard input")
@@ -75,18 +88,24 @@ def words() -> Words:
 
 
 def _plan_words(command: argparse.ArgumentParser, name: str) -> None:
-    command.add_argument("--accuracy", type=number(1, 64), default=1, metavar="K", help="how closely degrees are kept, 1 to 64 (1)")
+    command.add_argument(
+        "--accuracy", type=number(1, 64), default=1, metavar="K", help="how closely degrees are kept, 1 to 64 (1)"
+    )
     command.add_argument("--tree", action="store_true", help="the best join tree of any shape")
     command.add_argument(
         "--budget", type=number(0, MOST_BUDGET), required=name == "run", default=MOST_BUDGET, metavar="N",
         help="the most rows that a bound of the plan may say",
     )
     if name == "run":
-        command.add_argument("--null", default="", metavar="TEXT", help="what stands for NULL in the CSV, never in quotes (nothing)")
+        command.add_argument(
+            "--null", default="", metavar="TEXT", help="what stands for NULL in the CSV, never in quotes (nothing)"
+        )
     if name in ("plan", "audit"):
         command.add_argument("--json", action="store_true", help="for programs")
     if name in ("plan", "sql", "audit"):
-        command.add_argument("--kept", metavar="FILE", help="kept counts, for entries without conditions; no semi-joins")
+        command.add_argument(
+            "--kept", metavar="FILE", help="kept counts, for entries without conditions; no semi-joins"
+        )
     if name in ("plan", "sql"):
         command.add_argument("--counts", metavar="FILE", help="the answer of the counting statement, as CSV")
 
@@ -96,7 +115,7 @@ def _engine(given: argparse.Namespace) -> Engine:
     dialect = getattr(given, "dialect", None)
     if (given.db is None) == (dialect is None):
         raise Usage("either --db or --dialect is needed")
-    if given.db is not None:
+    if dialect is None:
         return opened(given.db, given.timeout)
     if given.schema is None:
         raise Usage("--dialect needs --schema FILE, where the CREATE TABLEs of the query's tables are")
@@ -239,7 +258,8 @@ def done(given: argparse.Namespace) -> None:
 
 def main(arguments: Sequence[str] | None = None) -> int:
     """Runs a command. Answers the exit status."""
-    sys.stdout.reconfigure(encoding="utf-8", errors="surrogateescape")
+    if isinstance(sys.stdout, io.TextIOWrapper):
+        sys.stdout.reconfigure(encoding="utf-8", errors="surrogateescape")
     stops.heed()
     try:
         done(words().parse_args(arguments))

@@ -1,5 +1,5 @@
-"""The one statement that counts: each entry's rows under its own conditions, and how often the values of each joined column
-repeat. Reduced, it counts the rows that can take part.
+"""The one statement that counts: each entry's rows under its own conditions, and how often the values of each joined
+column repeat. Reduced, it counts the rows that can take part.
 """
 
 from __future__ import annotations
@@ -10,7 +10,7 @@ from typing import Collection, Iterable
 
 from .engine import Engine
 from .faults import Unreadable, WrongCounts
-from .query import Column, Query
+from .query import Column, Query, Row
 from .reducing import own_conditions
 from .servers import Source, rows_to_count
 
@@ -34,10 +34,11 @@ def prefix_for(texts: Iterable[str]) -> str:
 
 
 def counting(query: Query, engine: Engine, prefix: str, reduce: bool, known: Collection[int] = ()) -> str:
-    """The statement. Its rows are (entry, column, degree, keys): so many values of the column stand in `degree` rows each.
+    """The statement. Its rows are (entry, column, degree, keys): so many values of the column stand in `degree` rows
+    each.
 
-    Degree 0 is that of rows without a value. A row with the column '' tells how many rows the entry has. Of entries whose
-    degrees are known only that is asked.
+    Degree 0 is that of rows without a value. A row with the column '' tells how many rows the entry has. Of entries
+    whose degrees are known only that is asked.
     """
     columns = {entry.number: [] if entry.number in known else query.joined(entry.number) for entry in query.entries}
     texts: list[tuple[str, str]] = []
@@ -70,7 +71,7 @@ def _text(name: str) -> str:
     return "'" + name.replace("'", "''") + "'"
 
 
-def counts_of(query: Query, rows: Iterable[tuple]) -> Counts:
+def counts_of(query: Query, rows: Iterable[Row]) -> Counts:
     """What the answer of the statement says.
 
     Raises:
@@ -79,7 +80,7 @@ def counts_of(query: Query, rows: Iterable[tuple]) -> Counts:
     return counts_among({entry.name: query.joined(entry.number) for entry in query.entries}, rows)
 
 
-def counts_among(asked: dict[str, list[Column]], rows: Iterable[tuple]) -> Counts:
+def counts_among(asked: dict[str, list[Column]], rows: Iterable[Row]) -> Counts:
     """The same for entries by their names, each with the columns that were counted."""
     counts = Counts({}, {})
     zeros: dict[tuple[str, str], int] = {}
@@ -100,7 +101,9 @@ def counts_among(asked: dict[str, list[Column]], rows: Iterable[tuple]) -> Count
         runs.sort(reverse=True)
         total = sum(degree * keys for degree, keys in runs)
         if total > counts.rows[entry] or (total < counts.rows[entry] and (entry, column) not in zeros):
-            raise WrongCounts(f"the degrees of {entry}.{column} sum to {total}, and {entry} has {counts.rows[entry]} rows")
+            raise WrongCounts(
+                f"the degrees of {entry}.{column} sum to {total}, and {entry} has {counts.rows[entry]} rows"
+            )
     return counts
 
 

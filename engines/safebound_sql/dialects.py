@@ -1,7 +1,7 @@
 """Engines that can't be reached from here: their SQL is written, and whoever reaches them runs it.
 
-What a connection would tell comes from a schema file of CREATE TABLEs, and from a list of the functions that are known to
-answer alike at each call. What isn't known for sure is refused.
+What a connection would tell comes from a schema file of CREATE TABLEs, and from a list of the functions that are
+known to answer alike at each call. What isn't known for sure is refused.
 """
 
 from __future__ import annotations
@@ -13,15 +13,17 @@ from typing import Iterator, NamedTuple
 from .engine import Engine
 from .faults import EngineFault, Missing, Refused
 from .known import CALLED, PLAIN, TIMES
-from .query import Column, Table
+from .query import Column, Row, Table
 from .reading import Statement, Tokens, read
 from .schema_file import declared
 from .tokens import BACKTICKS, DOUBLE_QUOTES, Token, dialect_rules, part_of_name, tokens, unquoted, written
 
+DAYS = ("now", "today", "tomorrow", "yesterday")
+
 # Words that no name is unless in quotes: by them rows are taken or left in another way than an inner join does.
 NO_INNER_JOIN = (
-    "QUALIFY", "PIVOT", "UNPIVOT", "LATERAL", "TABLESAMPLE", "SEMI", "ANTI", "ASOF", "POSITIONAL", "DIRECTED", "MATCH_RECOGNIZE",
-    "UNNEST", "EXPLODE", "MINUS",
+    "QUALIFY", "PIVOT", "UNPIVOT", "LATERAL", "TABLESAMPLE", "SEMI", "ANTI", "ASOF", "POSITIONAL", "DIRECTED",
+    "MATCH_RECOGNIZE", "UNNEST", "EXPLODE", "MINUS",
 )
 BEFORE_BY = ("CLUSTER", "DISTRIBUTE", "SORT", "CONNECT")
 PARTS_OF_SELECT = {
@@ -34,7 +36,7 @@ class Dialect(NamedTuple):
 
     title: str
     quotes: str
-    rules: re.Pattern
+    rules: re.Pattern[str]
     settings: tuple[str, ...] = ()
     keeps_parts: str = "AS"
     equals: tuple[str, ...] = ("=",)
@@ -44,12 +46,16 @@ class Dialect(NamedTuple):
 
 DIALECTS = {
     "spark": Dialect(
-        "Spark", "`", dialect_rules(BACKTICKS, texts="'\"", suffixes="[lLsSyYfFdD]|[bB][dD]"),
-        ("SET spark.sql.cbo.joinReorder.enabled = false", "SET spark.sql.cbo.starSchemaDetection = false"), equals=("=", "=="),
+        "Spark",
+        "`",
+        dialect_rules(BACKTICKS, texts="'\"", suffixes="[lLsSyYfFdD]|[bB][dD]"),
+        ("SET spark.sql.cbo.joinReorder.enabled = false", "SET spark.sql.cbo.starSchemaDetection = false"),
+        equals=("=", "=="),
     ),
     "trino": Dialect("Trino", '"', dialect_rules(DOUBLE_QUOTES), ("SET SESSION join_reordering_strategy = 'NONE'",)),
     "duckdb": Dialect(
-        "DuckDB", '"', dialect_rules(DOUBLE_QUOTES), ("SET disabled_optimizers = 'join_order'",), "AS MATERIALIZED", ("=", "=="),
+        "DuckDB", '"', dialect_rules(DOUBLE_QUOTES), ("SET disabled_optimizers = 'join_order'",), "AS MATERIALIZED",
+        ("=", "=="),
     ),
     "snowflake": Dialect("Snowflake", '"', dialect_rules(DOUBLE_QUOTES, comments="//"), folds_up=True),
     "bigquery": Dialect("BigQuery", "`", dialect_rules(BACKTICKS, texts="'\"", comments="#"), folds_tables=False),
@@ -118,7 +124,7 @@ class Unreached(Engine):
     def asks_for_now(self, pieces: list[Token], at: int, below: bool = False) -> bool:
         """A text such as 'now' that is made a date or a time."""
         token = pieces[at]
-        if token.kind != "text" or token.text[1:-1].split(" ")[0].lower() not in ("now", "today", "tomorrow", "yesterday"):
+        if token.kind != "text" or token.text[1:-1].split(" ")[0].lower() not in DAYS:
             return False
         before = pieces[at - 1].text.upper() if at else ""
         return before.startswith(("DATE", "TIME")) or (at + 1 < len(pieces) and pieces[at + 1].says("AS", "::"))
@@ -134,19 +140,23 @@ class Unreached(Engine):
         schemas = {key[0].lower() for key in self.tables if len(key) > 1}
         for source in read(sql, list(pieces), True).sources:
             if self.name_key(source.alias).lower() in schemas:
-                raise statement.refuse(source.alias, "it is the name of a schema too, and engines differ in which is meant")
+                raise statement.refuse(
+                    source.alias, "it is the name of a schema too, and engines differ in which is meant"
+                )
         # It takes a while to load, and the engines that are reached don't need it.
         try:
             import sqlglot
         except ImportError:
-            raise Missing("sqlglot reads the SQL of engines that aren't reached: run engines/setup, or install python3-sqlglot") from None
+            raise Missing(
+                "sqlglot reads the SQL of engines that aren't reached: run engines/setup, or install python3-sqlglot"
+            ) from None
         logging.getLogger("sqlglot").setLevel(logging.CRITICAL)
         try:
             trees = sqlglot.parse(written(pieces), read=self.dialect)
         except (sqlglot.errors.SqlglotError, RecursionError):
             raise Refused(f"the query isn't read as {self.title}'s SQL by sqlglot {sqlglot.__version__}") from None
         tree = trees[0]
-        odd = {name for name, part in tree.args.items() if part} - PARTS_OF_SELECT
+        odd = {name for name, part in tree.args.items() if part} - PARTS_OF_SELECT if tree else set()
         if not isinstance(tree, sqlglot.exp.Select) or odd:
             raise Refused(f"the query has a part that isn't bounded: {', '.join(sorted(odd)) or 'it is no SELECT'}")
 
@@ -158,8 +168,8 @@ class Unreached(Engine):
             sources = read("", list(inner), True).sources
         except Refused:
             return "it isn't a plain query over tables by their names"
-        tables = [self.table(source.table) for source in sources]
-        if None in tables:
+        tables = [table for source in sources if (table := self.table(source.table))]
+        if len(tables) < len(sources):
             return "a table of it isn't in the schema file"
         own = {token.at for source in sources for token in (*source.table, source.alias)}
         aliases = {self.name_key(source.alias) for source in sources}
@@ -194,10 +204,10 @@ class Unreached(Engine):
     def _not_here(self) -> EngineFault:
         return EngineFault(f"{self.title} isn't reached from here")
 
-    def rows(self, sql: str) -> list[tuple]:
+    def rows(self, sql: str) -> list[Row]:
         raise self._not_here()
 
-    def stream(self, sql: str) -> Iterator[tuple]:
+    def stream(self, sql: str) -> Iterator[Row]:
         raise self._not_here()
 
     def csv(self, sql: str, null: str = "") -> Iterator[str]:

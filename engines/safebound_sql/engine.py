@@ -6,7 +6,7 @@ import re
 from abc import ABC, abstractmethod
 from typing import Iterable, Iterator
 
-from .query import Column, Table
+from .query import Column, Row, Table
 from .tokens import Token, unquoted, written
 
 
@@ -15,7 +15,7 @@ class Engine(ABC):
 
     dialect: str
     title: str
-    rules: re.Pattern
+    rules: re.Pattern[str]
     comma_binds_less: bool
     merged_columns_first: bool
     equals: tuple[str, ...] = ("=",)
@@ -74,7 +74,8 @@ class Engine(ABC):
         return False
 
     def merged_side(self, left: Column, right: Column) -> int | None:
-        """Which of two columns is the one into which USING merges both, 0 for the left one; None where it is neither."""
+        """Which of two columns is the one into which USING merges both, 0 for the left one; None where it is
+        neither."""
         return 0
 
     def output_names(self, sql: str) -> list[str] | None:
@@ -109,6 +110,9 @@ class Engine(ABC):
         """Those of the names that are tables whose rows may be others in each statement, and why."""
         return {}
 
+    def joins(self, tables: Iterable[Table]) -> None:
+        """Sets what statements that join these tables need, from here on."""
+
     @abstractmethod
     def keep_order(self) -> None:
         """Makes the engine keep the order of joins in what follows."""
@@ -130,11 +134,11 @@ class Engine(ABC):
         """How many rows the engine expects of the query, or None where it doesn't say."""
 
     @abstractmethod
-    def rows(self, sql: str) -> list[tuple]:
+    def rows(self, sql: str) -> list[Row]:
         """All rows of a short answer."""
 
     @abstractmethod
-    def stream(self, sql: str) -> Iterator[tuple]:
+    def stream(self, sql: str) -> Iterator[Row]:
         """The rows of an answer of any length, one by one. The first one is the names of its columns."""
 
     @abstractmethod
@@ -167,6 +171,6 @@ def one_line(message: object) -> str:
     return str(message).strip().split("\n")[0]
 
 
-def with_names(rows: Iterable[tuple], names: Iterable[str]) -> Iterator[tuple]:
+def with_names(rows: Iterable[Row], names: Iterable[str]) -> Iterator[Row]:
     yield tuple(names)
     yield from rows

@@ -14,7 +14,7 @@ from .engine import Engine
 from .faults import Refused, Unreadable
 from .meaning import Meaning
 from .progress import Progress
-from .query import Column, Entry, Named
+from .query import Column, Entry, Named, Row
 from .reading import Tokens
 from .tokens import Token
 
@@ -22,9 +22,12 @@ MOST_ROWS = 4_000_000
 MOST_BYTES = 67_108_864
 MOST_CHARACTERS = 1_000_000
 
-RESERVED = set("""ALL AND ANY AS ASC BETWEEN BIGINT BY CASE CAST CHAR CHARACTER CHECK CONSTRAINT CREATE CROSS DEFAULT DELETE DESC
-DISTINCT EXCEPT EXISTS FOREIGN FROM FULL GROUP HAVING IN INNER INT INTEGER INTERSECT IS JOIN LEFT LIKE NATURAL NOT NULL ON OR ORDER
-OUTER PRIMARY REFERENCES RIGHT SELECT SET SMALLINT TABLE UNION UNIQUE UPDATE USING VALUES VARCHAR VARYING WHERE""".split())
+RESERVED = frozenset(
+    "ALL AND ANY AS ASC BETWEEN BIGINT BY CASE CAST CHAR CHARACTER CHECK CONSTRAINT CREATE CROSS DEFAULT DELETE DESC"
+    " DISTINCT EXCEPT EXISTS FOREIGN FROM FULL GROUP HAVING IN INNER INT INTEGER INTERSECT IS JOIN LEFT LIKE NATURAL"
+    " NOT NULL ON OR ORDER OUTER PRIMARY REFERENCES RIGHT SELECT SET SMALLINT TABLE UNION UNIQUE UPDATE USING VALUES"
+    " VARCHAR VARYING WHERE".split()
+)
 CONNECTING = ("AND", "OR", "NOT", "BETWEEN", "IN", "(", ")", ",", "+", "-", "=", "<>", "<", "<=", ">", ">=")
 SPELLED = {"==": "=", "!=": "<>"}
 ORDERING = ("<", "<=", ">", ">=", "BETWEEN")
@@ -103,14 +106,17 @@ class Export:
         rest = piece[size + 1 :] if len(piece) > size and piece[size].says("AS") else piece[size:]
         if len(rest) > 1 or (rest and not rest[0].names):
             raise self._refuse(piece[size])
-        column = self._column(self.names.side(piece[:size]))
+        named = self.names.side(piece[:size])
+        if named is None:
+            raise self._refuse(piece[0])
+        column = self._column(named)
         yield f"{column} AS {spelled(self.names.key(rest[0]))}" if rest else column
 
     def _condition(self, piece: Tokens) -> Iterator[str]:
         """The condition again. That a column is NOT NULL goes without saying, since no exported value is NULL."""
         ends = [token.text.upper() for token in piece[-3:]]
-        if ends == ["IS", "NOT", "NULL"] and self.names.side(piece[:-3]):
-            self._column(self.names.side(piece[:-3]))
+        if ends == ["IS", "NOT", "NULL"] and (tested := self.names.side(piece[:-3])):
+            self._column(tested)
             return
         parts, at = [], 0
         while at < len(piece):
@@ -158,14 +164,18 @@ class Export:
         for entry in self.query.entries:
             same = tables.setdefault(self._name_of(entry), [])
             if same and same[0].about != entry.about:
-                raise self.statement.refuse(self.statement.sources[entry.number].table[-1], "two tables would have one file")
+                raise self.statement.refuse(
+                    self.statement.sources[entry.number].table[-1], "two tables would have one file"
+                )
             same.append(entry)
         return tables
 
     def _table(self, name: str, entries: list[Entry]) -> str:
         """Writes a table's file. Answers its CREATE TABLE."""
         used = set().union(*(self.used[entry.number] for entry in entries))
-        columns = [column for column in entries[0].about.by_key.values() if column in used] or list(entries[0].about.columns[:1])
+        columns = [column for column in entries[0].about.by_key.values() if column in used] or list(
+            entries[0].about.columns[:1]
+        )
         if len({upper(column.name) for column in columns}) < len(columns):
             raise Refused(f"columns of {name} differ in upper and lower case alone, which safebound_cli takes for one")
         for column in columns:
@@ -175,12 +185,14 @@ class Export:
         values = ", ".join(self.engine.quote(column.name) for column in columns)
         present = " AND ".join(f"{self.engine.quote(column.name)} IS NOT NULL" for column in columns if column in met)
         with self.progress.doing(f"writing {name}"):
-            rows = self.engine.stream(f"SELECT {values} FROM {entries[0].table}" + (f" WHERE {present}" if present else ""))
+            rows = self.engine.stream(
+                f"SELECT {values} FROM {entries[0].table}" + (f" WHERE {present}" if present else "")
+            )
             kinds = self._records(name.strip('"').lower() + ".csv", columns, rows)
         declared = ", ".join(f"{spelled(column.name)} {kind} NOT NULL" for column, kind in zip(columns, kinds))
         return f"CREATE TABLE {name} ({declared})"
 
-    def _records(self, file: str, columns: list[Column], rows: Iterator[tuple]) -> list[str]:
+    def _records(self, file: str, columns: list[Column], rows: Iterator[Row]) -> list[str]:
         """Writes the rows, and finds the columns' types."""
         kinds: list[type] = [int if self.engine.whole_numbers(column) else str for column in columns]
         longest = [1] * len(columns)
@@ -190,7 +202,9 @@ class Export:
             writer.writerow([upper(column.name) for column in columns])
             for number, row in enumerate(rows, 1):
                 _check(file, number, columns, row, kinds)
-                longest = [max(most, len(value)) if isinstance(value, str) else most for most, value in zip(longest, row)]
+                longest = [
+                    max(most, len(value)) if isinstance(value, str) else most for most, value in zip(longest, row)
+                ]
                 writer.writerow(row)
             if out.tell() > MOST_BYTES:
                 raise Refused(f"{file} has more than {MOST_BYTES} bytes")
@@ -199,7 +213,7 @@ class Export:
         return ["INTEGER" if kind is int else f"VARCHAR({most})" for kind, most in zip(kinds, longest)]
 
 
-def _check(file: str, number: int, columns: list[Column], row: tuple, kinds: list[type]) -> None:
+def _check(file: str, number: int, columns: list[Column], row: Row, kinds: list[type]) -> None:
     if number > MOST_ROWS:
         raise Refused(f"{file} has more than {MOST_ROWS} rows")
     for column, value, kind in zip(columns, row, kinds):

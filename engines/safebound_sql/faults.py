@@ -43,7 +43,9 @@ class PastBudget(Fault):
     status, word = 8, "budget"
 
     def __init__(self, budget: int, least: int) -> None:
-        super().__init__(f"{budget} rows are too few: the best plan has a part of at most {least} rows, so {least} would do")
+        super().__init__(
+            f"{budget} rows are too few: the best plan has a part of at most {least} rows, so {least} would do"
+        )
         self.least = least
 
 
@@ -74,9 +76,9 @@ class AboveBound(Fault):
 
     def __init__(self, level: int, rows: int, bound: int) -> None:
         super().__init__(
-            f"level {level} has {rows} rows, and its bound is {bound}. The engine has answered two statements over one snapshot in"
-            " two ways: a function isn't as STABLE or IMMUTABLE as it is declared, or a table isn't of this snapshot. This plan"
-            " admits nothing"
+            f"level {level} has {rows} rows, and its bound is {bound}. The engine has answered two statements over one"
+            " snapshot in two ways: a function isn't as STABLE or IMMUTABLE as it is declared, or a table isn't of"
+            " this snapshot. This plan admits nothing"
         )
 
 

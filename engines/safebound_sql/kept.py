@@ -1,7 +1,8 @@
 """Counts that last: how often values repeat in whole tables, kept in a file for later plans.
 
-A table is known by what its engine tells it from others by, and a column by its type too, so that another table of the same
-name isn't taken for it. Kept counts say nothing of rows that came later: whoever takes them looks at the number of rows.
+A table is known by what its engine tells it from others by, and a column by its type too, so that another table of
+the same name isn't taken for it. Kept counts say nothing of rows that came later: whoever takes them looks at the
+number of rows.
 """
 
 from __future__ import annotations
@@ -10,14 +11,14 @@ import datetime
 import json
 import os
 from dataclasses import dataclass, field
-from typing import Iterable, List, Tuple
+from typing import Any, Dict, Iterable, List, Tuple
 
 from .counting import counts_among, histograms
 from .engine import Engine
 from .faults import Missing, Unreadable, WrongCounts
 from .levels import library
 from .meaning import Meaning
-from .query import Column, Entry, Query
+from .query import Column, Entry, Query, Row
 from .reducing import own_conditions
 from .servers import Source
 
@@ -39,9 +40,9 @@ class KeptTable:
     def has(self, column: Column) -> bool:
         return self.types.get(column.name) == type_of(column)
 
-    def answer(self, entry: str, columns: Iterable[Column]) -> list[tuple]:
+    def answer(self, entry: str, columns: Iterable[Column]) -> list[Row]:
         """These columns' part of an answer to a counting statement."""
-        lines = [(entry, column.name, *run) for column in columns for run in self.runs[column.name]]
+        lines: list[Row] = [(entry, column.name, *run) for column in columns for run in self.runs[column.name]]
         return lines + [(entry, column.name, 0, 1) for column in columns if _sum(self.runs[column.name]) < self.rows]
 
 
@@ -82,7 +83,9 @@ class Kept:
 
     def save(self) -> None:
         """Writes the file anew: the old one is there until the new one is whole."""
-        tables = ",\n".join(f"{json.dumps(identity)}: {json.dumps(vars(table))}" for identity, table in self.tables.items())
+        tables = ",\n".join(
+            f"{json.dumps(identity)}: {json.dumps(vars(table))}" for identity, table in self.tables.items()
+        )
         try:
             with open(f"{self.file}.new", "w", encoding="utf-8") as out:
                 out.write(f'{{"form": "{FORM}", "tables": {{\n{tables}\n}}}}\n')
@@ -104,13 +107,16 @@ class Kept:
         entries: dict[str, Entry] = {}
         columns: dict[str, list[Column]] = {}
         for entry in query.entries:
-            identity = entry.about.identity
+            identity = entry.about.identity or ""
             before = self.tables[identity].types if identity in self.tables else ()
             own = query.joined(entry.number) + columns.get(identity, [])
             entries.setdefault(identity, entry)
-            columns[identity] = [c for c in entry.about.by_key.values() if c in own or (c.name in before and c.kind is not None)]
+            columns[identity] = [
+                c for c in entry.about.by_key.values() if c in own or (c.name in before and c.kind is not None)
+            ]
         parts = [
-            part for identity, entry in entries.items()
+            part
+            for identity, entry in entries.items()
             for part in histograms(Source(_called(entry, identity), []), columns[identity], engine)
         ]
         counts = counts_among(columns, engine.rows("\nUNION ALL ".join(parts)))
@@ -127,7 +133,8 @@ class Kept:
         self.tables = {other: table for other, table in self.tables.items() if other.rpartition("#")[0] != place}
 
     def append(self, table: str, condition: str, engine: Engine) -> tuple[KeptTable, int]:
-        """Adds to a table's counts those of its rows under the condition, which came later. Answers how many these are."""
+        """Adds to a table's counts those of its rows under the condition, which came later. Answers how many these
+        are."""
         query = Meaning(f"SELECT 1 FROM {table} WHERE {condition}", engine).query
         if len(query.entries) != 1 or str(query.above):
             raise WrongCounts("one table is needed, and a condition for its rows")
@@ -141,7 +148,10 @@ class Kept:
         parts = histograms(whole, [], engine) + histograms(new, columns, engine)
         counts = counts_among({"whole": [], "new": columns}, engine.rows("\nUNION ALL ".join(parts)))
         if kept.rows + counts.rows["new"] != counts.rows["whole"]:
-            told = f"{kept.rows} rows are kept and {counts.rows['new']} come to them, but {table} has {counts.rows['whole']}"
+            told = (
+                f"{kept.rows} rows are kept and {counts.rows['new']} come to them, but {table} has"
+                f" {counts.rows['whole']}"
+            )
             raise WrongCounts(f"{told}; keep its counts anew")
         for column in columns:
             kept.runs[column.name] = _appended(kept.runs[column.name], counts.runs["new", column.name])
@@ -159,14 +169,14 @@ def _appended(old: Runs, new: Runs) -> Runs:
         return old or new
     proved = library()
     try:
-        return [tuple(run) for run in proved.append(old, new)]
+        return [(run.degree, run.keys) for run in proved.append(old, new)]
     except proved.LibraryNotFound as error:
         raise Missing(str(error)) from None
     except proved.WrongValue as error:
         raise WrongCounts(str(error)) from None
 
 
-def _table(about: dict) -> KeptTable:
+def _table(about: Dict[str, Any]) -> KeptTable:
     """A table of a file, looked through."""
     runs = {column: [(int(degree), int(keys)) for degree, keys in found] for column, found in about["runs"].items()}
     table = KeptTable(str(about["name"]), str(about["time"]), int(about["rows"]), dict(about["types"]), runs)

@@ -2,21 +2,25 @@
 
 from __future__ import annotations
 
+import importlib
 import sys
 from dataclasses import dataclass, field
 from pathlib import Path
-from typing import Union
+from types import ModuleType
+from typing import Any, Dict, Tuple, Union
 
 from .counting import Counts
 from .faults import Missing, NoBound, PastBudget, WrongCounts
-from .query import Query
+from .query import Named, Query
 
 MOST_BUDGET = 2**59
 
-# The list of a column in which no row has a value: it says more than there is.
-NO_VALUE = [(1, 1)]
-
 Shape = Union[int, "tuple[Shape, Shape]"]
+
+# A column of an entry, two that are equal, and lists as the library takes them.
+Of = Tuple[str, str]
+Equal = Tuple[Of, Of]
+Lists = Dict[Of, Any]
 
 
 @dataclass
@@ -59,17 +63,16 @@ def entries_of(shape: Shape) -> list[int]:
     return [shape] if isinstance(shape, int) else entries_of(shape[0]) + entries_of(shape[1])
 
 
-def library():
+def library() -> ModuleType:
     """The package safebound: an installed one, or that of this repository."""
     try:
-        import safebound
+        return importlib.import_module("safebound")
     except ImportError:
         sys.path.append(str(Path(__file__).resolve().parents[2] / "python"))
         try:
-            import safebound
+            return importlib.import_module("safebound")
         except ImportError as error:
             raise Missing(f"the library isn't there: make library, or pip install ./python ({error})") from None
-    return safebound
 
 
 def planned(query: Query, counts: Counts, accuracy: int, budget: int, tree: bool) -> Plan:
@@ -81,9 +84,14 @@ def planned(query: Query, counts: Counts, accuracy: int, budget: int, tree: bool
     """
     proved = library()
     try:
-        lists = {column: proved.compress(runs or NO_VALUE, accuracy) for column, runs in counts.runs.items()}
-        known = proved.Query([entry.name for entry in query.entries], _equalities(query), counts.rows, lists)
-        levels = _levels_of_tree(query, known.best_tree(budget), counts) if tree else _levels(query, known.best_order(budget))
+        known = proved.Query(
+            [entry.name for entry in query.entries], equalities_of(query), counts.rows, lists_of(counts, accuracy)
+        )
+        levels = (
+            _levels_of_tree(query, known.best_tree(budget), counts)
+            if tree
+            else _levels(query, known.best_order(budget))
+        )
     except proved.BudgetExceeded as error:
         raise PastBudget(budget, error.least) from None
     except proved.PastBits:
@@ -95,20 +103,33 @@ def planned(query: Query, counts: Counts, accuracy: int, budget: int, tree: bool
     return Plan(query, counts, levels[-1].shape, levels, tree)
 
 
-def _equalities(query: Query) -> list:
-    return [tuple((query.entries[side.entry].name, side.column.name) for side in equality) for equality in query.equalities]
+def lists_of(counts: Counts, accuracy: int) -> Lists:
+    """The list of each counted column, as the library takes it."""
+    proved = library()
+    return {
+        column: proved.compress(runs, accuracy) if runs else proved.NO_VALUES for column, runs in counts.runs.items()
+    }
 
 
-def _levels(query: Query, order) -> list[Level]:
+def equalities_of(query: Query) -> list[Equal]:
+    """The equalities as the library takes them."""
+
+    def of(side: Named) -> Of:
+        return query.entries[side.entry].name, side.column.name
+
+    return [(of(equality.left), of(equality.right)) for equality in query.equalities]
+
+
+def _levels(query: Query, order: Any) -> list[Level]:
     numbers = {entry.name: entry.number for entry in query.entries}
     levels: list[Level] = []
     for name, bound in zip(order.entries, order.levels):
-        shape = (levels[-1].shape, numbers[name]) if levels else numbers[name]
+        shape: Shape = (levels[-1].shape, numbers[name]) if levels else numbers[name]
         levels.append(Level(shape, bound))
     return levels
 
 
-def _levels_of_tree(query: Query, tree, counts: Counts) -> list[Level]:
+def _levels_of_tree(query: Query, tree: Any, counts: Counts) -> list[Level]:
     """The joins of a tree; of an entry alone its rows."""
     if not tree.joins:
         return [Level(0, counts.rows[query.entries[0].name])]
@@ -118,4 +139,3 @@ def _levels_of_tree(query: Query, tree, counts: Counts) -> list[Level]:
         nodes.append((nodes[join.left], nodes[join.right]))
         levels.append(Level(nodes[-1], join.bound))
     return levels
-

@@ -116,7 +116,8 @@ class Meaning:
         self._look_for_now(pieces)
 
     def _look_for_now(self, pieces: Tokens) -> None:
-        """Refuses a date function of a column in which 'now' stands, or of what isn't known to be a column of the query."""
+        """Refuses a date function of a column in which 'now' stands, or of what isn't known to be a column of the
+        query."""
         statement = self.statement
         for piece in (*statement.outputs, *statement.conditions, statement.distinct, statement.above):
             for start, end in subqueries(piece):
@@ -137,21 +138,29 @@ class Meaning:
         return {self.names.key(alias) for output in self.statement.outputs if (alias := alias_of(output))}
 
     def _with_columns_of_keys(self, above: Tokens) -> Tokens:
-        """Where a primary key is grouped by, its table's other columns that are named are too: a part has no keys to tell so."""
+        """Where a primary key is grouped by, its table's other columns that are named are too: a part has no keys to
+        tell so."""
         groups = _groups(above)
         if groups is None or not any(entry.about.key for entry in self.query.entries):
             return above
         outputs = {self.names.key(alias): piece for piece in self.statement.outputs if (alias := alias_of(piece))}
-        grouped = {named for piece in at_commas(above[groups.start : groups.stop]) if (named := self._grouped(piece, outputs))}
-        named = set().union(*(self.names.named(piece) for piece in (*self.statement.outputs, above) if self.names.star(piece) is None))
+        grouped = {
+            named for piece in at_commas(above[groups.start : groups.stop]) if (named := self._grouped(piece, outputs))
+        }
+        mentioned = set[Named]().union(
+            *(self.names.named(piece) for piece in (*self.statement.outputs, above) if self.names.star(piece) is None)
+        )
         for piece in self.statement.outputs:
-            named |= set(self.names.star(piece) or ())
+            mentioned |= set(self.names.star(piece) or ())
         more: Tokens = []
-        for other in sorted(named - grouped, key=lambda named: (named.entry, named.column.name)):
+        for other in sorted(mentioned - grouped, key=lambda named: (named.entry, named.column.name)):
             about = self.query.entries[other.entry].about
             if other.column.type in UNGROUPED:
                 continue
-            if about.key and {Named(other.entry, about.by_key[name]) for name in about.key if name in about.by_key} <= grouped:
+            if (
+                about.key
+                and {Named(other.entry, about.by_key[name]) for name in about.key if name in about.by_key} <= grouped
+            ):
                 more += tokens(f", {self.names.qualified(other)}", self.engine.rules)
         return above[: groups.stop] + more + above[groups.stop :]
 
@@ -161,7 +170,11 @@ class Meaning:
         if named or len(piece) != 1:
             return named
         output = outputs.get(self.names.key(piece[0])) if piece[0].names else None
-        if piece[0].kind == "number" and piece[0].text.isdigit() and 0 < int(piece[0].text) <= len(self.statement.outputs):
+        if (
+            piece[0].kind == "number"
+            and piece[0].text.isdigit()
+            and 0 < int(piece[0].text) <= len(self.statement.outputs)
+        ):
             output = self.statement.outputs[int(piece[0].text) - 1]
         if output is None:
             return None
@@ -185,7 +198,10 @@ class Meaning:
         query.renamed = {named for named in names.merged_away if self.engine.key(named.column.name, True) in bare}
         for token, named in names.with_tables(above):
             if named in query.renamed:
-                why = "the column that USING merged is named without a table too; name it in one way, or write the equality with ON"
+                why = (
+                    "the column that USING merged is named without a table too; name it in one way, or write the"
+                    " equality with ON"
+                )
                 raise self.statement.refuse(token, why, f"{token.text}.{named.column.name}")
 
     def _condition(self, piece: Tokens) -> None:
@@ -218,7 +234,9 @@ class Meaning:
         query.conditions.append(Condition(text, frozenset((one.entry, other.entry))))
         query.needed |= {one, other}
         if one.column.kind is None or one.column.kind != other.column.kind:
-            query.no_edges.append((text, f"{one.column.type} and {other.column.type} aren't compared as they are grouped"))
+            query.no_edges.append(
+                (text, f"{one.column.type} and {other.column.type} aren't compared as they are grouped")
+            )
         elif Equality(one, other) in query.equalities or Equality(other, one) in query.equalities:
             return
         elif len(query.equalities) == MOST_EQUALITIES:
@@ -248,7 +266,9 @@ def _groups(above: Tokens) -> range | None:
     if len(above) < 3 or not above[0].says("GROUP"):
         return None
     at = 2
-    while at < len(above) and (part_of_name(above, at) or not above[at].says("HAVING", "WINDOW", "ORDER", "LIMIT", "OFFSET", "FETCH")):
+    while at < len(above) and (
+        part_of_name(above, at) or not above[at].says("HAVING", "WINDOW", "ORDER", "LIMIT", "OFFSET", "FETCH")
+    ):
         at = closing(above, at) + 1 if above[at].says("(", "[") else at + 1
     return range(2, at)
 

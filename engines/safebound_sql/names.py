@@ -1,7 +1,7 @@
 """Whose columns the parts of a query name.
 
-A column is named by a token with its name, so the tokens tell which columns a part may name. It may name fewer: a word that
-isn't clearly something else is taken for every column that it could be.
+A column is named by a token with its name, so the tokens tell which columns a part may name. It may name fewer: a
+word that isn't clearly something else is taken for every column that it could be.
 """
 
 from __future__ import annotations
@@ -16,8 +16,8 @@ from .tokens import Token, closing, gap_between, part_of_name, unquoted, written
 
 # Behind these words, and before those, no word is an alias of an output.
 NO_OPERAND = (
-    "IS", "NOT", "AND", "OR", "LIKE", "ILIKE", "IN", "BETWEEN", "THEN", "ELSE", "WHEN", "CASE", "DISTINCT", "FROM", "ESCAPE", "COLLATE",
-    "GLOB", "REGEXP", "MATCH", "SIMILAR", "TO", "ZONE", "OVER", "SYMMETRIC",
+    "IS", "NOT", "AND", "OR", "LIKE", "ILIKE", "IN", "BETWEEN", "THEN", "ELSE", "WHEN", "CASE", "DISTINCT", "FROM",
+    "ESCAPE", "COLLATE", "GLOB", "REGEXP", "MATCH", "SIMILAR", "TO", "ZONE", "OVER", "SYMMETRIC",
 )
 ENDS_OF_OUTPUTS = ("NULL", "END", "ISNULL", "NOTNULL")
 
@@ -48,7 +48,11 @@ def alias_of(output: Tokens) -> Token | None:
     before, last = output[-2], output[-1]
     if before.says("AS"):
         return last
-    ends = before.kind in ("number", "text", "quoted") or before.says(")", "]") or (before.kind == "word" and not before.says(*NO_OPERAND))
+    ends = (
+        before.kind in ("number", "text", "quoted")
+        or before.says(")", "]")
+        or (before.kind == "word" and not before.says(*NO_OPERAND))
+    )
     return last if ends and not last.says(*ENDS_OF_OUTPUTS) else None
 
 
@@ -103,7 +107,12 @@ class Names:
             end = at
             while piece[end].names and end + 2 < len(piece) and piece[end + 1].says(".") and piece[end + 2].names:
                 end += 2
-            if end - at >= 4 and at not in inside and self.engine.schemas_in_names and self.key(piece[end - 2]) in self.by_alias:
+            if (
+                end - at >= 4
+                and at not in inside
+                and self.engine.schemas_in_names
+                and self.key(piece[end - 2]) in self.by_alias
+            ):
                 first, at = piece[at], end - 2
                 kept.append(piece[at]._replace(gap=first.gap))
                 at += 1
@@ -163,7 +172,9 @@ class Names:
         """The columns of an output that is a star, of all entries or of one; None where it is no star."""
         if len(piece) == 1 and piece[0].says("*"):
             if self.usings and not self.engine.star_over_using:
-                raise self.statement.refuse(piece[0], "write out which columns, since engines order those of USING in their own way")
+                raise self.statement.refuse(
+                    piece[0], "write out which columns, since engines order those of USING in their own way"
+                )
             return self.columns
         if len(piece) != 3 or not (piece[0].names and piece[1].says(".") and piece[2].says("*")):
             return None
@@ -204,8 +215,8 @@ class Names:
                 return
             if behind[1].says("*"):
                 yield Place(at, 3, frozenset(Named(number, column) for column in self.entries[number].about.columns))
-            elif behind[1].names and self._at(number, self.key(behind[1])):
-                yield Place(at, 3, frozenset([self._at(number, self.key(behind[1]))]))
+            elif behind[1].names and (named := self._at(number, self.key(behind[1]))):
+                yield Place(at, 3, frozenset([named]))
         elif token.names and not self._is_a_word(piece, at) and self._columns_called(token):
             yield Place(at, 1, self._columns_called(token))
 
@@ -226,7 +237,9 @@ class Names:
     def _qualified(self, qualifier: Token, token: Token) -> Named:
         number = self.by_alias.get(self.key(qualifier))
         if number is None:
-            raise self.statement.refuse(qualifier, f"no entry of FROM is called {qualifier.text}", f"{qualifier.text}.{token.text}")
+            raise self.statement.refuse(
+                qualifier, f"no entry of FROM is called {qualifier.text}", f"{qualifier.text}.{token.text}"
+            )
         named = self._at(number, self.key(token)) if token.names or token.kind == "text" else None
         if named is None:
             raise self.statement.refuse(qualifier, "the table has no such column", f"{qualifier.text}.{token.text}")
@@ -278,7 +291,9 @@ class Names:
 
     def named_bare(self, pieces: list[Tokens]) -> set[str]:
         """The keys of the merged columns that the tokens name without a table, and those that they name with one."""
-        return {self.key(piece[place.at]) for piece in pieces for place in self.places(piece) if place.size == 1} & set(self.merged)
+        return {self.key(piece[place.at]) for piece in pieces for place in self.places(piece) if place.size == 1} & set(
+            self.merged
+        )
 
     def with_tables(self, pieces: list[Tokens]) -> Iterator[tuple[Token, Named]]:
         """The columns that the tokens name with their entry, and where."""
@@ -292,7 +307,12 @@ class Names:
         inside = self._inside(piece)
         for at, token in enumerate(piece):
             bare = token.names and at not in inside and not part_of_name(piece, at)
-            if bare and self.key(token) in outputs and not self._is_a_word(piece, at) and not self._columns_called(token):
+            if (
+                bare
+                and self.key(token) in outputs
+                and not self._is_a_word(piece, at)
+                and not self._columns_called(token)
+            ):
                 raise self.statement.refuse(token, "it is the name of an output; write what it stands for")
 
     def check_subqueries(self, piece: Tokens) -> None:
@@ -302,6 +322,8 @@ class Names:
             for token, what in choosing(inner, self.engine.plain_words, self.engine.takes_bare_columns):
                 why = "which rows a subquery takes may change from call to call; make a table of it"
                 raise self.statement.refuse(token, why, f"{what} of a subquery")
-            why = self.engine.stands_alone(inner)
-            if why:
-                raise self.statement.refuse(piece[start], f"only subqueries that stand alone are read ({why})", "the subquery")
+            told = self.engine.stands_alone(inner)
+            if told:
+                raise self.statement.refuse(
+                    piece[start], f"only subqueries that stand alone are read ({told})", "the subquery"
+                )

@@ -19,10 +19,15 @@ def table(plan: Plan, engine: Engine, true_rows: list[int] | None = None) -> str
         heads, rows = heads[:5], [row[:5] for row in rows]
     if true_rows is not None:
         heads += ["rows", "bound / rows"]
-        rows = [row + [str(true), _times(level.bound / max(true, 1))] for row, level, true in zip(rows, plan.levels, true_rows)]
+        rows = [
+            row + [str(true), _times(level.bound / max(true, 1))]
+            for row, level, true in zip(rows, plan.levels, true_rows)
+        ]
     lines = _aligned([heads] + rows)
     if plan.tree:
-        lines.append("scans: " + ", ".join(f"{entry.name} {plan.counts.rows[entry.name]}" for entry in plan.query.entries))
+        lines.append(
+            "scans: " + ", ".join(f"{entry.name} {plan.counts.rows[entry.name]}" for entry in plan.query.entries)
+        )
     lines.append(f"budget {plan.cost} would do")
     lines += _of_kept(plan)
     lines += [f"not used for bounds: {text} ({why})" for text, why in plan.query.no_edges]
@@ -38,10 +43,13 @@ def blocks_table(plans: Iterable[BlockPlan], unbounded: list[str]) -> str:
             continue
         audited = any(level.rows is not None for level in plan.levels)
         heads = ["level", "joined", "of", "scan", "bound"] + ["rows", "bound / rows"] * audited
-        rows = [[str(n), level.joined, level.of, str(level.scan), str(level.bound)] for n, level in enumerate(plan.levels, 1)]
+        rows = [
+            [str(n), level.joined, level.of, str(level.scan), str(level.bound)]
+            for n, level in enumerate(plan.levels, 1)
+        ]
         if audited:
             for row, level in zip(rows, plan.levels):
-                row += [str(level.rows), _times(level.bound / max(level.rows, 1))]
+                row += [str(level.rows), _times(level.bound / max(level.rows or 0, 1))]
         most = "" if plan.rows is None else f": at most {plan.rows} rows"
         lines += [f"{plan.core.called}{most}", *_aligned([heads] + rows), *plan.notes, ""]
         cost = max(cost, plan.cost)
@@ -54,13 +62,19 @@ def blocks_document(plans: Iterable[BlockPlan], unbounded: list[str], engine: En
     told = {
         "blocks": [
             {
-                "name": plan.core.called, "rows": plan.rows, "not used for bounds": plan.notes,
+                "name": plan.core.called,
+                "rows": plan.rows,
+                "not used for bounds": plan.notes,
                 "levels": [
-                    {"joined": level.joined, "of": level.of, "scan": level.scan, "bound": level.bound, "rows": level.rows}
+                    {
+                        "joined": level.joined, "of": level.of, "scan": level.scan, "bound": level.bound,
+                        "rows": level.rows,
+                    }
                     for level in plan.levels
                 ],
             }
-            for plan in plans if plan.levels
+            for plan in plans
+            if plan.levels
         ],
         "not bounded": unbounded,
         "least budget": max((plan.cost for plan in plans), default=0),
@@ -71,7 +85,10 @@ def blocks_document(plans: Iterable[BlockPlan], unbounded: list[str], engine: En
 
 
 def _of_kept(plan: Plan) -> list[str]:
-    lines = [f"{name}: {then} rows were kept, and {now} are there now; counted anew" for name, (then, now) in plan.changed.items()]
+    lines = [
+        f"{name}: {then} rows were kept, and {now} are there now; counted anew"
+        for name, (then, now) in plan.changed.items()
+    ]
     for time in sorted(set(plan.kept.values())):
         names = ", ".join(name for name, then in plan.kept.items() if then == time)
         lines.append(f"counts of {time} are taken for {names}: bounds hold for the rows of then")
@@ -86,12 +103,19 @@ def _row(plan: Plan, number: int, level: Level) -> list[str]:
 
 def _joined(plan: Plan, shape: Shape) -> list[str]:
     """What a level joins: the entry that is new, its table and its scan; or both sides of a tree's join."""
+    if isinstance(shape, int):
+        return _scan(plan, shape)
+    last = shape[1]
+    if isinstance(last, int) and not plan.tree:
+        return _scan(plan, last)
     entries = plan.query.entries
-    if isinstance(shape, int) or (not plan.tree and isinstance(shape[1], int)):
-        new = entries[shape if isinstance(shape, int) else shape[1]]
-        return [new.name, new.table, str(plan.counts.rows[new.name])]
     left, right = (", ".join(entries[number].name for number in entries_of(side)) for side in shape)
     return [f"({left}) with ({right})", "", ""]
+
+
+def _scan(plan: Plan, number: int) -> list[str]:
+    new = plan.query.entries[number]
+    return [new.name, new.table, str(plan.counts.rows[new.name])]
 
 
 def _times(factor: float) -> str:
@@ -113,7 +137,10 @@ def document(plan: Plan, engine: Engine, sql: str, true_rows: list[int] | None =
         levels = [{**level, "rows": true} for level, true in zip(levels, true_rows)]
     told = {
         "entries": [
-            {"name": entry.name, "table": entry.table, "conditions": list(map(str, entry.own)), "scan": plan.counts.rows[entry.name]}
+            {
+                "name": entry.name, "table": entry.table, "conditions": list(map(str, entry.own)),
+                "scan": plan.counts.rows[entry.name],
+            }
             for entry in query.entries
         ],
         "equalities": [[_column(query, side) for side in equality] for equality in query.equalities],
@@ -131,14 +158,14 @@ def document(plan: Plan, engine: Engine, sql: str, true_rows: list[int] | None =
     return json.dumps(told, indent=2, ensure_ascii=False) + "\n"
 
 
-def _level(query: Query, level: Level) -> dict:
+def _level(query: Query, level: Level) -> dict[str, object]:
     names = [query.entries[number].name for number in entries_of(level.shape)]
     return {"entries": names, "bound": level.bound, "expected": level.expected, "factor": level.factor}
 
 
-def _column(query: Query, named: Named) -> dict:
+def _column(query: Query, named: Named) -> dict[str, str]:
     return {"entry": query.entries[named.entry].name, "column": named.column.name}
 
 
-def _shape(query: Query, shape: Shape):
+def _shape(query: Query, shape: Shape) -> object:
     return query.entries[shape].name if isinstance(shape, int) else [_shape(query, side) for side in shape]

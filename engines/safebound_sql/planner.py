@@ -14,6 +14,7 @@ from .kept import Kept
 from .levels import Plan, planned
 from .meaning import Meaning
 from .progress import Progress
+from .query import Row
 from .writing import Writer
 
 
@@ -21,7 +22,9 @@ def scans(statement: str, prefix: str) -> Counter[str]:
     """How often each table is read where a part is computed again wherever it is named."""
     read: dict[str, Counter[str]] = {}
     last: Counter[str] = Counter()
-    for name, text in re.findall(rf"(?:^  ({re.escape(prefix)}\d+) AS |^(?:UNION ALL )?SELECT )(.*)$", statement, re.MULTILINE):
+    for name, text in re.findall(
+        rf"(?:^  ({re.escape(prefix)}\d+) AS |^(?:UNION ALL )?SELECT )(.*)$", statement, re.MULTILINE
+    ):
         found: Counter[str] = Counter()
         for table in re.findall(r"\b(?:FROM|JOIN) ([^\s()]+)", text):
             found += read.get(table, Counter([table]))
@@ -49,6 +52,7 @@ class Planner:
         self.progress = progress or Progress()
         self.meaning = Meaning(text, engine)
         self.query = self.meaning.query
+        engine.joins(entry.about for entry in self.query.entries)
         self.prefix = prefix_for([text])
         self.note = self._fits()
         self.reduce = self.reduce and not self.note
@@ -95,9 +99,11 @@ class Planner:
         plan.changed = changed
         return plan
 
-    def _counted(self, known: Collection[int]) -> list[tuple]:
+    def _counted(self, known: Collection[int]) -> list[Row]:
         told = "each condition is tested on all rows of its table, and the query itself may never come to this one"
-        with self.progress.doing(f"counting the rows of {len(self.query.entries) - len(known)} entries"), _explained(f"while counting, {told}"):
+        with self.progress.doing(f"counting the rows of {len(self.query.entries) - len(known)} entries"), _explained(
+            f"while counting, {told}"
+        ):
             return self.engine.rows(counting(self.query, self.engine, self.prefix, self.reduce, known))
 
     def planned(self, counts: Counts, accuracy: int, budget: int, tree: bool) -> Plan:
@@ -107,7 +113,11 @@ class Planner:
         """Has the engine look at the planned query before anybody is told that it is admitted."""
         why = self.engine.complaint(self.sql(plan))
         if why:
-            hint = "try --no-reduce, by which the tables themselves are joined" if self.reduce else "write it in another way"
+            hint = (
+                "try --no-reduce, by which the tables themselves are joined"
+                if self.reduce
+                else "write it in another way"
+            )
             raise EngineFault(f"{why}. The query is taken as it is, but not in the planned order: {hint}")
 
     def expect(self, plan: Plan) -> None:
@@ -126,7 +136,7 @@ class Planner:
     def true_rows(self, plan: Plan) -> list[int]:
         self.engine.keep_order()
         with self.progress.doing(f"counting the rows of {len(plan.levels)} levels"):
-            found = dict(self.engine.rows(self.writer.true_rows(plan.levels)))
+            found = {number: rows for number, rows in self.engine.rows(self.writer.true_rows(plan.levels))}
         return [found[number] for number in range(1, len(plan.levels) + 1)]
 
     def run(self, plan: Plan, out: TextIO, null: str = "") -> None:

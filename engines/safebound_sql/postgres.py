@@ -1,4 +1,5 @@
-"""PostgreSQL, by psycopg 3: one read-only REPEATABLE READ transaction from the first look at the catalog to the last row."""
+"""PostgreSQL, by psycopg 3: one read-only REPEATABLE READ transaction from the first look at the catalog to the last
+row."""
 
 from __future__ import annotations
 
@@ -6,20 +7,20 @@ import codecs
 import contextlib
 import functools
 import json
-from typing import Iterator
+from typing import Any, Iterable, Iterator, Sequence
 
 from .engine import Engine, one_line, with_names
 from .faults import EngineFault, Missing, Refused
-from .query import Column, Spread, Table
+from .query import Column, Row, Spread, Table
 from .tokens import POSTGRES, Token, written
 
 try:
     import psycopg
 except ImportError:
-    psycopg = None
+    psycopg = None  # type: ignore[assignment]
 
-# Columns of one base type and collation meet as they are grouped: a type of PostgreSQL's own that can be sorted, or an enum,
-# with no = of a user's own for it. A column that may not be read is named by no query that may be run.
+# Columns of one base type and collation meet as they are grouped: a type of PostgreSQL's own that can be sorted, or
+# an enum, with no = of a user's own for it. A column that may not be read is named by no query that may be run.
 COLUMNS = """
 SELECT a.attname, format_type(a.atttypid, a.atttypmod),
        CASE WHEN ((t.typnamespace = 'pg_catalog'::regnamespace AND EXISTS (
@@ -30,7 +31,8 @@ SELECT a.attname, format_type(a.atttypid, a.atttypmod),
             OR t.typtype = 'e') AND NOT EXISTS (
                 SELECT FROM pg_operator o WHERE o.oprname = '=' AND o.oprnamespace <> 'pg_catalog'::regnamespace
                 AND pg_operator_is_visible(o.oid) AND EXISTS (
-                    SELECT FROM pg_type p WHERE p.oid IN (o.oprleft, o.oprright) AND (p.oid IN (t.oid, d.oid) OR p.typtype = 'p')))
+                    SELECT FROM pg_type p WHERE p.oid IN (o.oprleft, o.oprright) AND (p.oid IN (t.oid, d.oid)
+                        OR p.typtype = 'p')))
             THEN t.oid::text || ' ' || a.attcollation::text END
 FROM pg_attribute a JOIN pg_type d ON d.oid = a.atttypid
 JOIN pg_type t ON t.oid = CASE d.typtype WHEN 'd' THEN d.typbasetype ELSE d.oid END
@@ -38,13 +40,14 @@ WHERE a.attrelid = %s AND a.attnum > 0 AND NOT a.attisdropped AND has_column_pri
 ORDER BY a.attnum
 """
 
-# Functions and operators by their names: bare ones that are visible, those of a schema, and those of a row, which are written as
-# columns. Some call themselves STABLE and tell of the session or of what goes on now.
+# Functions and operators by their names: bare ones that are visible, those of a schema, and those of a row, which are
+# written as columns. Some call themselves STABLE and tell of the session or of what goes on now.
 FICKLE = """
 WITH named AS (
     SELECT proname AS name, p.* FROM pg_proc p
     WHERE proname = ANY(%(bare)s) AND pg_function_is_visible(oid) OR proname = ANY(%(qualified)s)
-        OR (proname = ANY(%(attributes)s) AND pronargs = 1 AND EXISTS (SELECT FROM pg_type t WHERE t.oid = proargtypes[0] AND typtype = 'c'))
+        OR (proname = ANY(%(attributes)s) AND pronargs = 1 AND EXISTS (SELECT FROM pg_type t
+            WHERE t.oid = proargtypes[0] AND typtype = 'c'))
     UNION ALL SELECT oprname, p.* FROM pg_operator o JOIN pg_proc p ON p.oid = o.oprcode
     WHERE oprname = ANY(%(bare)s) AND pg_operator_is_visible(o.oid) OR oprname = ANY(%(qualified)s))
 SELECT name, provolatile = 'v',
@@ -58,10 +61,12 @@ FROM named WHERE provolatile = 'v'
 
 # Row policies are a part of what a table is to a query.
 VIEWS = """
-SELECT name, 'the view', pg_get_viewdef(oid) FROM unnest(%(names)s::text[]) AS name JOIN pg_class ON oid = to_regclass(name)
+SELECT name, 'the view', pg_get_viewdef(oid) FROM unnest(%(names)s::text[]) AS name
+    JOIN pg_class ON oid = to_regclass(name)
 WHERE relkind = 'v'
 UNION ALL SELECT name, 'a row policy', pg_get_expr(polqual, polrelid)
-FROM unnest(%(names)s::text[]) AS name JOIN pg_policy ON polrelid = to_regclass(name) JOIN pg_class c ON c.oid = polrelid
+FROM unnest(%(names)s::text[]) AS name JOIN pg_policy ON polrelid = to_regclass(name)
+    JOIN pg_class c ON c.oid = polrelid
 WHERE relrowsecurity AND polqual IS NOT NULL AND polcmd IN ('r', '*')
 """
 
@@ -69,29 +74,34 @@ WITHOUT_SNAPSHOT = """
 WITH RECURSIVE below AS (
     SELECT name, to_regclass(name)::oid AS oid FROM unnest(%s::text[]) AS name WHERE to_regclass(name) IS NOT NULL
     UNION SELECT name, inhrelid FROM below JOIN pg_inherits ON inhparent = below.oid)
-SELECT DISTINCT name, fdwname FROM below JOIN pg_foreign_table ON ftrelid = below.oid JOIN pg_foreign_server s ON s.oid = ftserver
+SELECT DISTINCT name, fdwname FROM below JOIN pg_foreign_table ON ftrelid = below.oid
+    JOIN pg_foreign_server s ON s.oid = ftserver
 JOIN pg_foreign_data_wrapper w ON w.oid = srvfdw LEFT JOIN pg_proc h ON h.oid = fdwhandler
 WHERE h.proname IS DISTINCT FROM 'postgres_fdw_handler'
 """
 
 # A schema whose functions and operators are found before PostgreSQL's own ones of the same names.
 BEFORE_CATALOG = """
-WITH path AS (SELECT schema, at, quote_ident(schema)::regnamespace AS oid FROM unnest(current_schemas(true)) WITH ORDINALITY AS p(schema, at))
+WITH path AS (SELECT schema, at, quote_ident(schema)::regnamespace AS oid
+    FROM unnest(current_schemas(true)) WITH ORDINALITY AS p(schema, at))
 SELECT schema FROM path WHERE at < (SELECT at FROM path WHERE schema = 'pg_catalog') AND schema !~ '^pg_temp_' AND (
-    EXISTS (SELECT FROM pg_operator o JOIN pg_operator c USING (oprname) WHERE o.oprnamespace = path.oid AND c.oprnamespace = 'pg_catalog'::regnamespace)
-    OR EXISTS (SELECT FROM pg_proc o JOIN pg_proc c USING (proname) WHERE o.pronamespace = path.oid AND c.pronamespace = 'pg_catalog'::regnamespace))
+    EXISTS (SELECT FROM pg_operator o JOIN pg_operator c USING (oprname) WHERE o.oprnamespace = path.oid
+        AND c.oprnamespace = 'pg_catalog'::regnamespace)
+    OR EXISTS (SELECT FROM pg_proc o JOIN pg_proc c USING (proname) WHERE o.pronamespace = path.oid
+        AND c.pronamespace = 'pg_catalog'::regnamespace))
 ORDER BY at
 """
 
-# The leaves of a partitioned table of which at least one is a foreign table, or a foreign table alone. A leaf is asked as the table
-# would be: whoever may read the table may read it, and no policy hides rows of it. The column is that of which PostgreSQL
-# sends a whole GROUP BY to each leaf.
+# The leaves of a partitioned table of which at least one is a foreign table, or a foreign table alone. A leaf is
+# asked as the table would be: whoever may read the table may read it, and no policy hides rows of it. The column is
+# that of which PostgreSQL sends a whole GROUP BY to each leaf.
 SPREAD = """
 WITH leaves AS (
     SELECT relid, level FROM pg_partition_tree(%(table)s) WHERE isleaf
     UNION SELECT oid, 0 FROM pg_class WHERE oid = %(table)s AND relkind = 'f' AND NOT relhassubclass)
 SELECT array_agg(format('%%I.%%I', nspname, relname) ORDER BY relid),
-       (SELECT attname FROM pg_partitioned_table p JOIN pg_attribute a ON a.attrelid = partrelid AND a.attnum = partattrs[0]
+       (SELECT attname FROM pg_partitioned_table p JOIN pg_attribute a ON a.attrelid = partrelid
+           AND a.attnum = partattrs[0]
         WHERE partrelid = %(table)s AND partnatts = 1 AND max(level) = 1 AND partcollation[0] = attcollation
         AND current_setting('enable_partitionwise_aggregate')::boolean)
 FROM leaves JOIN pg_class c ON c.oid = relid JOIN pg_namespace n ON n.oid = relnamespace
@@ -106,17 +116,23 @@ WHERE t.oid = ANY(%s::oid[]) AND typnamespace = 'pg_catalog'::regnamespace AND t
 """
 
 # The planned query runs with a setting of its own, and is counted without it.
-WHY_SETTINGS = "it tells the session's settings, which aren't the same while the query is counted and while it is joined"
+WHY_SETTINGS = (
+    "it tells the session's settings, which aren't the same while the query is counted and while it is joined"
+)
+
+TYPES = "SELECT t, format_type(t, NULL) FROM unnest(%s::oid[]) AS t"
 
 COMMON = """
-SELECT pg_typeof(coalesce(CAST(NULL AS {0}), CAST(NULL AS {1}))), pg_typeof(CAST(NULL AS {0})), pg_typeof(CAST(NULL AS {1}))
+SELECT pg_typeof(coalesce(CAST(NULL AS {0}), CAST(NULL AS {1}))),
+       pg_typeof(CAST(NULL AS {0})), pg_typeof(CAST(NULL AS {1}))
 """
 
 TABLE = """
 SELECT c.oid, format('%%I %%I.%%I#%%s', current_database(), nspname, relname, c.oid),
     ARRAY(SELECT attname::text FROM pg_index i JOIN pg_attribute a ON a.attrelid = indrelid AND a.attnum = ANY(indkey)
           WHERE indrelid = c.oid AND indisprimary AND indimmediate)
-FROM pg_class c JOIN pg_namespace n ON n.oid = relnamespace WHERE c.oid = to_regclass(%s) AND relkind = ANY('{r,p,m,f,v}')
+FROM pg_class c JOIN pg_namespace n ON n.oid = relnamespace WHERE c.oid = to_regclass(%s)
+    AND relkind = ANY('{r,p,m,f,v}')
 """
 
 
@@ -140,8 +156,7 @@ class Postgres(Engine):
             self.connection.read_only = True
             if timeout:
                 self.connection.execute(f"SET LOCAL statement_timeout = {timeout * 1000}")
-            plain = self.connection.execute("SHOW standard_conforming_strings").fetchone()[0]
-            encoding = self.connection.execute("SHOW server_encoding").fetchone()[0]
+            plain, encoding = self._value("SHOW standard_conforming_strings"), self._value("SHOW server_encoding")
             words = self.connection.execute("SELECT word FROM pg_get_keywords() WHERE catcode IN ('R', 'T')").fetchall()
             before = self.connection.execute(BEFORE_CATALOG).fetchall()
         except psycopg.Error as error:
@@ -151,12 +166,20 @@ class Postgres(Engine):
         if encoding == "SQL_ASCII":
             raise Refused("the database's encoding is SQL_ASCII, in which texts are bytes of no known characters")
         if before:
-            why = "has functions or operators that are found before PostgreSQL's own; set search_path with pg_catalog first"
+            why = (
+                "has functions or operators that are found before PostgreSQL's own; set search_path with pg_catalog"
+                " first"
+            )
             raise Refused(f"the schema {before[0][0]} {why}")
         self.reserved = frozenset(word for (word,) in words)
 
+    def _value(self, sql: str) -> Any:
+        """The one value of an answer."""
+        [[value]] = self.connection.execute(sql).fetchall()
+        return value
+
     @contextlib.contextmanager
-    def _told(self):
+    def _told(self) -> Iterator[None]:
         try:
             yield
         except psycopg.Error as error:
@@ -173,34 +196,39 @@ class Postgres(Engine):
                 return None
             columns = tuple(Column(*row) for row in self.connection.execute(COLUMNS, found[:1]))
             spread = self._spread(found[0])
-        return Table(columns, {column.name: column for column in columns}, f"{self.cluster} {found[1]}", spread, tuple(found[2]))
+        return Table(
+            columns, {column.name: column for column in columns}, f"{self.cluster} {found[1]}", spread, tuple(found[2])
+        )
 
     def _spread(self, table: int) -> Spread | None:
+        found = self.connection.execute(SPREAD, {"table": table}).fetchone()
+        return Spread(tuple(found[0]), found[1]) if found else None
+
+    def joins(self, tables: Iterable[Table]) -> None:
         """PostgreSQL takes the values that go along for ten, and would join by nested loops what it takes for few rows.
 
         Where there is no other way it still does, at a price that it would compile the statement for.
         """
-        found = self.connection.execute(SPREAD, {"table": table}).fetchone()
-        if found is None:
-            return None
-        self.connection.execute("SET LOCAL enable_nestloop = off; SET LOCAL jit = off")
-        self.keeps_order = f"{Postgres.keeps_order}; SET enable_nestloop = off; SET jit = off"
-        return Spread(tuple(found[0]), found[1])
+        if any(table.spread for table in tables):
+            with self._told():
+                self.connection.execute("SET LOCAL enable_nestloop = off; SET LOCAL jit = off")
+            self.keeps_order = f"{Postgres.keeps_order}; SET enable_nestloop = off; SET jit = off"
 
     def described(self, sql: str) -> list[Column]:
         """Nothing is run for it. A text's collation isn't told, so that texts have no kind."""
         with self._told(), self.connection.transaction():
             answer = self.connection.execute(f"SELECT q.* FROM (SELECT 1) AS one LEFT JOIN ({sql}\n) AS q ON false")
-            columns = [(column.name, column.type_code) for column in answer.description]
-            kinds = dict(self.connection.execute(KINDS, [[code for _, code in columns]]).fetchall())
-            types = dict(self.connection.execute("SELECT t, format_type(t, NULL) FROM unnest(%s::oid[]) AS t", [[code for _, code in columns]]))
+            columns = [(column.name, column.type_code) for column in answer.description or ()]
+            codes = [[code for _, code in columns]]
+            kinds = {code: kind for code, kind in self.connection.execute(KINDS, codes)}
+            types = {code: name for code, name in self.connection.execute(TYPES, codes)}
         return [Column(name, types[code], kinds.get(code)) for name, code in columns]
 
     def makes_rows(self, pieces: list[Token]) -> bool:
         called = [self.spelled(token) for token, behind in zip(pieces, pieces[1:]) if token.names and behind.says("(")]
         return bool(self.rows_given("SELECT FROM pg_proc WHERE proretset AND proname = ANY(%s) LIMIT 1", [called]))
 
-    def rows_given(self, sql: str, given: list) -> list[tuple]:
+    def rows_given(self, sql: str, given: Sequence[object]) -> list[Row]:
         with self._told():
             return self.connection.execute(sql, given).fetchall()
 
@@ -213,7 +241,8 @@ class Postgres(Engine):
         return 0 if plain[0] else 1 if plain[1] else 0 if common == own[0] else None
 
     def sent(self, value: str, column: Column, rows: str) -> str:
-        """postgres_fdw sends no conversion of an array, and texts of any length are compared as texts without a length."""
+        """postgres_fdw sends no conversion of an array, and texts of any length are compared as texts without a
+        length."""
         name = self.quote(column.name)
         values = f"CAST({name} AS TEXT)" if column.type.startswith("character varying") else name
         return f"{value} = ANY(ARRAY(SELECT {values} FROM {rows}))"
@@ -223,7 +252,7 @@ class Postgres(Engine):
         """What tells this server's data from another's, where this user may ask."""
         may = "SELECT has_function_privilege('pg_control_system()', 'execute')"
         ask = "SELECT system_identifier::text FROM pg_control_system()"
-        return self.connection.execute(ask).fetchone()[0] if self.connection.execute(may).fetchone()[0] else "a server"
+        return str(self._value(ask)) if self._value(may) else "a server"
 
     def fickle(self, names: set[str]) -> dict[str, str]:
         dots = {name: len(name) - len(name.lstrip(".")) for name in names}
@@ -241,7 +270,8 @@ class Postgres(Engine):
 
     def view_texts(self, names: set[str]) -> list[tuple[str, str, str]]:
         with self._told():
-            return self.connection.execute(VIEWS, {"names": sorted(names)}).fetchall()
+            found = self.connection.execute(VIEWS, {"names": sorted(names)}).fetchall()
+        return [(name, what, text) for name, what, text in found]
 
     def without_snapshot(self, names: set[str]) -> dict[str, str]:
         with self._told():
@@ -262,23 +292,24 @@ class Postgres(Engine):
     def expected(self, sql: str) -> int | None:
         return int(self._explain(sql)["Plan Rows"])
 
-    def _explain(self, sql: str) -> dict:
+    def _explain(self, sql: str) -> dict[str, Any]:
         with self._told(), self.connection.transaction():
-            answer = self.connection.execute(f"EXPLAIN (FORMAT JSON) {sql}").fetchone()[0]
-        return (answer if isinstance(answer, list) else json.loads(answer))[0]["Plan"]
+            answer = self._value(f"EXPLAIN (FORMAT JSON) {sql}")
+        told: dict[str, Any] = (answer if isinstance(answer, list) else json.loads(answer))[0]["Plan"]
+        return told
 
     def keep_order(self) -> None:
         with self._told():
             self.connection.execute("SET LOCAL join_collapse_limit = 1")
 
-    def rows(self, sql: str) -> list[tuple]:
+    def rows(self, sql: str) -> list[Row]:
         with self._told():
             return self.connection.execute(sql).fetchall()
 
-    def stream(self, sql: str) -> Iterator[tuple]:
+    def stream(self, sql: str) -> Iterator[Row]:
         with self._told(), self.connection.cursor("safebound") as cursor:
             cursor.execute(sql)
-            yield from with_names(cursor, [column.name for column in cursor.description])
+            yield from with_names(cursor, [column.name for column in cursor.description or ()])
 
     def csv(self, sql: str, null: str = "") -> Iterator[str]:
         told = "'" + null.replace("'", "''") + "'"
@@ -298,12 +329,19 @@ class Postgres(Engine):
         return column.type == "text" or column.type.startswith("character varying")
 
     def _folds(self, column: Column) -> bool:
-        return not self.rows(f"SELECT collisdeterministic FROM pg_collation WHERE oid = {int(column.kind.split()[1])}")[0][0]
+        [[exact]] = self.rows(f"SELECT collisdeterministic FROM pg_collation WHERE oid = {_collation(column)}")
+        return not exact
 
     def plain_order(self, column: Column) -> bool:
-        return bool(self.rows(f"SELECT FROM pg_collation WHERE oid = {int(column.kind.split()[1])} AND collname IN ('C', 'POSIX')"))
+        plain = f"SELECT FROM pg_collation WHERE oid = {_collation(column)} AND collname IN ('C', 'POSIX')"
+        return bool(self.rows(plain))
 
     def close(self) -> None:
         if self.connection.info.transaction_status == psycopg.pq.TransactionStatus.ACTIVE:
             self.connection.cancel()
         self.connection.close()
+
+
+def _collation(column: Column) -> int:
+    """The number of a column's collation, which is the second word of its kind."""
+    return int(str(column.kind).split()[1])

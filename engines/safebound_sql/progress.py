@@ -18,7 +18,8 @@ class Progress:
 
     @contextlib.contextmanager
     def doing(self, what: str) -> Iterator[Callable[[], None]]:
-        """Shows the words and the seconds until the work in it ends, or until it calls what it gets; then nothing of them."""
+        """Shows the words and the seconds until the work in it ends, or until it calls what it gets; then nothing of
+        them."""
         if not self.shown:
             yield lambda: None
             return

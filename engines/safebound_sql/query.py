@@ -3,7 +3,10 @@
 from __future__ import annotations
 
 from dataclasses import dataclass, field
-from typing import Callable, Hashable, NamedTuple
+from typing import Any, Callable, Hashable, NamedTuple, Tuple
+
+# What an engine answers.
+Row = Tuple[Any, ...]
 
 MOST_ENTRIES = 12
 MOST_EQUALITIES = 256
@@ -18,8 +21,8 @@ class Column(NamedTuple):
 
 
 class Spread(NamedTuple):
-    """Where the rows of a table are that lie on other servers: its parts, as SQL names them, and the column of which each
-    value is in one part alone, if the engine groups by it part by part."""
+    """Where the rows of a table are that lie on other servers: its parts, as SQL names them, and the column of which
+    each value is in one part alone, if the engine groups by it part by part."""
 
     parts: tuple[str, ...]
     by: str | None
@@ -28,9 +31,9 @@ class Spread(NamedTuple):
 class Table(NamedTuple):
     """A table or view: its columns in declared order, and by the key that the engine finds them by.
 
-    `columns` are those that a star stands for, `key` are those of the primary key. `identity` tells it from all other tables, where that is known:
-    what it is called where, # and what is another number when it was made anew. `spread` says where its rows are, if they
-    lie on other servers.
+    `columns` are those that a star stands for, `key` are those of the primary key. `identity` tells it from all other
+    tables, where that is known: what it is called where, # and what is another number when it was made anew. `spread`
+    says where its rows are, if they lie on other servers.
     """
 
     columns: tuple[Column, ...]
@@ -55,7 +58,8 @@ class Reference(NamedTuple):
 
 
 class Text(NamedTuple):
-    """A part of the query as it was written. It knows where it names columns, so that they can be named in another way."""
+    """A part of the query as it was written. It knows where it names columns, so that they can be named in another
+    way."""
 
     parts: tuple[str | Reference, ...]
 
@@ -97,9 +101,10 @@ class Condition(NamedTuple):
 class Query:
     """A query. `conditions` are those of several entries or none, equalities among them, in the order of the text.
 
-    What stands above the join is as it was written; only a star is the columns that it stands for. `named_above` are the
-    columns that may be named there. Where USING merged columns, `frame` is FROM as it was written with the entries' numbers
-    in their places, or `renamed` has the columns that have to go by other names, since one of them alone is called so.
+    What stands above the join is as it was written; only a star is the columns that it stands for. `named_above` are
+    the columns that may be named there. Where USING merged columns, `frame` is FROM as it was written with the
+    entries' numbers in their places, or `renamed` has the columns that have to go by other names, since one of them
+    alone is called so.
     """
 
     entries: list[Entry]
@@ -131,7 +136,9 @@ class Query:
         return [
             condition.text
             for condition in self.conditions
-            if condition.entries and condition.entries <= entries and not any(condition.entries <= part for part in before)
+            if condition.entries
+            and condition.entries <= entries
+            and not any(condition.entries <= part for part in before)
         ]
 
     @property

@@ -1,7 +1,8 @@
-"""The parts of a query: outputs, entries, conditions, and what stands above the join. All as tokens, as they were written.
+"""The parts of a query: outputs, entries, conditions, and what stands above the join. All as tokens, as they were
+written.
 
-Only the frame is read here: SELECT .. FROM .. WHERE .. and what follows. What is no inner join of named tables is refused
-by its name and place.
+Only the frame is read here: SELECT .. FROM .. WHERE .. and what follows. What is no inner join of named tables is
+refused by its name and place.
 """
 
 from __future__ import annotations
@@ -83,7 +84,12 @@ class Statement:
 
 def conjuncts(condition: Tokens) -> list[Tokens]:
     """The parts of a condition at AND, through parentheses. A condition with OR is one part."""
-    while condition and condition[0].says("(") and closing(condition, 0) == len(condition) - 1 and not _query(condition, 1):
+    while (
+        condition
+        and condition[0].says("(")
+        and closing(condition, 0) == len(condition) - 1
+        and not _query(condition, 1)
+    ):
         condition = condition[1:-1]
     parts: list[Tokens] = [[]]
     between = 0
@@ -105,7 +111,7 @@ def _query(pieces: Tokens, at: int) -> bool:
     return at < len(pieces) and pieces[at].says("SELECT", "WITH", "VALUES")
 
 
-def _outside_parentheses(pieces: Tokens):
+def _outside_parentheses(pieces: Tokens) -> Iterator[tuple[Token, Tokens]]:
     """Each token outside parentheses and CASE, with all that belongs to it: what it opens, or itself alone."""
     at = 0
     while at < len(pieces):
@@ -132,7 +138,9 @@ def _end_of_case(pieces: Tokens, start: int) -> int:
 class Reader:
     """Reads one statement from its first token to its last."""
 
-    def __init__(self, text: str, pieces: Tokens, comma_binds_less: bool, plain_words: tuple[str, ...], in_blocks: bool = False) -> None:
+    def __init__(
+        self, text: str, pieces: Tokens, comma_binds_less: bool, plain_words: tuple[str, ...], in_blocks: bool = False
+    ) -> None:
         self.statement = Statement(text)
         self.pieces = pieces
         self.at = 0
@@ -224,7 +232,8 @@ class Reader:
         yield from self.pieces[start:end]
 
     def _joined(self, first: int) -> None:
-        """One part of FROM: a source and what is joined to it. Its left side begins with the source numbered `first`."""
+        """One part of FROM: a source and what is joined to it. Its left side begins with the source numbered
+        `first`."""
         self._source()
         while True:
             cross, kind = self._peek("CROSS"), "INNER"
@@ -242,7 +251,10 @@ class Reader:
             elif self._take("ON"):
                 start = self.at
                 parts = self._parts(self._until((*IN_FROM, *BEHIND_FROM, ",", ")")))
-                (self.statement.steps[-1] if self.in_blocks else self.statement).conditions += parts
+                if self.in_blocks:
+                    self.statement.steps[-1].conditions += parts
+                else:
+                    self.statement.conditions += parts
                 self.holes.append((start, self.at, None))
             elif self._take("USING"):
                 self._using(first, right)
@@ -359,7 +371,7 @@ class Reader:
             self._above()
 
 
-def at_commas(pieces: Tokens):
+def at_commas(pieces: Tokens) -> Iterator[Tokens]:
     part: Tokens = []
     for token, run in _outside_parentheses(pieces):
         if token.says(","):
@@ -370,9 +382,12 @@ def at_commas(pieces: Tokens):
     yield part
 
 
-def read(text: str, pieces: Tokens, comma_binds_less: bool, plain_words: tuple[str, ...] = (), in_blocks: bool = False) -> Statement:
+def read(
+    text: str, pieces: Tokens, comma_binds_less: bool, plain_words: tuple[str, ...] = (), in_blocks: bool = False
+) -> Statement:
     """The parts of the query. In PostgreSQL a comma binds less than JOIN; in SQLite both bind alike.
 
-    `plain_words` are names to the engine, where others have keywords. `in_blocks` it may have outer joins and queries in FROM.
+    `plain_words` are names to the engine, where others have keywords. `in_blocks` it may have outer joins and queries
+    in FROM.
     """
     return Reader(text, pieces, comma_binds_less, plain_words, in_blocks).read()

@@ -1,14 +1,15 @@
-"""Rows that can take part: semi-joins up and down the equalities, and the parts of a statement that they are written as.
+"""Rows that can take part: semi-joins up and down the equalities, and the parts of a statement that they are written
+as.
 
-Reduced, an entry keeps those of its rows that meet a row of each entry that it is joined with. Each step is a materialised
-part of the statement, so that the engine computes it once.
+Reduced, an entry keeps those of its rows that meet a row of each entry that it is joined with. Each step is a
+materialised part of the statement, so that the engine computes it once.
 """
 
 from __future__ import annotations
 
 import re
 from dataclasses import dataclass, field
-from typing import Iterable
+from typing import Dict, Iterable, List, Tuple
 
 from .engine import Engine
 from .query import Column, Entry, Query
@@ -39,22 +40,28 @@ class Parts:
     def add(self, entry: Entry, engine: Engine, columns: list[Column], conditions: list[str], prefix: str) -> None:
         """A new part with these columns of an entry's rows, as far as the conditions are true."""
         name = f"{prefix}{len(self.texts) + 1}"
-        outputs = ", ".join(f"{entry.alias}.{engine.quote(column.name)}" for column in columns) or f"1 AS {engine.quote(prefix)}"
+        outputs = (
+            ", ".join(f"{entry.alias}.{engine.quote(column.name)}" for column in columns)
+            or f"1 AS {engine.quote(prefix)}"
+        )
         rows = self.rows.get(entry.number, entry.table)
         self.texts.append((name, f"SELECT {outputs} FROM {rows} AS {entry.alias}{where(conditions)}"))
         self.rows[entry.number] = name
 
 
-def partners(query: Query) -> dict[int, dict[int, list[tuple[Column, Column]]]]:
-    """For each entry those that it is joined with, and the pairs of columns: its own one first."""
-    found: dict[int, dict[int, list[tuple[Column, Column]]]] = {entry.number: {} for entry in query.entries}
+# For each entry those that it is joined with, and the pairs of columns: its own one first.
+Joined = Dict[int, Dict[int, List[Tuple[Column, Column]]]]
+
+
+def partners(query: Query) -> Joined:
+    found: Joined = {entry.number: {} for entry in query.entries}
     for left, right in query.equalities:
         found[left.entry].setdefault(right.entry, []).append((left.column, right.column))
         found[right.entry].setdefault(left.entry, []).append((right.column, left.column))
     return found
 
 
-def components(joined: dict[int, dict]) -> Iterable[list[tuple[int, int | None]]]:
+def components(joined: Joined) -> Iterable[list[tuple[int, int | None]]]:
     """The entries that equalities connect: each list has an entry behind the one by which it was reached."""
     seen: set[int] = set()
     for start in joined:
@@ -69,7 +76,7 @@ def components(joined: dict[int, dict]) -> Iterable[list[tuple[int, int | None]]
         yield reached
 
 
-def closes_a_cycle(joined: dict[int, dict], reached: list[tuple[int, int | None]]) -> bool:
+def closes_a_cycle(joined: Joined, reached: list[tuple[int, int | None]]) -> bool:
     return sum(len(joined[entry]) for entry, _ in reached) != 2 * (len(reached) - 1)
 
 
@@ -79,7 +86,7 @@ def along_a_tree(reached: list[tuple[int, int | None]]) -> Iterable[tuple[int, l
     yield from ((entry, [parent]) for entry, parent in reached if parent is not None)
 
 
-def around_a_cycle(joined: dict[int, dict], reached: list[tuple[int, int | None]]) -> Iterable[tuple[int, list[int]]]:
+def around_a_cycle(joined: Joined, reached: list[tuple[int, int | None]]) -> Iterable[tuple[int, list[int]]]:
     """By all equalities, up and down, and once more. More could go."""
     down = [entry for entry, _ in reached]
     up = down[::-1]
@@ -110,8 +117,11 @@ def reduced(query: Query, engine: Engine, columns: dict[int, list[Column]], pref
     return parts
 
 
-def semi_join(query: Query, engine: Engine, entry: int, other: int, pairs: list[tuple[Column, Column]], rows: str) -> str:
-    """By IN, for which SQLite makes an index once, and PostgreSQL a hash. Not every engine takes several columns there."""
+def semi_join(
+    query: Query, engine: Engine, entry: int, other: int, pairs: list[tuple[Column, Column]], rows: str
+) -> str:
+    """By IN, for which SQLite makes an index once, and PostgreSQL a hash. Not every engine takes several columns
+    there."""
     mine, yours = query.entries[entry].alias, query.entries[other].alias
     if len(pairs) > 1 and not engine.takes_rows_in:
         meet = [f"{yours}.{engine.quote(right.name)} = {mine}.{engine.quote(left.name)}" for left, right in pairs]

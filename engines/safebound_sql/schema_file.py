@@ -3,7 +3,7 @@
 from __future__ import annotations
 
 import re
-from typing import Hashable, Iterator
+from typing import Hashable, Iterator, Protocol
 
 from .faults import Refused
 from .query import Column, Table
@@ -12,8 +12,8 @@ from .tokens import Token, closing, place, tokens, written
 
 NO_COLUMN = ("CONSTRAINT", "PRIMARY", "UNIQUE", "FOREIGN", "CHECK")
 BEHIND_TYPE = (
-    "NOT", "NULL", "PRIMARY", "UNIQUE", "REFERENCES", "DEFAULT", "CHECK", "CONSTRAINT", "COMMENT", "COLLATE", "OPTIONS", "WITH",
-    "GENERATED", "AS", "IDENTITY", "AUTOINCREMENT", "MASKING", "TAG",
+    "NOT", "NULL", "PRIMARY", "UNIQUE", "REFERENCES", "DEFAULT", "CHECK", "CONSTRAINT", "COMMENT", "COLLATE",
+    "OPTIONS", "WITH", "GENERATED", "AS", "IDENTITY", "AUTOINCREMENT", "MASKING", "TAG",
 )
 BEFORE_TABLE = ("OR", "REPLACE", "TEMP", "TEMPORARY", "TRANSIENT", "EXTERNAL", "LOCAL", "GLOBAL")
 WHOLE = re.compile(r"(BIG|SMALL|TINY|HUGE|BYTE)?INT(EGER)?|INT(2|4|8|64)|LONG|SHORT|BYTE")
@@ -22,8 +22,21 @@ DECIMALS = re.compile(r"(?:DECIMAL|NUMERIC|NUMBER|DEC)\((\d+)(?:,(\d+))?\)")
 EQUAL_AS_GROUPED = re.compile(r"DATE|BOOLEAN|BOOL|UUID|CHAR\(\d+\)|(BIG)?NUMERIC|DECIMAL|NUMBER|DATETIME")
 
 
+class Keys(Protocol):
+    """How an engine finds names."""
+
+    rules: re.Pattern[str]
+
+    def table_key(self, name: Tokens) -> tuple[str, ...]:
+        """By what a table is found."""
+
+    def name_key(self, token: Token) -> str:
+        """By what a column is found."""
+
+
 def kind_of(declared: str) -> Hashable | None:
-    """By what columns of this type meet. Whole numbers of any width do by their value; what has a floating point or a time zone does by nothing."""
+    """By what columns of this type meet. Whole numbers of any width do by their value; what has a floating point or a
+    time zone does by nothing."""
     name = declared.upper().replace(" ", "")
     if WHOLE.fullmatch(name):
         return "a whole number"
@@ -34,7 +47,7 @@ def kind_of(declared: str) -> Hashable | None:
     return name if EQUAL_AS_GROUPED.fullmatch(name) else None
 
 
-def declared(text: str, engine) -> dict[tuple[str, ...], Table]:
+def declared(text: str, engine: Keys) -> dict[tuple[str, ...], Table]:
     """The tables of the text, by what the engine finds them by."""
     found: dict[tuple[str, ...], Table] = {}
     for pieces in _statements(tokens(text, engine.rules)):
@@ -62,13 +75,16 @@ def _statements(pieces: Tokens) -> Iterator[Tokens]:
         yield statement
 
 
-def _table(text: str, pieces: Tokens, engine) -> tuple[Tokens, Table]:
+def _table(text: str, pieces: Tokens, engine: Keys) -> tuple[Tokens, Table]:
     """The name of a CREATE TABLE, and its columns."""
     at = 1
     while at < len(pieces) and pieces[at].says(*BEFORE_TABLE):
         at += 1
     if not (pieces[0].says("CREATE") and at < len(pieces) and pieces[at].says("TABLE")):
-        raise _wrong(text, pieces[0], "it has CREATE TABLE and nothing else; a view is written as the table that it is to a query")
+        raise _wrong(
+            text, pieces[0],
+            "it has CREATE TABLE and nothing else; a view is written as the table that it is to a query",
+        )
     at += 1
     if [token.text.upper() for token in pieces[at : at + 3]] == ["IF", "NOT", "EXISTS"]:
         at += 3
@@ -88,7 +104,7 @@ def _of_unknown_kinds(table: Table) -> Table:
     return Table(tuple(columns.values()), columns)
 
 
-def _columns(text: str, pieces: Tokens, engine) -> Table:
+def _columns(text: str, pieces: Tokens, engine: Keys) -> Table:
     columns: dict[str, Column] = {}
     for item in _items(pieces):
         if not item or item[0].says("LIKE"):
@@ -104,7 +120,8 @@ def _columns(text: str, pieces: Tokens, engine) -> Table:
 
 def _items(pieces: Tokens) -> Iterator[Tokens]:
     """The parts between commas outside parentheses and angle brackets."""
-    item, depth, at = [], 0, 0
+    item: Tokens = []
+    depth = at = 0
     while at < len(pieces):
         end = closing(pieces, at) if pieces[at].says("(", "[") else at
         token = pieces[at]
@@ -119,9 +136,11 @@ def _items(pieces: Tokens) -> Iterator[Tokens]:
     yield item
 
 
-def _column(text: str, item: Tokens, engine) -> Column:
+def _column(text: str, item: Tokens, engine: Keys) -> Column:
     """A column; one with a collation of its own meets nothing, since what it is grouped by isn't known."""
-    end = next((at for at, token in enumerate(item) if at and token.kind == "word" and token.says(*BEHIND_TYPE)), len(item))
+    end = next(
+        (at for at, token in enumerate(item) if at and token.kind == "word" and token.says(*BEHIND_TYPE)), len(item)
+    )
     if not item[0].names or end < 2:
         raise _wrong(text, item[0], "a column has a name and a type")
     kind = None if any(token.says("COLLATE") for token in item[end:]) else kind_of(written(item[1:end]))

@@ -1,9 +1,9 @@
 """Tables whose rows lie on other servers: these filter and count their own rows, and send what is left of a column.
 
-PostgreSQL sends a server a whole count or GROUP BY over one of its tables, and a comparison with the values of an array. It
-sends neither a semi-join nor a part of an aggregate, and would fetch the rows for it. So each part of a table is asked by
-itself, what the servers say of a value is added up here, and in place of a semi-join the values that are left of the other
-column go along.
+PostgreSQL sends a server a whole count or GROUP BY over one of its tables, and a comparison with the values of an
+array. It sends neither a semi-join nor a part of an aggregate, and would fetch the rows for it. So each part of a
+table is asked by itself, what the servers say of a value is added up here, and in place of a semi-join the values
+that are left of the other column go along.
 """
 
 from __future__ import annotations
@@ -13,7 +13,10 @@ from typing import Iterable
 
 from .engine import Engine
 from .query import Column, Entry, Query
-from .reducing import Parts, along_a_tree, around_a_cycle, closes_a_cycle, components, own_conditions, partners, reduced, semi_join, where
+from .reducing import (
+    Joined, Parts, along_a_tree, around_a_cycle, closes_a_cycle, components, own_conditions, partners, reduced,
+    semi_join, where,
+)
 
 
 @dataclass
@@ -37,20 +40,25 @@ class Source:
         COUNT of the column, not of rows: where it is NULL the degree is 0.
         """
         value = f"{self.entry.alias}.{engine.quote(column.name)}"
-        if len(self._tables()) == 1 or self.entry.about.spread.by == column.name:
+        spread = self.entry.about.spread
+        if len(self._tables()) == 1 or spread is None or spread.by == column.name:
             return f"SELECT COUNT({value}) AS d {self._rows(self.part or self.entry.table)}{self._groups(value)}"
         counts = " UNION ALL ".join(
-            f"SELECT COUNT({value}) AS n, {value} AS v {self._rows(table)}{self._groups(value)}" for table in self._tables()
+            f"SELECT COUNT({value}) AS n, {value} AS v {self._rows(table)}{self._groups(value)}"
+            for table in self._tables()
         )
         return f"SELECT CAST(SUM(n) AS BIGINT) AS d FROM ({counts}) AS servers GROUP BY v"
 
     def values(self, columns: list[Column], engine: Engine) -> str:
         """The values of these columns, from each server once."""
         values = ", ".join(f"{self.entry.alias}.{engine.quote(column.name)}" for column in columns)
-        return " UNION ALL ".join(f"SELECT {values} {self._rows(table)}{self._groups(values)}" for table in self._tables())
+        return " UNION ALL ".join(
+            f"SELECT {values} {self._rows(table)}{self._groups(values)}" for table in self._tables()
+        )
 
     def _groups(self, values: str) -> str:
-        """Where there are as many groups as rows PostgreSQL may fetch the rows. It takes any HAVING to leave fewer groups."""
+        """Where there are as many groups as rows PostgreSQL may fetch the rows. It takes any HAVING to leave fewer
+        groups."""
         return f" GROUP BY {values}" + (" HAVING COUNT(*) > 0" if self.entry.about.spread and not self.part else "")
 
     def _tables(self) -> tuple[str, ...]:
@@ -63,8 +71,8 @@ class Source:
 
 
 class Limits:
-    """For each entry what its rows have to satisfy: its own conditions, and that its values are among those that are left of
-    its partners. `texts` are the parts of a statement with these values."""
+    """For each entry what its rows have to satisfy: its own conditions, and that its values are among those that are
+    left of its partners. `texts` are the parts of a statement with these values."""
 
     def __init__(self, query: Query, engine: Engine, prefix: str) -> None:
         self.query, self.engine, self.prefix = query, engine, prefix
@@ -81,7 +89,9 @@ class Limits:
         return [(name, text) for text, name in self.names.items()]
 
     def of(self, entry: int) -> list[str]:
-        return own_conditions(self.query.entries[entry]) + [text for texts in self.among[entry].values() for text in texts]
+        return own_conditions(self.query.entries[entry]) + [
+            text for texts in self.among[entry].values() for text in texts
+        ]
 
     def _among(self, entry: int, other: int, pairs: list[tuple[Column, Column]]) -> list[str]:
         source = Source(self.query.entries[other], self.of(other))
@@ -95,7 +105,7 @@ class Limits:
         return sent if len(sent) == 1 else sent + [exact]
 
 
-def steps_elsewhere(query: Query, joined: dict[int, dict]) -> Iterable[tuple[int, list[int]]]:
+def steps_elsewhere(query: Query, joined: Joined) -> Iterable[tuple[int, list[int]]]:
     """The semi-joins in their order. They leave the same rows as `steps`.
 
     Along a tree an entry under no condition first tells the others nothing, since all of its values would go along.
@@ -129,7 +139,9 @@ def rows_to_count(
         return limits.texts, {entry.number: Source(entry, limits.of(entry.number)) for entry in query.entries}
     parts = reduced(query, engine, columns, prefix)
     return parts.texts, {
-        entry.number: Source(entry, [] if entry.number in parts.rows else own_conditions(entry), parts.rows.get(entry.number))
+        entry.number: Source(
+            entry, [] if entry.number in parts.rows else own_conditions(entry), parts.rows.get(entry.number)
+        )
         for entry in query.entries
     }
 

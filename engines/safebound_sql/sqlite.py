@@ -13,7 +13,7 @@ from typing import Iterator
 from . import stops
 from .engine import Engine, one_line, with_names
 from .faults import EngineFault
-from .query import Column, Table
+from .query import Column, Row, Table
 from .reading import at_commas
 from .tokens import SQLITE, Token, closing, unquoted
 
@@ -39,14 +39,19 @@ class Sqlite(Engine):
     outputs_in_conditions = True
     plain_words = ("OFFSET", "WINDOW", "FETCH")
     takes_bare_columns = True
-    why_now = "SQLite's date functions may ask for the time, unless they get a date as it is, or a column that never says 'now'"
+    why_now = (
+        "SQLite's date functions may ask for the time, unless they get a date as it is, or a column that never says"
+        " 'now'"
+    )
     reserved = frozenset(("null", "current_date", "current_time", "current_timestamp"))
 
     def __init__(self, file: str, timeout: int | None) -> None:
         path = self.path = Path(file).resolve()
         if not path.is_file():
             raise EngineFault(f"there is no file {file}")
-        self.unwritten = None
+        self.unwritten: Row | None = None
+        self.timeout: int | None = None
+        self.ends: float | None = None
         with self._told():
             try:
                 self._open("mode=ro")
@@ -57,7 +62,6 @@ class Sqlite(Engine):
                 self.unwritten = self._state()
                 self._open("mode=ro&immutable=1")
         self.timeout = timeout
-        self.ends = None
         self.connection.set_progress_handler(self._is_late, 10_000)
 
     def _open(self, how: str) -> None:
@@ -66,7 +70,7 @@ class Sqlite(Engine):
         self.connection.execute("BEGIN")
         self.connection.execute("SELECT count(*) FROM sqlite_master").fetchone()
 
-    def _state(self) -> tuple | None:
+    def _state(self) -> Row | None:
         """By what the file is known to be as it was; None where it has a log beside it."""
         if os.path.exists(f"{self.path}-wal"):
             return None
@@ -77,8 +81,8 @@ class Sqlite(Engine):
         return self.ends is not None and time.monotonic() > self.ends
 
     @contextlib.contextmanager
-    def _told(self):
-        self.ends = time.monotonic() + self.timeout if getattr(self, "timeout", None) else None
+    def _told(self) -> Iterator[None]:
+        self.ends = time.monotonic() + self.timeout if self.timeout else None
         try:
             yield
         except sqlite3.Error as error:
@@ -87,7 +91,9 @@ class Sqlite(Engine):
             late = self.ends is not None and time.monotonic() > self.ends
             raise EngineFault("canceled, since the time is over" if late else one_line(error), not late) from None
         if self.unwritten and self._state() != self.unwritten:
-            raise EngineFault("the file was written to while it was read, in a folder in which SQLite can't make its log")
+            raise EngineFault(
+                "the file was written to while it was read, in a folder in which SQLite can't make its log"
+            )
 
     def key(self, name: str, quoted: bool) -> str:
         return super().key(name, False)
@@ -96,7 +102,8 @@ class Sqlite(Engine):
         return self.key(unquoted(token) if token.kind == "quoted" else token.text, False)
 
     def asks_for_now(self, pieces: list[Token], at: int, below: bool = False) -> bool:
-        """date() and its like, of anything but a literal date. What a column says is looked at where it is known whose it is."""
+        """date() and its like, of anything but a literal date. What a column says is looked at where it is known
+        whose it is."""
         dates = self._dates(pieces, at)
         if dates is None:
             return False
@@ -127,8 +134,10 @@ class Sqlite(Engine):
         schema = parts[0] if len(parts) == 2 else None
         with self._told():
             kind = self.connection.execute(
-                "SELECT schema, type, wr, strict, name FROM pragma_table_list WHERE name = ? COLLATE NOCASE"
-                " AND (?2 IS NULL OR schema = ?2 COLLATE NOCASE) ORDER BY schema <> 'temp', schema <> 'main' LIMIT 1",
+                (
+                    "SELECT schema, type, wr, strict, name FROM pragma_table_list WHERE name = ? COLLATE NOCASE AND (?2"
+                    " IS NULL OR schema = ?2 COLLATE NOCASE) ORDER BY schema <> 'temp', schema <> 'main' LIMIT 1"
+                ),
                 (parts[-1], schema),
             ).fetchone()
             if kind is None:
@@ -137,7 +146,10 @@ class Sqlite(Engine):
                 "SELECT name, type, hidden FROM pragma_table_xinfo(?, ?) ORDER BY cid", (parts[-1], kind[0])
             ).fetchall()
         where = f"{self.quote(kind[0])}.{self.quote(parts[-1])}"
-        found = [(self._column(where, name, declared, kind[1] == "table", kind[3]), hidden) for name, declared, hidden in listed]
+        found = [
+            (self._column(where, name, declared, kind[1] == "table", kind[3]), hidden)
+            for name, declared, hidden in listed
+        ]
         by_key = {self.key(column.name, True): column for column, _ in found}
         if kind[1] == "table" and not kind[2]:
             for other in ROW_NUMBERS:
@@ -148,7 +160,7 @@ class Sqlite(Engine):
     def _schema_version(self, schema: str) -> int:
         """Another number after each change of a schema: a table has none of its own."""
         with self._told():
-            return self.connection.execute(f"PRAGMA {self.quote(schema)}.schema_version").fetchone()[0]
+            return int(self.connection.execute(f"PRAGMA {self.quote(schema)}.schema_version").fetchone()[0])
 
     def _column(self, table: str, name: str, declared: str, of_table: bool, strict: bool) -> Column:
         """A column. What those of views and virtual tables are compared by isn't known."""
@@ -161,12 +173,13 @@ class Sqlite(Engine):
         with self._told():
             values = f"SELECT {self.quote(name)} FROM {table} WHERE 0 UNION SELECT 'a' UNION SELECT ?"
             try:
-                alike = tuple(
-                    self.connection.execute(f"SELECT count(*) FROM ({values})", (other,)).fetchone()[0] for other in ("A", "a ")
+                case, space = (
+                    self.connection.execute(f"SELECT count(*) FROM ({values})", (other,)).fetchone()[0]
+                    for other in ("A", "a ")
                 )
             except sqlite3.OperationalError:  # a collation that this program doesn't have
                 return None
-        return {(2, 2): "BINARY", (1, 2): "NOCASE", (2, 1): "RTRIM"}.get(alike)
+        return {(2, 2): "BINARY", (1, 2): "NOCASE", (2, 1): "RTRIM"}.get((case, space))
 
     def fickle(self, names: set[str]) -> dict[str, str]:
         with self._told():
@@ -181,7 +194,12 @@ class Sqlite(Engine):
     def view_texts(self, names: set[str]) -> list[tuple[str, str, str]]:
         with self._told():
             views = self.connection.execute("SELECT name, sql FROM sqlite_master WHERE type = 'view'").fetchall()
-        return [(name, "the view", text) for name in names for view, text in views if self._last(name) == self.key(view, True)]
+        return [
+            (name, "the view", text)
+            for name in names
+            for view, text in views
+            if self._last(name) == self.key(view, True)
+        ]
 
     def _last(self, name: str) -> str:
         return self.key(name.split(".")[-1].strip('"`[] '), True)
@@ -215,11 +233,11 @@ class Sqlite(Engine):
     def keep_order(self) -> None:
         """CROSS JOIN keeps it."""
 
-    def rows(self, sql: str) -> list[tuple]:
+    def rows(self, sql: str) -> list[Row]:
         with self._told():
             return self.connection.execute(sql).fetchall()
 
-    def stream(self, sql: str) -> Iterator[tuple]:
+    def stream(self, sql: str) -> Iterator[Row]:
         with self._told():
             cursor = self.connection.execute(sql)
             yield from with_names(cursor, [column[0] for column in cursor.description])
@@ -232,7 +250,7 @@ class Sqlite(Engine):
         return column.kind in (("INTEGER", "BINARY"), ("TEXT", "BINARY"))
 
     def whole_numbers(self, column: Column) -> bool:
-        return column.kind[0] == "INTEGER"
+        return isinstance(column.kind, tuple) and column.kind[0] == "INTEGER"
 
     def plain_order(self, column: Column) -> bool:
         return True
@@ -260,7 +278,9 @@ def _field(value: object, null: str) -> str:
 
 
 def _is_date(tokens: list[Token]) -> bool:
-    return len(tokens) == 1 and (tokens[0].kind == "number" or bool(A_DATE.fullmatch(tokens[0].text) and len(tokens[0].text) > 2))
+    return len(tokens) == 1 and (
+        tokens[0].kind == "number" or bool(A_DATE.fullmatch(tokens[0].text) and len(tokens[0].text) > 2)
+    )
 
 
 def _may_be_column(tokens: list[Token]) -> bool:

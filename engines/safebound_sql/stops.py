@@ -3,6 +3,7 @@
 from __future__ import annotations
 
 import signal
+from types import FrameType
 
 _came: list[int] = []
 
@@ -13,7 +14,7 @@ def heed() -> None:
         signal.signal(number, _come)
 
 
-def _come(number: int, _frame) -> None:
+def _come(number: int, _frame: FrameType | None) -> None:
     _came.append(number)
     raise KeyboardInterrupt
 

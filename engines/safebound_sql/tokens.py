@@ -33,45 +33,66 @@ WORD = r"(?P<word>[^\W\d][\w$]*)"
 NUMBER = r"(?P<number>0[xX][0-9a-fA-F]+|(?:\d+\.?\d*|\.\d+)(?:[eE][+-]?\d+)?)"
 SPACE = r"(?P<space>[ \t\n\r\f\v]+|--[^\n]*)"
 
-POSTGRES = re.compile("|".join([
-    SPACE,
-    r"(?P<comment>/\*)",
-    r"(?P<text>[eE]'(?:[^'\\]|\\.|'')*'|[uU]&'(?:[^']|'')*'|[bBxXnN]?'(?:[^']|'')*'|\$(?P<tag>(?:[^\W\d]\w*)?)\$.*?\$(?P=tag)\$)",
-    r'(?P<escaped>[uU]&"(?:[^"]|"")+")',
-    r'(?P<quoted>"(?:[^"]|"")+")',
-    NUMBER, WORD,
-    r"(?P<mark>::|:=|[(),.;:\[\]])",
-    r"(?P<operator>(?:(?!--|/\*)[+\-*/<>=~!@#%^&|`?])+)",
-]), re.DOTALL)
+POSTGRES = re.compile(
+    "|".join(
+        [
+            SPACE,
+            r"(?P<comment>/\*)",
+            r"(?P<text>[eE]'(?:[^'\\]|\\.|'')*'|[uU]&'(?:[^']|'')*'|[bBxXnN]?'(?:[^']|'')*'"
+            r"|\$(?P<tag>(?:[^\W\d]\w*)?)\$.*?\$(?P=tag)\$)",
+            r'(?P<escaped>[uU]&"(?:[^"]|"")+")',
+            r'(?P<quoted>"(?:[^"]|"")+")',
+            NUMBER,
+            WORD,
+            r"(?P<mark>::|:=|[(),.;:\[\]])",
+            r"(?P<operator>(?:(?!--|/\*)[+\-*/<>=~!@#%^&|`?])+)",
+        ]
+    ),
+    re.DOTALL,
+)
 
-SQLITE = re.compile("|".join([
-    SPACE,
-    r"(?P<space_too>/\*.*?(?:\*/|\Z))",
-    r"(?P<text>[xX]?'(?:[^']|'')*')",
-    r'(?P<quoted>"(?:[^"]|"")+"|`(?:[^`]|``)+`|\[[^\]]+\])',
-    NUMBER, WORD,
-    r"(?P<mark>[(),.;])",
-    r"(?P<operator>\|\||->>?|<<|>>|<=|>=|<>|!=|==|[+\-*/%<>=&|~])",
-]), re.DOTALL)
+SQLITE = re.compile(
+    "|".join(
+        [
+            SPACE,
+            r"(?P<space_too>/\*.*?(?:\*/|\Z))",
+            r"(?P<text>[xX]?'(?:[^']|'')*')",
+            r'(?P<quoted>"(?:[^"]|"")+"|`(?:[^`]|``)+`|\[[^\]]+\])',
+            NUMBER,
+            WORD,
+            r"(?P<mark>[(),.;])",
+            r"(?P<operator>\|\||->>?|<<|>>|<=|>=|<>|!=|==|[+\-*/%<>=&|~])",
+        ]
+    ),
+    re.DOTALL,
+)
 
 DOUBLE_QUOTES = r'"(?:[^"\'\\]|"")+"'
 BACKTICKS = r"`[^`'\\.]+`"
 
 
-def dialect_rules(quoted: str, texts: str = "'", comments: str | None = None, suffixes: str = "(?!)") -> re.Pattern:
-    """Rules that hold however an engine reads backslashes in texts and comments within comments: where that would matter
-    nothing is matched, and the query is refused. `texts` are the marks of texts, `suffixes` those of numbers."""
+def dialect_rules(
+    quoted: str, texts: str = "'", comments: str | None = None, suffixes: str = "(?!)"
+) -> re.Pattern[str]:
+    """Rules that hold however an engine reads backslashes in texts and comments within comments: where that would
+    matter nothing is matched, and the query is refused. `texts` are the marks of texts, `suffixes` those of
+    numbers."""
     text = "|".join(rf"(?!{mark * 3}){mark}(?:[^{mark}\\]|\\(?!{mark})|{mark}{mark})*{mark}" for mark in texts)
-    return re.compile("|".join([
-        rf"(?P<space>[ \t\n\r\f\v]+|(?:--{'|' + comments if comments else ''})[^\n\\]*)",
-        r"(?P<space_too>/\*(?:(?!/\*|\*/).)*\*/)",
-        rf"(?P<text>[xX]?(?:{text}))",
-        rf"(?P<quoted>{quoted})",
-        rf"(?P<number>0[xX][0-9a-fA-F]+|(?:\d+\.?\d*|\.\d+)(?:[eE][+-]?\d+)?(?:{suffixes})?(?![\w$]))",
-        r"(?P<word>(?!(?:[bBnNeErR]|[bB][rR]|[rR][bB]|[uU]&)['\"])[^\W\d][\w$]*)",
-        r"(?P<mark>::|[(),.;\[\]])",
-        r"(?P<operator>\|\||->>?|=>|<=>|<<|>>|<=|>=|<>|!=|==|\|(?!>)|/(?![*/])|-(?!-)|[+*%<>=&~^])",
-    ]), re.DOTALL)
+    return re.compile(
+        "|".join(
+            [
+                rf"(?P<space>[ \t\n\r\f\v]+|(?:--{'|' + comments if comments else ''})[^\n\\]*)",
+                r"(?P<space_too>/\*(?:(?!/\*|\*/).)*\*/)",
+                rf"(?P<text>[xX]?(?:{text}))",
+                rf"(?P<quoted>{quoted})",
+                rf"(?P<number>0[xX][0-9a-fA-F]+|(?:\d+\.?\d*|\.\d+)(?:[eE][+-]?\d+)?(?:{suffixes})?(?![\w$]))",
+                r"(?P<word>(?!(?:[bBnNeErR]|[bB][rR]|[rR][bB]|[uU]&)['\"])[^\W\d][\w$]*)",
+                r"(?P<mark>::|[(),.;\[\]])",
+                r"(?P<operator>\|\||->>?|=>|<=>|<<|>>|<=|>=|<>|!=|==|\|(?!>)|/(?![*/])|-(?!-)|[+*%<>=&~^])",
+            ]
+        ),
+        re.DOTALL,
+    )
 
 
 MOST_PARENTHESES = 200
@@ -85,7 +106,7 @@ def place(text: str, at: int) -> str:
     return f"line {len(before)}, column {len(before[-1]) + 1}"
 
 
-def tokens(text: str, rules: re.Pattern) -> list[Token]:
+def tokens(text: str, rules: re.Pattern[str]) -> list[Token]:
     """All tokens of the text. Comments and blanks are left out."""
     found, at, gap, depth = [], 0, "", 0
     while at < len(text):
@@ -94,7 +115,9 @@ def tokens(text: str, rules: re.Pattern) -> list[Token]:
             raise Refused(f"{text[at]!r} at {place(text, at)} begins nothing that is known, or never ends")
         kind, end = match.lastgroup, match.end()
         if kind == "escaped":
-            raise Refused(f"{match.group()} at {place(text, at)}: a name with escapes; write its characters in double quotes")
+            raise Refused(
+                f"{match.group()} at {place(text, at)}: a name with escapes; write its characters in double quotes"
+            )
         if kind == "comment":
             end = _end_of_comment(text, at)
         if kind == "operator":
@@ -102,7 +125,7 @@ def tokens(text: str, rules: re.Pattern) -> list[Token]:
         if kind in ("space", "space_too", "comment"):
             gap = "\n" if "\n" in text[at:end] or gap == "\n" else " "
         else:
-            found.append(Token(kind, text[at:end], at, gap))
+            found.append(Token(kind or "", text[at:end], at, gap))
             gap = ""
             depth += found[-1].says("(") - found[-1].says(")")
             if depth > MOST_PARENTHESES:
@@ -131,7 +154,7 @@ def _operator(run: str) -> str:
 def written(pieces: Iterable[Token]) -> str:
     """The tokens as text again."""
     parts: list[str] = []
-    before = None
+    before: Token | None = None
     for token in pieces:
         parts += [gap_between(before, token) if before else "", token.text]
         before = token
@@ -139,7 +162,8 @@ def written(pieces: Iterable[Token]) -> str:
 
 
 def gap_between(before: Token, token: Token) -> str:
-    """What stands between two tokens: a line's end only between texts, which the engine reads as one text that goes on."""
+    """What stands between two tokens: a line's end only between texts, which the engine reads as one text that goes
+    on."""
     return "\n" if token.gap == "\n" and token.kind == before.kind == "text" else token.gap and " "
 
 

@@ -1,4 +1,5 @@
-"""SQL in the planned order: for the query itself, for the true rows of its levels, and for what the engine expects of them."""
+"""SQL in the planned order: for the query itself, for the true rows of its levels, and for what the engine expects of
+them."""
 
 from __future__ import annotations
 
@@ -32,7 +33,8 @@ class Writer:
         return writing.before("\nUNION ALL ".join(counts))
 
     def plainly(self, shape: Shape) -> str:
-        """The entries of a shape with their conditions over the tables themselves, in an order that the engine chooses."""
+        """The entries of a shape with their conditions over the tables themselves, in an order that the engine
+        chooses."""
         numbers = sorted(entries_of(shape))
         entries = [self.query.entries[number] for number in numbers]
         conditions = [text for entry in entries for text in own_conditions(entry)]
@@ -41,8 +43,8 @@ class Writer:
 
 
 class Writing:
-    """One statement while it is written. Where the engine keeps no trees, the right side of a join of several entries is
-    a part of its own, and `within` has the entries whose columns are those of a part."""
+    """One statement while it is written. Where the engine keeps no trees, the right side of a join of several entries
+    is a part of its own, and `within` has the entries whose columns are those of a part."""
 
     def __init__(self, writer: Writer) -> None:
         self.query, self.engine, self.columns = writer.query, writer.engine, writer.columns
@@ -72,13 +74,16 @@ class Writing:
         part = self.within.get(named.entry)
         if part:
             return f"{part}.{self._name_within(named)}"
-        return f"{self.query.entries[named.entry].alias}.{self._visible(named)}" if named in self.query.renamed else None
+        return (
+            f"{self.query.entries[named.entry].alias}.{self._visible(named)}" if named in self.query.renamed else None
+        )
 
     def _name_within(self, named: Named) -> str:
         return self.engine.quote(f"{self.prefix}{named.entry}_{named.column.name}")
 
     def below_the_outputs(self, shape: Shape) -> str:
-        """FROM and WHERE for what stands above the join: each entry is there under its own alias, with its columns' own names."""
+        """FROM and WHERE for what stands above the join: each entry is there under its own alias, with its columns'
+        own names."""
         if self.query.frame:
             return self._in_frame(self.joined(shape))
         self.within = {}
@@ -87,11 +92,16 @@ class Writing:
         return f"FROM {joins}{again}{where(self._left_over(shape))}"
 
     def _in_frame(self, joined: str) -> str:
-        """FROM as it was written, with the joined rows' columns in place of each table, so that USING merges as it did."""
+        """FROM as it was written, with the joined rows' columns in place of each table, so that USING merges as it
+        did."""
         columns = {number: self._named_above(number) for number in range(len(self.query.entries))}
-        outputs = [f"{self._source(named)} AS {self._name_within(named)}" for some in columns.values() for named in some]
+        outputs = [
+            f"{self._source(named)} AS {self._name_within(named)}" for some in columns.values() for named in some
+        ]
         rows = f"{self.prefix}joined"
-        parts = [part if isinstance(part, str) else self._row_of(part, columns[part], rows) for part in self.query.frame]
+        parts = [
+            part if isinstance(part, str) else self._row_of(part, columns[part], rows) for part in self.query.frame
+        ]
         return f"FROM (SELECT {', '.join(outputs)} {joined}) AS {rows}, {''.join(parts)}"
 
     def _row_of(self, number: int, columns: list[Named], rows: str) -> str:
@@ -108,12 +118,19 @@ class Writing:
             columns, alias = self._named_above(number), self.query.entries[number].alias
             if not columns:
                 continue
-            outputs = ", ".join([numbered, *(f"{self._name_within(named)} AS {self._visible(named)}" for named in columns)])
-            again += f"\n  {self.engine.join_word} (SELECT {outputs} FROM {part}) AS {alias} ON {alias}.{numbered} = {part}.{numbered}"
+            outputs = ", ".join(
+                [numbered, *(f"{self._name_within(named)} AS {self._visible(named)}" for named in columns)]
+            )
+            again += (
+                f"\n  {self.engine.join_word} (SELECT {outputs} FROM {part}) AS {alias}"
+                f" ON {alias}.{numbered} = {part}.{numbered}"
+            )
         if again:
             rows = f"SELECT {self.engine.row_number} AS {numbered}, "
             parts = set(self.within.values())
-            self.texts = [(name, text.replace("SELECT ", rows, 1) if name in parts else text) for name, text in self.texts]
+            self.texts = [
+                (name, text.replace("SELECT ", rows, 1) if name in parts else text) for name, text in self.texts
+            ]
         return again
 
     def joined(self, shape: Shape) -> str:
@@ -151,7 +168,9 @@ class Writing:
         if not any(named.entry == number for named in self.query.renamed):
             return rows
         columns = [Named(number, column) for column in self.columns[number]]
-        outputs = ", ".join(f"{entry.alias}.{self.engine.quote(named.column.name)} AS {self._visible(named)}" for named in columns)
+        outputs = ", ".join(
+            f"{entry.alias}.{self.engine.quote(named.column.name)} AS {self._visible(named)}" for named in columns
+        )
         conditions = [] if number in self.rows else own_conditions(entry)
         return f"(SELECT {outputs} FROM {rows}{where(conditions)}) AS {entry.alias}"
 

@@ -1,7 +1,7 @@
 """A cluster on this machine: a coordinator, and servers that hold the rows of its tables.
 
-Each table of the coordinator is partitioned by the hash of its first column, and each part is a table of another server,
-reached by postgres_fdw. Plans join and count part by part.
+Each table of the coordinator is partitioned by the hash of its first column, and each part is a table of another
+server, reached by postgres_fdw. Plans join and count part by part.
 """
 
 from __future__ import annotations
@@ -12,39 +12,54 @@ import re
 import secrets
 import shutil
 from concurrent.futures import ThreadPoolExecutor
-from typing import Callable, Iterable, Iterator
+from typing import Callable, Iterable
 
-from server import GoneOnLeaving, Server, free_ports, new_folder, owner
+from server import GoneOnLeaving, Server, connected_by, free_ports, new_folder, owner
 
 SERVERS = 2
 PART_BY_PART = ("enable_partitionwise_join=on", "enable_partitionwise_aggregate=on")
 # Rows come and go in large pieces, and from all servers at once.
-OPTIONS = {"dbname": "postgres", "host": "127.0.0.1", "fetch_size": "10000", "batch_size": "1000", "async_capable": "true"}
+OPTIONS = {"host": "127.0.0.1", "fetch_size": "10000", "batch_size": "1000", "async_capable": "true"}
 
 
 class Cluster:
-    """The cluster of a folder. It goes on running until `stop`, whichever process calls that."""
+    """The cluster of a folder, by a database of its servers. It goes on running until `stop`, whichever process calls
+    that."""
 
-    def __init__(self, folder: str) -> None:
+    def __init__(self, folder: str, database: str = "postgres") -> None:
         self.folder = folder
-        self.coordinator = Server(os.path.join(folder, "coordinator"), settings=PART_BY_PART)
-        self.servers = [Server(os.path.join(folder, f"server{number}")) for number in range(1, SERVERS + 1)]
+        self.coordinator = Server(os.path.join(folder, "coordinator"), settings=PART_BY_PART, database=database)
+        self.servers = [
+            Server(os.path.join(folder, f"server{number}"), database=database) for number in range(1, SERVERS + 1)
+        ]
         self.all = [self.coordinator, *self.servers]
 
     def start(self) -> None:
-        password = secrets.token_urlsafe(24)
+        self.password = secrets.token_urlsafe(24)
         for server, port in zip(self.all, free_ports(len(self.all))):
             server.port = port
             os.mkdir(server.folder, 0o700)
             if owner():
                 shutil.chown(server.folder, owner())
-        at_once((lambda server=server: server.make(password) or server.start()) for server in self.all)
-        with connected(self.coordinator) as coordinator:
+        at_once((lambda server=server: server.make(self.password) or server.start()) for server in self.all)
+        self._link(self.coordinator.database)
+
+    def add_database(self, name: str) -> None:
+        """A database of this name on each server, those of the coordinator's reached from there. Whoever started the
+        cluster adds it."""
+        at_once((lambda server=server: server.add_database(name)) for server in self.all)
+        self._link(name)
+
+    def _link(self, database: str) -> None:
+        with connected_by(self.coordinator.url_of(database)) as coordinator:
             coordinator.execute("CREATE SCHEMA servers; CREATE EXTENSION postgres_fdw SCHEMA servers")
             for number, server in enumerate(self.servers, 1):
-                options = ", ".join(f"{name} '{value}'" for name, value in {**OPTIONS, "port": server.port}.items())
-                coordinator.execute(f"CREATE SERVER server{number} FOREIGN DATA WRAPPER postgres_fdw OPTIONS ({options})")
-                mapping = f"OPTIONS (user 'postgres', password '{password}')"
+                there = {**OPTIONS, "dbname": database, "port": server.port}
+                options = ", ".join(f"{name} '{value}'" for name, value in there.items())
+                coordinator.execute(
+                    f"CREATE SERVER server{number} FOREIGN DATA WRAPPER postgres_fdw OPTIONS ({options})"
+                )
+                mapping = f"OPTIONS (user 'postgres', password '{self.password}')"
                 coordinator.execute(f"CREATE USER MAPPING FOR postgres SERVER server{number} {mapping}")
 
     def stop(self) -> None:
@@ -78,7 +93,9 @@ class Cluster:
 
     def on_servers(self, statement: str) -> None:
         """Runs a statement on each server. It may name {number} of {servers}, from 0."""
-        texts = [statement.replace("{number}", str(number)).replace("{servers}", str(SERVERS)) for number in range(SERVERS)]
+        texts = [
+            statement.replace("{number}", str(number)).replace("{servers}", str(SERVERS)) for number in range(SERVERS)
+        ]
         at_once((lambda server=server, text=text: _executed(server, text)) for server, text in zip(self.servers, texts))
 
 
@@ -87,12 +104,8 @@ def _executed(server: Server, statement: str) -> None:
         connection.execute(statement)
 
 
-@contextlib.contextmanager
-def connected(server: Server) -> Iterator:
-    import psycopg
-
-    with psycopg.connect(server.url, autocommit=True) as connection:
-        yield connection
+def connected(server: Server) -> contextlib.AbstractContextManager:
+    return connected_by(server.url)
 
 
 def at_once(calls: Iterable[Callable[[], None]]) -> None:

@@ -14,7 +14,8 @@ KEPT = " WHERE satisfies_hash_partition('place'::regclass, {servers}, {number}, 
 
 
 class Made(NamedTuple):
-    """Tables by their schema, and for each a query for its rows at size {s}. Its first column is called k, and says where a row lies."""
+    """Tables by their schema, and for each a query for its rows at size {s}. Its first column is called k, and says
+    where a row lies."""
 
     schema: str
     rows: dict[str, str]

@@ -1,13 +1,16 @@
-"""A PostgreSQL of our own: its data in a folder, reached by a socket there, or by a port of this machine and a password."""
+"""A PostgreSQL of our own: its data in a folder, reached by a socket there, or by a port of this machine and a
+password."""
 
 from __future__ import annotations
 
+import contextlib
 import glob
 import os
 import shutil
 import socket
 import subprocess
 import tempfile
+from typing import Iterator
 
 SETTINGS = ("fsync=off", "full_page_writes=off", "synchronous_commit=off", "max_wal_size=4GB")
 
@@ -44,11 +47,21 @@ def new_folder() -> str:
     return folder
 
 
+@contextlib.contextmanager
+def connected_by(url: str) -> Iterator:
+    import psycopg
+
+    with psycopg.connect(url, autocommit=True) as connection:
+        yield connection
+
+
 class Server:
     """A server in a folder of its own, which no other user may look into."""
 
-    def __init__(self, folder: str, port: int | None = None, settings: tuple[str, ...] = ()) -> None:
-        self.folder, self.port, self.settings = folder, port, SETTINGS + settings
+    def __init__(
+        self, folder: str, port: int | None = None, settings: tuple[str, ...] = (), database: str = "postgres"
+    ) -> None:
+        self.folder, self.port, self.settings, self.database = folder, port, SETTINGS + settings, database
         self.data = os.path.join(folder, "data")
 
     def make(self, password: str | None = None) -> None:
@@ -70,6 +83,10 @@ class Server:
     def stop(self) -> None:
         self._run("pg_ctl", "-D", self.data, "-m", "immediate", "stop")
 
+    def add_database(self, name: str) -> None:
+        with connected_by(self.url) as connection:
+            connection.execute(f"CREATE DATABASE {name} TEMPLATE template0")
+
     def _run(self, program: str, *words: str) -> None:
         front = ["runuser", "-u", owner(), "--"] if owner() else []
         command = front + [os.path.join(programs(), program), *words]
@@ -82,10 +99,15 @@ class Server:
 
     @property
     def url(self) -> str:
-        """Where it is reached while it runs, whichever process started it."""
+        """Where its database is reached while it runs, whichever process started it."""
+        return self.url_of(self.database)
+
+    def url_of(self, database: str) -> str:
+        return f"postgresql://postgres@/{database}?host={self.folder}&port={self._told_port()}"
+
+    def _told_port(self) -> str:
         with open(os.path.join(self.data, "postmaster.pid"), encoding="utf-8") as told:
-            port = told.read().split("\n")[3]
-        return f"postgresql://postgres@/postgres?host={self.folder}&port={port}"
+            return told.read().split("\n")[3]
 
 
 class GoneOnLeaving:

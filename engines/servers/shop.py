@@ -19,11 +19,14 @@ CREATE TABLE customer (id INTEGER PRIMARY KEY, region INTEGER NOT NULL)"""
 # The rows of each table, by the number i of a row and the size s. The first column, k, says on which server a row lies.
 ROWS = {
     "product": "SELECT i AS k, i % 4 FROM generate_series(0, 20000 * {s} - 1) AS i",
-    "item": "SELECT (3 * i + 7) % (200000 * {s}) AS k, i / 2 % (CASE i % 2 WHEN 1 THEN 20000 * {s} ELSE 10 * {s} END)"
-            " FROM generate_series(0, 400000 * {s} - 1) AS i",
+    "item": (
+        "SELECT (3 * i + 7) % (200000 * {s}) AS k, i / 2 % (CASE i % 2 WHEN 1 THEN 20000 * {s} ELSE 10 * {s} END)"
+        " FROM generate_series(0, 400000 * {s} - 1) AS i"
+    ),
     "orders": "SELECT i AS k, (7 * i + 7) % (50000 * {s}), i % 100 FROM generate_series(0, 200000 * {s} - 1) AS i",
     "customer": "SELECT i AS k, (i + 7) % 10 FROM generate_series(0, 50000 * {s} - 1) AS i",
 }
+
 
 def of_bench(name: str):
     """A script of bench as a module."""

@@ -1,6 +1,7 @@
 """Skewed tables of films and people, and random queries over them.
 
-Few films have most of everything, they are of late years, and few people have most parts: what planners take for independent.
+Few films have most of everything, they are of late years, and few people have most parts: what planners take for
+independent.
 """
 
 from __future__ import annotations
@@ -9,7 +10,8 @@ import random
 
 from made import Made
 
-SCHEMA = """CREATE TABLE title (id INTEGER PRIMARY KEY, kind INTEGER NOT NULL, year INTEGER NOT NULL, studio INTEGER NOT NULL);
+SCHEMA = """CREATE TABLE title (id INTEGER PRIMARY KEY, kind INTEGER NOT NULL, year INTEGER NOT NULL, studio INTEGER
+    NOT NULL);
 CREATE TABLE person (id INTEGER PRIMARY KEY, country INTEGER NOT NULL, born INTEGER NOT NULL);
 CREATE TABLE studio (id INTEGER PRIMARY KEY, country INTEGER NOT NULL);
 CREATE TABLE casting (title INTEGER NOT NULL, person INTEGER NOT NULL, role INTEGER NOT NULL);
@@ -33,26 +35,34 @@ def _table(count: str, *columns: str) -> str:
     return f"SELECT {', '.join([first + ' AS k', *others])} FROM generate_series(0, {count} * {{s}} - 1) AS i"
 
 
-MADE = Made(SCHEMA, {
-    "title": _table("20000", "i::integer", _few("6", 2, 1), "2024 - (i / (200 * {s}))::integer", _few("500 * {s}", 3, 2)),
-    "person": _table("20000", "i::integer", _few("40", 3, 3), "2005 - (i % 80)::integer"),
-    "studio": _table("500", "i::integer", _few("20", 2, 4)),
-    "casting": _table("100000", _few("20000 * {s}", 2.5, 5), _few("20000 * {s}", 2, 6), _few("12", 2, 7)),
-    "keyword": _table("40000", _few("20000 * {s}", 2, 8), _few("1000 * {s}", 3, 9)),
-    "rating": _table("60000", _few("20000 * {s}", 1.5, 10), _few("20000 * {s}", 3, 11), _few("10", 0.6, 12)),
-    "award": _table("6000", _few("20000 * {s}", 2.5, 13), _few("20000 * {s}", 2.5, 14), _few("5", 2, 15)),
-})
+MADE = Made(
+    SCHEMA,
+    {
+        "title": _table(
+            "20000", "i::integer", _few("6", 2, 1), "2024 - (i / (200 * {s}))::integer", _few("500 * {s}", 3, 2)
+        ),
+        "person": _table("20000", "i::integer", _few("40", 3, 3), "2005 - (i % 80)::integer"),
+        "studio": _table("500", "i::integer", _few("20", 2, 4)),
+        "casting": _table("100000", _few("20000 * {s}", 2.5, 5), _few("20000 * {s}", 2, 6), _few("12", 2, 7)),
+        "keyword": _table("40000", _few("20000 * {s}", 2, 8), _few("1000 * {s}", 3, 9)),
+        "rating": _table("60000", _few("20000 * {s}", 1.5, 10), _few("20000 * {s}", 3, 11), _few("10", 0.6, 12)),
+        "award": _table("6000", _few("20000 * {s}", 2.5, 13), _few("20000 * {s}", 2.5, 14), _few("5", 2, 15)),
+    },
+)
 
 # What is joined with what: a table and its column, on both sides.
 EDGES = [
     ("casting", "title", "title", "id"), ("casting", "person", "person", "id"), ("keyword", "title", "title", "id"),
     ("rating", "title", "title", "id"), ("rating", "person", "person", "id"), ("award", "person", "person", "id"),
     ("award", "title", "title", "id"), ("title", "studio", "studio", "id"), ("casting", "title", "keyword", "title"),
-    ("casting", "title", "award", "title"), ("casting", "person", "award", "person"), ("keyword", "title", "award", "title"),
+    ("casting", "title", "award", "title"), ("casting", "person", "award", "person"),
+    ("keyword", "title", "award", "title"),
 ]
 CONDITIONS = {
     "title": ("{a}.year BETWEEN {year} AND {year} + {few}", "{a}.kind = {small}", "{a}.year >= {late}"),
-    "person": ("{a}.country = {small}", "{a}.born < {year} - 60 AND {a}.country < 9", "{a}.born BETWEEN 1970 AND 1970 + {few}"),
+    "person": (
+        "{a}.country = {small}", "{a}.born < {year} - 60 AND {a}.country < 9", "{a}.born BETWEEN 1970 AND 1970 + {few}",
+    ),
     "studio": ("{a}.country = {small}", "{a}.country BETWEEN {few} AND {few} + 4"),
     "casting": ("{a}.role = {small}", "{a}.role IN ({small}, {few})"),
     "keyword": ("{a}.word = {few}", "{a}.word BETWEEN {small} AND {small} + 3"),

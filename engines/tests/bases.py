@@ -9,6 +9,7 @@ import tempfile
 import unittest
 from collections import Counter
 from pathlib import Path
+from typing import Callable
 
 from safebound_sql.command import opened
 from safebound_sql.levels import MOST_BUDGET
@@ -17,10 +18,17 @@ from safebound_sql.planner import Planner
 ROOT = Path(__file__).resolve().parents[2]
 POSTGRES = os.environ.get("SAFEBOUND_SQL_POSTGRES")
 CLUSTER = os.environ.get("SAFEBOUND_SQL_CLUSTER")
+# The database of this process. What all databases of a server share, as roles and names of databases, is called after
+# it.
+DATABASE = os.environ.get("SAFEBOUND_SQL_DATABASE", "postgres")
+GATE = bool(os.environ.get("SAFEBOUND_SQL_GATE"))
+# What tests count, for the end of a run.
+COUNTED: Counter[str] = Counter()
 
 
 class SqliteBase:
-    """A file in a temporary folder. It keeps a log for writers beside readers, so that a snapshot can be told from none."""
+    """A file in a temporary folder. It keeps a log for writers beside readers, so that a snapshot can be told from
+    none."""
 
     engine = "sqlite"
 
@@ -83,7 +91,7 @@ class ClusterBase:
     def __init__(self) -> None:
         from cluster import Cluster
 
-        self.cluster, self.alone = Cluster(CLUSTER), PostgresBase()
+        self.cluster, self.alone = Cluster(CLUSTER, DATABASE), PostgresBase()
         for server in self.cluster.all:
             self.on(server, "DROP SCHEMA public CASCADE; CREATE SCHEMA public")
         self.url = self.cluster.url
@@ -120,6 +128,8 @@ class OnEachEngine(unittest.TestCase):
 
     base_class: type = SqliteBase
     schema = ""
+    # Whether each test may run in a process of its own, beside the others.
+    apart = False
 
     @classmethod
     def setUpClass(cls) -> None:
@@ -170,8 +180,13 @@ def on_postgres(test: type[OnEachEngine]) -> type[OnEachEngine]:
 def on_cluster(test: type[OnEachEngine]) -> type[OnEachEngine]:
     """The same tests on the cluster, passed over where there is none."""
     return unittest.skipUnless(CLUSTER, "no cluster")(
-        type(test.__name__ + "OnCluster", (test,), {"base_class": ClusterBase, "__module__": test.__module__})
+        type(test.__name__ + "OnCluster", (test,), {"base_class": ClusterBase, "__module__": "test_cluster"})
     )
+
+
+def in_full(test: Callable[..., None]) -> Callable[..., None]:
+    """A test that `engines/test --gate` leaves out."""
+    return unittest.skipIf(GATE, "not in the gate")(test)
 
 
 def example(name: str) -> tuple[str, str, dict[str, list[tuple]]]:

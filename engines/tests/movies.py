@@ -12,13 +12,17 @@ CREATE TABLE company_name (id INTEGER PRIMARY KEY, name TEXT NOT NULL, country_c
 CREATE TABLE keyword (id INTEGER PRIMARY KEY, keyword TEXT NOT NULL);
 CREATE TABLE name (id INTEGER PRIMARY KEY, name TEXT NOT NULL, gender VARCHAR(1));
 CREATE TABLE title (id INTEGER PRIMARY KEY, title TEXT NOT NULL, kind_id INTEGER NOT NULL, production_year INTEGER);
-CREATE TABLE movie_companies (movie_id INTEGER NOT NULL, company_id INTEGER NOT NULL, company_type_id INTEGER NOT NULL, note TEXT);
+CREATE TABLE movie_companies (movie_id INTEGER NOT NULL, company_id INTEGER NOT NULL, company_type_id INTEGER NOT
+    NULL, note TEXT);
 CREATE TABLE movie_info_idx (movie_id INTEGER NOT NULL, info_type_id INTEGER NOT NULL, info TEXT NOT NULL);
 CREATE TABLE movie_keyword (movie_id INTEGER NOT NULL, keyword_id INTEGER NOT NULL);
 CREATE TABLE cast_info (movie_id INTEGER NOT NULL, person_id INTEGER NOT NULL, note TEXT);
 """
 
-NOTES = (None, "(co-production)", "(presents)", "(as Metro-Goldwyn-Mayer Pictures)", "(2006) (USA) (TV)", "(2013) (worldwide)")
+NOTES = (
+    None,
+    "(co-production)", "(presents)", "(as Metro-Goldwyn-Mayer Pictures)", "(2006) (USA) (TV)", "(2013) (worldwide)",
+)
 
 QUERIES = {
     "five tables": """
@@ -31,7 +35,8 @@ WHERE ct.kind = 'production companies' AND it.info = 'top 250 rank'
   AND mc.movie_id = mi_idx.movie_id AND it.id = mi_idx.info_type_id""",
     "six tables": """
 SELECT MIN(n.name) AS member_in_charnamed_movie, MIN(t.title)
-FROM cast_info AS ci, company_name AS cn, keyword AS k, movie_companies AS mc, movie_keyword AS mk, name AS n, title AS t
+FROM cast_info AS ci, company_name AS cn, keyword AS k, movie_companies AS mc, movie_keyword AS mk, name AS n, title
+    AS t
 WHERE cn.country_code = '[us]' AND k.keyword = 'character-name-in-title' AND n.name LIKE 'B%'
   AND n.id = ci.person_id AND ci.movie_id = t.id AND t.id = mk.movie_id AND mk.keyword_id = k.id
   AND t.id = mc.movie_id AND mc.company_id = cn.id AND ci.movie_id = mc.movie_id
@@ -58,7 +63,9 @@ def rows() -> dict[str, list[tuple]]:
         "kind_type": [(1, "movie"), (2, "tv series"), (3, "episode")],
         "info_type": [(1, "rating"), (2, "votes"), (3, "top 250 rank")],
         "company_type": [(1, "distributors"), (2, "production companies")],
-        "company_name": [(n, f"Company {n}", chosen.choice(("[us]", "[us]", "[de]", "[gb]", None))) for n in range(1, 61)],
+        "company_name": [
+            (n, f"Company {n}", chosen.choice(("[us]", "[us]", "[de]", "[gb]", None))) for n in range(1, 61)
+        ],
         "keyword": [(n, chosen.choice(("murder", "character-name-in-title", "love", "sequel"))) for n in range(1, 41)],
         "name": [(n, chosen.choice("ABCDE") + f"name {n}", chosen.choice(("m", "f", None))) for n in range(1, 201)],
         "title": [(n, f"Title {n}", few(3), chosen.choice((None, *range(1980, 2015)))) for n in range(1, 301)],

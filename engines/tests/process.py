@@ -16,4 +16,4 @@ class Process:
 
     def tried(self, command: str, *words: str, text: str = "", db: str | None = None) -> subprocess.CompletedProcess:
         line = [PROGRAM, command, "--db", self.base.url if db is None else db, *words, "-"]
-        return subprocess.run(line, input=text, text=True, capture_output=True, timeout=120)
+        return subprocess.run(line, input=text, text=True, capture_output=True, timeout=600)

@@ -1,16 +1,20 @@
-"""Random queries whose outputs are called like columns, over USING, with ORDER BY: what stands above the join has to mean what it meant."""
+"""Random queries whose outputs are called like columns, over USING, with ORDER BY: what stands above the join has to
+mean what it meant."""
 
 from __future__ import annotations
 
 import random
+import re
 from decimal import Decimal
 
 TABLES = 3
 SHARED = ("id", "k", "w")
 TYPES_OF_ID = {
     "sqlite": ("INTEGER", "INTEGER", "REAL", "NUMERIC"),
-    "postgres": ("INTEGER", "INTEGER", "BIGINT", "NUMERIC"),
+    "postgres": ("INTEGER", "INTEGER", "BIGINT", "NUMERIC", "NUMERIC(7, 1)"),
 }
+# Of two of these types PostgreSQL converts the one before to the one behind, and both to NUMERIC.
+WIDER = ("INTEGER", "BIGINT", "NUMERIC(7, 1)", "NUMERIC")
 
 
 class RandomNames:
@@ -23,12 +27,16 @@ class RandomNames:
     def schema(self) -> str:
         choose = self.random.choice
         return "\n".join(
-            f"DROP TABLE IF EXISTS u{n}; CREATE TABLE u{n} (id {choose(TYPES_OF_ID[self.engine])}, k INTEGER, w TEXT, v{n} INTEGER, name{n} TEXT);"
+            f"DROP TABLE IF EXISTS u{n}; CREATE TABLE u{n} (id {choose(TYPES_OF_ID[self.engine])}, k INTEGER, w TEXT,"
+            f" v{n} INTEGER, name{n} TEXT);"
             for n in range(TABLES)
         )
 
     def rows(self) -> list[tuple]:
-        return [tuple(self._value(name) for name in ("id", "k", "w", "v", "name")) for _ in range(self.random.choice((4, 8, 14)))]
+        return [
+            tuple(self._value(name) for name in ("id", "k", "w", "v", "name"))
+            for _ in range(self.random.choice((4, 8, 14)))
+        ]
 
     def _value(self, name: str):
         if self.random.random() < 0.1:
@@ -56,9 +64,27 @@ class RandomNames:
         where = f" WHERE {' AND '.join(conditions)}" if conditions else ""
         return choose((self._plain, self._plain, self._grouped))(sources, where)
 
+    def converts_both(self, schema: str) -> bool:
+        """Whether USING merges two columns into one that is neither of them: a whole number with one of a digit
+        behind the point."""
+        if self.engine == "sqlite" or "id" not in self.merged:
+            return False
+        types = re.findall(r"\(id (.*?), k", schema)
+        merged, *others = [types[table] for _, table in self.entries]
+        for other in others:
+            if merged in ("INTEGER", "BIGINT") and other == "NUMERIC(7, 1)":
+                return True
+            merged = max(merged, other, key=WIDER.index)
+        return False
+
     def _condition(self) -> str:
         left, right = self._operand(), self._operand()
-        return self.random.choice((f"{left} IS NOT NULL", f"coalesce(CAST({left} AS TEXT), '') <= coalesce(CAST({right} AS TEXT), 'b')", f"{left} = {left}"))
+        return self.random.choice(
+            (
+                f"{left} IS NOT NULL", f"coalesce(CAST({left} AS TEXT), '') <= coalesce(CAST({right} AS TEXT), 'b')",
+                f"{left} = {left}",
+            )
+        )
 
     def _operand(self) -> str:
         """A column: a merged one without a table, another one with its entry."""
@@ -71,11 +97,15 @@ class RandomNames:
     def _aliases(self, count: int) -> list[str]:
         """Names of columns for outputs."""
         table = self.entries[0][1]
-        return self.random.sample([*SHARED, f"v{table}", f"name{table}", "other", "offset" if self.engine == "sqlite" else "total"], count)
+        return self.random.sample(
+            [*SHARED, f"v{table}", f"name{table}", "other", "offset" if self.engine == "sqlite" else "total"], count
+        )
 
     def _output(self) -> str:
         operand = self._operand()
-        return self.random.choice((operand, f"coalesce(CAST({operand} AS TEXT), '-')", f"CASE WHEN {operand} IS NULL THEN 1 ELSE 2 END"))
+        return self.random.choice(
+            (operand, f"coalesce(CAST({operand} AS TEXT), '-')", f"CASE WHEN {operand} IS NULL THEN 1 ELSE 2 END")
+        )
 
     def _named(self, text: str, alias: str) -> str:
         return f"{text} {alias}" if self.random.random() < 0.3 and alias != "offset" else f"{text} AS {alias}"
@@ -89,15 +119,26 @@ class RandomNames:
     def _grouped(self, sources: str, where: str) -> str:
         aliases = self._aliases(3)
         by = self._output()
-        outputs = ", ".join((self._named(by, aliases[0]), self._named("count(*)", aliases[1]), self._named(f"max({self._operand()})", aliases[2])))
+        outputs = ", ".join(
+            (
+                self._named(by, aliases[0]), self._named("count(*)", aliases[1]),
+                self._named(f"max({self._operand()})", aliases[2]),
+            )
+        )
         having = self.random.choice(("", f" HAVING count({self._operand()}) > 0"))
-        return f"SELECT {outputs} FROM {sources}{where} GROUP BY {by}{having} ORDER BY {self._order(aliases)}{self._limit()}"
+        return (
+            f"SELECT {outputs} FROM {sources}{where} GROUP BY {by}{having} ORDER BY"
+            f" {self._order(aliases)}{self._limit()}"
+        )
 
     def _order(self, aliases: list[str]) -> str:
         """All outputs, by their names or numbers."""
         places = list(range(len(aliases)))
         self.random.shuffle(places)
-        return ", ".join(f"{self.random.choice((aliases[at], aliases[at], at + 1))}{self.random.choice(('', ' DESC'))}" for at in places)
+        return ", ".join(
+            f"{self.random.choice((aliases[at], aliases[at], at + 1))}{self.random.choice(('', ' DESC'))}"
+            for at in places
+        )
 
     def _limit(self) -> str:
         return self.random.choice(("", "", " LIMIT 3", " LIMIT 5 OFFSET 1"))

@@ -3,27 +3,47 @@
 from __future__ import annotations
 
 import datetime
+import os
 import random
 from dataclasses import dataclass, field
 from decimal import Decimal
+from typing import Callable
+
+QUERIES = int(os.environ.get("SAFEBOUND_SQL_QUERIES", "20"))
+NAMED = int(os.environ.get("SAFEBOUND_SQL_OUTPUTS", "20"))
+SEED = int(os.environ.get("SAFEBOUND_SQL_SEED", "1"))
 
 TABLES = 4
 TYPES = {"k": "INTEGER", "m": "BIGINT", "w": "TEXT", "v": "VARCHAR(9)", "d": "DATE", "n": "NUMERIC(6, 2)"}
 OWN = (
-    "{k} < {c}", "{k} BETWEEN 1 AND {c}", "{k} IN (0, {c}, 3)", "{w} LIKE 'a%'", "{w} IS NOT NULL", "{k} IS NULL", "{v} <> 'b'",
-    "NOT ({k} = 1 OR {m} > {c})", "({k} = {c} OR {w} = 'a')", "{d} >= '2020-01-03'", "{n} > 1.25", "lower({w}) = 'a'",
-    "{k} IN (SELECT m0 FROM t0 WHERE m0 > 1)", "coalesce({k}, 0) <> {c}", "CASE WHEN {m} IS NULL THEN 0 ELSE 1 END = 1",
-    "{k} <= {m}", "{k} = {m} AND {w} = {w}", "{m} = (SELECT min(m1) FROM t1)",
+    "{k} < {c}", "{k} BETWEEN 1 AND {c}", "{k} IN (0, {c}, 3)", "{w} LIKE 'a%'", "{w} IS NOT NULL", "{k} IS NULL",
+    "{v} <> 'b'", "NOT ({k} = 1 OR {m} > {c})", "({k} = {c} OR {w} = 'a')", "{d} >= '2020-01-03'", "{n} > 1.25",
+    "lower({w}) = 'a'", "{k} IN (SELECT m0 FROM t0 WHERE m0 > 1)", "coalesce({k}, 0) <> {c}",
+    "CASE WHEN {m} IS NULL THEN 0 ELSE 1 END = 1", "{k} <= {m}", "{k} = {m} AND {w} = {w}",
+    "{m} = (SELECT min(m1) FROM t1)",
 )
 CROSS = (
     "{k} < {K}", "({k} = {K} OR {m} = {M})", "{k} + {M} > {c}", "{w} <> {W}", "NOT {k} = {K}", "{k} = {K} + 1",
-    "{k} BETWEEN {K} AND {M}", "({w} = {W}) IS NOT NULL", "({k} = 1 OR {K} = 2 AND {W} = 'a')",
-    "{k} = {M}", "({k} = {n} AND {K} >= 0 OR {W} = 'a')",
+    "{k} BETWEEN {K} AND {M}", "({w} = {W}) IS NOT NULL", "({k} = 1 OR {K} = 2 AND {W} = 'a')", "{k} = {M}",
+    "({k} = {n} AND {K} >= 0 OR {W} = 'a')",
 )
 OUTPUTS = (
     "{k}, {W}", "*", "count(*)", "DISTINCT {k}, {K}", "min({w}), max({M}), count({d})", "{a}.*, {N}",
     "{w} AS word, {n} * 2 AS twice, {D}",
 )
+
+
+def in_tens(queries: int) -> Callable[[type], type]:
+    """A test of a class for each ten random queries, which share their tables: its `ask` gets their numbers."""
+
+    def with_tests(test: type) -> type:
+        for begin in range(SEED, SEED + queries, 10):
+            numbers = range(begin, min(begin + 10, SEED + queries))
+            setattr(test, f"test_queries_from_{begin:05}", lambda self, numbers=numbers: self.ask(numbers))
+        test.apart = True
+        return test
+
+    return with_tests
 
 
 @dataclass
@@ -67,7 +87,7 @@ class Randomly:
         if name in "km":
             return skewed
         if name in "wv":
-            return self.random.choice(("a", "A", "b", "1", "01", "c d", "e'f"))[: 9] if skewed > 1 else "a"
+            return self.random.choice(("a", "A", "b", "1", "01", "c d", "e'f"))[:9] if skewed > 1 else "a"
         if name == "d":
             day = datetime.date(2020, 1, 1) + datetime.timedelta(skewed)
             return str(day) if self.sqlite else day
@@ -116,7 +136,9 @@ class Randomly:
 
     def _write(self, found: RandomQuery) -> None:
         count = len(found.entries)
-        outputs = self._filled(found, self.random.choice(OUTPUTS), self.random.randrange(count), self.random.randrange(count))
+        outputs = self._filled(
+            found, self.random.choice(OUTPUTS), self.random.randrange(count), self.random.randrange(count)
+        )
         left, seen = list(found.conditions), {found.entries[0][0]}
         sources = f"t{found.entries[0][1]} AS {found.entries[0][0]}"
         for alias, table in found.entries[1:]:

@@ -1,4 +1,5 @@
-"""Queries of several blocks and outer joins: each block's levels have no more rows than their bounds, and the rows are the query's."""
+"""Queries of several blocks and outer joins: each block's levels have no more rows than their bounds, and the rows
+are the query's."""
 
 from __future__ import annotations
 
@@ -46,6 +47,7 @@ class Blocks(InBlocks):
     CREATE TABLE b (x INTEGER, y INTEGER, z INTEGER);
     CREATE TABLE c (y INTEGER, w INTEGER);
     CREATE TABLE k (x INTEGER PRIMARY KEY);
+    CREATE TABLE v (x INTEGER);
     """
 
     @classmethod
@@ -54,6 +56,7 @@ class Blocks(InBlocks):
         cls.base.fill("b", [(n % 5, n % 4, n) for n in range(20)])
         cls.base.fill("c", [(n % 3, n) for n in range(12)])
         cls.base.fill("k", [(n,) for n in range(3)])
+        cls.base.fill("v", [(None,)] * 5)
 
     def bounds(self, text: str, *bounds: list[int]) -> None:
         """The bounds of the blocks' levels, the inner blocks first, as they are counted by hand."""
@@ -61,7 +64,9 @@ class Blocks(InBlocks):
             planner = self.tried_in_blocks(text)
             self.assertEqual(planner.unbounded, [])
             if bounds:
-                self.assertEqual([[level.bound for level in plan.levels] for plan in planner.plans.values()], list(bounds))
+                self.assertEqual(
+                    [[level.bound for level in plan.levels] for plan in planner.plans.values()], list(bounds)
+                )
 
     def test_outer_joins(self) -> None:
         # k joins at most 12 rows of b, since three values stand in four rows each; beside them are the 3 of k.
@@ -69,8 +74,13 @@ class Blocks(InBlocks):
         self.bounds("SELECT k.x, b.z FROM k LEFT JOIN b ON k.x = b.x AND b.z < 5", [3, 6])
         self.bounds("SELECT k.x, b.z FROM b RIGHT JOIN k ON k.x = b.x", [20, 15])
         self.bounds("SELECT k.x, b.z FROM k FULL JOIN b ON k.x = b.x", [3, 35])
+        # No row of v has a value.
+        self.bounds("SELECT k.x FROM k LEFT JOIN v ON k.x = v.x", [3, 3])
         for text in (
-            "SELECT a.p, b.z, c.w FROM a LEFT JOIN b ON a.x = b.x AND b.z > 4 LEFT JOIN c ON c.y = b.y WHERE a.p > 3 AND b.z IS NULL OR c.w = 1",
+            (
+                "SELECT a.p, b.z, c.w FROM a LEFT JOIN b ON a.x = b.x AND b.z > 4 LEFT JOIN c ON c.y = b.y WHERE a.p >"
+                " 3 AND b.z IS NULL OR c.w = 1"
+            ),
             "SELECT a.p, b.z FROM a LEFT JOIN b ON a.x = b.x WHERE b.z IS NULL AND a.t = 't1'",
             "SELECT a.p, b.z FROM a FULL JOIN b ON a.x = b.x AND a.p > 4 WHERE b.z IS NULL OR b.z > 3",
             "SELECT a.p, b.z, c.w FROM a RIGHT JOIN b ON a.x = b.x JOIN c ON c.y = b.y",
@@ -81,16 +91,28 @@ class Blocks(InBlocks):
             "SELECT a.p, b.z, k.x FROM a JOIN b ON a.x = b.x AND a.p > 12 AND 1 < 2 RIGHT JOIN k ON k.x = a.x",
             "SELECT a.p, b.z, k.x FROM a JOIN b ON 1 = 0 RIGHT JOIN k ON k.x = a.x WHERE k.x > 0",
             "SELECT a.p, b.z, k.x FROM (a LEFT JOIN b ON a.x = b.x) FULL JOIN k ON k.x = a.x AND b.z > 3",
-            "SELECT a.p, b.z, k.x FROM a CROSS JOIN b FULL JOIN k ON k.x = a.x AND b.z = a.p WHERE a.p IS NULL OR b.x = 1",
+            (
+                "SELECT a.p, b.z, k.x FROM a CROSS JOIN b FULL JOIN k ON k.x = a.x AND b.z = a.p WHERE a.p IS NULL OR"
+                " b.x = 1"
+            ),
         ):
             self.bounds(text)
 
     def test_queries_in_from_and_with(self) -> None:
         for text in (
-            "WITH q AS (SELECT x, count(*) AS n FROM b, c WHERE b.y = c.y GROUP BY x) SELECT a.p, q.n FROM a, q WHERE a.x = q.x",
-            "WITH q (u, v) AS (SELECT x, y FROM b), r AS (SELECT u FROM q WHERE v > 1) SELECT a.p FROM a JOIN r ON r.u = a.x",
+            (
+                "WITH q AS (SELECT x, count(*) AS n FROM b, c WHERE b.y = c.y GROUP BY x) SELECT a.p, q.n FROM a, q"
+                " WHERE a.x = q.x"
+            ),
+            (
+                "WITH q (u, v) AS (SELECT x, y FROM b), r AS (SELECT u FROM q WHERE v > 1) SELECT a.p FROM a JOIN r ON"
+                " r.u = a.x"
+            ),
             "SELECT s.m, a.t FROM (SELECT b.x, max(z) AS m FROM b GROUP BY b.x) AS s JOIN a ON a.x = s.x ORDER BY 1, 2",
-            "SELECT s.p FROM (SELECT a.p, b.z FROM a LEFT JOIN b ON a.x = b.x) AS s, (SELECT max(w) AS w FROM c) AS m WHERE s.z < m.w",
+            (
+                "SELECT s.p FROM (SELECT a.p, b.z FROM a LEFT JOIN b ON a.x = b.x) AS s, (SELECT max(w) AS w FROM c) AS"
+                " m WHERE s.z < m.w"
+            ),
             "SELECT s.x FROM (SELECT x FROM a UNION SELECT y FROM b LIMIT 100) AS s LEFT JOIN k ON k.x = s.x",
             "SELECT count(*) FROM (SELECT DISTINCT x FROM b) AS s, k WHERE s.x = k.x",
         ):
@@ -104,14 +126,37 @@ class Blocks(InBlocks):
         self.bounds("SELECT s.n, k.x FROM (SELECT count(*) AS n FROM b, c WHERE b.y = c.y) AS s, k", [12, 60], [1, 3])
 
     def test_what_isnt_read(self) -> None:
+        postgres = self.base.engine == "postgres"
+        without_alias = "subquery in FROM must have an alias" if postgres else "a query in FROM needs an alias"
         for text, words in (
-            ("SELECT a.p FROM a, (SELECT b.x FROM b LEFT JOIN (c LEFT JOIN k ON k.x = c.y) ON b.y = c.y) AS s", "in parentheses"),
-            ("SELECT a.p FROM a JOIN (b LEFT JOIN c ON b.y = c.y) ON a.x = b.x LEFT JOIN k ON k.x = a.x", "in parentheses"),
+            (
+                "SELECT a.p FROM a, (SELECT b.x FROM b LEFT JOIN (c LEFT JOIN k ON k.x = c.y) ON b.y = c.y) AS s",
+                "in parentheses",
+            ),
+            (
+                "SELECT a.p FROM a JOIN (b LEFT JOIN c ON b.y = c.y) ON a.x = b.x LEFT JOIN k ON k.x = a.x",
+                "in parentheses",
+            ),
             ("SELECT a.p FROM a LEFT JOIN b USING (x)", "write out its columns with ON"),
             ("SELECT a.p FROM a LEFT JOIN b ON a.x = b.x, (VALUES (1)) AS v", "only a SELECT"),
+            ("SELECT a.p FROM a LEFT JOIN (b JOIN c ON b.y = c.y) ON a.x = b.x", "aren't bounded on this side"),
+            ("SELECT a.p FROM a LEFT JOIN c ON a.p = c.w, (SELECT x FROM b)", without_alias),
+            ("WITH q AS (VALUES (1)) SELECT a.p FROM a, q", "VALUES at line 1, column 12: a query begins with SELECT"),
         ):
             done = self.tried("plan", text=text)
             self.assertIn(words, done.stdout + done.stderr)
+        if postgres:
+            done = self.tried("plan", text="SELECT s.n FROM (SELECT generate_series(1, p) AS n FROM a) AS s, b")
+            self.assertIn("s at line 1, column 63: its rows aren't bounded", done.stdout + done.stderr)
+            done = self.tried("plan", text="SELECT a.p FROM a, b RIGHT JOIN c ON b.y = c.y")
+            self.assertIn("RIGHT JOIN at line 1, column 22: behind a comma it isn't bounded", done.stdout + done.stderr)
+
+    def test_what_is_for_queries_of_one_block(self) -> None:
+        text = "SELECT k.x FROM k LEFT JOIN b ON k.x = b.x"
+        for words in (["plan", "--tree"], ["plan", "--kept", "/nowhere"], ["counts"], ["export", "/nowhere/at/all"]):
+            done = self.tried(*words, text=text)
+            self.assertEqual((done.returncode, done.stdout), (5, ""), done.stderr)
+            self.assertIn("queries of one block", done.stderr)
 
     def test_together(self) -> None:
         self.bounds("SELECT x FROM k UNION ALL SELECT y FROM c ORDER BY 1", [3], [12])
@@ -133,7 +178,10 @@ class Blocks(InBlocks):
             self.bounds(text)
 
     def test_what_isnt_bounded_is_named(self) -> None:
-        text = "WITH RECURSIVE r (n) AS (SELECT 1 UNION SELECT n + 1 FROM r WHERE n < 5) SELECT r.n FROM r, k WHERE k.x = r.n"
+        text = (
+            "WITH RECURSIVE r (n) AS (SELECT 1 UNION SELECT n + 1 FROM r WHERE n < 5) SELECT r.n FROM r, k WHERE k.x"
+            " = r.n"
+        )
         whole = text + " UNION SELECT a.p FROM a, k WHERE a.x = k.x"
         planner = self.tried_in_blocks(whole)
         self.assertIn("WITH RECURSIVE at line 1, column 6", planner.unbounded[0])
@@ -146,9 +194,11 @@ class Blocks(InBlocks):
         self.assertIn("the query, UNION: at most", done.stdout)
         done = self.tried("run", "--budget", "1000", text=whole)
         self.assertEqual((done.returncode, done.stdout), (5, ""), done.stderr)
+        self.assertIn("refused: not all blocks are bounded: WITH RECURSIVE at line 1, column 6", done.stderr)
 
     def test_bounds_past_all_numbers(self) -> None:
-        """Twelve entries without an equality are too many for any number; a block over such a one isn't bounded either."""
+        """Twelve entries without an equality are too many for any number; a block over such a one isn't bounded
+        either."""
         many = ", ".join(f"b AS b{n}" for n in range(12))
         done = self.tried("plan", text=f"SELECT s.n FROM (SELECT b0.x AS n FROM {many}) AS s, k")
         self.assertIn("not bounded: the query: s at line 1", done.stdout, done.stderr)
@@ -206,22 +256,37 @@ class Archive(InBlocks):
     def fill(cls) -> None:
         cls.base.script((QUERIES_OF_THE_ARCHIVE / "schema.sql").read_text())
         pick = random.Random(3)
-        sections = ("games", "libs", "admin", "editors", "mail", "shells", "xfce", "python", "database", "sound", "fonts")
+        sections = (
+            "games", "libs", "admin", "editors", "mail", "shells", "xfce", "python", "database", "sound", "fonts",
+        )
         names = ["mutt", "python3-a", "python3-b", "libx", "liby", "x-doc"] + [f"p{n}" for n in range(54)]
         teams = ("Debian Games Team", "Debian GNOME Maintainers", "Debian Python Team", "Ada", "Ben")
         paths = ("/", "/usr/bin", "/usr/sbin", "/lib/systemd/system", "/usr/include/a", "/etc/cron.daily")
-        some = lambda: pick.randrange(1, 61)  # noqa: E731
+
+        def some() -> int:
+            return pick.randrange(1, 61)
+
         cls.base.fill("maintainer", list(enumerate(teams, 1)))
-        cls.base.fill("package", [
-            (n, name, f"s{n % 9}", pick.randrange(1, 6), pick.choice(sections), "optional", pick.choice((1000, 200_000, 200_000_000)), pick.randrange(5000))
-            for n, name in enumerate(names, 1)
-        ])
-        cls.base.fill("dependency", [(some(), pick.choice(("Depends", "Recommends", "Breaks")), some()) for _ in range(240)])
+        cls.base.fill(
+            "package",
+            [
+                (
+                    n, name, f"s{n % 9}", pick.randrange(1, 6), pick.choice(sections), "optional",
+                    pick.choice((1000, 200_000, 200_000_000)), pick.randrange(5000),
+                )
+                for n, name in enumerate(names, 1)
+            ],
+        )
+        cls.base.fill(
+            "dependency", [(some(), pick.choice(("Depends", "Recommends", "Breaks")), some()) for _ in range(240)]
+        )
         tags = ("interface::graphical", "interface::x11", "works-with::audio")
         cls.base.fill("tag", [(some(), pick.choice(("protocol", "interface")), pick.choice(tags)) for _ in range(120)])
         cls.base.fill("directory", [(n, path, 1) for n, path in enumerate(paths, 1)])
         ends = (".h", ".service", ".timer", "")
-        cls.base.fill("file", [(some(), pick.randrange(1, 7), pick.choice("abc") + pick.choice(ends)) for _ in range(200)])
+        cls.base.fill(
+            "file", [(some(), pick.randrange(1, 7), pick.choice("abc") + pick.choice(ends)) for _ in range(200)]
+        )
 
     def test_all_queries(self) -> None:
         unbounded = []

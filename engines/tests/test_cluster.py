@@ -11,14 +11,15 @@ from fractions import Fraction
 
 import test_kept
 import test_meaning
-from bases import CLUSTER, ROOT, ClusterBase, OnEachEngine, counted, on_cluster
+from bases import CLUSTER, DATABASE, ROOT, ClusterBase, OnEachEngine, counted, on_cluster
 from process import Process
-from random_queries import Randomly
-from test_random import RandomQueries
+from random_queries import QUERIES, Randomly, RandomQuery, in_tens
+from test_random import AnyQueries
 from safebound_sql.command import opened
 from safebound_sql.counting import Counts, counts_of
 from safebound_sql.kept import Kept
 from safebound_sql.planner import Planner
+from safebound_sql.tokens import tokens
 
 
 class OnCluster(OnEachEngine):
@@ -99,14 +100,17 @@ class TheShop(OnCluster, Process):
 
     def test_no_nested_loops(self) -> None:
         """PostgreSQL takes what is left of a part for one row, whatever it is."""
-        planner, plan = self.planned("""SELECT 1 FROM item_1 i JOIN orders_1 o ON o.id = i.order_id JOIN customer_1 c ON c.id = o.customer
-            JOIN product_1 p ON p.id = i.product WHERE c.region < 5 AND o.dayno < 50 AND p.id > 2""")
+        planner, plan = self.planned(
+            """SELECT 1 FROM item_1 i JOIN orders_1 o ON o.id = i.order_id JOIN customer_1 c ON c.id = o.customer
+            JOIN product_1 p ON p.id = i.product WHERE c.region < 5 AND o.dayno < 50 AND p.id > 2"""
+        )
         planner.engine.keep_order()
         self.assertNotIn("Nested Loop", repr(planner.engine.rows(f"EXPLAIN {planner.sql(plan)}")))
         self.assertIn("SET enable_nestloop = off; SET jit = off;", planner.script(plan))
 
     def test_servers_group_what_isnt_spread_by_the_column(self) -> None:
-        """Of 40,000 items some 2,000 products come from each server, and what is spread by the column is grouped there too."""
+        """Of 40,000 items some 2,000 products come from each server, and what is spread by the column is grouped
+        there too."""
         asked = self.asked("SELECT 1 FROM item i JOIN product p ON p.id = i.product", reduce=False)
         grouped = [fetch for fetch in asked if "GROUP BY" in fetch.asked]
         self.assertEqual(len(grouped), 4)
@@ -114,13 +118,18 @@ class TheShop(OnCluster, Process):
 
     def test_entries_under_no_condition_tell_nothing_at_first(self) -> None:
         """The 20,000 orders of the leaf would come if the way up began with them."""
-        text = "SELECT 1 FROM product p JOIN item i ON i.product = p.id JOIN orders o ON o.id = i.order_id WHERE p.id = 1999"
+        text = (
+            "SELECT 1 FROM product p JOIN item i ON i.product = p.id JOIN orders o ON o.id = i.order_id WHERE p.id ="
+            " 1999"
+        )
         self.same_counts(text)
         self.assertLess(sum(fetch.rows for fetch in self.asked(text)), 1_000)
 
     def test_the_command(self) -> None:
         """It starts, fills, plans, audits, runs, looks what comes, and stops."""
-        done = subprocess.run([ROOT / "engines" / "cluster", "--times", "1/10"], text=True, capture_output=True, timeout=120)
+        done = subprocess.run(
+            [ROOT / "engines" / "cluster", "--times", "1/10"], text=True, capture_output=True, timeout=600
+        )
         self.assertEqual(done.returncode, 0, done.stderr)
         self.assertIn("filling 67,000 rows", done.stdout)
         self.assertIn("the same by both", done.stdout)
@@ -209,16 +218,32 @@ CREATE TABLE b (z INTEGER, x INTEGER, y INTEGER, v VARCHAR(9), t TEXT)"""
         """By range, by list below it, and one part on the coordinator."""
         coordinator = self.base.cluster.coordinator
         self.base.cluster.on_servers("CREATE TABLE deep (z INTEGER, x INTEGER)")
-        self.base.on(coordinator, """
+        self.base.on(
+            coordinator,
+            """
             CREATE TABLE deep (z INTEGER, x INTEGER) PARTITION BY RANGE (z);
             CREATE TABLE deep_1 PARTITION OF deep FOR VALUES FROM (MINVALUE) TO (40) PARTITION BY LIST (x);
-            CREATE FOREIGN TABLE deep_1_1 PARTITION OF deep_1 FOR VALUES IN (0, 1) SERVER server1 OPTIONS (table_name 'deep');
+            CREATE FOREIGN TABLE deep_1_1 PARTITION OF deep_1 FOR VALUES IN (0, 1) SERVER server1 OPTIONS (table_name
+                'deep');
             CREATE FOREIGN TABLE deep_1_2 PARTITION OF deep_1 DEFAULT SERVER server2 OPTIONS (table_name 'deep');
             CREATE TABLE deep_2 PARTITION OF deep DEFAULT;
-            INSERT INTO deep SELECT z, x FROM here""")
+            INSERT INTO deep SELECT z, x FROM here""",
+        )
         self.base.alone.script("CREATE TABLE deep AS SELECT z, x FROM here")
         self.checked("SELECT * FROM deep d JOIN a ON a.x = d.x WHERE a.y < 3")
         self.checked("SELECT * FROM deep d JOIN deep e ON e.z = d.z WHERE d.x = 1")
+
+    def test_a_look_at_a_table_sets_nothing(self) -> None:
+        engine = opened(self.base.url, None)
+        self.addCleanup(engine.close)
+        self.assertEqual(len(engine.table(tokens("b", engine.rules)).spread.parts), 2)
+        self.assertEqual(
+            engine.rows("SELECT current_setting('enable_nestloop'), current_setting('jit')"), [("on", "on")]
+        )
+        engine = self.opened("SELECT 1 FROM a JOIN b ON a.x = b.x").engine
+        self.assertEqual(
+            engine.rows("SELECT current_setting('enable_nestloop'), current_setting('jit')"), [("off", "off")]
+        )
 
     def test_one_part_alone(self) -> None:
         engine = opened(self.base.url, None)
@@ -226,7 +251,9 @@ CREATE TABLE b (z INTEGER, x INTEGER, y INTEGER, v VARCHAR(9), t TEXT)"""
         text = "SELECT 1 FROM b_1 JOIN a ON a.x = b_1.x WHERE b_1.y = 2"
         planner = Planner(engine, text)
         counts = counts_of(planner.query, engine.rows(planner.counting))
-        self.assertEqual(counts.rows["b_1"], engine.rows("SELECT count(*) FROM b_1 WHERE y = 2 AND x IN (SELECT x FROM a)")[0][0])
+        self.assertEqual(
+            counts.rows["b_1"], engine.rows("SELECT count(*) FROM b_1 WHERE y = 2 AND x IN (SELECT x FROM a)")[0][0]
+        )
         self.assertNotIn("IN (SELECT", planner.counting)
 
     def reader(self, *tables: str) -> str:
@@ -234,13 +261,14 @@ CREATE TABLE b (z INTEGER, x INTEGER, y INTEGER, v VARCHAR(9), t TEXT)"""
         coordinator = self.base.cluster.coordinator
         options = self.base.on(coordinator, "SELECT umoptions FROM pg_user_mapping LIMIT 1")[0][0]
         password = next(option.partition("=")[2] for option in options if option.startswith("password="))
-        self.base.on(coordinator, "CREATE ROLE reader LOGIN; GRANT USAGE ON SCHEMA public TO reader")
-        self.addCleanup(self.base.on, coordinator, "DROP OWNED BY reader; DROP ROLE reader")
-        self.base.on(coordinator, f"GRANT SELECT ON {', '.join(tables)} TO reader")
+        reader = f"reader_{DATABASE}"
+        self.base.on(coordinator, f"CREATE ROLE {reader} LOGIN; GRANT USAGE ON SCHEMA public TO {reader}")
+        self.addCleanup(self.base.on, coordinator, f"DROP OWNED BY {reader}; DROP ROLE {reader}")
+        self.base.on(coordinator, f"GRANT SELECT ON {', '.join(tables)} TO {reader}")
         for number in (1, 2):
             mapping = f"OPTIONS (user 'postgres', password '{password}')"
-            self.base.on(coordinator, f"CREATE USER MAPPING FOR reader SERVER server{number} {mapping}")
-        return self.base.url.replace("//postgres@", "//reader@")
+            self.base.on(coordinator, f"CREATE USER MAPPING FOR {reader} SERVER server{number} {mapping}")
+        return self.base.url.replace("//postgres@", f"//{reader}@")
 
     def test_parts_that_may_not_be_read(self) -> None:
         """Whoever may read the table and not its parts gets the same counts, by the rows."""
@@ -250,12 +278,16 @@ CREATE TABLE b (z INTEGER, x INTEGER, y INTEGER, v VARCHAR(9), t TEXT)"""
     def test_policies_of_parts(self) -> None:
         """They hide rows from those who ask a part, and not from those who ask the whole table."""
         coordinator = self.base.cluster.coordinator
-        self.base.on(coordinator, """
+        self.base.on(
+            coordinator,
+            """
             CREATE TABLE mixed (z INTEGER, x INTEGER, y INTEGER, v VARCHAR(9), t TEXT) PARTITION BY HASH (z);
             CREATE TABLE mixed_1 PARTITION OF mixed FOR VALUES WITH (MODULUS 2, REMAINDER 0);
-            CREATE FOREIGN TABLE mixed_2 PARTITION OF mixed FOR VALUES WITH (MODULUS 2, REMAINDER 1) SERVER server2 OPTIONS (table_name 'b');
+            CREATE FOREIGN TABLE mixed_2 PARTITION OF mixed FOR VALUES WITH (MODULUS 2, REMAINDER 1) SERVER server2
+                OPTIONS (table_name 'b');
             INSERT INTO mixed_1 SELECT * FROM b_1;
-            ALTER TABLE mixed_1 ENABLE ROW LEVEL SECURITY""")
+            ALTER TABLE mixed_1 ENABLE ROW LEVEL SECURITY""",
+        )
         self.addCleanup(self.base.on, coordinator, "DROP TABLE mixed")
         text = "SELECT 1 FROM mixed m JOIN mixed n ON n.x = m.x WHERE m.z < 30"
         here = self.counts(text.replace("mixed", "b"), True, self.base.alone.url)
@@ -265,18 +297,14 @@ CREATE TABLE b (z INTEGER, x INTEGER, y INTEGER, v VARCHAR(9), t TEXT)"""
 
 
 @unittest.skipUnless(CLUSTER, "no cluster")
-class RandomQueriesOnCluster(RandomQueries, OnCluster):
+@in_tens(max(10, QUERIES // 4))
+class RandomQueriesOnCluster(AnyQueries, OnCluster):
     """Fewer than on one server."""
 
-    def queries(self) -> int:
-        return max(10, super().queries() // 4)
-
-    def check(self, randomly: Randomly, found) -> bool:
+    def check(self, randomly: Randomly, found: RandomQuery) -> bool:
         self.same_counts(found.text)
         return super().check(randomly, found)
 
-
-del RandomQueries
 
 for test in (test_meaning.Counted, test_meaning.Reduced, test_meaning.Snapshots, test_kept.Taken):
     globals()[test.__name__ + "OnCluster"] = on_cluster(test)

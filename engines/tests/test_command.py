@@ -4,15 +4,18 @@ from __future__ import annotations
 
 import csv
 import hashlib
+import importlib.util
 import io
 import json
 import os
 import pty
+import shutil
 import subprocess
+import sys
 import tempfile
 import unittest
 
-from bases import ROOT, OnEachEngine, on_postgres
+from bases import ROOT, OnEachEngine, in_full, on_postgres
 from process import PROGRAM, Process
 
 CLI = ROOT / "crates" / "safebound_cli" / "out" / "safebound_cli"
@@ -33,7 +36,10 @@ class Commands(OnEachEngine, Process):
     def fill(cls) -> None:
         cls.base.fill("city", [("Lyon", "FR"), ("Paris, capital", "FR"), ("Oslo", "NO")])
         cls.base.fill("guide", [(1, "Ada"), (2, "Ben"), (3, "Cleo")])
-        trips = [("Lyon", 1, 80), ("Lyon", 2, 95), ("Paris, capital", 3, 90), ("Oslo", 1, 20), ("Lyon", 3, 200), (None, 1, 3)]
+        trips = [
+            ("Lyon", 1, 80), ("Lyon", 2, 95), ("Paris, capital", 3, 90), ("Oslo", 1, 20), ("Lyon", 3, 200),
+            (None, 1, 3),
+        ]
         cls.base.fill("trip", trips)
 
     def done(self, command: str, *words: str, text: str | None = None, status: int = 0) -> str:
@@ -45,13 +51,17 @@ class Commands(OnEachEngine, Process):
     def test_plan(self) -> None:
         lines = self.done("plan").splitlines()
         self.assertEqual(lines[0].split()[:5], ["level", "joined", "of", "scan", "bound"])
-        self.assertEqual([line.split()[:5] for line in lines[1:4]], [
-            ["1", "city", "city", "2", "2"], ["2", "t", "trip", "3", "3"], ["3", "g", "guide", "3", "3"],
-        ])
+        self.assertEqual(
+            [line.split()[:5] for line in lines[1:4]],
+            [["1", "city", "city", "2", "2"], ["2", "t", "trip", "3", "3"], ["3", "g", "guide", "3", "3"]],
+        )
         self.assertEqual(lines[4:], ["budget 3 would do"])
         self.assertEqual("PostgreSQL expects" in lines[0], self.base.engine == "postgres")
         lines = self.done("plan", "--tree").splitlines()
-        self.assertEqual([line.split()[:5] for line in lines[1:3]], [["1", "(t)", "with", "(g)", "3"], ["2", "(city)", "with", "(t,", "g)"]])
+        self.assertEqual(
+            [line.split()[:5] for line in lines[1:3]],
+            [["1", "(t)", "with", "(g)", "3"], ["2", "(city)", "with", "(t,", "g)"]],
+        )
         self.assertEqual(lines[3:], ["scans: city 2, t 3, g 3", "budget 3 would do"])
 
     def test_plan_for_programs(self) -> None:
@@ -93,14 +103,18 @@ class Commands(OnEachEngine, Process):
         told = self.done("run", "--budget", "2", status=8)
         why = "2 rows are too few: the best plan has a part of at most 3 rows, so 3 would do"
         self.assertEqual(told, f"safebound-sql: budget: {why}\n")
-        self.assertEqual(self.done("plan", text=self.text.replace("JOIN", "NATURAL JOIN"), status=5),
-                         "safebound-sql: refused: NATURAL JOIN at line 1, column 62: write out its columns with USING\n")
+        self.assertEqual(
+            self.done("plan", text=self.text.replace("JOIN", "NATURAL JOIN"), status=5),
+            "safebound-sql: refused: NATURAL JOIN at line 1, column 62: write out its columns with USING\n",
+        )
         self.assertIn("budget", self.done("run", status=2))
         self.assertIn("--accuracy", self.done("plan", "--accuracy", "65", status=2))
         self.assertIn("engine", self.done("plan", text=self.text.replace("price", "prize"), status=12))
 
     def test_databases_that_arent_there(self) -> None:
-        for db, status in (("sqlite:/nowhere/at/all.db", 12), ("postgresql://nobody@/none?host=/nowhere", 12), ("mysql:x", 2)):
+        for db, status in (
+            ("sqlite:/nowhere/at/all.db", 12), ("postgresql://nobody@/none?host=/nowhere", 12), ("mysql:x", 2),
+        ):
             ended = self.tried("plan", text=self.text, db=db)
             self.assertEqual((ended.returncode, ended.stdout), (status, ""), ended.stderr)
             self.assertEqual(len(ended.stderr.splitlines()), 1)
@@ -118,7 +132,9 @@ class Commands(OnEachEngine, Process):
             self.assertEqual(self.done("plan", "--counts", file), self.done("plan"))
             with open(file) as out:
                 lines = out.readlines()
-            for wrong in (lines[1:], lines[:-1], lines + lines[-1:], lines[:1], lines + ["z,y,1,1\n"], lines + ["t,city,-1,1\n"]):
+            for wrong in (
+                lines[1:], lines[:-1], lines + lines[-1:], lines[:1], lines + ["z,y,1,1\n"], lines + ["t,city,-1,1\n"],
+            ):
                 with open(file, "w") as out:
                     out.writelines(wrong)
                 self.done("plan", "--counts", file, status=6)
@@ -159,7 +175,7 @@ class Commands(OnEachEngine, Process):
         ours, theirs = pty.openpty()
         line = [PROGRAM, "plan", "--db", self.base.url, "-"]
         running = subprocess.Popen(line, stdin=subprocess.PIPE, stdout=subprocess.DEVNULL, stderr=theirs)
-        running.communicate(self.text.encode(), timeout=60)
+        running.communicate(self.text.encode(), timeout=600)
         os.close(theirs)
         seen = b""
         try:
@@ -182,20 +198,59 @@ class Commands(OnEachEngine, Process):
                 self.assertIn(f"CREATE TABLE TRIP ({declared})", file.read())
             self.assertIn("isn't empty", self.done("export", folder, status=3))
             if CLI.exists():
-                rows = subprocess.run([CLI, "run", "schema.sql", "query.sql"], cwd=folder, capture_output=True, text=True)
+                rows = subprocess.run(
+                    [CLI, "run", "schema.sql", "query.sql"], cwd=folder, capture_output=True, text=True
+                )
                 self.assertEqual(rows.returncode, 0, rows.stderr)
-                self.assertEqual(sorted(rows.stdout.splitlines()[1:]), sorted(self.done("run", "--budget", "9").splitlines()[1:]))
+                self.assertEqual(
+                    sorted(rows.stdout.splitlines()[1:]), sorted(self.done("run", "--budget", "9").splitlines()[1:])
+                )
 
     def test_what_isnt_exported(self) -> None:
+        if self.base.engine == "postgres":
+            self.base.script(
+                'CREATE TABLE "o-d" ("a" INTEGER, "A" INTEGER); CREATE TABLE cased ("a" INTEGER, "A" INTEGER)'
+            )
+        else:
+            self.base.script('CREATE TABLE "o-d" (a INTEGER); CREATE TABLE twice (price REAL)')
         with tempfile.TemporaryDirectory() as folder:
             for text, words in (
                 (self.text + "ORDER BY 1", "ORDER at line 3, column 1"),
                 ("SELECT count(*) FROM trip", "count at line 1, column 8"),
                 ("SELECT guide FROM trip WHERE city LIKE 'L%'", "LIKE at line 1, column 35"),
                 ("SELECT city FROM trip", "safebound_cli has no NULL"),
+                (
+                    'SELECT q."a", q."A" FROM "o-d" q' if self.base.engine == "postgres" else 'SELECT a FROM "o-d"',
+                    "a file can't be named so",
+                ),
+                (
+                    ("SELECT cased.\"a\", cased.\"A\" FROM cased", "upper and lower case alone")
+                    if self.base.engine == "postgres"
+                    else ("SELECT price FROM twice", "TWICE.price: safebound_cli has no REAL")
+                ),
             ):
                 with self.subTest(text):
                     self.assertIn(words, self.done("export", os.path.join(folder, "new"), text=text, status=5))
+
+
+class Installed(unittest.TestCase):
+    """pip lays the package and its command, which are those of the tree."""
+
+    @in_full
+    @unittest.skipUnless(all(map(importlib.util.find_spec, ("setuptools", "pip"))), "no pip or no setuptools")
+    def test_by_pip(self) -> None:
+        with tempfile.TemporaryDirectory() as folder:
+            for part in ("engines", "python"):
+                shutil.copytree(ROOT / part, f"{folder}/{part}", ignore=shutil.ignore_patterns("tests", "__pycache__"))
+            words = ["--quiet", "--no-index", "--no-build-isolation", "--no-deps", "--target", f"{folder}/site"]
+            pip = [sys.executable, "-m", "pip", "install", *words, f"{folder}/engines"]
+            done = subprocess.run(pip, capture_output=True, text=True)
+            self.assertEqual(done.returncode, 0, done.stderr)
+            environment = {**os.environ, "PYTHONPATH": f"{folder}/site:{ROOT / 'python'}"}
+            line = [f"{folder}/site/bin/safebound-sql", "plan", "--db", "sqlite:/nowhere/at/all.db", "-"]
+            told = subprocess.run(line, input="SELECT 1", env=environment, cwd=folder, capture_output=True, text=True)
+            self.assertEqual((told.returncode, told.stdout), (12, ""), told.stderr)
+            self.assertEqual(told.stderr, "safebound-sql: engine: there is no file /nowhere/at/all.db\n")
 
 
 CommandsOnPostgres = on_postgres(Commands)

@@ -1,4 +1,5 @@
-"""Corners of SQL where a plan could count other rows than it joins, or hand back another query: each was a wrong answer once."""
+"""Corners of SQL where a plan could count other rows than it joins, or hand back another query: each was a wrong
+answer once."""
 
 from __future__ import annotations
 
@@ -72,9 +73,18 @@ class Names(Corners):
 
     def test_aliases_like_columns_in_trees(self) -> None:
         self.right(
-            "SELECT -a.id AS id, d.e qty FROM a, b, c, d WHERE a.id = b.id AND b.id = c.id AND c.w = d.w ORDER BY id LIMIT 3",
-            "SELECT -qty AS qty2, qty2 AS qty FROM a, b, c, d WHERE a.id = b.id AND b.id = c.id AND c.w = d.w ORDER BY qty2 LIMIT 3",
-            "SELECT max(e) AS e, count(*) FROM a, b, c, d WHERE a.id = b.id AND b.id = c.id AND c.w = d.w GROUP BY qty ORDER BY qty",
+            (
+                "SELECT -a.id AS id, d.e qty FROM a, b, c, d WHERE a.id = b.id AND b.id = c.id AND c.w = d.w ORDER BY"
+                " id LIMIT 3"
+            ),
+            (
+                "SELECT -qty AS qty2, qty2 AS qty FROM a, b, c, d WHERE a.id = b.id AND b.id = c.id AND c.w = d.w ORDER"
+                " BY qty2 LIMIT 3"
+            ),
+            (
+                "SELECT max(e) AS e, count(*) FROM a, b, c, d WHERE a.id = b.id AND b.id = c.id AND c.w = d.w GROUP BY"
+                " qty ORDER BY qty"
+            ),
         )
 
     def test_stars(self) -> None:
@@ -86,7 +96,10 @@ class Names(Corners):
 
     def test_outputs_keep_their_names(self) -> None:
         for text, names in (
-            ("SELECT id, -id AS id2, max(qty) qty FROM a JOIN b USING (id) GROUP BY id ORDER BY 1", ["id", "id2", "qty"]),
+            (
+                "SELECT id, -id AS id2, max(qty) qty FROM a JOIN b USING (id) GROUP BY id ORDER BY 1",
+                ["id", "id2", "qty"],
+            ),
             ("SELECT * FROM a JOIN b USING (id) ORDER BY id", ["id", "qty", "name", "qty2", "t"]),
         ):
             for reduce, tree in WAYS:
@@ -95,7 +108,10 @@ class Names(Corners):
                 planner.engine.close()
 
     def test_what_is_written_above_stays(self) -> None:
-        text = "SELECT -id AS id, max( qty )  FILTER (WHERE qty>1) qty FROM a JOIN b USING (id) GROUP BY id HAVING count(*)>0 ORDER BY id"
+        text = (
+            "SELECT -id AS id, max( qty )  FILTER (WHERE qty>1) qty FROM a JOIN b USING (id) GROUP BY id HAVING"
+            " count(*)>0 ORDER BY id"
+        )
         planner, plan = self.planned(text)
         sql = planner.sql(plan)
         self.assertIn("SELECT -id AS id, max( qty ) FILTER (WHERE qty>1) qty\n", sql)
@@ -111,20 +127,32 @@ class Names(Corners):
 
     def test_names_with_their_schema(self) -> None:
         schema = "public" if self.base.engine == "postgres" else "main"
-        self.right(f"SELECT {schema}.a.qty, {schema}.b.id + 1 AS id FROM a, b WHERE {schema}.a.id = {schema}.b.id ORDER BY {schema}.a.qty")
+        self.right(
+            f"SELECT {schema}.a.qty, {schema}.b.id + 1 AS id FROM a, b WHERE {schema}.a.id = {schema}.b.id ORDER BY"
+            f" {schema}.a.qty"
+        )
 
     def test_names_that_are_words_elsewhere(self) -> None:
-        words = ("offset", "window", "fetch", "limit", "order") if self.base.engine == "sqlite" else ("offset", "window", "fetch", "limit", "order")
-        columns = ", ".join(f'"{word}" INTEGER' for word in words)
-        self.base.script(f"DROP TABLE IF EXISTS odd; CREATE TABLE odd (id INTEGER, {columns}); INSERT INTO odd VALUES (3, 1, 2, 3, 4, 5)")
+        columns = ", ".join(f'"{word}" INTEGER' for word in ("offset", "window", "fetch", "limit", "order"))
+        self.base.script(
+            f"DROP TABLE IF EXISTS odd; CREATE TABLE odd (id INTEGER, {columns}); INSERT INTO odd VALUES (3, 1, 2, 3,"
+            " 4, 5)"
+        )
         self.right(
-            'SELECT o."offset", o."window" AS "limit" FROM odd o, a WHERE o.id = a.id AND o."order" > 1 ORDER BY o."limit"',
+            (
+                'SELECT o."offset", o."window" AS "limit" FROM odd o, a WHERE o.id = a.id AND o."order" > 1 ORDER BY'
+                ' o."limit"'
+            ),
             "SELECT a.qty AS offset, o.id AS window FROM odd o JOIN a ON o.id = a.id ORDER BY 1 LIMIT 2 OFFSET 0",
         )
         if self.base.engine == "sqlite":
-            self.right("SELECT offset, window FROM odd, a WHERE odd.id = a.id AND offset = 1 AND fetch = 3 ORDER BY window")
+            self.right(
+                "SELECT offset, window FROM odd, a WHERE odd.id = a.id AND offset = 1 AND fetch = 3 ORDER BY window"
+            )
         else:
-            self.right("SELECT o.offset, o.window, o.order FROM odd o, a WHERE o.id = a.id AND o.limit = 4 ORDER BY o.fetch")
+            self.right(
+                "SELECT o.offset, o.window, o.order FROM odd o, a WHERE o.id = a.id AND o.limit = 4 ORDER BY o.fetch"
+            )
 
 
 class ViewsThatChoose(Corners):
@@ -157,8 +185,12 @@ class ViewsThatChoose(Corners):
     def test_they_are_refused(self) -> None:
         choosing = ["numbered", "few", "above_some", "framed", "listed"]
         for view in choosing + (["firsts", "arrays"] if self.base.engine == "postgres" else ["bare"]):
-            self.refused(f"SELECT b.z FROM b, {view} WHERE b.x = {view}.x", f"{view} at line 1, column 20", "make a table of it")
-            self.refused(f"SELECT b.z FROM b WHERE b.x IN (SELECT x FROM {view})", f"{view} at line 1", "make a table of it")
+            self.refused(
+                f"SELECT b.z FROM b, {view} WHERE b.x = {view}.x", f"{view} at line 1, column 20", "make a table of it"
+            )
+            self.refused(
+                f"SELECT b.z FROM b WHERE b.x IN (SELECT x FROM {view})", f"{view} at line 1", "make a table of it"
+            )
 
     def test_others_are_taken(self) -> None:
         self.right(
@@ -169,7 +201,9 @@ class ViewsThatChoose(Corners):
             self.right("SELECT b.z, ordered.l FROM b, ordered WHERE b.x = ordered.x ORDER BY 1")
 
     def test_subqueries(self) -> None:
-        self.refused("SELECT z FROM b WHERE x IN (SELECT row_number() OVER (ORDER BY t) FROM a)", "row_number OVER", "subquery")
+        self.refused(
+            "SELECT z FROM b WHERE x IN (SELECT row_number() OVER (ORDER BY t) FROM a)", "row_number OVER", "subquery"
+        )
         if self.base.engine == "postgres":
             self.refused("SELECT z FROM b WHERE z IN (SELECT DISTINCT ON (x) y FROM a)", "DISTINCT ON of a subquery")
         else:
@@ -192,11 +226,9 @@ class CornersOfPostgres(Corners):
 
     def test_using_across_types(self) -> None:
         self.right(
-            "SELECT sum(x / 2) FROM a JOIN b USING (x)",
-            "SELECT sum(x / 2) FROM b JOIN a USING (x)",
+            "SELECT sum(x / 2) FROM a JOIN b USING (x)", "SELECT sum(x / 2) FROM b JOIN a USING (x)",
             "SELECT x, x / 2, n FROM a JOIN b USING (x, n) WHERE x / 2 > 1.2 ORDER BY x",
-            "SELECT n::text FROM a JOIN b USING (n) ORDER BY 1",
-            "SELECT * FROM a JOIN b USING (n) ORDER BY a.x",
+            "SELECT n::text FROM a JOIN b USING (n) ORDER BY 1", "SELECT * FROM a JOIN b USING (n) ORDER BY a.x",
             "SELECT c || '|' FROM a JOIN b USING (c) ORDER BY 1",
             "SELECT length(c::text), pg_typeof(x)::text FROM a JOIN b USING (c, x) WHERE x / 2 <> 1 ORDER BY 1",
         )
@@ -209,47 +241,67 @@ class CornersOfPostgres(Corners):
         self.assertEqual(str(told).count("'Node Type': 'Seq Scan'") + str(told).count("Index"), 3, told)
 
     def test_the_sessions_settings(self) -> None:
-        self.base.script("CREATE OR REPLACE VIEW settings AS SELECT setting::int AS x FROM pg_settings WHERE name = 'join_collapse_limit'")
-        self.base.script("CREATE OR REPLACE FUNCTION hidden() RETURNS text LANGUAGE sql STABLE AS $$ SELECT current_setting('jit') $$")
-        for condition in ("a.y > current_setting('join_collapse_limit')::int", "EXISTS (SELECT 1 FROM pg_settings)", "hidden() = 'on'"):
+        self.base.script(
+            "CREATE OR REPLACE VIEW settings AS SELECT setting::int AS x FROM pg_settings WHERE name ="
+            " 'join_collapse_limit'"
+        )
+        self.base.script(
+            "CREATE OR REPLACE FUNCTION hidden() RETURNS text LANGUAGE sql STABLE AS $$ SELECT"
+            " current_setting('jit') $$"
+        )
+        for condition in (
+            "a.y > current_setting('join_collapse_limit')::int", "EXISTS (SELECT 1 FROM pg_settings)",
+            "hidden() = 'on'",
+        ):
             self.refused(f"SELECT a.x FROM a, e WHERE a.x = e.x AND {condition}", "settings")
         self.refused("SELECT a.x FROM a, settings WHERE a.x = settings.x", "settings at line 1, column 20")
         self.refused("SELECT a.x FROM a, pg_stat_activity WHERE a.x = pid", "pg_stat_activity")
         self.refused("SELECT a.x FROM a, pg_cursors", "pg_cursors")
 
     def test_row_policies(self) -> None:
-        self.base.script("""
-            DROP TABLE IF EXISTS guarded; CREATE TABLE guarded (x INTEGER, y INTEGER); INSERT INTO guarded VALUES (1, 1), (2, 2);
+        self.base.script(
+            """
+            DROP TABLE IF EXISTS guarded; CREATE TABLE guarded (x INTEGER, y INTEGER); INSERT INTO guarded VALUES (1,
+                1), (2, 2);
             ALTER TABLE guarded ENABLE ROW LEVEL SECURITY; CREATE POLICY p ON guarded USING (x < 9)
-        """)
+        """
+        )
         text = "SELECT a.x FROM a, guarded g WHERE a.x = g.x"
         self.right(text)
         for condition, words in (("random() < 1", "random"), ("x IN (SELECT y FROM a LIMIT 1)", "LIMIT")):
             self.base.script(f"DROP POLICY p ON guarded; CREATE POLICY p ON guarded USING ({condition})")
             self.refused(text, "guarded at line 1, column 20", "a row policy", words)
-            self.refused("SELECT x FROM a WHERE x IN (SELECT x FROM guarded)", "guarded at line 1", "a row policy", words)
+            self.refused(
+                "SELECT x FROM a WHERE x IN (SELECT x FROM guarded)", "guarded at line 1", "a row policy", words
+            )
 
     def test_functions_that_hide(self) -> None:
         self.refused(r'''SELECT x FROM a WHERE U&"\0072andom"() < 0.5''', 'U&"', "line 1, column 23", "escapes")
-        self.base.script("""
+        self.base.script(
+            """
             CREATE OR REPLACE FUNCTION fickle(e) RETURNS float LANGUAGE sql VOLATILE AS 'SELECT random()';
-            CREATE OR REPLACE FUNCTION of_two(int, int) RETURNS boolean LANGUAGE sql VOLATILE AS 'SELECT random() < 0.5';
+            CREATE OR REPLACE FUNCTION of_two(int, int) RETURNS boolean LANGUAGE sql VOLATILE AS 'SELECT random() <
+                0.5';
             DROP OPERATOR IF EXISTS public.@#@ (int, int);
             CREATE OPERATOR public.@#@ (FUNCTION = of_two, LEFTARG = int, RIGHTARG = int)
-        """)
+        """
+        )
         self.refused("SELECT x FROM a WHERE x IN (SELECT e.x FROM e WHERE e.fickle < 0.5)", "fickle at line 1")
         self.refused("SELECT x FROM a WHERE x @#@ 2", "@#@ at line 1")
         self.refused("SELECT x FROM a WHERE x OPERATOR(public.@#@) 2", "@#@ at line 1")
 
     def test_operators_of_the_users_own(self) -> None:
-        self.base.script("""
+        self.base.script(
+            """
             DROP SCHEMA IF EXISTS mine CASCADE; CREATE SCHEMA mine;
             CREATE FUNCTION mine.never(int, int) RETURNS boolean LANGUAGE sql IMMUTABLE AS 'SELECT $1 <> $2';
             CREATE OPERATOR mine.= (FUNCTION = mine.never, LEFTARG = int, RIGHTARG = int);
             DROP TABLE IF EXISTS words; CREATE TABLE words (v VARCHAR(9)); INSERT INTO words VALUES ('a'), ('A'), ('b');
-            CREATE OR REPLACE FUNCTION alike(varchar, varchar) RETURNS boolean LANGUAGE sql IMMUTABLE AS 'SELECT lower($1::text) = lower($2::text)';
+            CREATE OR REPLACE FUNCTION alike(varchar, varchar) RETURNS boolean LANGUAGE sql IMMUTABLE AS 'SELECT
+                lower($1::text) = lower($2::text)';
             CREATE OPERATOR public.= (FUNCTION = alike, LEFTARG = varchar, RIGHTARG = varchar);
-        """)
+        """
+        )
         try:
             text = "SELECT p.v FROM words p, words q WHERE p.v = q.v"
             planner, plan = self.planned(text)
@@ -267,29 +319,40 @@ class CornersOfPostgres(Corners):
     def test_tables_without_snapshots(self) -> None:
         with tempfile.NamedTemporaryFile("w", suffix=".csv") as file:
             os.chmod(file.name, 0o644)
-            self.base.script(f"""
+            self.base.script(
+                f"""
                 CREATE EXTENSION IF NOT EXISTS file_fdw; DROP SERVER IF EXISTS files CASCADE;
                 CREATE SERVER files FOREIGN DATA WRAPPER file_fdw;
                 CREATE FOREIGN TABLE lines (x INTEGER) SERVER files OPTIONS (filename '{file.name}', format 'csv');
                 CREATE VIEW of_lines AS SELECT x FROM lines;
                 CREATE TABLE parted (x INTEGER) PARTITION BY RANGE (x);
-                CREATE FOREIGN TABLE part PARTITION OF parted FOR VALUES FROM (0) TO (9) SERVER files OPTIONS (filename '{file.name}');
-            """)
+                CREATE FOREIGN TABLE part PARTITION OF parted FOR VALUES FROM (0) TO (9)
+                SERVER files OPTIONS (filename '{file.name}');
+            """
+            )
             try:
                 for table in ("lines", "of_lines", "parted"):
-                    self.refused(f"SELECT a.x FROM a, {table} f WHERE a.x = f.x", f"{table} at line 1, column 20", "file_fdw")
+                    self.refused(
+                        f"SELECT a.x FROM a, {table} f WHERE a.x = f.x", f"{table} at line 1, column 20", "file_fdw"
+                    )
             finally:
                 self.base.script("DROP SERVER files CASCADE; DROP TABLE parted; DROP EXTENSION file_fdw")
 
     def test_groups_by_a_primary_key(self) -> None:
         self.right(
             "SELECT e.x, e.name, count(*) FROM e, a WHERE e.x = a.x GROUP BY e.x ORDER BY e.more",
-            "SELECT e.x AS k, upper(name), count(*) FROM e JOIN a ON e.x = a.x GROUP BY k HAVING max(more) > 'a' ORDER BY 1",
+            (
+                "SELECT e.x AS k, upper(name), count(*) FROM e JOIN a ON e.x = a.x GROUP BY k HAVING max(more) > 'a'"
+                " ORDER BY 1"
+            ),
             "SELECT e.x, name FROM e JOIN a ON e.x = a.x GROUP BY 1, y ORDER BY y",
         )
 
     def test_aggregates_within_a_group(self) -> None:
-        self.right("SELECT percentile_cont(0.5) WITHIN GROUP (ORDER BY y) AS half, e.name FROM a, e WHERE a.x = e.x GROUP BY e.name ORDER BY 2")
+        self.right(
+            "SELECT percentile_cont(0.5) WITHIN GROUP (ORDER BY y) AS half, e.name FROM a, e WHERE a.x = e.x GROUP BY"
+            " e.name ORDER BY 2"
+        )
 
 
 class CornersOfSqlite(Corners):
@@ -309,8 +372,8 @@ class CornersOfSqlite(Corners):
     def test_dates(self) -> None:
         why = "may ask for the time"
         for condition in (
-            'a.d < datetime("now")', "a.d < datetime('n'||'ow')", "a.d < date(coalesce(a.d, 'now'))", "a.d < [date](\"now\")",
-            "a.x IN (SELECT x FROM n WHERE date(d) > '2000-01-01')",
+            'a.d < datetime("now")', "a.d < datetime('n'||'ow')", "a.d < date(coalesce(a.d, 'now'))",
+            "a.d < [date](\"now\")", "a.x IN (SELECT x FROM n WHERE date(d) > '2000-01-01')",
         ):
             self.refused(f"SELECT a.x FROM a, b WHERE a.x = b.x AND {condition}", why)
         self.refused("SELECT n.x FROM n, b WHERE n.x = b.x AND date(n.d) < '2024-01-01'", why)
@@ -323,7 +386,10 @@ class CornersOfSqlite(Corners):
         )
 
     def test_aliases_as_texts(self) -> None:
-        self.refused("SELECT a.y + 1 AS 'w' FROM a, b WHERE a.x = b.x AND w > 2", "w at line 1, column 53", "the name of an output")
+        self.refused(
+            "SELECT a.y + 1 AS 'w' FROM a, b WHERE a.x = b.x AND w > 2", "w at line 1, column 53",
+            "the name of an output",
+        )
         self.right(
             "SELECT a.y + 1 AS 'w' FROM a, b WHERE a.x = b.x ORDER BY w",
             "SELECT 'q'.x AS 'one' FROM a AS 'q', b WHERE 'q'.x = b.x ORDER BY one",
@@ -336,13 +402,21 @@ class CornersOfSqlite(Corners):
     def test_outputs_that_end_in_words(self) -> None:
         self.right(
             "SELECT a.y IS NULL, b.z FROM a, b WHERE a.x = b.x AND b.z IS NOT NULL ORDER BY 1, 2",
-            "SELECT CASE WHEN a.y > 1 THEN 1 END, a.x IS TRUE FROM a, b WHERE a.x = b.x AND CASE b.z WHEN 5 THEN 1 END IS NULL ORDER BY 1",
-            "SELECT a.x NOT NULL, b.z ISNULL FROM a, b WHERE a.x = b.x AND a.y NOT NULL AND (b.z ISNULL) = FALSE ORDER BY 1",
+            (
+                "SELECT CASE WHEN a.y > 1 THEN 1 END, a.x IS TRUE FROM a, b WHERE a.x = b.x AND CASE b.z WHEN 5 THEN 1"
+                " END IS NULL ORDER BY 1"
+            ),
+            (
+                "SELECT a.x NOT NULL, b.z ISNULL FROM a, b WHERE a.x = b.x AND a.y NOT NULL AND (b.z ISNULL) = FALSE"
+                " ORDER BY 1"
+            ),
         )
 
     def test_an_unknown_collation(self) -> None:
         self.base.connection.create_collation("mine", lambda one, other: (one > other) - (one < other))
-        self.base.script("DROP TABLE IF EXISTS k; CREATE TABLE k (x INTEGER, t TEXT COLLATE mine); INSERT INTO k VALUES (1, 'a')")
+        self.base.script(
+            "DROP TABLE IF EXISTS k; CREATE TABLE k (x INTEGER, t TEXT COLLATE mine); INSERT INTO k VALUES (1, 'a')"
+        )
         self.right("SELECT a.x FROM a, k WHERE a.x = k.x ORDER BY 1")
         self.base.script("DROP TABLE k")
 
@@ -362,12 +436,15 @@ class Texts(Corners):
             file.write(b"\xef\xbb\xbf" + text.encode())
             file.flush()
             for words, given in (([file.name], None), (["-"], text.encode())):
-                ended = subprocess.run([PROGRAM, "run", "--db", self.base.url, "--budget", "9", *words], input=given, capture_output=True)
+                ended = subprocess.run(
+                    [PROGRAM, "run", "--db", self.base.url, "--budget", "9", *words], input=given, capture_output=True
+                )
                 self.assertEqual((ended.returncode, ended.stdout), (0, b"x\n1\n"), ended.stderr)
 
 
 for test in (Names, ViewsThatChoose, Texts):
     globals()[test.__name__ + "OnPostgres"] = on_postgres(test)
+del test
 CornersOfPostgres = unittest.skipUnless(POSTGRES, "no PostgreSQL")(CornersOfPostgres)
 del Corners
 

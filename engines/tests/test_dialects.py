@@ -1,7 +1,8 @@
-"""Engines that can't be reached: each text is parsed back by sqlglot in its dialect, and its meaning is tried elsewhere.
+"""Engines that can't be reached: each text is parsed back by sqlglot in its dialect, and its meaning is tried
+elsewhere.
 
-SQLite takes the forms of all five dialects but for the settings and for CREATE OR REPLACE TEMPORARY TABLE, and PostgreSQL
-those of Trino and DuckDB. So the counting statement and the planned SQL run there, over random tables.
+SQLite takes the forms of all five dialects but for the settings and for CREATE OR REPLACE TEMPORARY TABLE, and
+PostgreSQL those of Trino and DuckDB. So the counting statement and the planned SQL run there, over random tables.
 """
 
 from __future__ import annotations
@@ -17,24 +18,25 @@ import sqlglot
 from sqlglot import exp
 
 import random_names
-from bases import OnEachEngine, counted, on_postgres
+from bases import COUNTED, OnEachEngine, counted, on_postgres
 from process import PROGRAM
 from random_names import RandomNames
-from random_queries import TABLES, Randomly
+from random_queries import NAMED, QUERIES, TABLES, Randomly, in_tens
 from safebound_sql.counting import counts_of
 from safebound_sql.dialects import DIALECTS, Unreached
 from safebound_sql.faults import Refused
 from safebound_sql.levels import MOST_BUDGET, entries_of
 from safebound_sql.planner import Planner
 
-QUERIES = min(int(os.environ.get("SAFEBOUND_SQL_QUERIES", "20")), 60)
-SEED = int(os.environ.get("SAFEBOUND_SQL_SEED", "1"))
-QUERIES_OF_A_DATABASE = 10
+# Each query is asked in five dialects.
+MOST = 60
 TAKEN_BY_POSTGRES = ("trino", "duckdb")
 
 SCHEMA = """
-CREATE TABLE a (x INTEGER PRIMARY KEY, y BIGINT, t VARCHAR(9), f DOUBLE, n DECIMAL(6, 2) NOT NULL, CONSTRAINT c CHECK (x < 9));
-CREATE TABLE IF NOT EXISTS b (x SMALLINT, z INTEGER, t VARCHAR, f DOUBLE, n DECIMAL(6, 2), o DECIMAL(9, 4)); -- the second
+CREATE TABLE a (x INTEGER PRIMARY KEY, y BIGINT, t VARCHAR(9), f DOUBLE, n DECIMAL(6, 2) NOT NULL,
+    CONSTRAINT c CHECK (x < 9));
+CREATE TABLE IF NOT EXISTS b (x SMALLINT, z INTEGER, t VARCHAR, f DOUBLE, n DECIMAL(6, 2), o DECIMAL(9, 4));
+    -- the third
 CREATE TABLE s.c (x INTEGER, t VARCHAR(3) COLLATE nocase, d DATE) WITH (format = 'ORC')
 """
 JOINED = "SELECT a.y, b.z FROM a JOIN b ON a.x = b.x WHERE a.y > 1"
@@ -62,16 +64,19 @@ class Dialects(OnEachEngine):
         for statement in before:
             made = re.match(r"CREATE OR REPLACE TEMPORARY TABLE (\w+) AS\n", statement)
             if made:
-                self.base.script(f"DROP TABLE IF EXISTS temp.{made[1]}; CREATE TEMPORARY TABLE {made[1]} AS {statement[made.end():]}")
+                self.base.script(
+                    f"DROP TABLE IF EXISTS temp.{made[1]}; CREATE TEMPORARY TABLE {made[1]} AS {statement[made.end():]}"
+                )
         return self.base.rows(last)
 
 
+@in_tens(min(QUERIES, MOST))
 class RandomDialects(Dialects):
-    def test_random_queries(self) -> None:
+    def ask(self, numbers: range) -> None:
         joined = 0
-        for number in range(SEED, SEED + QUERIES):
+        for number in numbers:
             randomly = Randomly(number, self.base.engine)
-            if (number - SEED) % QUERIES_OF_A_DATABASE == 0:
+            if number == numbers[0]:
                 # A table that SQLite makes of a query loses collations, as those of other engines don't.
                 schema = randomly.schema().replace(" COLLATE NOCASE", "")
                 self.base.script(schema)
@@ -81,7 +86,8 @@ class RandomDialects(Dialects):
             for dialect in DIALECTS if self.base.engine == "sqlite" else TAKEN_BY_POSTGRES:
                 with self.subTest(number=number, query=found.text, dialect=dialect):
                     joined += self.check(dialect, randomly, re.sub(r"DROP TABLE IF EXISTS \w+;", "", schema), found)
-        self.assertGreater(joined, QUERIES // 2)
+                    COUNTED[f"random queries answered in {dialect} on {self.base.engine}"] += 1
+        self.assertGreater(joined, len(numbers) // 2)
 
     def check(self, dialect: str, randomly: Randomly, schema: str, found) -> bool:
         """Checks one query on one engine. Answers whether bounds had an equality to go by."""
@@ -100,13 +106,14 @@ class RandomDialects(Dialects):
         return bool(planner.query.equalities)
 
 
+@in_tens(min(NAMED, MOST // 3))
 class RandomNamesInDialects(Dialects):
     """Outputs with names of columns, over USING: the script's rows are the query's, in its order."""
 
-    def test_random_queries(self) -> None:
-        for number in range(SEED, SEED + max(QUERIES // 3, 1)):
+    def ask(self, numbers: range) -> None:
+        for number in numbers:
             randomly = RandomNames(number, "sqlite")
-            if (number - SEED) % QUERIES_OF_A_DATABASE == 0:
+            if number == numbers[0]:
                 schema = re.sub("REAL|NUMERIC", "INTEGER", randomly.schema())
                 self.base.script(schema)
                 for table in range(random_names.TABLES):
@@ -114,7 +121,9 @@ class RandomNamesInDialects(Dialects):
             text = randomly.query().replace("offset", "total")
             for dialect in DIALECTS:
                 with self.subTest(number=number, query=text, dialect=dialect):
-                    planner = self.planner(dialect, text, re.sub(r"DROP TABLE IF EXISTS \w+;", "", schema), randomly.random.random() < 0.6)
+                    planner = self.planner(
+                        dialect, text, re.sub(r"DROP TABLE IF EXISTS \w+;", "", schema), randomly.random.random() < 0.6
+                    )
                     counts = counts_of(planner.query, self.run_script(planner.counting))
                     script = planner.script(planner.planned(counts, 1, MOST_BUDGET, randomly.random.random() < 0.4))
                     parsed(script, dialect)
@@ -142,7 +151,10 @@ class Written(Dialects):
             script = planner.script(plan)
             self.assertTrue(script.startswith(words[dialect]), script)
             last = parsed(script, dialect)[-1]
-            joins = [table.alias or table.name for table in last.args["from"].expressions + [join.this for join in last.args["joins"]]]
+            joins = [
+                table.alias or table.name
+                for table in last.args["from"].expressions + [join.this for join in last.args["joins"]]
+            ]
             order = [planner.query.entries[entry].alias for entry in entries_of(plan.shape)]
             if planner.engine.makes_tables:
                 self.assertEqual(joins[1:], order[2:])
@@ -160,8 +172,12 @@ class Written(Dialects):
         return counts_of(planner.query, rows)
 
     def test_parts_that_would_be_computed_too_often(self) -> None:
-        """Where parts aren't kept, a statement that would read a table more than 100 times counts under own conditions alone."""
-        text = "SELECT 1 FROM a AS e1, a AS e2, a AS e3, a AS e4, a AS e5 WHERE e1.y = e2.y AND e2.y = e3.y AND e3.y = e4.y AND e4.y = e5.y"
+        """Where parts aren't kept, a statement that would read a table more than 100 times counts under own
+        conditions alone."""
+        text = (
+            "SELECT 1 FROM a AS e1, a AS e2, a AS e3, a AS e4, a AS e5 WHERE e1.y = e2.y AND e2.y = e3.y AND e3.y ="
+            " e4.y AND e4.y = e5.y"
+        )
         for dialect in DIALECTS:
             planner = self.planner(dialect, text)
             self.assertEqual(planner.reduce, dialect not in ("spark", "trino"))
@@ -210,8 +226,10 @@ class Edges(Dialects):
         for dialect in DIALECTS:
             for condition in ("a.x = b.x", "a.y = b.z", "a.t = b.t", "a.n = b.n", "b.z = c.x AND a.x = c.x"):
                 self.assertGreater(self.equalities(dialect, condition), 0, condition)
-            for condition in ("a.f = b.f", "a.n = b.o", "a.x = b.t", "a.t = c.t", "a.x = b.n", "a.x < b.x", "NOT a.x = b.x",
-                              "(a.x = b.x OR a.y = 1)", "a.x = b.x + 0", "c.d = a.t"):
+            for condition in (
+                "a.f = b.f", "a.n = b.o", "a.x = b.t", "a.t = c.t", "a.x = b.n", "a.x < b.x", "NOT a.x = b.x",
+                "(a.x = b.x OR a.y = 1)", "a.x = b.x + 0", "c.d = a.t",
+            ):
                 self.assertEqual(self.equalities(dialect, condition), 0, condition)
 
     def test_a_collation_of_a_whole_table(self) -> None:
@@ -238,13 +256,26 @@ class RefusedByDialects(Dialects):
             self.refused(dialect, "SELECT 1 FROM a AS s, s.c AS c WHERE s.x = c.x", "a schema too")
             self.refused(dialect, "SELECT 1 FROM a LATERAL VIEW explode(a.t) e AS q")
 
+    def test_what_isnt_there(self) -> None:
+        for dialect in DIALECTS:
+            self.refused(dialect, "SELECT q.* FROM a", "q at line 1, column 8", "no entry of FROM is called so")
+            self.refused(dialect, "SELECT a.q FROM a", "a.q at line 1, column 8", "the table has no such column")
+            self.refused(
+                dialect, "SELECT a.x FROM a WHERE a.x = = 1",
+                f"isn't read as {DIALECTS[dialect].title}'s SQL by sqlglot",
+            )
+
     def test_rows_that_are_chosen(self) -> None:
         for dialect in DIALECTS:
-            for tail in ("QUALIFY row_number() OVER (ORDER BY a.x) = 1", "USING SAMPLE 5", "SORT BY a.x", "START WITH x = 1",
-                         "MINUS SELECT 1 FROM b"):
+            for tail in (
+                "QUALIFY row_number() OVER (ORDER BY a.x) = 1", "USING SAMPLE 5", "SORT BY a.x", "START WITH x = 1",
+                "MINUS SELECT 1 FROM b",
+            ):
                 self.refused(dialect, f"SELECT 1 FROM a WHERE a.x > 1 {tail}", tail.split()[0 if tail[0] != "U" else 1])
-            for text in ("SELECT TOP 5 a.x FROM a", "SELECT 1 FROM a SAMPLE (5)", "SELECT 1 FROM a TABLESAMPLE (5 PERCENT)",
-                         "SELECT * EXCEPT (x) FROM a", "SELECT a.* EXCLUDE (x) FROM a", "SELECT * FROM a JOIN b USING (x)"):
+            for text in (
+                "SELECT TOP 5 a.x FROM a", "SELECT 1 FROM a SAMPLE (5)", "SELECT 1 FROM a TABLESAMPLE (5 PERCENT)",
+                "SELECT * EXCEPT (x) FROM a", "SELECT a.* EXCLUDE (x) FROM a", "SELECT * FROM a JOIN b USING (x)",
+            ):
                 self.refused(dialect, text)
 
     def test_what_may_answer_anew(self) -> None:
@@ -257,14 +288,21 @@ class RefusedByDialects(Dialects):
 
     def test_subqueries(self) -> None:
         for dialect in DIALECTS:
-            for inner in ("SELECT b.x FROM b WHERE b.x = a.y", "SELECT b.x FROM b WHERE z = y", "SELECT q.x FROM q",
-                          "SELECT b.x FROM b LIMIT 1", "SELECT x FROM b WHERE z IN (SELECT y FROM a)"):
+            for inner in (
+                "SELECT b.x FROM b WHERE b.x = a.y", "SELECT b.x FROM b WHERE z = y", "SELECT q.x FROM q",
+                "SELECT b.x FROM b LIMIT 1", "SELECT x FROM b WHERE z IN (SELECT y FROM a)",
+            ):
                 self.refused(dialect, f"SELECT 1 FROM a WHERE a.x IN ({inner})", "subquery")
-            self.planner(dialect, "SELECT 1 FROM a WHERE a.x IN (SELECT max(q.x) FROM b AS q WHERE z > 1 AND t LIKE 'a%' GROUP BY q.z)")
+            self.planner(
+                dialect,
+                "SELECT 1 FROM a WHERE a.x IN (SELECT max(q.x) FROM b AS q WHERE z > 1 AND t LIKE 'a%' GROUP BY q.z)",
+            )
 
     def test_texts_that_engines_read_in_their_own_ways(self) -> None:
         for dialect in DIALECTS:
-            for text in (r"'a\' OR 1 = 1 --'", r"r'a'", "b'a'", "'''a'''", "$$a$$", "/* /* */ */ 1", ":a", "?", "@a", "{a}"):
+            for text in (
+                r"'a\' OR 1 = 1 --'", r"r'a'", "b'a'", "'''a'''", "$$a$$", "/* /* */ */ 1", ":a", "?", "@a", "{a}",
+            ):
                 self.refused(dialect, f"SELECT 1 FROM a WHERE a.t = {text}")
         self.planner("spark", "SELECT 1 FROM a WHERE a.t = \"it's\" AND a.x < 1L")
         self.refused("trino", "SELECT 1 FROM a WHERE a.x < 1L", "begins nothing")
@@ -288,7 +326,9 @@ class RefusedByDialects(Dialects):
         with self.assertRaises(Refused) as raised:
             self.planner("trino", "SELECT 1 FROM nowhere")
         self.assertIn("nowhere", str(raised.exception))
-        nested = Unreached("bigquery", "CREATE OR REPLACE TABLE a (x INT64 NOT NULL, s ARRAY<STRUCT<p INT64, q STRING>>, t STRING)")
+        nested = Unreached(
+            "bigquery", "CREATE OR REPLACE TABLE a (x INT64 NOT NULL, s ARRAY<STRUCT<p INT64, q STRING>>, t STRING)"
+        )
         self.assertEqual([column.name for column in nested.tables[("a",)].columns], ["x", "s", "t"])
 
 
@@ -303,7 +343,7 @@ class DialectCommands(unittest.TestCase):
             out.write("entry,column,degree,keys\na,,3,1\na,x,1,3\nb,,5,1\nb,x,4,1\nb,x,1,1\n")
 
     def done(self, *words: str, status: int = 0) -> str:
-        ended = subprocess.run([PROGRAM, *words, "-"], input=JOINED, text=True, capture_output=True, timeout=60)
+        ended = subprocess.run([PROGRAM, *words, "-"], input=JOINED, text=True, capture_output=True, timeout=600)
         self.assertEqual(ended.returncode, status, ended.stderr)
         return ended.stderr if status else ended.stdout
 

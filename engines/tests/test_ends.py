@@ -1,4 +1,5 @@
-"""How commands end: interruptions, full disks, other encodings, folders that can't be written to, rows beyond a bound."""
+"""How commands end: interruptions, full disks, other encodings, folders that can't be written to, rows beyond a
+bound."""
 
 from __future__ import annotations
 
@@ -11,7 +12,7 @@ import tempfile
 import time
 import unittest
 
-from bases import POSTGRES, OnEachEngine, PostgresBase, SqliteBase, on_postgres
+from bases import DATABASE, POSTGRES, OnEachEngine, PostgresBase, SqliteBase, on_postgres
 from process import PROGRAM, Process
 
 
@@ -27,7 +28,9 @@ class Ends(OnEachEngine, Process):
         cls.base.fill("long", [(n,) for n in range(3000)])
 
     def test_null_and_the_empty_text(self) -> None:
-        for words, null, word in (((), "", "NULL"), (("--null", "NULL"), "NULL", '"NULL"'), (("--null", "\\N"), "\\N", "NULL")):
+        for words, null, word in (
+            ((), "", "NULL"), (("--null", "NULL"), "NULL", '"NULL"'), (("--null", "\\N"), "\\N", "NULL"),
+        ):
             ended = self.tried("run", "--budget", "99", *words, text=self.text)
             empty = '""' if null == "" else ""
             self.assertEqual(ended.stdout, f'x,t\n1,{null}\n2,{empty}\n3,{word}\n4,"a ""b"", c"\n', ended.stderr)
@@ -46,19 +49,25 @@ class Ends(OnEachEngine, Process):
                     seen += os.read(ours, 4096)
                 time.sleep(1)
                 running.send_signal(number)
-                self.assertEqual(running.wait(timeout=60), status)
+                self.assertEqual(running.wait(timeout=600), status)
             finally:
                 running.kill()
                 os.close(ours), os.close(theirs)
             if self.base.engine == "postgres":
                 time.sleep(0.5)
-                told = self.base.rows("SELECT count(*) FROM pg_stat_activity WHERE query LIKE '%long AS c%' AND pid <> pg_backend_pid()")
+                told = self.base.rows(
+                    "SELECT count(*) FROM pg_stat_activity WHERE query LIKE '%long AS c%' AND pid <> pg_backend_pid()"
+                    " AND datname = current_database()"
+                )
                 self.assertEqual(told[0][0], 0)
 
     def test_a_full_disk(self) -> None:
         for command, *words in (["plan"], ["sql"], ["run", "--budget", "99"], ["audit", "--json"]):
             with open("/dev/full", "w") as full:
-                ended = subprocess.run([PROGRAM, command, "--db", self.base.url, *words, "-"], input=self.text, stdout=full, stderr=subprocess.PIPE, text=True)
+                ended = subprocess.run(
+                    [PROGRAM, command, "--db", self.base.url, *words, "-"], input=self.text, stdout=full,
+                    stderr=subprocess.PIPE, text=True,
+                )
             self.assertEqual(ended.returncode, 10, ended.stderr)
             self.assertIn("standard output: No space left on device", ended.stderr)
             self.assertNotIn("Traceback", ended.stderr)
@@ -72,7 +81,10 @@ class Ends(OnEachEngine, Process):
 
     def test_conditions_that_arent_counted_are_said(self) -> None:
         lines = self.tried("plan", text="SELECT a.x FROM a, b WHERE a.x = b.x AND a.x < b.x + 1").stdout.splitlines()
-        self.assertIn("not used for bounds: a.x < b.x + 1 (it may name columns of a, b, and is tested when these are joined)", lines)
+        self.assertIn(
+            "not used for bounds: a.x < b.x + 1 (it may name columns of a, b, and is tested when these are joined)",
+            lines,
+        )
 
 
 class EndsOfPostgres(OnEachEngine, Process):
@@ -87,7 +99,10 @@ class EndsOfPostgres(OnEachEngine, Process):
 
     def test_conditions_of_all_kinds_are_counted(self) -> None:
         """Each is of one entry, so that its rows alone are counted."""
-        for condition in ("a.m = 'sad'::mood", "(b.s, b.e) OVERLAPS (date '2020-01-05', date '2020-03-01')", "a.y OPERATOR(pg_catalog.>) 0"):
+        for condition in (
+            "a.m = 'sad'::mood", "(b.s, b.e) OVERLAPS (date '2020-01-05', date '2020-03-01')",
+            "a.y OPERATOR(pg_catalog.>) 0",
+        ):
             planner, _ = self.planned(f"SELECT a.x FROM a, b WHERE a.x = b.x AND {condition}")
             self.assertEqual(sum(len(entry.own) for entry in planner.query.entries), 1, condition)
             self.assertEqual(planner.query.no_edges, [])
@@ -95,22 +110,29 @@ class EndsOfPostgres(OnEachEngine, Process):
 
     def test_rights_on_columns(self) -> None:
         """A column that may not be read isn't carried for a condition in which its name is another word."""
-        self.base.script("""
-            DO $$ BEGIN CREATE ROLE reader LOGIN; EXCEPTION WHEN duplicate_object THEN NULL; END $$;
-            GRANT SELECT (x, y, m) ON a TO reader; GRANT SELECT ON b TO reader; GRANT USAGE ON SCHEMA public TO reader
-        """)
+        reader = f"reader_{DATABASE}"
+        self.base.script(
+            f"""
+            DO $$ BEGIN CREATE ROLE {reader} LOGIN; EXCEPTION WHEN duplicate_object THEN NULL; END $$;
+            GRANT SELECT (x, y, m) ON a TO {reader}; GRANT SELECT ON b TO {reader};
+            GRANT USAGE ON SCHEMA public TO {reader}
+        """
+        )
         try:
-            url = POSTGRES.replace("//postgres@", "//reader@")
+            url = POSTGRES.replace("//postgres@", f"//{reader}@")
             text = "SELECT a.x FROM a, b WHERE a.x = b.x AND a.m = 'sad'::mood AND a.y + b.x > 0"
             text += " AND (b.s::timestamp AT TIME ZONE 'UTC') > '2019-01-01' ORDER BY 1"
             ended = self.tried("run", "--budget", "99", text=text, db=url)
             self.assertEqual((ended.returncode, ended.stdout), (0, "x\n3\n4\n5\n"), ended.stderr)
         finally:
-            self.base.script("DROP OWNED BY reader; DROP ROLE reader")
+            self.base.script(f"DROP OWNED BY {reader}; DROP ROLE {reader}")
 
     def test_what_the_engine_refuses_is_told_first(self) -> None:
         """A group by a key whose other column can't be grouped by: the plan says so, and nothing is admitted."""
-        self.base.script("DROP TABLE IF EXISTS keyed; CREATE TABLE keyed (x INTEGER PRIMARY KEY, j JSON); INSERT INTO keyed VALUES (3, '1')")
+        self.base.script(
+            "DROP TABLE IF EXISTS keyed; CREATE TABLE keyed (x INTEGER PRIMARY KEY, j JSON); INSERT INTO keyed VALUES"
+            " (3, '1')"
+        )
         text = "SELECT k.x, k.j FROM keyed k, b WHERE k.x = b.x GROUP BY k.x"
         for command, *words in (["plan"], ["sql"], ["run", "--budget", "99"]):
             ended = self.tried(command, *words, text=text)
@@ -120,41 +142,56 @@ class EndsOfPostgres(OnEachEngine, Process):
 
     def test_errors_that_the_query_doesnt_have(self) -> None:
         text = "SELECT a.x FROM a, b WHERE a.x = b.x AND 6 / a.y > 1"
-        self.assertEqual(len(self.base.rows("SELECT a.x FROM b JOIN a ON a.x = b.x AND CASE WHEN a.x > 2 THEN 6 / a.y > 1 END")), 2)
+        self.assertEqual(
+            len(self.base.rows("SELECT a.x FROM b JOIN a ON a.x = b.x AND CASE WHEN a.x > 2 THEN 6 / a.y > 1 END")), 2
+        )
         ended = self.tried("plan", text=text)
         self.assertEqual(ended.returncode, 12)
-        self.assertIn("division by zero (while counting, each condition is tested on all rows of its table", ended.stderr)
+        self.assertIn(
+            "division by zero (while counting, each condition is tested on all rows of its table", ended.stderr
+        )
 
     def test_rows_above_a_bound(self) -> None:
         """A function that calls itself IMMUTABLE and answers otherwise the second time."""
-        self.base.script("""
+        self.base.script(
+            """
             CREATE OR REPLACE FUNCTION changing(INTEGER) RETURNS boolean LANGUAGE plpgsql IMMUTABLE AS $$
             DECLARE times INTEGER;
             BEGIN
-                EXECUTE 'SELECT coalesce(nullif(current' || '_setting(''my.times'', true), ''''), ''0'')::int' INTO times;
+                EXECUTE 'SELECT coalesce(nullif(current' || '_setting(''my.times'', true), ''''), ''0'')::int' INTO
+                    times;
                 PERFORM set_config('my.times', (times + 1)::text, false);
                 RETURN times >= 5;
             END $$
-        """)
+        """
+        )
         ended = self.tried("audit", "--no-reduce", text="SELECT a.x FROM a WHERE changing(a.x)")
         self.assertEqual(ended.returncode, 17, ended.stderr + ended.stdout)
         self.assertIn("audit: level 1 has 5 rows, and its bound is 0", ended.stderr)
 
     def test_other_encodings(self) -> None:
-        for name, encoding in (("latin", "LATIN1"), ("bytes", "SQL_ASCII")):
+        for encoding in ("LATIN1", "SQL_ASCII"):
+            name, latin = f"{encoding.lower()}_{DATABASE}", encoding == "LATIN1"
             self.base.script(f"DROP DATABASE IF EXISTS {name}")
-            self.base.script(f"CREATE DATABASE {name} ENCODING '{encoding}' LC_COLLATE 'C' LC_CTYPE 'C' TEMPLATE template0")
+            self.base.script(
+                f"CREATE DATABASE {name} ENCODING '{encoding}' LC_COLLATE 'C' LC_CTYPE 'C' TEMPLATE template0"
+            )
             try:
-                url = POSTGRES.replace("/postgres?", f"/{name}?")
+                url = POSTGRES.replace(f"/{DATABASE}?", f"/{name}?")
                 import psycopg
+
                 with psycopg.connect(url, autocommit=True, client_encoding="utf8") as there:
                     there.execute("CREATE TABLE a (x INTEGER, \"größe\" TEXT)")
                     there.execute("INSERT INTO a VALUES (1, 'ä')")
-                text = 'SELECT "é".x AS "ß", größe FROM a AS "é", a AS "ü" WHERE "é".x = "ü".x' if name == "latin" else "SELECT x FROM a"
-                if name == "latin":
+                text = (
+                    'SELECT "é".x AS "ß", größe FROM a AS "é", a AS "ü" WHERE "é".x = "ü".x'
+                    if latin
+                    else "SELECT x FROM a"
+                )
+                if latin:
                     text = text.replace("größe", '"é"."größe"')
                 ended = self.tried("run", "--budget", "9", text=text, db=url)
-                if name == "latin":
+                if latin:
                     self.assertEqual((ended.returncode, ended.stdout), (0, "ß,größe\n1,ä\n"), ended.stderr)
                 else:
                     self.assertEqual(ended.returncode, 5)
@@ -171,13 +208,19 @@ class EndsOfSqlite(OnEachEngine, Process):
         with tempfile.TemporaryDirectory() as folder:
             file = os.path.join(folder, "still.db")
             connection = sqlite3.connect(file)
-            connection.executescript("PRAGMA journal_mode = wal; CREATE TABLE a (x INTEGER); INSERT INTO a VALUES (1), (2)")
+            connection.executescript(
+                "PRAGMA journal_mode = wal; CREATE TABLE a (x INTEGER); INSERT INTO a VALUES (1), (2)"
+            )
             connection.close()
             os.chmod(folder, 0o555)
             os.chmod(file, 0o444)
             ended = subprocess.run(
-                [PROGRAM, "run", "--db", f"sqlite:{file}", "--budget", "9", "-"], input="SELECT a.x FROM a, a AS b WHERE a.x = b.x ORDER BY 1",
-                capture_output=True, text=True, user="nobody", env={**os.environ, "HOME": "/"},
+                [PROGRAM, "run", "--db", f"sqlite:{file}", "--budget", "9", "-"],
+                input="SELECT a.x FROM a, a AS b WHERE a.x = b.x ORDER BY 1",
+                capture_output=True,
+                text=True,
+                user="nobody",
+                env={**os.environ, "HOME": "/"},
             )
             self.assertEqual((ended.returncode, ended.stdout), (0, "x\n1\n2\n"), ended.stderr)
             self.assertEqual(os.listdir(folder), ["still.db"])

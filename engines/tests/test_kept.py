@@ -11,12 +11,12 @@ from pathlib import Path
 
 from bases import OnEachEngine, SqliteBase, on_postgres
 from process import PROGRAM, Process
-from random_queries import TABLES, Randomly
+from random_queries import QUERIES, TABLES, Randomly, in_tens
 from safebound_sql.faults import WrongCounts
 from safebound_sql.kept import Kept
 from safebound_sql.levels import MOST_BUDGET
 
-QUERIES = min(int(os.environ.get("SAFEBOUND_SQL_QUERIES", "20")), 60)
+MOST = 60
 JOINED = "SELECT a.y, b.z FROM a JOIN b ON a.x = b.x"
 
 
@@ -172,10 +172,11 @@ OtherTypesOnPostgres = on_postgres(OtherTypes)
 del OtherTypes
 
 
+@in_tens(min(QUERIES, MOST))
 class RandomlyKept(WithKept):
-    def test_random_queries(self) -> None:
+    def ask(self, numbers: range) -> None:
         taken = 0
-        for number in range(1, QUERIES + 1):
+        for number in numbers:
             randomly = Randomly(number, self.base.engine)
             self.doCleanups()
             WithKept.setUp(self)
@@ -195,7 +196,7 @@ class RandomlyKept(WithKept):
                 plan, _ = self.by_kept(found.text, tree=randomly.random.random() < 0.3)
                 self.assertEqual(plan.changed, {})
                 taken += len(plan.kept)
-        self.assertGreater(taken, QUERIES // 2)
+        self.assertGreater(taken, len(numbers) // 2)
 
 
 RandomlyKeptOnPostgres = on_postgres(RandomlyKept)
@@ -217,15 +218,19 @@ class KeptCommands(WithKept, Process):
     def test_from_keeping_to_appending(self) -> None:
         self.assertEqual(self.done("counts", "--keep", self.file), "a: 6 rows, x\nb: 6 rows, x\n")
         shown = self.done("plan", "--kept", self.file).splitlines()
-        self.assertRegex(shown[-1], r"^counts of \d{4}-\d\d-\d\d \d\d:\d\d:\d\d UTC are taken for a, b: bounds hold for")
+        self.assertRegex(
+            shown[-1], r"^counts of \d{4}-\d\d-\d\d \d\d:\d\d:\d\d UTC are taken for a, b: bounds hold for"
+        )
         self.assertIn("bound / rows", self.done("audit", "--kept", self.file))
         self.assertEqual(self.done("sql", "--kept", self.file), self.done("sql", "--no-reduce"))
         self.base.fill("a", [(1, 100)])
-        self.assertIn("\na: 6 rows were kept, and 7 are there now; counted anew\n", self.done("plan", "--kept", self.file))
+        self.assertIn(
+            "\na: 6 rows were kept, and 7 are there now; counted anew\n", self.done("plan", "--kept", self.file)
+        )
         told = json.loads(self.done("plan", "--json", "--kept", self.file))
         self.assertEqual((list(told["kept"]), told["counted anew"]), (["b"], ["a"]))
         line = [PROGRAM, "append", "--db", self.base.url, "--kept", self.file, "--where", "y = 100", "a"]
-        ended = subprocess.run(line, capture_output=True, text=True, timeout=60)
+        ended = subprocess.run(line, capture_output=True, text=True, timeout=600)
         self.assertEqual((ended.returncode, ended.stdout), (0, "a: 7 rows, 1 of them new\n"), ended.stderr)
         told = json.loads(self.done("plan", "--json", "--kept", self.file))
         self.assertEqual((sorted(told["kept"]), told["counted anew"]), (["a", "b"], []))
@@ -236,8 +241,10 @@ class KeptCommands(WithKept, Process):
         self.done("counts", "--keep", "/nowhere/kept.json", status=3)
         self.done("counts", "--keep", self.file)
         right = Path(self.file).read_text()
-        for old, new in (("[", ""), ("counts 1", "counts 2"), ('"rows": ', '"rows": -'), ('"x": [[', '"x": [[1, 1], ['),
-                         ('"types"', '"kinds"'), ('"x": [[', '"x": [["q", 1], ['), (right, "[]"), (right, "{}"), (right, "")):
+        for old, new in (
+            ("[", ""), ("counts 1", "counts 2"), ('"rows": ', '"rows": -'), ('"x": [[', '"x": [[1, 1], ['),
+            ('"types"', '"kinds"'), ('"x": [[', '"x": [["q", 1], ['), (right, "[]"), (right, "{}"), (right, ""),
+        ):
             self.assertIn(old, right)
             Path(self.file).write_text(right.replace(old, new))
             with self.subTest(new), self.assertRaises(WrongCounts):
@@ -248,7 +255,7 @@ class KeptCommands(WithKept, Process):
         self.done("run", "--budget", "9", "--kept", self.file, status=2)
         self.assertIn("either", self.done("plan", "--kept", self.file, "--counts", self.file, status=2))
         line = [PROGRAM, "counts", "--dialect", "trino", "--schema", "/dev/null", "--keep", self.file, "-"]
-        ended = subprocess.run(line, input=JOINED, capture_output=True, text=True, timeout=60)
+        ended = subprocess.run(line, input=JOINED, capture_output=True, text=True, timeout=600)
         self.assertEqual(ended.returncode, 2, ended.stderr)
 
 

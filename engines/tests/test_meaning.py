@@ -50,11 +50,14 @@ class Counted(OnEachEngine):
         self.assertEqual(self.counts(text, reduce=True).rows, {"p": 1, "q": 1})
 
     def test_a_column_without_values(self) -> None:
+        """Its rows join nothing. A list of one value would say that it joins the two rows of a's value 1."""
         text = "SELECT a.y FROM a, n WHERE a.x = n.x"
-        for reduce in (True, False):
-            planner, plan = self.planned(text, reduce)
-            self.assertEqual(plan.counts.runs["n", "x"], [])
-            self.assertEqual(self.never_under(planner, plan, text)[-1], 0)
+        for reduce, bounds in ((True, [0, 0]), (False, [3, 0])):
+            for tree in (False, True):
+                planner, plan = self.planned(text, reduce, tree=tree)
+                self.assertEqual(plan.counts.runs["n", "x"], [])
+                self.assertEqual([level.bound for level in plan.levels], bounds[tree:])
+                self.assertEqual(self.never_under(planner, plan, text)[-1], 0)
 
     def test_an_entry_that_nothing_joins(self) -> None:
         counts = self.counts("SELECT a.y FROM a, b WHERE b.z > 5", reduce=True)
@@ -98,7 +101,9 @@ class Edges(OnEachEngine):
             "CASE WHEN a.x = b.x THEN 1 ELSE 0 END = 1 AND a.x = 1", "a.x BETWEEN b.x AND b.y",
         ):
             with self.subTest(condition):
-                self.assertEqual(self.equalities(f"SELECT a.y FROM a, b WHERE {condition}") if self.taken(condition) else 0, 0)
+                self.assertEqual(
+                    self.equalities(f"SELECT a.y FROM a, b WHERE {condition}") if self.taken(condition) else 0, 0
+                )
 
     def taken(self, condition: str) -> bool:
         """PostgreSQL has no = of a number with a truth value."""
@@ -106,7 +111,9 @@ class Edges(OnEachEngine):
 
     def test_equality_within_an_entry(self) -> None:
         planner, _ = self.planned("SELECT a.y FROM a, b WHERE a.x = a.y AND a.x = b.x")
-        self.assertEqual((len(planner.query.equalities), list(map(str, planner.query.entries[0].own))), (1, ["a.x = a.y"]))
+        self.assertEqual(
+            (len(planner.query.equalities), list(map(str, planner.query.entries[0].own))), (1, ["a.x = a.y"])
+        )
 
     def test_a_cycle(self) -> None:
         self.assertEqual(self.equalities("SELECT a.y FROM a, b, c WHERE a.x = b.x AND b.y = c.y AND c.x = a.x"), 3)
@@ -114,8 +121,7 @@ class Edges(OnEachEngine):
     def test_using(self) -> None:
         for text in (
             "SELECT x, a.t FROM a JOIN b USING (x) JOIN c USING (x) WHERE x < 2 ORDER BY x",
-            "SELECT * FROM a JOIN b USING (x)",
-            "SELECT * FROM a JOIN b USING (y, x) JOIN c USING (x)",
+            "SELECT * FROM a JOIN b USING (x)", "SELECT * FROM a JOIN b USING (y, x) JOIN c USING (x)",
             "SELECT b.* FROM a JOIN (b JOIN c ON b.y = c.y) ON a.x = c.x",
         ):
             with self.subTest(text):
@@ -143,10 +149,10 @@ class EdgesOfPostgres(OnEachEngine):
 
     def test_which_columns_meet(self) -> None:
         for left, right, edge in (
-            ("i", "i", True), ("i", "b", False), ("i", "n", False), ("n", "n", True), ("f", "f", True), ("f", "n", False),
-            ("t", "t", True), ("t", "v", False), ("v", "v", True), ("c", "c", True), ("d", "d", True), ("d", "s", False),
-            ("m", "m", True), ("w", "w", True), ("w", "t", True), ("k", "k", True), ("k", "t", False), ("u", "u", True),
-            ("r", "r", False), ("x", "x", False),
+            ("i", "i", True), ("i", "b", False), ("i", "n", False), ("n", "n", True), ("f", "f", True),
+            ("f", "n", False), ("t", "t", True), ("t", "v", False), ("v", "v", True), ("c", "c", True),
+            ("d", "d", True), ("d", "s", False), ("m", "m", True), ("w", "w", True), ("w", "t", True), ("k", "k", True),
+            ("k", "t", False), ("u", "u", True), ("r", "r", False), ("x", "x", False),
         ):
             with self.subTest(f"{left} = {right}"):
                 text = f"SELECT a.i FROM a, b WHERE a.{left} = b.{right}"
@@ -287,7 +293,8 @@ class Trees(OnEachEngine):
     """A join tree is kept by the engine: PostgreSQL by parentheses, SQLite by a materialised part."""
 
     schema = "CREATE TABLE a (x INTEGER, p INTEGER); CREATE TABLE b (x INTEGER, y INTEGER, z INTEGER)"
-    text = """SELECT p.p, q.p + 1, s.z FROM a p JOIN b r ON p.x = r.x JOIN b s ON r.y = s.y AND r.z <= s.z JOIN a q ON q.x = s.x
+    text = """SELECT p.p, q.p + 1, s.z FROM a p JOIN b r ON p.x = r.x JOIN b s ON r.y = s.y AND r.z <= s.z
+        JOIN a q ON q.x = s.x
         WHERE p.p < 5 AND q.p < 9"""
 
     @classmethod
@@ -317,7 +324,9 @@ class Trees(OnEachEngine):
             self.assertIn("MATERIALIZE safebound_1", [step[3] for step in steps])
             self.assertEqual([name for parent, name in read if parent and name[0] != "("], ["s", "q"])
             # The part's entries have their names again by its row numbers.
-            self.assertEqual([name for parent, name in read if not parent], ["p", "r", "safebound_1", "safebound_1", "safebound_1"])
+            self.assertEqual(
+                [name for parent, name in read if not parent], ["p", "r", "safebound_1", "safebound_1", "safebound_1"]
+            )
         else:
             plan = planner.engine.rows(f"EXPLAIN (FORMAT JSON) {sql}")[0][0][0]["Plan"]
             self.assertEqual(sorted(map(sorted, joins(plan))), [["p", "q", "r", "s"], ["p", "r"], ["q", "s"]])
@@ -373,6 +382,7 @@ class Snapshots(OnEachEngine):
 
 for test in (Counted, Edges, Orders, Trees, Reduced, Snapshots):
     globals()[test.__name__ + "OnPostgres"] = on_postgres(test)
+del test
 EdgesOfPostgres = unittest.skipUnless(POSTGRES, "no PostgreSQL")(EdgesOfPostgres)
 
 if __name__ == "__main__":

@@ -1,30 +1,26 @@
-"""Random queries on both engines: no level is above its bound, and the rows of the planned SQL are those of the query."""
+"""Random queries on both engines: no level is above its bound, and the rows of the planned SQL are those of the
+query."""
 
 from __future__ import annotations
 
-import os
 import unittest
 
 import random_names
-from bases import OnEachEngine, on_postgres
+from bases import COUNTED, OnEachEngine, on_postgres
 from random_names import RandomNames
-from random_queries import TABLES, Randomly
+from random_queries import NAMED, QUERIES, TABLES, Randomly, RandomQuery, in_tens
+from safebound_sql.faults import Refused
 from safebound_sql.levels import entries_of
 
-QUERIES = int(os.environ.get("SAFEBOUND_SQL_QUERIES", "20"))
-SEED = int(os.environ.get("SAFEBOUND_SQL_SEED", "1"))
-QUERIES_OF_A_DATABASE = 10
 
+class AnyQueries(OnEachEngine):
+    """Has no queries of its own."""
 
-class RandomQueries(OnEachEngine):
-    def queries(self) -> int:
-        return QUERIES
-
-    def test_random_queries(self) -> None:
+    def ask(self, numbers: range) -> None:
         done = joined = 0
-        for number in range(SEED, SEED + self.queries()):
+        for number in numbers:
             randomly = Randomly(number, self.base.engine)
-            if (number - SEED) % QUERIES_OF_A_DATABASE == 0:
+            if number == numbers[0]:
                 self.doCleanups()
                 self.base.script(randomly.schema())
                 for table in range(TABLES):
@@ -33,10 +29,11 @@ class RandomQueries(OnEachEngine):
             with self.subTest(number=number, query=found.text):
                 joined += self.check(randomly, found)
                 done += 1
-        self.assertEqual(done, self.queries())
-        self.assertGreater(joined, self.queries() // 4)
+        COUNTED[f"random queries answered on {self.base.engine}"] += done
+        self.assertEqual(done, len(numbers))
+        self.assertGreater(joined, len(numbers) // 4)
 
-    def check(self, randomly: Randomly, found) -> bool:
+    def check(self, randomly: Randomly, found: RandomQuery) -> bool:
         """Checks one query. Answers whether bounds had an equality to go by."""
         choose = randomly.random.choice
         reduce, tree = choose((True, True, False)), choose((False, False, True))
@@ -55,34 +52,56 @@ class RandomQueries(OnEachEngine):
         return bool(planner.query.equalities)
 
 
-class RandomOutputs(OnEachEngine):
-    """Outputs with names of columns, over USING, in order: half as many."""
+@in_tens(QUERIES)
+class RandomQueries(AnyQueries):
+    """Joins and conditions of all kinds."""
 
-    def test_random_queries(self) -> None:
+
+@in_tens(NAMED)
+class RandomOutputs(OnEachEngine):
+    """Outputs with names of columns, over USING, in order. Each number has one query that is answered."""
+
+    def ask(self, numbers: range) -> None:
         done = 0
-        for number in range(SEED, SEED + max(QUERIES // 2, 1)):
+        for number in numbers:
             randomly = RandomNames(number, self.base.engine)
-            if (number - SEED) % QUERIES_OF_A_DATABASE == 0:
+            if number == numbers[0]:
                 self.doCleanups()
-                self.base.script(randomly.schema())
+                schema = randomly.schema()
+                self.base.script(schema)
                 for table in range(random_names.TABLES):
                     self.base.fill(f"u{table}", randomly.rows())
-            text = randomly.query()
+            text = self.taken(randomly, schema)
             with self.subTest(number=number, query=text):
                 self.check(randomly, text)
                 done += 1
-        self.assertEqual(done, max(QUERIES // 2, 1))
+        COUNTED[f"random outputs answered on {self.base.engine}"] += done
+        self.assertEqual(done, len(numbers))
+
+    def taken(self, randomly: RandomNames, schema: str) -> str:
+        """The first query that isn't one of those that are refused. Those before it are, and by their names."""
+        while True:
+            text = randomly.query()
+            if not randomly.converts_both(schema):
+                return text
+            with self.assertRaisesRegex(Refused, "it merges .* write the equality with ON") as raised:
+                self.opened(text)
+            self.doCleanups()
+            _, _, why = str(raised.exception).partition(": ")
+            COUNTED[f"random outputs refused on {self.base.engine}: {why}"] += 1
 
     def check(self, randomly: RandomNames, text: str) -> None:
         choose = randomly.random.choice
         planner, plan = self.planned(text, choose((True, True, False)), choose((1, 8)), choose((False, False, True)))
         self.never_under(planner, plan, text)
         planner.engine.keep_order()
-        self.assertEqual(list(map(repr, planner.engine.rows(planner.sql(plan)))), list(map(repr, self.base.rows(text))), planner.sql(plan))
+        self.assertEqual(
+            list(map(repr, planner.engine.rows(planner.sql(plan)))), list(map(repr, self.base.rows(text))),
+            planner.sql(plan),
+        )
         planner.engine.close()
 
 
 RandomQueriesOnPostgres, RandomOutputsOnPostgres = on_postgres(RandomQueries), on_postgres(RandomOutputs)
-
 if __name__ == "__main__":
     unittest.main()

@@ -51,8 +51,25 @@ class Refusals(OnEachEngine):
         many = ", ".join(f"a AS a{n}" for n in range(13))
         self.refused(f"SELECT 1 FROM {many}", "a12 at line 1, column", "at most 12")
 
+    def test_forms_of_joins(self) -> None:
+        self.refused(
+            "SELECT 1 FROM (a JOIN b ON a.x = b.x) AS j", "AS at line 1, column 39", "an alias of joined tables"
+        )
+        self.refused(
+            "SELECT 1 FROM a JOIN (b CROSS JOIN low) USING (x)", "USING at line 1, column 47", "write it out with ON"
+        )
+        self.refused("SELECT 1 FROM (a JOIN b ON a.x = b.x", "too early: a parenthesis of FROM isn't closed")
+        self.refused("SELECT 1 FROM a, (VALUES (1)) AS v", "a subquery", "line 1, column 18")
+
+    def test_texts_that_arent_whole(self) -> None:
+        self.refused("SELECT x FROM a WHERE x = 1 AND AND y = 2", "a condition is missing")
+        self.refused("SELECT x FROM a WHERE t = 'b", "at line 1, column 27 begins nothing that is known, or never ends")
+
     def test_subqueries(self) -> None:
-        self.refused("SELECT 1 FROM a, b WHERE EXISTS (SELECT 1 FROM b AS c WHERE c.x = a.x)", "the subquery at line 1, column 33")
+        self.refused(
+            "SELECT 1 FROM a, b WHERE EXISTS (SELECT 1 FROM b AS c WHERE c.x = a.x)",
+            "the subquery at line 1, column 33",
+        )
         self.refused("SELECT 1 FROM a WHERE x IN (SELECT z FROM b WHERE z = y)", "the subquery at line 1, column 28")
         self.refused('SELECT 1 FROM a WHERE x IN (SELECT z FROM b WHERE z = "y")', "the subquery at line 1, column 28")
         self.refused("SELECT (SELECT max(z) FROM b WHERE b.x = a.x) FROM a", "the subquery at line 1, column 8")
@@ -62,7 +79,8 @@ class Refusals(OnEachEngine):
     def test_what_the_engine_says(self) -> None:
         self.refused("SELECT a.q FROM a", "q", fault=EngineFault)
         self.refused("SELECT x FROM a, b", "ambiguous", fault=EngineFault)
-        self.refused("SELECT a.x FROM a WHERE a.x =", "syntax", fault=EngineFault) if self.base.engine == "postgres" else None
+        if self.base.engine == "postgres":
+            self.refused("SELECT a.x FROM a WHERE a.x =", "syntax", fault=EngineFault)
         self.refused("SELECT a.x FROM a WHERE nosuch(a.x) = 1", "nosuch", fault=EngineFault)
 
     def test_random(self) -> None:
@@ -75,7 +93,9 @@ class Refusals(OnEachEngine):
         self.opened("SELECT x FROM lower_still")
         self.refused("SELECT 1 FROM b, pale", "pale at line 1, column 18", "random")
         self.refused("SELECT 1 FROM paler_still", "paler_still at line 1, column 15", "random")
-        self.refused("SELECT 1 FROM b WHERE x IN (SELECT x FROM paler_still)", "paler_still at line 1, column 43", "random")
+        self.refused(
+            "SELECT 1 FROM b WHERE x IN (SELECT x FROM paler_still)", "paler_still at line 1, column 43", "random"
+        )
 
 
 class RefusalsOfPostgres(OnEachEngine):
@@ -91,11 +111,18 @@ class RefusalsOfPostgres(OnEachEngine):
         self.refused("SELECT 1 FROM a WHERE mine(x) = 1", "mine at line 1, column 23")
         self.refused('SELECT 1 FROM a WHERE public."mine"(x) = 1', '"mine" at line 1, column 30')
         self.refused("SELECT 1 FROM a WHERE clock_timestamp() > '2020-01-01'", "clock_timestamp")
-        self.refused("SELECT 1 FROM a WHERE statement_timestamp() > '2020-01-01'", "statement_timestamp at line 1, column 23")
+        self.refused(
+            "SELECT 1 FROM a WHERE statement_timestamp() > '2020-01-01'", "statement_timestamp at line 1, column 23"
+        )
         self.opened("SELECT now(), current_date FROM a WHERE calm(x) = 1")
 
     def test_forms(self) -> None:
+        self.refused("SELECT x FROM a /* b", "the comment at line 1, column 17 never ends")
         self.refused("SELECT 1 FROM ONLY a", "ONLY at line 1, column 15")
+        self.refused(
+            "SELECT 1 FROM a JOIN a b JOIN a c ON b.x = c.x ON a.x = b.x",
+            "JOIN at line 1, column 26: each JOIN has its ON",
+        )
         self.refused("SELECT 1 FROM a TABLESAMPLE SYSTEM (10)", "TABLESAMPLE at line 1, column 17")
         self.refused("SELECT 1 FROM a AS q (p, q)", "q( at line 1")
         self.refused("SELECT 1 FROM a FOR UPDATE", "FOR at line 1, column 17")

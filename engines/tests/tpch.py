@@ -1,7 +1,7 @@
 """The eight tables of TPC-H in small, and its 22 queries in PostgreSQL's dialect with the validation parameters.
 
-The tables are made here from random numbers over the standard's domains of values, so that the queries find rows; they are
-no data of the standard's generator.
+The tables are made here from random numbers over the standard's domains of values, so that the queries find rows;
+they are no data of the standard's generator.
 """
 
 from __future__ import annotations
@@ -13,31 +13,35 @@ from decimal import Decimal
 SCHEMA = """
 CREATE TABLE region (r_regionkey INTEGER PRIMARY KEY, r_name CHAR(25), r_comment VARCHAR(152));
 CREATE TABLE nation (n_nationkey INTEGER PRIMARY KEY, n_name CHAR(25), n_regionkey INTEGER, n_comment VARCHAR(152));
-CREATE TABLE part (p_partkey INTEGER PRIMARY KEY, p_name VARCHAR(55), p_mfgr CHAR(25), p_brand CHAR(10), p_type VARCHAR(25),
-    p_size INTEGER, p_container CHAR(10), p_retailprice NUMERIC(15, 2), p_comment VARCHAR(23));
-CREATE TABLE supplier (s_suppkey INTEGER PRIMARY KEY, s_name CHAR(25), s_address VARCHAR(40), s_nationkey INTEGER, s_phone CHAR(15),
-    s_acctbal NUMERIC(15, 2), s_comment VARCHAR(101));
-CREATE TABLE partsupp (ps_partkey INTEGER, ps_suppkey INTEGER, ps_availqty INTEGER, ps_supplycost NUMERIC(15, 2), ps_comment VARCHAR(199),
-    PRIMARY KEY (ps_partkey, ps_suppkey));
-CREATE TABLE customer (c_custkey INTEGER PRIMARY KEY, c_name VARCHAR(25), c_address VARCHAR(40), c_nationkey INTEGER, c_phone CHAR(15),
-    c_acctbal NUMERIC(15, 2), c_mktsegment CHAR(10), c_comment VARCHAR(117));
-CREATE TABLE orders (o_orderkey INTEGER PRIMARY KEY, o_custkey INTEGER, o_orderstatus CHAR(1), o_totalprice NUMERIC(15, 2),
-    o_orderdate DATE, o_orderpriority CHAR(15), o_clerk CHAR(15), o_shippriority INTEGER, o_comment VARCHAR(79));
-CREATE TABLE lineitem (l_orderkey INTEGER, l_partkey INTEGER, l_suppkey INTEGER, l_linenumber INTEGER, l_quantity NUMERIC(15, 2),
-    l_extendedprice NUMERIC(15, 2), l_discount NUMERIC(15, 2), l_tax NUMERIC(15, 2), l_returnflag CHAR(1), l_linestatus CHAR(1),
-    l_shipdate DATE, l_commitdate DATE, l_receiptdate DATE, l_shipinstruct CHAR(25), l_shipmode CHAR(10), l_comment VARCHAR(44),
-    PRIMARY KEY (l_orderkey, l_linenumber));
+CREATE TABLE part (p_partkey INTEGER PRIMARY KEY, p_name VARCHAR(55), p_mfgr CHAR(25), p_brand CHAR(10),
+    p_type VARCHAR(25), p_size INTEGER, p_container CHAR(10), p_retailprice NUMERIC(15, 2), p_comment VARCHAR(23));
+CREATE TABLE supplier (s_suppkey INTEGER PRIMARY KEY, s_name CHAR(25), s_address VARCHAR(40), s_nationkey INTEGER,
+    s_phone CHAR(15), s_acctbal NUMERIC(15, 2), s_comment VARCHAR(101));
+CREATE TABLE partsupp (ps_partkey INTEGER, ps_suppkey INTEGER, ps_availqty INTEGER, ps_supplycost NUMERIC(15, 2),
+    ps_comment VARCHAR(199), PRIMARY KEY (ps_partkey, ps_suppkey));
+CREATE TABLE customer (c_custkey INTEGER PRIMARY KEY, c_name VARCHAR(25), c_address VARCHAR(40), c_nationkey INTEGER,
+    c_phone CHAR(15), c_acctbal NUMERIC(15, 2), c_mktsegment CHAR(10), c_comment VARCHAR(117));
+CREATE TABLE orders (o_orderkey INTEGER PRIMARY KEY, o_custkey INTEGER, o_orderstatus CHAR(1),
+    o_totalprice NUMERIC(15, 2), o_orderdate DATE, o_orderpriority CHAR(15), o_clerk CHAR(15), o_shippriority INTEGER,
+    o_comment VARCHAR(79));
+CREATE TABLE lineitem (l_orderkey INTEGER, l_partkey INTEGER, l_suppkey INTEGER, l_linenumber INTEGER,
+    l_quantity NUMERIC(15, 2), l_extendedprice NUMERIC(15, 2), l_discount NUMERIC(15, 2), l_tax NUMERIC(15, 2),
+    l_returnflag CHAR(1), l_linestatus CHAR(1), l_shipdate DATE, l_commitdate DATE, l_receiptdate DATE,
+    l_shipinstruct CHAR(25), l_shipmode CHAR(10), l_comment VARCHAR(44), PRIMARY KEY (l_orderkey, l_linenumber));
 """
 
 REGIONS = ("AFRICA", "AMERICA", "ASIA", "EUROPE", "MIDDLE EAST")
 NATIONS = (
-    ("ALGERIA", 0), ("ARGENTINA", 1), ("BRAZIL", 1), ("CANADA", 1), ("EGYPT", 4), ("ETHIOPIA", 0), ("FRANCE", 3), ("GERMANY", 3),
-    ("INDIA", 2), ("INDONESIA", 2), ("IRAN", 4), ("IRAQ", 4), ("JAPAN", 2), ("JORDAN", 4), ("KENYA", 0), ("MOROCCO", 0),
-    ("MOZAMBIQUE", 0), ("PERU", 1), ("CHINA", 2), ("ROMANIA", 3), ("SAUDI ARABIA", 4), ("VIETNAM", 2), ("RUSSIA", 3),
-    ("UNITED KINGDOM", 3), ("UNITED STATES", 1),
+    ("ALGERIA", 0), ("ARGENTINA", 1), ("BRAZIL", 1), ("CANADA", 1), ("EGYPT", 4), ("ETHIOPIA", 0), ("FRANCE", 3),
+    ("GERMANY", 3), ("INDIA", 2), ("INDONESIA", 2), ("IRAN", 4), ("IRAQ", 4), ("JAPAN", 2), ("JORDAN", 4), ("KENYA", 0),
+    ("MOROCCO", 0), ("MOZAMBIQUE", 0), ("PERU", 1), ("CHINA", 2), ("ROMANIA", 3), ("SAUDI ARABIA", 4), ("VIETNAM", 2),
+    ("RUSSIA", 3), ("UNITED KINGDOM", 3), ("UNITED STATES", 1),
 )
 COLOURS = ("forest", "green", "blue", "red", "ivory")
-TYPES = ("ECONOMY ANODIZED STEEL", "MEDIUM POLISHED COPPER", "PROMO BURNISHED BRASS", "LARGE PLATED BRASS", "STANDARD BRUSHED TIN")
+TYPES = (
+    "ECONOMY ANODIZED STEEL", "MEDIUM POLISHED COPPER", "PROMO BURNISHED BRASS", "LARGE PLATED BRASS",
+    "STANDARD BRUSHED TIN",
+)
 CONTAINERS = ("SM CASE", "SM BOX", "MED BAG", "MED BOX", "LG CASE", "LG BOX")
 SEGMENTS = ("AUTOMOBILE", "BUILDING", "FURNITURE", "HOUSEHOLD", "MACHINERY")
 PRIORITIES = ("1-URGENT", "2-HIGH", "3-MEDIUM", "4-NOT SPECIFIED", "5-LOW")
@@ -48,72 +52,98 @@ FIRST_DAY = datetime.date(1992, 1, 1)
 def rows(seed: int = 1) -> dict[str, list[tuple]]:
     """The rows of all tables, the same for the same number."""
     pick = random.Random(seed)
-    money = lambda least, most: Decimal(pick.randrange(least * 100, most * 100)) / 100  # noqa: E731
-    phone = lambda nation: f"{nation + 10}-{pick.randrange(100, 999)}-{pick.randrange(100, 999)}-{pick.randrange(1000, 9999)}"  # noqa: E731
+
+    def money(least: int, most: int) -> Decimal:
+        return Decimal(pick.randrange(least * 100, most * 100)) / 100
+
+    def phone(nation: int) -> str:
+        middle = f"{pick.randrange(100, 999)}-{pick.randrange(100, 999)}"
+        return f"{nation + 10}-{middle}-{pick.randrange(1000, 9999)}"
+
     tables: dict[str, list[tuple]] = {
         "region": [(number, name, "") for number, name in enumerate(REGIONS)],
         "nation": [(number, name, region, "") for number, (name, region) in enumerate(NATIONS)],
     }
     tables["part"] = [
-        (n, f"{pick.choice(COLOURS)} {pick.choice(COLOURS)}", f"Manufacturer#{n % 5 + 1}", pick.choice(("Brand#12", "Brand#23", "Brand#34", "Brand#45")),
-         pick.choice(TYPES), pick.choice((1, 3, 9, 14, 15, 19, 23, 36, 45, 49)), pick.choice(CONTAINERS), money(900, 1000), "")
+        (
+            n, f"{pick.choice(COLOURS)} {pick.choice(COLOURS)}", f"Manufacturer#{n % 5 + 1}",
+            pick.choice(("Brand#12", "Brand#23", "Brand#34", "Brand#45")), pick.choice(TYPES),
+            pick.choice((1, 3, 9, 14, 15, 19, 23, 36, 45, 49)), pick.choice(CONTAINERS), money(900, 1000), "",
+        )
         for n in range(1, 61)
     ]
     suppliers = [(n, n % 25) for n in range(1, 51)]
     tables["supplier"] = [
-        (n, f"Supplier#{n:09}", "", nation, phone(nation), money(-900, 9000), pick.choice(("", "Customer slow Complaints")))
+        (
+            n, f"Supplier#{n:09}", "", nation, phone(nation), money(-900, 9000),
+            pick.choice(("", "Customer slow Complaints")),
+        )
         for n, nation in suppliers
     ]
     pairs = [(part, (part * 7 + n * 11) % 50 + 1) for part in range(1, 61) for n in range(4)]
     tables["partsupp"] = [(part, supplier, pick.randrange(1, 9999), money(1, 1000), "") for part, supplier in pairs]
     tables["customer"] = [
         (n, f"Customer#{n:09}", "", nation, phone(nation), money(-900, 9000), pick.choice(SEGMENTS), "")
-        for n in range(1, 91) for nation in [pick.randrange(25)]
+        for n in range(1, 91)
+        for nation in [pick.randrange(25)]
     ]
     tables["orders"], tables["lineitem"] = [], []
     for n in range(1, 401):
         day = FIRST_DAY + datetime.timedelta(pick.randrange(2400))
-        tables["orders"].append((
-            n, pick.randrange(1, 61), pick.choice("FOP"), money(1000, 400000), day, pick.choice(PRIORITIES), "Clerk#1", 0,
-            pick.choice(("", "special packages requests", "quickly")),
-        ))
+        tables["orders"].append(
+            (
+                n, pick.randrange(1, 61), pick.choice("FOP"), money(1000, 400000), day, pick.choice(PRIORITIES),
+                "Clerk#1", 0, pick.choice(("", "special packages requests", "quickly")),
+            )
+        )
         for line in range(1, pick.choice((1, 3, 7)) + 1):
             part, supplier = pick.choice(pairs)
             ship = day + datetime.timedelta(pick.randrange(1, 122))
-            tables["lineitem"].append((
-                n, part, supplier, line, Decimal(pick.choice((2, 5, 15, 25, 45, 50))), money(900, 90000), Decimal(pick.randrange(11)) / 100,
-                Decimal(pick.randrange(9)) / 100, pick.choice("RAN"), pick.choice("OF"), ship, day + datetime.timedelta(pick.randrange(30, 91)),
-                ship + datetime.timedelta(pick.randrange(1, 31)), pick.choice(("DELIVER IN PERSON", "NONE")), pick.choice(MODES), "",
-            ))
+            tables["lineitem"].append(
+                (
+                    n, part, supplier, line, Decimal(pick.choice((2, 5, 15, 25, 45, 50))), money(900, 90000),
+                    Decimal(pick.randrange(11)) / 100, Decimal(pick.randrange(9)) / 100, pick.choice("RAN"),
+                    pick.choice("OF"), ship, day + datetime.timedelta(pick.randrange(30, 91)),
+                    ship + datetime.timedelta(pick.randrange(1, 31)), pick.choice(("DELIVER IN PERSON", "NONE")),
+                    pick.choice(MODES), "",
+                )
+            )
     return tables
 
 
 QUERIES = {
     1: """SELECT l_returnflag, l_linestatus, sum(l_quantity) AS sum_qty, sum(l_extendedprice) AS sum_base_price,
-            sum(l_extendedprice * (1 - l_discount)) AS sum_disc_price, sum(l_extendedprice * (1 - l_discount) * (1 + l_tax)) AS sum_charge,
-            avg(l_quantity) AS avg_qty, avg(l_extendedprice) AS avg_price, avg(l_discount) AS avg_disc, count(*) AS count_order
+            sum(l_extendedprice * (1 - l_discount)) AS sum_disc_price,
+            sum(l_extendedprice * (1 - l_discount) * (1 + l_tax)) AS sum_charge,
+            avg(l_quantity) AS avg_qty, avg(l_extendedprice) AS avg_price, avg(l_discount) AS avg_disc,
+            count(*) AS count_order
         FROM lineitem WHERE l_shipdate <= date '1998-12-01' - interval '90' day
         GROUP BY l_returnflag, l_linestatus ORDER BY l_returnflag, l_linestatus""",
     2: """SELECT s_acctbal, s_name, n_name, p_partkey, p_mfgr, s_address, s_phone, s_comment
         FROM part, supplier, partsupp, nation, region
-        WHERE p_partkey = ps_partkey AND s_suppkey = ps_suppkey AND p_size = 15 AND p_type LIKE '%BRASS' AND s_nationkey = n_nationkey
+        WHERE p_partkey = ps_partkey AND s_suppkey = ps_suppkey AND p_size = 15 AND p_type LIKE '%BRASS'
+            AND s_nationkey = n_nationkey
             AND n_regionkey = r_regionkey AND r_name = 'EUROPE' AND ps_supplycost = (
                 SELECT min(ps_supplycost) FROM partsupp, supplier, nation, region
-                WHERE p_partkey = ps_partkey AND s_suppkey = ps_suppkey AND s_nationkey = n_nationkey AND n_regionkey = r_regionkey
+                WHERE p_partkey = ps_partkey AND s_suppkey = ps_suppkey AND s_nationkey = n_nationkey
+                    AND n_regionkey = r_regionkey
                     AND r_name = 'EUROPE')
         ORDER BY s_acctbal DESC, n_name, s_name, p_partkey LIMIT 100""",
     3: """SELECT l_orderkey, sum(l_extendedprice * (1 - l_discount)) AS revenue, o_orderdate, o_shippriority
         FROM customer, orders, lineitem
-        WHERE c_mktsegment = 'BUILDING' AND c_custkey = o_custkey AND l_orderkey = o_orderkey AND o_orderdate < date '1995-03-15'
+        WHERE c_mktsegment = 'BUILDING' AND c_custkey = o_custkey AND l_orderkey = o_orderkey
+            AND o_orderdate < date '1995-03-15'
             AND l_shipdate > date '1995-03-15'
         GROUP BY l_orderkey, o_orderdate, o_shippriority ORDER BY revenue DESC, o_orderdate LIMIT 10""",
     4: """SELECT o_orderpriority, count(*) AS order_count FROM orders
         WHERE o_orderdate >= date '1993-07-01' AND o_orderdate < date '1993-07-01' + interval '3' month
             AND EXISTS (SELECT * FROM lineitem WHERE l_orderkey = o_orderkey AND l_commitdate < l_receiptdate)
         GROUP BY o_orderpriority ORDER BY o_orderpriority""",
-    5: """SELECT n_name, sum(l_extendedprice * (1 - l_discount)) AS revenue FROM customer, orders, lineitem, supplier, nation, region
+    5: """SELECT n_name, sum(l_extendedprice * (1 - l_discount)) AS revenue
+        FROM customer, orders, lineitem, supplier, nation, region
         WHERE c_custkey = o_custkey AND l_orderkey = o_orderkey AND l_suppkey = s_suppkey AND c_nationkey = s_nationkey
-            AND s_nationkey = n_nationkey AND n_regionkey = r_regionkey AND r_name = 'ASIA' AND o_orderdate >= date '1994-01-01'
+            AND s_nationkey = n_nationkey AND n_regionkey = r_regionkey AND r_name = 'ASIA'
+                AND o_orderdate >= date '1994-01-01'
             AND o_orderdate < date '1994-01-01' + interval '1' year
         GROUP BY n_name ORDER BY revenue DESC""",
     6: """SELECT sum(l_extendedprice * l_discount) AS revenue FROM lineitem
@@ -123,17 +153,22 @@ QUERIES = {
             SELECT n1.n_name AS supp_nation, n2.n_name AS cust_nation, extract(year FROM l_shipdate) AS l_year,
                 l_extendedprice * (1 - l_discount) AS volume
             FROM supplier, lineitem, orders, customer, nation n1, nation n2
-            WHERE s_suppkey = l_suppkey AND o_orderkey = l_orderkey AND c_custkey = o_custkey AND s_nationkey = n1.n_nationkey
+            WHERE s_suppkey = l_suppkey AND o_orderkey = l_orderkey AND c_custkey = o_custkey
+                AND s_nationkey = n1.n_nationkey
                 AND c_nationkey = n2.n_nationkey
-                AND ((n1.n_name = 'FRANCE' AND n2.n_name = 'GERMANY') OR (n1.n_name = 'GERMANY' AND n2.n_name = 'FRANCE'))
+                AND ((n1.n_name = 'FRANCE' AND n2.n_name = 'GERMANY') OR (n1.n_name = 'GERMANY'
+                    AND n2.n_name = 'FRANCE'))
                 AND l_shipdate BETWEEN date '1995-01-01' AND date '1996-12-31') AS shipping
         GROUP BY supp_nation, cust_nation, l_year ORDER BY supp_nation, cust_nation, l_year""",
     8: """SELECT o_year, sum(CASE WHEN nation = 'BRAZIL' THEN volume ELSE 0 END) / sum(volume) AS mkt_share FROM (
-            SELECT extract(year FROM o_orderdate) AS o_year, l_extendedprice * (1 - l_discount) AS volume, n2.n_name AS nation
+            SELECT extract(year FROM o_orderdate) AS o_year, l_extendedprice * (1 - l_discount) AS volume,
+                n2.n_name AS nation
             FROM part, supplier, lineitem, orders, customer, nation n1, nation n2, region
             WHERE p_partkey = l_partkey AND s_suppkey = l_suppkey AND l_orderkey = o_orderkey AND o_custkey = c_custkey
-                AND c_nationkey = n1.n_nationkey AND n1.n_regionkey = r_regionkey AND r_name = 'AMERICA' AND s_nationkey = n2.n_nationkey
-                AND o_orderdate BETWEEN date '1995-01-01' AND date '1996-12-31' AND p_type = 'ECONOMY ANODIZED STEEL') AS all_nations
+                AND c_nationkey = n1.n_nationkey AND n1.n_regionkey = r_regionkey AND r_name = 'AMERICA'
+                    AND s_nationkey = n2.n_nationkey
+                AND o_orderdate BETWEEN date '1995-01-01' AND date '1996-12-31'
+                    AND p_type = 'ECONOMY ANODIZED STEEL') AS all_nations
         GROUP BY o_year ORDER BY o_year""",
     9: """SELECT nation, o_year, sum(amount) AS sum_profit FROM (
             SELECT n_name AS nation, extract(year FROM o_orderdate) AS o_year,
@@ -142,10 +177,12 @@ QUERIES = {
             WHERE s_suppkey = l_suppkey AND ps_suppkey = l_suppkey AND ps_partkey = l_partkey AND p_partkey = l_partkey
                 AND o_orderkey = l_orderkey AND s_nationkey = n_nationkey AND p_name LIKE '%green%') AS profit
         GROUP BY nation, o_year ORDER BY nation, o_year DESC""",
-    10: """SELECT c_custkey, c_name, sum(l_extendedprice * (1 - l_discount)) AS revenue, c_acctbal, n_name, c_address, c_phone, c_comment
+    10: """SELECT c_custkey, c_name, sum(l_extendedprice * (1 - l_discount)) AS revenue, c_acctbal, n_name,
+        c_address, c_phone, c_comment
         FROM customer, orders, lineitem, nation
         WHERE c_custkey = o_custkey AND l_orderkey = o_orderkey AND o_orderdate >= date '1993-10-01'
-            AND o_orderdate < date '1993-10-01' + interval '3' month AND l_returnflag = 'R' AND c_nationkey = n_nationkey
+            AND o_orderdate < date '1993-10-01' + interval '3' month AND l_returnflag = 'R'
+                AND c_nationkey = n_nationkey
         GROUP BY c_custkey, c_name, c_acctbal, c_phone, n_name, c_address, c_comment ORDER BY revenue DESC LIMIT 20""",
     11: """SELECT ps_partkey, sum(ps_supplycost * ps_availqty) AS value FROM partsupp, supplier, nation
         WHERE ps_suppkey = s_suppkey AND s_nationkey = n_nationkey AND n_name = 'GERMANY'
@@ -153,10 +190,13 @@ QUERIES = {
             SELECT sum(ps_supplycost * ps_availqty) * 0.0001 FROM partsupp, supplier, nation
             WHERE ps_suppkey = s_suppkey AND s_nationkey = n_nationkey AND n_name = 'GERMANY')
         ORDER BY value DESC""",
-    12: """SELECT l_shipmode, sum(CASE WHEN o_orderpriority = '1-URGENT' OR o_orderpriority = '2-HIGH' THEN 1 ELSE 0 END) AS high_line_count,
-            sum(CASE WHEN o_orderpriority <> '1-URGENT' AND o_orderpriority <> '2-HIGH' THEN 1 ELSE 0 END) AS low_line_count
+    12: """SELECT l_shipmode, sum(CASE WHEN o_orderpriority = '1-URGENT'
+        OR o_orderpriority = '2-HIGH' THEN 1 ELSE 0 END) AS high_line_count,
+            sum(CASE WHEN o_orderpriority <> '1-URGENT' AND o_orderpriority <> '2-HIGH' THEN 1 ELSE 0 END)
+                AS low_line_count
         FROM orders, lineitem
-        WHERE o_orderkey = l_orderkey AND l_shipmode IN ('MAIL', 'SHIP') AND l_commitdate < l_receiptdate AND l_shipdate < l_commitdate
+        WHERE o_orderkey = l_orderkey AND l_shipmode IN ('MAIL', 'SHIP') AND l_commitdate < l_receiptdate
+            AND l_shipdate < l_commitdate
             AND l_receiptdate >= date '1994-01-01' AND l_receiptdate < date '1994-01-01' + interval '1' year
         GROUP BY l_shipmode ORDER BY l_shipmode""",
     13: """SELECT c_count, count(*) AS custdist FROM (
@@ -166,12 +206,15 @@ QUERIES = {
     14: """SELECT 100.00 * sum(CASE WHEN p_type LIKE 'PROMO%' THEN l_extendedprice * (1 - l_discount) ELSE 0 END)
             / sum(l_extendedprice * (1 - l_discount)) AS promo_revenue
         FROM lineitem, part
-        WHERE l_partkey = p_partkey AND l_shipdate >= date '1995-09-01' AND l_shipdate < date '1995-09-01' + interval '1' month""",
+        WHERE l_partkey = p_partkey AND l_shipdate >= date '1995-09-01'
+            AND l_shipdate < date '1995-09-01' + interval '1' month""",
     15: """WITH revenue (supplier_no, total_revenue) AS (
             SELECT l_suppkey, sum(l_extendedprice * (1 - l_discount)) FROM lineitem
-            WHERE l_shipdate >= date '1996-01-01' AND l_shipdate < date '1996-01-01' + interval '3' month GROUP BY l_suppkey)
+            WHERE l_shipdate >= date '1996-01-01' AND l_shipdate < date '1996-01-01' + interval '3' month
+                GROUP BY l_suppkey)
         SELECT s_suppkey, s_name, s_address, s_phone, total_revenue FROM supplier, revenue
-        WHERE s_suppkey = supplier_no AND total_revenue = (SELECT max(total_revenue) FROM revenue) ORDER BY s_suppkey""",
+        WHERE s_suppkey = supplier_no AND total_revenue = (SELECT max(total_revenue) FROM revenue)
+            ORDER BY s_suppkey""",
     16: """SELECT p_brand, p_type, p_size, count(DISTINCT ps_suppkey) AS supplier_cnt FROM partsupp, part
         WHERE p_partkey = ps_partkey AND p_brand <> 'Brand#45' AND p_type NOT LIKE 'MEDIUM POLISHED%'
             AND p_size IN (49, 14, 23, 45, 19, 3, 36, 9)
@@ -180,31 +223,43 @@ QUERIES = {
     17: """SELECT sum(l_extendedprice) / 7.0 AS avg_yearly FROM lineitem, part
         WHERE p_partkey = l_partkey AND p_brand = 'Brand#23' AND p_container = 'MED BOX'
             AND l_quantity < (SELECT 0.2 * avg(l_quantity) FROM lineitem WHERE l_partkey = p_partkey)""",
-    18: """SELECT c_name, c_custkey, o_orderkey, o_orderdate, o_totalprice, sum(l_quantity) FROM customer, orders, lineitem
+    18: """SELECT c_name, c_custkey, o_orderkey, o_orderdate, o_totalprice, sum(l_quantity)
+        FROM customer, orders, lineitem
         WHERE o_orderkey IN (SELECT l_orderkey FROM lineitem GROUP BY l_orderkey HAVING sum(l_quantity) > 200)
             AND c_custkey = o_custkey AND o_orderkey = l_orderkey
-        GROUP BY c_name, c_custkey, o_orderkey, o_orderdate, o_totalprice ORDER BY o_totalprice DESC, o_orderdate LIMIT 100""",
+        GROUP BY c_name, c_custkey, o_orderkey, o_orderdate, o_totalprice
+            ORDER BY o_totalprice DESC, o_orderdate LIMIT 100""",
     19: """SELECT sum(l_extendedprice * (1 - l_discount)) AS revenue FROM lineitem, part
-        WHERE (p_partkey = l_partkey AND p_brand = 'Brand#12' AND p_container IN ('SM CASE', 'SM BOX', 'SM PACK', 'SM PKG')
-                AND l_quantity >= 1 AND l_quantity <= 1 + 10 AND p_size BETWEEN 1 AND 5 AND l_shipmode IN ('AIR', 'AIR REG')
+        WHERE (p_partkey = l_partkey AND p_brand = 'Brand#12'
+            AND p_container IN ('SM CASE', 'SM BOX', 'SM PACK', 'SM PKG')
+                AND l_quantity >= 1 AND l_quantity <= 1 + 10 AND p_size BETWEEN 1 AND 5
+                    AND l_shipmode IN ('AIR', 'AIR REG')
                 AND l_shipinstruct = 'DELIVER IN PERSON')
-            OR (p_partkey = l_partkey AND p_brand = 'Brand#23' AND p_container IN ('MED BAG', 'MED BOX', 'MED PKG', 'MED PACK')
-                AND l_quantity >= 10 AND l_quantity <= 10 + 10 AND p_size BETWEEN 1 AND 10 AND l_shipmode IN ('AIR', 'AIR REG')
+            OR (p_partkey = l_partkey AND p_brand = 'Brand#23'
+                AND p_container IN ('MED BAG', 'MED BOX', 'MED PKG', 'MED PACK')
+                AND l_quantity >= 10 AND l_quantity <= 10 + 10 AND p_size BETWEEN 1 AND 10
+                    AND l_shipmode IN ('AIR', 'AIR REG')
                 AND l_shipinstruct = 'DELIVER IN PERSON')
-            OR (p_partkey = l_partkey AND p_brand = 'Brand#34' AND p_container IN ('LG CASE', 'LG BOX', 'LG PACK', 'LG PKG')
-                AND l_quantity >= 20 AND l_quantity <= 20 + 10 AND p_size BETWEEN 1 AND 15 AND l_shipmode IN ('AIR', 'AIR REG')
+            OR (p_partkey = l_partkey AND p_brand = 'Brand#34'
+                AND p_container IN ('LG CASE', 'LG BOX', 'LG PACK', 'LG PKG')
+                AND l_quantity >= 20 AND l_quantity <= 20 + 10 AND p_size BETWEEN 1 AND 15
+                    AND l_shipmode IN ('AIR', 'AIR REG')
                 AND l_shipinstruct = 'DELIVER IN PERSON')""",
     20: """SELECT s_name, s_address FROM supplier, nation
         WHERE s_suppkey IN (
-                SELECT ps_suppkey FROM partsupp WHERE ps_partkey IN (SELECT p_partkey FROM part WHERE p_name LIKE 'forest%')
-                    AND ps_availqty > (SELECT 0.5 * sum(l_quantity) FROM lineitem WHERE l_partkey = ps_partkey AND l_suppkey = ps_suppkey
+                SELECT ps_suppkey FROM partsupp WHERE ps_partkey IN (SELECT p_partkey FROM part
+                    WHERE p_name LIKE 'forest%')
+                    AND ps_availqty > (SELECT 0.5 * sum(l_quantity) FROM lineitem WHERE l_partkey = ps_partkey
+                        AND l_suppkey = ps_suppkey
                         AND l_shipdate >= date '1994-01-01' AND l_shipdate < date '1994-01-01' + interval '1' year))
             AND s_nationkey = n_nationkey AND n_name = 'CANADA'
         ORDER BY s_name""",
     21: """SELECT s_name, count(*) AS numwait FROM supplier, lineitem l1, orders, nation
-        WHERE s_suppkey = l1.l_suppkey AND o_orderkey = l1.l_orderkey AND o_orderstatus = 'F' AND l1.l_receiptdate > l1.l_commitdate
+        WHERE s_suppkey = l1.l_suppkey AND o_orderkey = l1.l_orderkey AND o_orderstatus = 'F'
+            AND l1.l_receiptdate > l1.l_commitdate
             AND EXISTS (SELECT * FROM lineitem l2 WHERE l2.l_orderkey = l1.l_orderkey AND l2.l_suppkey <> l1.l_suppkey)
-            AND NOT EXISTS (SELECT * FROM lineitem l3 WHERE l3.l_orderkey = l1.l_orderkey AND l3.l_suppkey <> l1.l_suppkey
+            AND NOT EXISTS (SELECT * FROM lineitem l3 WHERE l3.l_orderkey = l1.l_orderkey
+                AND l3.l_suppkey <> l1.l_suppkey
                 AND l3.l_receiptdate > l3.l_commitdate)
             AND s_nationkey = n_nationkey AND n_name = 'SAUDI ARABIA'
         GROUP BY s_name ORDER BY numwait DESC, s_name LIMIT 100""",
@@ -212,7 +267,8 @@ QUERIES = {
             SELECT substring(c_phone FROM 1 FOR 2) AS cntrycode, c_acctbal FROM customer
             WHERE substring(c_phone FROM 1 FOR 2) IN ('13', '31', '23', '29', '30', '18', '17')
                 AND c_acctbal > (SELECT avg(c_acctbal) FROM customer
-                    WHERE c_acctbal > 0.00 AND substring(c_phone FROM 1 FOR 2) IN ('13', '31', '23', '29', '30', '18', '17'))
+                    WHERE c_acctbal > 0.00 AND substring(c_phone
+                        FROM 1 FOR 2) IN ('13', '31', '23', '29', '30', '18', '17'))
                 AND NOT EXISTS (SELECT * FROM orders WHERE o_custkey = c_custkey)) AS custsale
         GROUP BY cntrycode ORDER BY cntrycode""",
 }

@@ -4,28 +4,30 @@ from __future__ import annotations
 
 import os
 import shutil
-import subprocess
 import sys
 import tempfile
-from concurrent.futures import ThreadPoolExecutor
+import time
 from dataclasses import dataclass
 from pathlib import Path
 
-HERE = Path(__file__).resolve().parent
-PACKAGE = HERE.parent / "safebound_sql"
-ROOT = HERE.parents[1]
-WANTS_SERVERS = ("OnPostgres", "OfPostgres", "test_cluster")
+from side_by_side import PASSED_OVER, Done, Result, tests
+
+PACKAGE = Path(__file__).resolve().parents[1] / "safebound_sql"
 
 
 @dataclass
 class Edit:
-    """What goes wrong, in which file, by which edit, and the test that fails."""
+    """What goes wrong, in which file, by which edit, and the test that fails.
+
+    The gate tries those with which a bound could be too low or a row wrong, where no other one of them is like it.
+    """
 
     name: str
     file: str
     old: str
     new: str
     test: str
+    gate: bool = False
 
 
 EDITS = [
@@ -33,146 +35,184 @@ EDITS = [
          "test_meaning.Counted.test_null_is_no_value"),
     Edit("an equality of a number with a text is an edge", "meaning.py",
          "one.column.kind is None or one.column.kind != other.column.kind", "one.column.kind is None",
-         "test_meaning.EdgesOfSqlite.test_numbers_meet_texts"),
+         "test_meaning.EdgesOfSqlite.test_numbers_meet_texts", gate=True),
     Edit("columns of different types are an edge", "meaning.py",
          "one.column.kind is None or one.column.kind != other.column.kind", "one.column.kind is None",
-         "test_meaning.EdgesOfPostgres.test_which_columns_meet"),
+         "test_meaning.EdgesOfPostgres.test_which_columns_meet", gate=True),
     Edit("collations aren't looked at", "sqlite.py",
          "(affinity(declared, strict), collation) if collation", "affinity(declared, strict) if collation",
-         "test_meaning.EdgesOfSqlite.test_which_columns_meet"),
+         "test_meaning.EdgesOfSqlite.test_which_columns_meet", gate=True),
     Edit("ANY of a strict table is numeric", "sqlite.py", ' or (strict and name == "ANY")', "",
          "test_meaning.EdgesOfSqlite.test_any_of_a_strict_table"),
     Edit("the histogram is of values without the entry's own condition", "counting.py",
-         "Source(entry, own_conditions(entry))", "Source(entry, [])", "test_meaning.Counted.test_own_conditions_come_first"),
+         "Source(entry, own_conditions(entry))", "Source(entry, [])",
+         "test_meaning.Counted.test_own_conditions_come_first"),
     Edit("rows are reduced without the entry's own condition", "reducing.py",
-         "own_conditions(query.entries[entry]) if first else []", "[]", "test_meaning.Counted.test_rows_without_a_partner_go"),
+         "own_conditions(query.entries[entry]) if first else []", "[]",
+         "test_meaning.Counted.test_rows_without_a_partner_go"),
     Edit("an OR over two entries is an edge", "reading.py",
          '        if word.says("OR"):\n            return [condition]\n',
          '        if word.says("OR"):\n            parts.append([])\n            continue\n',
-         "test_meaning.Edges.test_or_over_two_entries"),
+         "test_meaning.Edges.test_or_over_two_entries", gate=True),
     Edit("OR binds more than AND", "reading.py",
-         '        if word.says("OR"):\n            return [condition]\n', "", "test_meaning.Edges.test_or_over_two_entries"),
+         '        if word.says("OR"):\n            return [condition]\n', "",
+         "test_meaning.Edges.test_or_over_two_entries"),
     Edit("an ON condition of an entry is lost", "reading.py",
-         "self.statement).conditions += parts\n", "self.statement).conditions += parts[:1]\n",
+         "self.statement.conditions += parts\n", "self.statement.conditions += parts[:1]\n",
          "test_meaning.Counted.test_a_condition_of_on_counts"),
     Edit("a self-join's aliases are mixed", "names.py",
          "{entry.name: entry.number for entry in self.entries}",
-         "{entry.name: max(other.number for other in self.entries if other.table == entry.table) for entry in self.entries}",
-         "test_meaning.Counted.test_a_table_joined_with_itself"),
+         "{entry.name: max(other.number for other in self.entries if other.table == entry.table)"
+         " for entry in self.entries}",
+         "test_meaning.Counted.test_a_table_joined_with_itself", gate=True),
     Edit("the order of the SQL isn't the planned one", "writing.py",
          "joined = writing.below_the_outputs(plan.shape)",
-         "joined = writing.below_the_outputs(__import__('functools').reduce(lambda a, b: (a, b), range(len(self.query.entries))))",
+         "joined = writing.below_the_outputs(__import__('functools').reduce("
+         "lambda a, b: (a, b), range(len(self.query.entries))))",
          "test_meaning.Orders.test_the_sql_has_the_planned_order"),
     Edit("SQLite chooses the order", "sqlite.py", 'join_word = "CROSS JOIN"', 'join_word = "JOIN"',
          "test_meaning.Orders.test_the_sql_has_the_planned_order"),
-    Edit("PostgreSQL chooses the order", "postgres.py", "SET LOCAL join_collapse_limit = 1", "SET LOCAL join_collapse_limit = 8",
+    Edit("PostgreSQL chooses the order", "postgres.py", "SET LOCAL join_collapse_limit = 1",
+         "SET LOCAL join_collapse_limit = 8",
          "test_meaning.OrdersOnPostgres.test_the_sql_has_the_planned_order"),
     Edit("SQLite keeps no tree", "sqlite.py", "keeps_trees = False", "keeps_trees = True",
          "test_meaning.Trees.test_the_engine_joins_so"),
-    # A budget that is compared with the last level alone refuses the same plans: over bounds that the library makes, no level of a
-    # best plan was found above the last one (260,000 random queries). Over other bounds library/tests tells the two apart.
+    # A budget that is compared with the last level alone refuses the same plans: over bounds that the library makes, no
+    # level of a best plan was found above the last one (260,000 random queries). Over other bounds library/tests tells
+    # the two apart.
     Edit("a budget isn't compared with the levels", "levels.py",
          "_levels(query, known.best_order(budget))", "_levels(query, known.best_order(MOST_BUDGET))",
          "test_meaning.Orders.test_a_budget_is_for_every_level"),
+    Edit("a column without values has one", "levels.py", "if runs else proved.NO_VALUES", "if runs else [(1, 1)]",
+         "test_meaning.Counted.test_a_column_without_values"),
     Edit("counts of two snapshots, in SQLite", "sqlite.py", '        self.connection.execute("BEGIN")\n', "",
-         "test_meaning.Snapshots.test_rows_that_come_between"),
-    Edit("counts of two snapshots, in PostgreSQL", "postgres.py", "IsolationLevel.REPEATABLE_READ", "IsolationLevel.READ_COMMITTED",
-         "test_meaning.SnapshotsOnPostgres.test_rows_that_come_between"),
+         "test_meaning.Snapshots.test_rows_that_come_between", gate=True),
+    Edit("counts of two snapshots, in PostgreSQL", "postgres.py", "IsolationLevel.REPEATABLE_READ",
+         "IsolationLevel.READ_COMMITTED",
+         "test_meaning.SnapshotsOnPostgres.test_rows_that_come_between", gate=True),
     Edit("rows are joined that weren't counted", "writing.py", "if reduce else Parts()", "if False else Parts()",
-         "test_meaning.Reduced.test_the_counted_rows_are_joined"),
-    Edit("functions that answer anew are taken", "meaning.py", "for name, why in engine.fickle(set(asked)).items():", "for name, why in ():",
-         "test_refusals.Refusals.test_random"),
-    Edit("views aren't looked into", "meaning.py", "for name, why in _fickle_views(set(tables), engine):", "for name, why in ():",
+         "test_meaning.Reduced.test_the_counted_rows_are_joined", gate=True),
+    Edit("functions that answer anew are taken", "meaning.py", "for name, why in engine.fickle(set(asked)).items():",
+         "for name, why in ():",
+         "test_refusals.Refusals.test_random", gate=True),
+    Edit("views aren't looked into", "meaning.py", "for name, why in _fickle_views(set(tables), engine):",
+         "for name, why in ():",
          "test_refusals.Refusals.test_views"),
-    Edit("subqueries may name entries", "names.py", "            if why:\n", "            if False:\n",
-         "test_refusals.Refusals.test_subqueries"),
+    Edit("subqueries may name entries", "names.py", "            if told:\n", "            if False:\n",
+         "test_refusals.Refusals.test_subqueries", gate=True),
     Edit("a word of the language is a column", "names.py",
          " or self.key(token) in self.engine.reserved", "",
          "test_meaning.EdgesOfPostgres.test_a_word_of_the_language_is_no_column"),
-    Edit("a merged name is any entry's, above the join", "meaning.py", "query.frame = list(_frame(frame))", "query.frame = []",
-         "test_corners.NamesOnPostgres.test_aliases_like_columns_over_using"),
-    Edit("USING always takes the left column", "postgres.py", "        return 0 if plain[0] else 1 if plain[1] else 0 if common == own[0] else None",
-         "        return 0", "test_corners.CornersOfPostgres.test_using_across_types"),
+    Edit("a merged name is any entry's, above the join", "meaning.py", "query.frame = list(_frame(frame))",
+         "query.frame = []",
+         "test_corners.NamesOnPostgres.test_aliases_like_columns_over_using", gate=True),
+    Edit("USING always takes the left column", "postgres.py",
+         "        return 0 if plain[0] else 1 if plain[1] else 0 if common == own[0] else None",
+         "        return 0", "test_corners.CornersOfPostgres.test_using_across_types", gate=True),
     Edit("a merged column goes by its name twice, in SQLite", "meaning.py",
-         "query.renamed = {named for named in names.merged_away if self.engine.key(named.column.name, True) in bare}", "query.renamed = set()",
+         "query.renamed = {named for named in names.merged_away if self.engine.key(named.column.name, True) in bare}",
+         "query.renamed = set()",
          "test_corners.Names.test_aliases_like_columns_over_using"),
     Edit("rows of two parts are mixed", "writing.py", " ON {alias}.{numbered} = {part}.{numbered}", "",
-         "test_corners.Names.test_aliases_like_columns_in_trees"),
-    Edit("views may number rows that tie", "choosing.py", "if frames or not (function and function.says(*WINDOWS_WITH_TIES)):", "if False:",
-         "test_corners.ViewsThatChoose.test_they_are_refused"),
+         "test_corners.Names.test_aliases_like_columns_in_trees", gate=True),
+    Edit("views may number rows that tie", "choosing.py",
+         "if frames or not (function and function.says(*WINDOWS_WITH_TIES)):", "if False:",
+         "test_corners.ViewsThatChoose.test_they_are_refused", gate=True),
     Edit("DISTINCT ON chooses nothing", "choosing.py", 'token.says("DISTINCT") and behind.says("ON")', "False",
          "test_corners.ViewsThatChooseOnPostgres.test_they_are_refused"),
     Edit("arrays have an order of their own", "choosing.py", "not _in_whole_order(pieces, at + 1)", "False",
          "test_corners.ViewsThatChooseOnPostgres.test_they_are_refused"),
-    Edit("columns beside GROUP BY choose nothing", "sqlite.py", "takes_bare_columns = True", "takes_bare_columns = False",
+    Edit("columns beside GROUP BY choose nothing", "sqlite.py", "takes_bare_columns = True",
+         "takes_bare_columns = False",
          "test_corners.ViewsThatChoose.test_they_are_refused"),
-    Edit("line ends are those of the file", "command.py", 'return text.read().decode("utf-8-sig")', 'return text.read().decode("utf-8-sig").replace("\\r\\n", "\\n")',
+    Edit("line ends are those of the file", "command.py", 'return text.read().decode("utf-8-sig")',
+         'return text.read().decode("utf-8-sig").replace("\\r\\n", "\\n")',
          "test_corners.Texts.test_line_ends_stay"),
-    Edit("settings may be asked for", "postgres.py", "|current_setting$", "", "test_corners.CornersOfPostgres.test_the_sessions_settings"),
+    Edit("settings may be asked for", "postgres.py", "|current_setting$", "",
+         "test_corners.CornersOfPostgres.test_the_sessions_settings"),
     Edit("row policies aren't looked at", "postgres.py", "WHERE relrowsecurity AND polqual IS NOT NULL", "WHERE false",
          "test_corners.CornersOfPostgres.test_row_policies"),
     Edit("a name with escapes is a text", "tokens.py", '        if kind == "escaped":\n', "        if False:\n",
          "test_corners.CornersOfPostgres.test_functions_that_hide"),
     Edit("an operator of a schema isn't looked at", "postgres.py", " OR oprname = ANY(%(qualified)s))", ")",
          "test_corners.CornersOfPostgres.test_functions_that_hide"),
-    Edit("a user's own = joins as PostgreSQL's", "postgres.py", "AND pg_operator_is_visible(o.oid) AND EXISTS (", "AND false AND EXISTS (",
+    Edit("a user's own = joins as PostgreSQL's", "postgres.py", "AND pg_operator_is_visible(o.oid) AND EXISTS (",
+         "AND false AND EXISTS (",
          "test_corners.CornersOfPostgres.test_operators_of_the_users_own"),
     Edit("files are tables like others", "postgres.py", "h.proname IS DISTINCT FROM 'postgres_fdw_handler'", "false",
          "test_corners.CornersOfPostgres.test_tables_without_snapshots"),
     Edit("a date is what is in parentheses", "sqlite.py", "return not dates or not all(", "return False and not all(",
          "test_corners.CornersOfSqlite.test_dates"),
-    Edit("a stored 'now' isn't looked for", "meaning.py", "if named is None or self.engine.says_now(", "if named is None or False and self.engine.says_now(",
+    Edit("a stored 'now' isn't looked for", "meaning.py", "if named is None or self.engine.says_now(",
+         "if named is None or False and self.engine.says_now(",
          "test_corners.CornersOfSqlite.test_dates"),
-    Edit("a text is no alias", "sqlite.py", 'return [column[0] for column in self.connection.execute(f"SELECT * FROM ({sql}\\n) LIMIT 0").description]',
+    Edit("a text is no alias", "sqlite.py",
+         'return [column[0] for column in self.connection.execute(f"SELECT * FROM ({sql}\\n) LIMIT 0").description]',
          "return []", "test_corners.CornersOfSqlite.test_aliases_as_texts"),
-    Edit("a name with a bracket is a text", "sqlite.py", """if token.text[0] == '"'}""", """if token.text[0] == '"' and "]" not in token.text}""",
+    Edit("a name with a bracket is a text", "sqlite.py", """if token.text[0] == '"'}""",
+         """if token.text[0] == '"' and "]" not in token.text}""",
          "test_corners.CornersOfSqlite.test_brackets_in_names"),
-    Edit("a primary key groups nothing else", "meaning.py", "return above[: groups.stop] + more + above[groups.stop :]", "return above",
+    Edit("a primary key groups nothing else", "meaning.py",
+         "return above[: groups.stop] + more + above[groups.stop :]", "return above",
          "test_corners.CornersOfPostgres.test_groups_by_a_primary_key"),
     Edit("the planned query isn't looked at before it is admitted", "command.py", "    planner.check(plan)\n", "",
          "test_ends.EndsOfPostgres.test_what_the_engine_refuses_is_told_first"),
-    Edit("columns that may not be read are carried", "postgres.py", " AND has_column_privilege(a.attrelid, a.attnum, 'SELECT')", "",
+    Edit("columns that may not be read are carried", "postgres.py",
+         " AND has_column_privilege(a.attrelid, a.attnum, 'SELECT')", "",
          "test_ends.EndsOfPostgres.test_rights_on_columns"),
     Edit("rows above a bound are nothing to speak of", "command.py",
          "        if rows > level.bound:\n            raise AboveBound(number, rows, level.bound)\n", "        pass\n",
          "test_ends.EndsOfPostgres.test_rows_above_a_bound"),
     Edit("rows without a partner aren't counted", "block_plans.py", '"LEFT": matched + kinds', '"LEFT": matched',
+         "test_blocks.Blocks.test_outer_joins", gate=True),
+    Edit("the right side's rows are those with a partner", "block_plans.py", '"RIGHT": matched + alone',
+         '"RIGHT": matched',
          "test_blocks.Blocks.test_outer_joins"),
-    Edit("the right side's rows are those with a partner", "block_plans.py", '"RIGHT": matched + alone', '"RIGHT": matched',
+    Edit("a condition on a missing entry is its own", "block_plans.py", "settled = entries <= set(self.island) and",
+         "settled =",
          "test_blocks.Blocks.test_outer_joins"),
-    Edit("a condition on a missing entry is its own", "block_plans.py", "settled = entries <= set(self.island) and", "settled =",
-         "test_blocks.Blocks.test_outer_joins"),
-    Edit("a value of a query in FROM stands there once", "block_plans.py", "[(1, rows) if once else (rows, 1)]", "[(1, rows)]",
+    Edit("a value of a query in FROM stands there once", "block_plans.py", "[(1, rows) if once else (rows, 1)]",
+         "[(1, rows)]",
+         "test_blocks.BlocksOnPostgres.test_queries_in_from_and_with", gate=True),
+    Edit("UNION has the rows of one side", "block_plans.py", 'total = sum(rows) if first == "UNION"',
+         'total = rows[0] if first == "UNION"',
          "test_blocks.BlocksOnPostgres.test_queries_in_from_and_with"),
-    Edit("UNION has the rows of one side", "block_plans.py", 'total = sum(rows) if first == "UNION"', 'total = rows[0] if first == "UNION"',
-         "test_blocks.BlocksOnPostgres.test_queries_in_from_and_with"),
-    Edit("an entry of a block outside is no other's", "block_plans.py", "        outer = self._names_outside(piece)\n", "        outer = False\n",
+    Edit("an entry of a block outside is no other's", "block_plans.py",
+         "        outer = self._names_outside(piece)\n", "        outer = False\n",
          "test_blocks.Blocks.test_subqueries"),
     Edit("an anti-join is an inner join", "dialects.py", "for token in _no_inner_joins(pieces):", "for token in ():",
          "test_dialects.RefusedByDialects.test_joins_that_arent_inner"),
-    Edit("an array of an entry is a table of a schema", "dialects.py", "if self.name_key(source.alias).lower() in schemas:", "if False:",
+    Edit("an array of an entry is a table of a schema", "dialects.py",
+         "if self.name_key(source.alias).lower() in schemas:", "if False:",
          "test_dialects.RefusedByDialects.test_joins_that_arent_inner"),
     Edit("QUALIFY is a part of a condition", "dialects.py", '"QUALIFY", ', "",
          "test_dialects.RefusedByDialects.test_rows_that_are_chosen"),
-    Edit("columns of any type of a schema file meet", "schema_file.py", "return name if EQUAL_AS_GROUPED.fullmatch(name) else None",
-         'return "any"', "test_dialects.Edges.test_which_columns_meet"),
-    Edit("whole numbers and texts of a schema file meet", "schema_file.py", 'return "a whole number"', 'return "a text"',
+    Edit("columns of any type of a schema file meet", "schema_file.py",
+         "return name if EQUAL_AS_GROUPED.fullmatch(name) else None",
+         'return "any"', "test_dialects.Edges.test_which_columns_meet", gate=True),
+    Edit("whole numbers and texts of a schema file meet", "schema_file.py", 'return "a whole number"',
+         'return "a text"',
          "test_dialects.Edges.test_which_columns_meet"),
-    Edit("a collation of a schema file isn't looked at", "schema_file.py", 'any(token.says("COLLATE") for token in item[end:])', "False",
+    Edit("a collation of a schema file isn't looked at", "schema_file.py",
+         'any(token.says("COLLATE") for token in item[end:])', "False",
          "test_dialects.Edges.test_which_columns_meet"),
-    Edit("a collation of a whole table isn't looked at", "schema_file.py", 'any("COLLAT" in token.text.upper() for token in pieces[end:])',
+    Edit("a collation of a whole table isn't looked at", "schema_file.py",
+         'any("COLLAT" in token.text.upper() for token in pieces[end:])',
          "False", "test_dialects.Edges.test_a_collation_of_a_whole_table"),
-    Edit("functions that aren't known are taken", "dialects.py", "if name.lower() not in CALLED", 'if "rand" in name.lower()',
+    Edit("functions that aren't known are taken", "dialects.py", "if name.lower() not in CALLED",
+         'if "rand" in name.lower()',
          "test_dialects.RefusedByDialects.test_what_may_answer_anew"),
-    Edit("today is a text like others", "dialects.py", 'not in ("now", "today", "tomorrow", "yesterday")', "not in ()",
+    Edit("today is a text like others", "dialects.py", '.lower() not in DAYS', '.lower() not in ()',
          "test_dialects.RefusedByDialects.test_what_may_answer_anew"),
     Edit("subqueries name entries where nobody complains", "dialects.py",
-         'return f"{token.text} isn\'t known to be its own"', "return None", "test_dialects.RefusedByDialects.test_subqueries"),
+         'return f"{token.text} isn\'t known to be its own"', "return None",
+         "test_dialects.RefusedByDialects.test_subqueries"),
     Edit("a quote mark behind a backslash ends no text", "tokens.py", r"\\(?!{mark})", r"\\.",
          "test_dialects.RefusedByDialects.test_texts_that_engines_read_in_their_own_ways"),
     Edit("comments within comments end at the first end", "tokens.py", r"(?:(?!/\*|\*/).)*\*/)", r".*?\*/)",
          "test_dialects.RefusedByDialects.test_texts_that_engines_read_in_their_own_ways"),
-    Edit("Trino chooses the order", "dialects.py", "join_reordering_strategy = 'NONE'", "join_reordering_strategy = 'AUTOMATIC'",
+    Edit("Trino chooses the order", "dialects.py", "join_reordering_strategy = 'NONE'",
+         "join_reordering_strategy = 'AUTOMATIC'",
          "test_dialects.Written.test_the_way_to_keep_the_order"),
     Edit("levels aren't tables where no setting keeps the order", "writing.py",
          "(self._side if self.engine.makes_tables else self._from)(left)", "self._from(left)",
@@ -180,13 +220,17 @@ EDITS = [
     Edit("counts under a condition are kept", "kept.py", "Source(_called(entry, identity), [])",
          "Source(_called(entry, identity), own_conditions(entry))",
          "test_kept.Taken.test_whole_tables_are_kept"),
-    Edit("kept counts are taken for an entry with a condition", "kept.py", "if table and not entry.own and all(", "if table and all(",
+    Edit("kept counts are taken for an entry with a condition", "kept.py", "if table and not entry.own and all(",
+         "if table and all(",
          "test_kept.Taken.test_an_entry_with_a_condition_is_counted_now"),
-    Edit("counts of a table that was made anew are taken, in SQLite", "sqlite.py", "#{self._schema_version(kind[0])}", "#",
+    Edit("counts of a table that was made anew are taken, in SQLite", "sqlite.py", "#{self._schema_version(kind[0])}",
+         "#",
          "test_kept.Taken.test_a_table_that_was_made_anew"),
     Edit("counts of a table that was made anew are taken, in PostgreSQL", "postgres.py",
-         "nspname, relname, c.oid)", "nspname, relname, 0)", "test_kept.TakenOnPostgres.test_a_table_that_was_made_anew"),
-    Edit("counts of another file's table are taken", "sqlite.py", 'f"{self.path} {kind[0]} {kind[4]}#', 'f"{kind[0]} {kind[4]}#',
+         "nspname, relname, c.oid)", "nspname, relname, 0)",
+         "test_kept.TakenOnPostgres.test_a_table_that_was_made_anew"),
+    Edit("counts of another file's table are taken", "sqlite.py", 'f"{self.path} {kind[0]} {kind[4]}#',
+         'f"{kind[0]} {kind[4]}#',
          "test_kept.OtherTables.test_a_table_of_another_file"),
     Edit("counts of a column of another type are taken", "kept.py",
          "return self.types.get(column.name) == type_of(column)", "return column.name in self.types",
@@ -194,28 +238,37 @@ EDITS = [
     Edit("rows that came later are forgotten", "planner.py",
          "rows = {entry: degree for entry, column, degree, _ in answer if column == \"\"}",
          "answer = [line for line in answer if self.meaning.names.by_alias[line[0]] not in taken]\n"
-         "        answer += [(self.query.entries[number].name, \"\", table.rows, 1) for number, table in taken.items()]\n"
+         "        answer += [(self.query.entries[number].name, \"\", table.rows, 1)"
+         " for number, table in taken.items()]\n"
          "        rows = {entry: degree for entry, column, degree, _ in answer if column == \"\"}",
-         "test_kept.Taken.test_rows_that_came_later"),
-    Edit("degrees of new rows stand beside the old ones", "kept.py", "proved.append(old, new)", "sorted(old + new, reverse=True)",
+         "test_kept.Taken.test_rows_that_came_later", gate=True),
+    Edit("degrees of new rows stand beside the old ones", "kept.py", "proved.append(old, new)",
+         "sorted(old + new, reverse=True)",
          "test_kept.Taken.test_rows_that_are_appended"),
-    Edit("NULLs of several servers are counted as one value", "servers.py", "SELECT COUNT({value}) AS n", "SELECT COUNT(*) AS n",
+    Edit("NULLs of several servers are counted as one value", "servers.py", "SELECT COUNT({value}) AS n",
+         "SELECT COUNT(*) AS n",
          "test_cluster.OtherTables.test_a_value_of_two_servers"),
     Edit("what two servers say of a value isn't added up", "servers.py",
-         "SELECT CAST(SUM(n) AS BIGINT) AS d FROM ({counts}) AS servers GROUP BY v", "SELECT n AS d FROM ({counts}) AS servers",
+         "SELECT CAST(SUM(n) AS BIGINT) AS d FROM ({counts}) AS servers GROUP BY v",
+         "SELECT n AS d FROM ({counts}) AS servers",
          "test_cluster.OtherTables.test_a_value_of_two_servers"),
     Edit("a server isn't asked", "servers.py", "return spread.parts if spread", "return spread.parts[:1] if spread",
-         "test_cluster.OtherTables.test_a_value_of_two_servers"),
-    Edit("the rows of a table are fetched to be counted", "servers.py", "            return \"COUNT(*)\", self._rows(*self._tables())\n",
-         "            return \"COUNT(*)\", self._rows(*self._tables())\n        return \"COUNT(*)\", self._rows(self.entry.table)\n",
+         "test_cluster.OtherTables.test_a_value_of_two_servers", gate=True),
+    Edit("the rows of a table are fetched to be counted", "servers.py",
+         "            return \"COUNT(*)\", self._rows(*self._tables())\n",
+         "            return \"COUNT(*)\", self._rows(*self._tables())\n"
+         "        return \"COUNT(*)\", self._rows(self.entry.table)\n",
          "test_cluster.TheShop.test_no_whole_table_is_fetched"),
-    Edit("the rows of a table are fetched to be grouped", "servers.py", "self.entry.about.spread.by == column.name", "True",
+    Edit("the rows of a table are fetched to be grouped", "servers.py", "spread is None or spread.by == column.name",
+         "True",
          "test_cluster.TheShop.test_no_whole_table_is_fetched"),
-    Edit("the rows of a table are fetched for a semi-join", "postgres.py", "{value} = ANY(ARRAY(SELECT {values} FROM {rows}))",
+    Edit("the rows of a table are fetched for a semi-join", "postgres.py",
+         "{value} = ANY(ARRAY(SELECT {values} FROM {rows}))",
          "{value} IN (SELECT {values} FROM {rows})", "test_cluster.TheShop.test_no_whole_table_is_fetched"),
     Edit("texts of some length stay where they are", "postgres.py", 'f"CAST({name} AS TEXT)" if', "name if",
          "test_cluster.OtherTables.test_texts_of_any_length_go_along"),
-    Edit("entries under no condition send all of their values", "servers.py", "for other in others if other in limited]", "for other in others]",
+    Edit("entries under no condition send all of their values", "servers.py",
+         "for other in others if other in limited]", "for other in others]",
          "test_cluster.TheShop.test_entries_under_no_condition_tell_nothing_at_first"),
     Edit("entries under no condition never tell anything", "servers.py", "        if silent:\n", "        if False:\n",
          "test_cluster.OtherTables.test_entries_under_no_condition_tell_in_the_end"),
@@ -223,58 +276,57 @@ EDITS = [
          "self.among[entry][other] = self._among(entry, other, joined[entry][other])",
          "self.among[entry].setdefault(other, self._among(entry, other, joined[entry][other]))",
          "test_cluster.OtherTables.test_entries_under_no_condition_tell_in_the_end"),
-    Edit("values of two columns needn't be of one row", "servers.py", "return sent if len(sent) == 1 else sent + [exact]", "return sent",
+    Edit("values of two columns needn't be of one row", "servers.py",
+         "return sent if len(sent) == 1 else sent + [exact]", "return sent",
          "test_cluster.OtherTables.test_two_equalities_of_the_same_entries"),
     Edit("an entry's own condition isn't of what it tells", "servers.py",
-         "return own_conditions(self.query.entries[entry]) + [text", "return [text", "test_cluster.OtherTables.test_cycles"),
+         "return own_conditions(self.query.entries[entry]) + [", "return [", "test_cluster.OtherTables.test_cycles"),
     Edit("rows that are taken for few are joined by nested loops", "postgres.py",
-         "SET LOCAL enable_nestloop = off", "SET LOCAL enable_nestloop = on", "test_cluster.TheShop.test_no_nested_loops"),
-    Edit("parts are asked that may not be read", "postgres.py", "bool_and(has_table_privilege(relid, 'SELECT')) AND ", "",
+         "SET LOCAL enable_nestloop = off", "SET LOCAL enable_nestloop = on",
+         "test_cluster.TheShop.test_no_nested_loops"),
+    Edit("parts are asked that may not be read", "postgres.py", "bool_and(has_table_privilege(relid, 'SELECT')) AND ",
+         "",
          "test_cluster.OtherTables.test_parts_that_may_not_be_read"),
     Edit("parts are asked of which rows are hidden", "postgres.py", " AND NOT bool_or(relrowsecurity)", "",
          "test_cluster.OtherTables.test_policies_of_parts"),
-    Edit("appended rows needn't add up", "kept.py", 'if kept.rows + counts.rows["new"] != counts.rows["whole"]:', "if False:",
+    Edit("appended rows needn't add up", "kept.py", 'if kept.rows + counts.rows["new"] != counts.rows["whole"]:',
+         "if False:",
          "test_kept.Taken.test_rows_that_dont_add_up"),
 ]
 
 
-def tried(edit: Edit) -> str:
-    """What became of an edit: caught, not caught, or no such text."""
+def tried(edit: Edit) -> Done:
+    """Whether its test fails, in this process, in which nothing of safebound_sql is loaded."""
+    begin = time.monotonic()
     with tempfile.TemporaryDirectory() as folder:
-        copy = Path(shutil.copytree(PACKAGE, Path(folder) / "safebound_sql"))
-        text = (copy / edit.file).read_text()
-        if text.count(edit.old) != 1:
-            return f"stands {text.count(edit.old)} times"
-        (copy / edit.file).write_text(text.replace(edit.old, edit.new))
-        program = shutil.copy(PACKAGE.parent / "safebound-sql", folder)
-        path = os.pathsep.join([folder, str(HERE), str(HERE.parent / "servers"), *filter(None, [os.environ.get("PYTHONPATH")]), str(ROOT / "python")])
-        ran = subprocess.run(
-            [sys.executable, "-B", "-m", "unittest", edit.test], cwd=HERE, env={**os.environ, "PYTHONPATH": path, "SAFEBOUND_SQL_PROGRAM": program},
-            capture_output=True, text=True,
-        )
-    if "ImportError" in ran.stderr or "SyntaxError" in ran.stderr:
-        return "doesn't run"
-    return "caught" if ran.returncode else "not caught"
+        stands = _edited(edit, Path(folder))
+        if stands != 1:
+            return _answer(edit, begin, f"its text stands {stands} times")
+        os.environ["SAFEBOUND_SQL_PROGRAM"] = shutil.copy(PACKAGE.parent / "safebound-sql", folder)
+        sys.path.insert(0, folder)
+        results = tests([edit.test]).results
+    said = "\n".join(result.said for result in results)
+    if "ImportError" in said or "SyntaxError" in said:
+        return _answer(edit, begin, f"doesn't run: {said}")
+    if all(result.outcome == PASSED_OVER for result in results):
+        return Done([Result(edit.name, 0, 0, PASSED_OVER, said)])
+    caught = any(result.outcome == "failed" for result in results)
+    return _answer(edit, begin, "" if caught else f"not caught by {edit.test}")
 
 
-def result_of(edit: Edit) -> str:
-    if any(word in edit.test for word in WANTS_SERVERS) and not os.environ.get("SAFEBOUND_SQL_POSTGRES"):
-        return "passed over"
-    result = tried(edit)
-    print(f"{result:<12} {edit.name}", flush=True)
-    return result
+def _edited(edit: Edit, folder: Path) -> int:
+    """Makes a package that has the edited file, and all others from the program's own.
+
+    Answers how often the text stands there.
+    """
+    text = (PACKAGE / edit.file).read_text()
+    package = folder / PACKAGE.name
+    package.mkdir()
+    (package / edit.file).write_text(text.replace(edit.old, edit.new))
+    (package / "__init__.py").write_text(f"__path__.append({str(PACKAGE)!r})\n")
+    return text.count(edit.old)
 
 
-def main() -> int:
-    """Those on SQLite are tried beside those on the servers, which share their tables and so follow each other."""
-    on_servers = [edit for edit in EDITS if any(word in edit.test for word in WANTS_SERVERS)]
-    others = [edit for edit in EDITS if edit not in on_servers]
-    with ThreadPoolExecutor(1) as servers, ThreadPoolExecutor(max(1, (os.cpu_count() or 2) - 1)) as files:
-        results = [*servers.map(result_of, on_servers), *files.map(result_of, others)]
-    wrong = sum(result not in ("caught", "passed over") for result in results)
-    print(f"{len(EDITS)} wrong bodies, {wrong} of them not caught")
-    return 1 if wrong else 0
-
-
-if __name__ == "__main__":
-    sys.exit(main())
+def _answer(edit: Edit, begin: float, wrong: str) -> Done:
+    took = time.monotonic() - begin, sum(os.times()[:4])
+    return Done([Result(f"wrong body: {edit.name}", *took, "failed" if wrong else "ok", wrong)])

@@ -1,26 +1,60 @@
 """What stands below the line of a fault: what is wrong, where, and what to do."""
+from __future__ import annotations
+
+import csv
 import importlib
 import os
 import shlex
 import textwrap
+from typing import TYPE_CHECKING
 
 from .. import terminal
 from ..plans import option_of
+from ..spot import plain
 from ..table import STATS
 from ..words import places
 
-PARTS = {"usage": "usage", "read": "reads", "schema": "schemas", "query": "queries", "table": "tables", "limit": "limits",
-         "stats": "statistics", "budget": "budgets", "past-bits": "budgets", "write": "streams", "memory": "streams", "memory-limit": "buffers"}
+if TYPE_CHECKING:
+    from ..faults import Fault
+    from ..query import Query
+    from ..schema import Schema
+
+PARTS = {
+    "usage": "usage",
+    "read": "reads",
+    "schema": "schemas",
+    "query": "queries",
+    "table": "tables",
+    "limit": "limits",
+    "stats": "statistics",
+    "budget": "budgets",
+    "past-bits": "budgets",
+    "write": "streams",
+    "memory": "streams",
+    "memory-limit": "buffers",
+}
+
+# What comes up where a file has changed since the program read it, or is too deep or too long to be read here.
+UNEXPLAINED = (OSError, LookupError, ValueError, StopIteration, RecursionError, MemoryError, csv.Error)
+PROPOSING = ("run", "plan", "audit", "stats", "picture")
+# How a line begins that is there to be pasted: it stays whole.
+TO_PASTE = ("    safebound ", "    mv ", "    echo ")
 
 
 class Run:
-    """A run that ended: its words, the program (nothing where there is none at hand), and where `--data` was given, the folder that was left."""
+    """A run that ended: its words, the program (if there is one), the folder that `--data` left, and whether its schema
+    was proposed.
+    """
 
-    def __init__(self, words, program=None, before=None):
-        self.words, self.program, self.before = words, program, before
+    def __init__(
+        self, words: list[str], program: str | None = None, before: str | None = None, is_proposed: bool = False
+    ) -> None:
+        self.words, self.program, self.before, self.is_proposed = words, program, before, is_proposed
         self.command = words[0] if words else ""
         found = places(words[1:])
-        self.schema_file, self.query_file = (found + ["", ""])[:2] if self.command != "demo" else ("schema.sql", "query.sql")
+        self.schema_file, self.query_file = (
+            (found + ["", ""])[:2] if self.command != "demo" else ("schema.sql", "query.sql")
+        )
         self.stats_file = option_of(words[1:], STATS.word) if self.command == "plan" else None
         self.table, self.rows_file = "", None
         if self.command == "append":
@@ -28,57 +62,69 @@ class Run:
             self.query_file = ""
 
     @property
-    def schema(self):
+    def schema(self) -> Schema:
         from ..schema import read_schema
         return read_schema(read(self.schema_file))
 
-    def path_of(self, file):
+    def path_of(self, file: str) -> str:
         """A file's name as a word of a command line in the folder where the user is."""
         return shlex.quote(os.path.relpath(file, self.before) if self.before else file)
 
+    def line_without_schema(self, query: str | None = None) -> str:
+        """A line of its own, to paste: the command with a query alone, and the folder where the user is."""
+        command = self.command if self.command in PROPOSING else "run"
+        return (
+            f"\n    safebound {command} {plain(shlex.quote(query or self.query_file))} --data"
+            f" {plain(self.path_of('.'))}"
+        )
+
     @property
-    def named(self):
+    def named(self) -> tuple[str, str, str | None, str | None]:
         """The files that the words name."""
         return self.schema_file, self.query_file, self.stats_file, self.rows_file
 
     @property
-    def query(self):
+    def query(self) -> Query:
         from ..query import read_query
         return read_query(read(self.query_file))
 
 
-def read(file):
+def read(file: str) -> bytes:
     with open(file, "rb") as f:
         return f.read()
 
 
-def explained(fault, run):
+def explained(fault: Fault, run: Run) -> str:
     """The explanation of a fault, ended by a line end."""
-    part = importlib.import_module(f".{PARTS[fault['kind']]}", __name__)
+    part = importlib.import_module(f".{PARTS[fault.kind]}", __name__)
     try:
         return laid_out(part.explain(fault, run))
-    except Exception:
-        # A file may have changed since. Whatever goes wrong here, the line and the exit status stay as they are.
+    except UNEXPLAINED:
+        # The line and the exit status stay as they are.
         return ""
 
 
-def laid_out(blocks):
-    """Each line of each block, wrapped to the terminal's width below its own indentation; places of texts have their colours."""
+def laid_out(blocks: list[str]) -> str:
+    """Each line of each block, wrapped below its own indentation; places of texts have their colours."""
     return "".join(terminal.coloured("\n".join(map(wrapped, block.split("\n")))) + "\n" for block in blocks if block)
 
 
-def wrapped(line):
+def wrapped(line: str) -> str:
     width, indent = terminal.columns(), " " * (len(line) - len(line.lstrip()))
-    if len(line) <= width:
+    if len(line) <= width or line.startswith(TO_PASTE):
         return line
-    return "\n".join(textwrap.wrap(line.strip(), width, initial_indent=indent, subsequent_indent=indent and indent + "    ", break_long_words=False, break_on_hyphens=False))
+    return "\n".join(
+        textwrap.wrap(
+            line.strip(), width, initial_indent=indent, subsequent_indent=indent and indent + "    ",
+            break_long_words=False, break_on_hyphens=False,
+        )
+    )
 
 
-def not_connected(run):
+def not_connected(run: Run) -> str:
     """Below a plan: a sentence where no equality connects all entries, since its bound is then their product."""
     from .budgets import not_connected as said
     try:
         return "" if run.command not in ("run", "plan", "audit") else laid_out([said(run)])
-    except Exception:
-        # As above.
+    except UNEXPLAINED:
         return ""

@@ -1,5 +1,8 @@
 """`error budget LEAST` and `error past-bits`: what makes the bound large, and what would lower it."""
+from __future__ import annotations
+
 import subprocess
+from typing import TYPE_CHECKING
 
 from . import read
 from ..near import listed
@@ -10,31 +13,45 @@ from ..terminal import saying
 from ..table import ACCURACY, BUDGET, BUSHY, KEYS, MOST_BUDGET, MOST_BUDGET_OF_A_TREE, REDUCE, USUAL_BUDGET
 from ..faults import fault_of
 
+if TYPE_CHECKING:
+    from ..faults import Fault
+    from . import Run
+    from ..plans import Plan
+    from ..table import Option
+
 SECONDS = 60
 CLOSER = "8"
 
 
-def explain(fault, run):
+def explain(fault: Fault, run: Run) -> list[str]:
     budget, most = int(option_of(run.words, BUDGET.word) or USUAL_BUDGET), most_of(run)
-    least, (shape, step) = fault.get("least"), ("join tree", "node") if has(run, BUSHY) else ("order", "level")
-    if least is None:
+    is_past_bits, least = fault.kind == "past-bits", fault.least
+    shape, step = ("join tree", "node") if has(run, BUSHY) else ("order", "level")
+    if is_past_bits:
         first = f"In every {shape} some {step} has a bound of 2^128 - 1 rows or more. No budget helps."
     elif least > most:
-        first = f"The best {shape} has a {step} whose bound is {least:,} rows. No --budget goes that far: the most is {most:,}."
+        first = (
+            f"The best {shape} has a {step} whose bound is {least:,} rows. No --budget goes that far: the most is"
+            f" {most:,}."
+        )
     else:
-        first = f"The best {shape} has a {step} whose bound is {least:,} rows, and the budget is {budget:,}. The least budget is --budget {least}."
+        first = (
+            f"The best {shape} has a {step} whose bound is {least:,} rows, and the budget is {budget:,}. The least"
+            f" budget is --budget {least}."
+        )
     apart = not_connected(run)
     several = several_equalities(run)
     with saying("trying other options .."):
-        return [first, at_fault(run, least, budget), apart, *several, *tried(run, budget, apart)]
+        past = "" if is_past_bits else at_fault(run, least, budget)
+        return [first, past, apart, *several, *tried(run, budget, apart)]
 
 
-def most_of(run):
+def most_of(run: Run) -> int:
     """The greatest budget that the run may have."""
     return MOST_BUDGET_OF_A_TREE if has(run, BUSHY) else MOST_BUDGET
 
 
-def not_connected(run):
+def not_connected(run: Run) -> str:
     """A sentence where no equality connects all entries: that is mostly a condition that was forgotten."""
     query = run.query
     found = groups(query, run.schema)
@@ -42,24 +59,31 @@ def not_connected(run):
         return ""
     named = [listed(query.entries[i].name for i in group) for group in found]
     parts = "; ".join(named)
-    return (f"These entries aren't connected: {parts}. No condition of the form A.X = B.Y leads from one of these groups to another, so each row of one meets "
-            f"each row of the others. Is a condition forgotten?")
+    return (
+        f"These entries aren't connected: {parts}. No condition of the form A.X = B.Y leads from one of these groups to"
+        " another, so each row of one meets each row of the others. Is a condition forgotten?"
+    )
 
 
-def several_equalities(run):
+def several_equalities(run: Run) -> list[str]:
     """A sentence for each pair of entries that several equalities join, as those of a key of two columns do."""
     query, schema, text = run.query, run.schema, read(run.query_file)
-    found = {}
+    found: dict[tuple[int, int], list[str]] = {}
     for condition in query.conjuncts():
         pair = equality(query, condition, schema)
         if pair:
-            found.setdefault(tuple(sorted(pair)), []).append(" ".join(text[condition.start:condition.end].decode().split()))
+            found.setdefault((min(pair), max(pair)), []).append(
+                " ".join(text[condition.start:condition.end].decode().split())
+            )
     names = [entry.name for entry in query.entries]
-    return [f"{names[one]} and {names[other]} are joined by {len(said)} equalities: {listed(said)}. A bound counts one of them alone: together they count as one, "
-            "so there may be far fewer rows than it says." for (one, other), said in found.items() if len(said) > 1]
+    return [
+        f"{names[one]} and {names[other]} are joined by {len(said)} equalities: {listed(said)}. A bound counts one of"
+        " them alone: together they count as one, so there may be far fewer rows than it says."
+        for (one, other), said in found.items() if len(said) > 1
+    ]
 
 
-def with_words(run, words):
+def with_words(run: Run, words: list[str]) -> int | Plan | None:
     """What `plan` says with further words: its levels, or the least budget, or nothing."""
     if run.program is None or run.command == "demo":
         return None
@@ -71,10 +95,10 @@ def with_words(run, words):
     if status == 0:
         return read_plan(notes.decode("utf-8", "replace"))
     fault = fault_of(notes)
-    return fault["least"] if fault and fault["kind"] == "budget" else None
+    return fault.least if fault and fault.kind == "budget" else None
 
 
-def planned_words(words):
+def planned_words(words: list[str]) -> list[str]:
     """The words as a plan of the same texts, without the options that are tried."""
     found, left = ["plan"], list(words[1:])
     while left:
@@ -83,22 +107,24 @@ def planned_words(words):
             return found + [word, *left]
         if word in (BUDGET.word, ACCURACY.word):
             del left[:1]
-        elif word not in (REDUCE.word, BUSHY.word, KEYS.word) and not word.startswith((BUDGET.word + "=", ACCURACY.word + "=")):
+        elif word not in (REDUCE.word, BUSHY.word, KEYS.word) and not word.startswith(
+            (BUDGET.word + "=", ACCURACY.word + "=")
+        ):
             found.append(word)
     return found
 
 
-def at_fault(run, least, budget):
+def at_fault(run: Run, least: int, budget: int) -> str:
     """Which level or node is past the budget, where the least budget shows the plan."""
-    if least is None or least > most_of(run):
+    if least > most_of(run):
         return ""
     plan = with_words(run, given(run, least))
     if plan is None or isinstance(plan, int):
         return ""
     if plan.is_tree:
-        past = [(number, node.bound) for number, node in enumerate(plan.nodes, len(plan.scans)) if node.bound > budget]
-        said = listed(f"node {number} ({listed(plan.leaves(number))}), of {bound:,} rows" for number, bound in past)
-        return f"Past the budget: {said}." if past else ""
+        nodes = [(number, node.bound) for number, node in enumerate(plan.nodes, len(plan.scans)) if node.bound > budget]
+        said = listed(f"node {number} ({listed(plan.leaves(number))}), of {bound:,} rows" for number, bound in nodes)
+        return f"Past the budget: {said}." if nodes else ""
     past = [(number + 1, alias, bound) for number, (alias, bound) in enumerate(plan.levels) if bound > budget]
     if not past:
         return ""
@@ -107,8 +133,8 @@ def at_fault(run, least, budget):
     return f"That order is {order}. Past the budget: {said}."
 
 
-def given(run, budget, accuracy=None, flag=None):
-    """The options of the run, with these beside them. `--keys` stands beside no other flag, so the one that is tried takes its place."""
+def given(run: Run, budget: int, accuracy: str | None = None, flag: Option | None = None) -> list[str]:
+    """The run's options, with these beside them. `--keys` stands alone: the flag that is tried takes its place."""
     kept = accuracy or option_of(run.words, ACCURACY.word)
     words = [BUDGET.word, str(budget)] + ([ACCURACY.word, kept] if kept else [])
     flags = [one for one in (REDUCE, BUSHY, KEYS) if has(run, one)]
@@ -117,39 +143,39 @@ def given(run, budget, accuracy=None, flag=None):
     return words + [one.word for one in flags]
 
 
-def has(run, flag):
+def has(run: Run, flag: Option) -> bool:
     before = run.words[:run.words.index("--")] if "--" in run.words else run.words
     return flag.word in before
 
 
-def refers(run):
+def refers(run: Run) -> bool:
     """Whether a table of the query declares a reference."""
     schema = run.schema
     tables = [schema.table(entry.table.name) for entry in run.query.entries]
     return any(table is not None and table.references for table in tables)
 
 
-def tried(run, budget, apart):
+def tried(run: Run, budget: int, apart: str) -> list[str]:
     """What the other options come to, and what else there is to do."""
     is_close = int(option_of(run.words, ACCURACY.word) or 1) >= int(CLOSER)
-    ways = []
+    ways: list[tuple[str, tuple[str | None, Option | None]]] = []
     if not has(run, REDUCE):
-        ways.append((f"With {REDUCE.word}", dict(flag=REDUCE)))
+        ways.append((f"With {REDUCE.word}", (None, REDUCE)))
     if not is_close:
-        ways.append((f"With {ACCURACY.word} {CLOSER}", dict(accuracy=CLOSER)))
+        ways.append((f"With {ACCURACY.word} {CLOSER}", (CLOSER, None)))
     if len(ways) == 2:
-        ways.append(("With both", dict(flag=REDUCE, accuracy=CLOSER)))
+        ways.append(("With both", (CLOSER, REDUCE)))
     if not has(run, KEYS) and refers(run):
-        ways.append((f"With {KEYS.word}", dict(flag=KEYS)))
+        ways.append((f"With {KEYS.word}", (None, KEYS)))
     if not has(run, BUSHY) and len(run.query.entries) > 3 and budget <= MOST_BUDGET_OF_A_TREE:
-        ways.append((f"With {BUSHY.word}", dict(flag=BUSHY)))
-    found = [f"    {name} {said_of(with_words(run, given(run, budget, **how)), budget)}" for name, how in ways]
+        ways.append((f"With {BUSHY.word}", (None, BUSHY)))
+    found = [f"    {name} {said_of(with_words(run, given(run, budget, *how)), budget)}" for name, how in ways]
     found = [line for line in found if not line.endswith(" None")]
     rest = "" if apart else "A condition on a column of one entry lowers bounds most: = or a range."
     return (["What other options come to:\n" + "\n".join(found)] if found else []) + [rest]
 
 
-def said_of(found, budget):
+def said_of(found: int | Plan | None, budget: int) -> str | None:
     if found is None:
         return None
     if isinstance(found, int):

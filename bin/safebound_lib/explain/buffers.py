@@ -1,10 +1,24 @@
 """`error memory-limit BYTES`: what the buffers of the plan take."""
+from __future__ import annotations
+
+from typing import TYPE_CHECKING
+
 from ..plans import option_of
 from ..table import BUSHY, KEYS, MEMORY, REDUCE
 
+if TYPE_CHECKING:
+    from ..faults import Fault
+    from . import Run
 
-def explain(fault, run):
+
+def explain(fault: Fault, run: Run) -> list[str]:
     limit = option_of(run.words, MEMORY.word)
     others = [option.word for option in (REDUCE, BUSHY) if not {option.word, KEYS.word} & set(run.words)]
-    first = f"The buffers of the plan take {fault['found']:,} bytes, and the limit is {int(limit):,}. The least limit is {MEMORY.word} {fault['found']}."
-    return [first, "Conditions on single tables lower the bounds, and so the bytes." + (f" So may {' or '.join(others)}." if others else "")]
+    first = (
+        f"The buffers of the plan take {fault.found:,} bytes, and the limit is {int(limit or 0):,}. The least limit"
+        f" is {MEMORY.word} {fault.found}."
+    )
+    return [
+        first, "Conditions on single tables lower the bounds, and so the bytes."
+        + (f" So may {' or '.join(others)}." if others else ""),
+    ]

@@ -1,80 +1,159 @@
 """What to write in place of what isn't part of the language of queries."""
-import re
+from __future__ import annotations
 
+import re
+from typing import TYPE_CHECKING
+
+from .texts import NO_ARITHMETIC_THERE, is_in_select
 from ..near import nearest
 from ..spot import plain
-from ..tokens import RESERVED
+from ..tokens import RESERVED, Token
+
+if TYPE_CHECKING:
+    from .texts import Place
 
 SUBQUERY = "Subqueries aren't part of the language: join the table in FROM, with the condition in WHERE."
-SETS = "isn't part of the language: a query text is one SELECT. Run one for each part; conditions on the same tables can be joined by OR."
-OUTER = "Outer joins aren't part of the language: only JOIN .. ON and commas, which leave out rows that have no partner."
-NO_NULLS = "Tables have no nulls, so there is no NULL and no IS NULL. An empty field of a text is the empty text: X = ''."
-LIKE = "isn't part of the language. Texts are compared whole, with = <> < <= > >= BETWEEN and IN. What begins with Ha is X >= 'Ha' AND X < 'Hb'."
-FIRST_ROWS = "isn't part of the language. For the first rows, send the output on: safebound run .. | head -n 11 (the first line is the header)."
-DATES = "Dates aren't part of the language: store them as texts of the form YYYY-MM-DD, VARCHAR(10), and compare those: DAY >= '2024-01-01'."
-AGGREGATE = "Functions and aggregates aren't part of the language. `safebound audit` prints how many rows each level has; for sums and groups give the rows to another program."
-FUNCTION = "Functions and aggregates aren't part of the language: store the value that you compare, or compute it behind the command."
-ARITHMETIC = "There is no arithmetic in conditions: move it to the literal, as X > 99 in the place of X + 1 > 100, or store the sum as a column."
-DECIMALS = "Numbers are integers. Store the smallest unit, as cents in the place of euros, and compare with that: 6050 in the place of 60.50."
+SETS = (
+    "isn't part of the language: a query text is one SELECT. Run one for each part; conditions on the same tables can"
+    " be joined by OR."
+)
+OUTER = (
+    "Outer joins aren't part of the language: only JOIN .. ON and commas, which leave out rows that have no partner."
+)
+NO_NULLS = (
+    "Tables have no nulls, so there is no NULL and no IS NULL. An empty field of a text is the empty text: X = ''."
+)
+LIKE = (
+    "isn't part of the language. Texts are compared whole, with = <> < <= > >= BETWEEN and IN. What begins with Ha is X"
+    " >= 'Ha' AND X < 'Hb'."
+)
+FIRST_ROWS = (
+    "isn't part of the language. For the first rows, send the output on: safebound run .. | head -n 11 (the first line"
+    " is the header)."
+)
+DATES = (
+    "Dates aren't part of the language: store them as texts of the form YYYY-MM-DD, VARCHAR(10), and compare those: DAY"
+    " >= '2024-01-01'."
+)
+AGGREGATE = (
+    "Functions and aggregates aren't part of the language. Take the columns alone, without GROUP BY, and give the rows"
+    " to another program."
+)
+COUNT = (
+    "Functions and aggregates aren't part of the language. Take a column in the place of COUNT(*), and leave GROUP BY"
+    " out. Then `safebound audit` prints how many rows there are, and this counts those of each group:"
+    " safebound run .. | tail -n +2 | sort | uniq -c"
+)
+FUNCTION = (
+    "Functions and aggregates aren't part of the language: store the value that you compare, or compute it behind the"
+    " command."
+)
+ARITHMETIC = (
+    "There is no arithmetic in conditions: move it to the literal, as X > 99 in the place of X + 1 > 100, or store the"
+    " sum as a column."
+)
+DECIMALS = (
+    "Numbers are integers. Store the smallest unit, as cents in the place of euros, and compare with that: 6050 in the"
+    " place of 60.50."
+)
 READS_ONLY = "A query only reads: SELECT .. FROM .. WHERE .. Rows are changed in the table files."
 AGGREGATES = ("COUNT", "SUM", "MIN", "MAX", "AVG")
 OF_DATES = ("DATE", "TIME", "TIMESTAMP", "INTERVAL")
-AS_ALIAS = ("LIMIT", "OFFSET", "FETCH", "TOP", "ILIKE", "REGEXP", "WINDOW", "QUALIFY", "STRAIGHT_JOIN", "ASOF", "SEMI", "ANTI")
+AS_ALIAS = (
+    "LIMIT", "OFFSET", "FETCH", "TOP", "ILIKE", "REGEXP", "WINDOW", "QUALIFY", "STRAIGHT_JOIN", "ASOF", "SEMI", "ANTI",
+)
 WORDS = {
-    "ORDER": "ORDER BY isn't part of the language: rows come in the order of the plan. Sort them behind the command, and leave the header where it is: safebound run .. | (sed -u 1q; sort -t, -k1,1)",
+    "ORDER": (
+        "ORDER BY isn't part of the language: rows come in the order of the plan. Sort them behind the command, and"
+        " leave the header where it is: safebound run .. | (sed -u 1q; sort -t, -k1,1)"
+    ),
     "GROUP": "GROUP BY isn't part of the language: give the rows to another program and group them there.",
-    "HAVING": "HAVING isn't part of the language, as GROUP BY isn't: give the rows to another program and group them there.",
-    "DISTINCT": "DISTINCT isn't part of the language: each row comes as often as it is there. This leaves each once, below the header: safebound run .. | (sed -u 1q; sort -u)",
-    "UNION": "UNION " + SETS, "INTERSECT": "INTERSECT " + SETS, "EXCEPT": "EXCEPT " + SETS,
-    "LEFT": OUTER, "RIGHT": OUTER, "FULL": OUTER, "OUTER": OUTER,
-    "NATURAL": "NATURAL JOIN isn't part of the language: only JOIN .. ON and commas. Write each common column: A JOIN B ON B.X = A.X.",
+    "HAVING": (
+        "HAVING isn't part of the language, as GROUP BY isn't: give the rows to another program and group them there."
+    ),
+    "DISTINCT": (
+        "DISTINCT isn't part of the language: each row comes as often as it is there. This leaves each once, below the"
+        " header: safebound run .. | (sed -u 1q; sort -u)"
+    ),
+    "UNION": "UNION " + SETS,
+    "INTERSECT": "INTERSECT " + SETS,
+    "EXCEPT": "EXCEPT " + SETS,
+    "LEFT": OUTER,
+    "RIGHT": OUTER,
+    "FULL": OUTER,
+    "OUTER": OUTER,
+    "NATURAL": (
+        "NATURAL JOIN isn't part of the language: only JOIN .. ON and commas. Write each common column: A JOIN B ON B.X"
+        " = A.X."
+    ),
     "CROSS": "CROSS JOIN isn't part of the language: only JOIN .. ON and commas. Write FROM A, B.",
     "USING": "USING isn't part of the language: write ON. For USING (X) it is A JOIN B ON B.X = A.X.",
-    "LIKE": "LIKE " + LIKE, "ILIKE": "ILIKE " + LIKE, "SIMILAR": "SIMILAR TO " + LIKE, "REGEXP": "REGEXP " + LIKE, "GLOB": "GLOB " + LIKE,
-    "IS": NO_NULLS, "NULL": NO_NULLS, "ISNULL": NO_NULLS, "NOTNULL": NO_NULLS,
-    "EXISTS": "EXISTS isn't part of the language. " + SUBQUERY, "ANY": SUBQUERY, "ALL": SUBQUERY,
-    "LIMIT": "LIMIT " + FIRST_ROWS, "OFFSET": "OFFSET " + FIRST_ROWS, "FETCH": "FETCH " + FIRST_ROWS, "TOP": "TOP " + FIRST_ROWS,
+    "LIKE": "LIKE " + LIKE,
+    "ILIKE": "ILIKE " + LIKE,
+    "SIMILAR": "SIMILAR TO " + LIKE,
+    "REGEXP": "REGEXP " + LIKE,
+    "GLOB": "GLOB " + LIKE,
+    "IS": NO_NULLS,
+    "NULL": NO_NULLS,
+    "ISNULL": NO_NULLS,
+    "NOTNULL": NO_NULLS,
+    "EXISTS": "EXISTS isn't part of the language. " + SUBQUERY,
+    "ANY": SUBQUERY,
+    "ALL": SUBQUERY,
+    "LIMIT": "LIMIT " + FIRST_ROWS,
+    "OFFSET": "OFFSET " + FIRST_ROWS,
+    "FETCH": "FETCH " + FIRST_ROWS,
+    "TOP": "TOP " + FIRST_ROWS,
     "CASE": "CASE isn't part of the language: store the value as a column, or compute it behind the command.",
     "CAST": "CAST isn't part of the language: a column has the type that the schema gives it.",
-    "INSERT": READS_ONLY, "UPDATE": READS_ONLY, "DELETE": READS_ONLY, "DROP": READS_ONLY, "ALTER": READS_ONLY, "VALUES": READS_ONLY,
+    "INSERT": READS_ONLY,
+    "UPDATE": READS_ONLY,
+    "DELETE": READS_ONLY,
+    "DROP": READS_ONLY,
+    "ALTER": READS_ONLY,
+    "VALUES": READS_ONLY,
     "WITH": "WITH isn't part of the language: a query text is one SELECT.",
     "BY": "ORDER BY and GROUP BY aren't part of the language.",
 }
 
 
-def swapped(place):
+def swapped(place: Place) -> str | None:
     if place.at == 0 and place.word() == "CREATE":
         return "This looks like a schema: the command takes SCHEMA first and then QUERY."
     return None
 
 
-def second_query(place):
+def second_query(place: Place) -> str | None:
     if place.token(-1).is_one(";"):
         return "A query text holds one query, and a ; ends it. Put the next query into a file of its own."
     return None
 
 
-def subquery(place):
-    if place.word() == "SELECT" and place.token(-1).is_one("(") or place.token().is_one("(") and place.word(1) == "SELECT":
+def subquery(place: Place) -> str | None:
+    if (
+        place.word() == "SELECT" and place.token(-1).is_one("(") or place.token().is_one("(")
+        and place.word(1) == "SELECT"
+    ):
         return SUBQUERY
     return None
 
 
-def call(place):
+def call(place: Place) -> str | None:
     """A name and a parenthesis."""
     before = place.token(-1)
     if place.token().is_one("(") and before.is_name:
-        return f"This is read as a call of {plain(before.source)}. {AGGREGATE if before.word in AGGREGATES else FUNCTION}"
+        advice = COUNT if before.word == "COUNT" else AGGREGATE if before.word in AGGREGATES else FUNCTION
+        return f"This is read as a call of {plain(before.source)}. {advice}"
     return None
 
 
-def dated(place):
+def dated(place: Place) -> str | None:
     if place.word(-1) in OF_DATES and place.token().kind == "text" or place.word() in OF_DATES:
         return DATES
     return None
 
 
-def decimal(place):
+def decimal(place: Place) -> str | None:
     if place.token().is_one(".") and (place.token(-1).kind == "number" or place.token(1).kind == "number"):
         return DECIMALS
     if place.token(-1).kind == "number" and re.fullmatch(r"[eE][0-9]*", place.token().source):
@@ -82,64 +161,136 @@ def decimal(place):
     return None
 
 
-def alias_word(place):
+def alias_word(place: Place) -> str | None:
     """A word that was read as an alias or a name, and was meant as something else."""
     before, earlier = place.token(-1), place.token(-2)
     if before.word in AS_ALIAS and not place.token().is_one(".", ","):
         read_as = f"an alias of {plain(earlier.source)}" if earlier.is_name else "a name"
-        return f"{before.word} was read as {read_as}. {WORDS.get(before.word, before.word + ' is not part of the language.')}"
+        return (
+            f"{before.word} was read as {read_as}."
+            f" {WORDS.get(before.word, before.word + ' is not part of the language.')}"
+        )
     return None
 
 
-def two_nots(place):
+def two_nots(place: Place) -> str | None:
     if place.word() == "NOT" and place.word(-1) == "NOT":
-        return "A condition has one NOT before it. A second one stands in parentheses, NOT (NOT X = 1); two of them are none, so leave both out."
+        return (
+            "A condition has one NOT before it. A second one stands in parentheses, NOT (NOT X = 1); two of them are"
+            " none, so leave both out."
+        )
     return None
 
 
-def wrong_quotes(place):
+def wrong_quotes(place: Place) -> str | None:
     """A text where a name has to stand, and a name where a text has to."""
     token, tested = place.token(), place.tested
     wants_name = [what for what in tested if what in ("a table", "a column", "an alias", "a name for it")]
+    if token.kind == "text" and wants_name and token.source.lower().endswith(".csv'"):
+        return of_file(token.source[1:-1])
     if token.kind == "text" and wants_name:
-        return f"In single quotes stands a text, and here {wants_name[0]} has to stand: write {plain(token.source[1:-1])} without quotes."
+        return (
+            f"In single quotes stands a text, and here {wants_name[0]} has to stand: write"
+            f" {plain(token.source[1:-1])} without quotes."
+        )
     if "a text in single quotes" in tested and "a column" not in tested and token.is_name:
         text = plain(token.name if token.kind == "quoted" else token.source).replace("'", "''")
-        return f"Here a text or a number has to stand, and {plain(token.source)} is a name{' in double quotes' if token.kind == 'quoted' else ''}. A text takes single quotes: '{text}'."
+        return (
+            f"Here a text or a number has to stand, and {plain(token.source)} is a"
+            f" name{' in double quotes' if token.kind == 'quoted' else ''}. A text takes single quotes: '{text}'."
+        )
     return None
 
 
-def by_word(place):
+def order(place: Place) -> str | None:
+    """ORDER BY, with the columns that it names as the words of sort."""
+    if place.word() != "ORDER" or place.word(1) != "BY":
+        return None
+    keys, item = [], []
+    for token in [*place.tokens[place.at + 2:], Token("symbol", -1, -1, ";")]:
+        if not token.is_one(",", ";"):
+            item.append(token)
+            continue
+        keys.append(sort_key(item, place.outs))
+        item = []
+    missing = next((name for name, key in keys if not key), None)
+    if missing:
+        return (
+            f"ORDER BY isn't part of the language: rows come in the order of the plan. Take {plain(missing)} into"
+            " SELECT, and sort by it behind the command: safebound run .. | (sed -u 1q; sort -t, -kN,N), where N"
+            " counts the columns."
+        )
+    return WORDS["ORDER"].replace("-k1,1", " ".join(key for _, key in keys))
+
+
+def sort_key(item: list[Token], outs: tuple[tuple[set[str], bool], ...]) -> tuple[str, str]:
+    """The name that stands in ORDER BY, and the words of sort for it: nothing where no output column has it."""
+    down = any(token.word == "DESC" for token in item)
+    named = [token for token in item if token.is_name or token.kind == "number"]
+    if not named:
+        return "the column", ""
+    last = named[-1]
+    at = (
+        int(last.source) - 1 if last.kind == "number" and len(last.source) < 5
+        else next((i for i, (names, _) in enumerate(outs) if last.is_name and last.name in names), -1)
+    )
+    if not 0 <= at < len(outs):
+        return last.source, ""
+    return last.source, f"-k{at + 1},{at + 1}{'n' * outs[at][1]}{'r' * down}"
+
+
+def by_word(place: Place) -> str | None:
     """A word of SQL that isn't part of the language. ORDER and GROUP without BY are meant as names."""
     if place.word() in ("ORDER", "GROUP") and place.word(1) != "BY":
         return None
     return WORDS.get(place.word())
 
 
-def grouped(place):
+def grouped(place: Place) -> str | None:
     """A comma within a number: `5,000`."""
-    if place.token().is_one(",") and place.token(-1).kind == "number" and place.token(1).kind == "number" and "AND" in place.tested:
+    if (
+        place.token().is_one(",") and place.token(-1).kind == "number" and place.token(1).kind == "number"
+        and "AND" in place.tested
+    ):
+        if len(place.token(1).source) != 3:
+            return DECIMALS.replace(
+                "6050 in the place of 60.50",
+                (
+                    f"{place.token(-1).source}{place.token(1).source} in the place of"
+                    f" {place.token(-1).source},{place.token(1).source}"
+                ),
+            )
         return f"A number is written in digits alone: {place.token(-1).source}{place.token(1).source}."
     return None
 
 
-def half_a_comparison(place):
+def half_a_comparison(place: Place) -> str | None:
     """`X = 'A' OR 'B'`, and an operand in parentheses."""
     if place.word(-2) in ("OR", "AND") and "=" in str(place.tested) and place.token(-1).kind in ("text", "number"):
-        return f"Each side of {place.word(-2)} is a whole comparison, as X = 1 {place.word(-2)} X = 2. Several values of one column can stand in a list: X IN (1, 2)."
+        return (
+            f"Each side of {place.word(-2)} is a whole comparison, as X = 1 {place.word(-2)} X = 2. Several values of"
+            " one column can stand in a list: X IN (1, 2)."
+        )
     if place.token().is_one("(") and place.token(-1).is_one("=", "<>", "<", "<=", ">", ">="):
         return "What is compared is a column or a literal, without parentheses."
     return None
 
 
-def qualified(place):
+def qualified(place: Place) -> str | None:
     """A name of a schema or a database before a table's."""
+    if place.token().is_one(".") and place.word(1) == "CSV":
+        return of_file(f"{place.token(-1).source}.{place.token(1).source}")
     if place.token().is_one(".") and "an alias" in place.tested and place.token(-2).is_one("FROM", "JOIN", ","):
         return "A table has one name: there are no names of schemas or databases before it."
     return None
 
 
-def doubled(place):
+def of_file(name: str) -> str:
+    """What to write in the place of a table file's name."""
+    return f"{plain(name)} is a file's name, and a query names the table: FROM {plain(name[:-4].upper())}."
+
+
+def doubled(place: Place) -> str | None:
     if place.token().is_one("=") and place.token(-1).is_one("="):
         return "Equal is written with one =."
     if place.token().is_one(">", "<", "=") and place.token(-1).is_one("<", ">", "=", "<=", ">="):
@@ -147,33 +298,49 @@ def doubled(place):
     return None
 
 
-def arithmetic(place):
-    if place.token().is_one("+", "-", "*") and (place.token(-1).is_name or place.token(-1).kind in ("number", "text") or place.token(-1).is_one(")")):
-        return ARITHMETIC
+def unquoted(place: Place) -> str | None:
+    """A date or a code that begins with a digit, without its quotes."""
+    token, before = place.token(), place.token(-1)
+    if before.kind == "number" and token.kind == "word" and token.start == before.end:
+        return f"A text takes single quotes: '{plain(before.source + token.source)}'."
+    parts = [place.token(ahead).source for ahead in range(-1, 4)]
+    if token.is_one("-") and re.fullmatch("[0-9]{4}-[0-9]{2}-[0-9]{2}", "".join(parts)):
+        return f"This is read as a number less another. A date is a text, and takes single quotes: '{''.join(parts)}'."
     return None
 
 
-def star(place):
+def arithmetic(place: Place) -> str | None:
+    if place.token().is_one("+", "-", "*") and (
+        place.token(-1).is_name or place.token(-1).kind in ("number", "text") or place.token(-1).is_one(")")
+    ):
+        return NO_ARITHMETIC_THERE if is_in_select(place) else ARITHMETIC
+    return None
+
+
+def star(place: Place) -> str | None:
     if place.token().is_one(",") and place.token(-1).is_one("*") and place.word(-2) == "SELECT":
         return "A * stands alone. Beside columns each entry has its own: SELECT A.*, B.X."
     return None
 
 
-def reserved(place):
+def reserved(place: Place) -> str | None:
     """A reserved word where a name has to stand."""
     wants_name = any(what.startswith("a ") and what != "a number" for what in place.tested)
-    if place.word() in RESERVED and wants_name and place.word() not in ("FROM", "WHERE", "SELECT", "AND", "OR", "ON", "JOIN"):
+    if (
+        place.word() in RESERVED and wants_name
+        and place.word() not in ("FROM", "WHERE", "SELECT", "AND", "OR", "ON", "JOIN")
+    ):
         return f'{place.word()} is a reserved word. As a name it stands in double quotes: "{place.word()}".'
     return None
 
 
-def comma_too_many(place):
+def comma_too_many(place: Place) -> str | None:
     if place.token(-1).is_one(",") and place.word() in ("FROM", "WHERE"):
         return f"A comma too many stands before {place.word()}."
     return None
 
 
-def misspelled(place):
+def misspelled(place: Place) -> str | None:
     """A word of the language that was read as a name: `FORM BOOK`, `BOOK WHRE X = 1`."""
     wanted = ["SELECT", "FROM", "WHERE", "JOIN", "INNER", "AND", "OR", "BETWEEN", "IN", "NOT", "AS", "ON"]
     for token, how in ((place.token(), ""), (place.token(-1), " was read as a name.")):
@@ -183,19 +350,22 @@ def misspelled(place):
     return None
 
 
-def comma_missing(place):
+def comma_missing(place: Place) -> str | None:
     """Two names or more, one behind the other, where a list has commas."""
     token, before = place.token(), place.token(-1)
     if token.is_name and (before.is_name or before.is_one("*")) and "," in place.tested:
         return f"Is a comma missing before {plain(token.source)}?"
     if token.is_one(".") and before.is_name and (place.token(-2).is_name or place.token(-2).is_one("AS")):
-        return f"{plain(before.source)} was read as another name for what stands before it. Is a comma missing before {plain(before.source)}?"
+        return (
+            f"{plain(before.source)} was read as another name for what stands before it. Is a comma missing before"
+            f" {plain(before.source)}?"
+        )
     if token.is_one(".") and before.is_name and place.token(-2).is_one("."):
         return "A column has at most two parts, as BOOK.TITLE: there are no names of schemas or databases."
     return None
 
 
-def no_condition(place):
+def no_condition(place: Place) -> str | None:
     if place.word() in ("WHERE", "ON") and place.word(-1) == "WHERE":
         return "WHERE stands once; conditions are joined by AND."
     if "ON" in place.tested and place.word() != "ON":
@@ -203,5 +373,8 @@ def no_condition(place):
     return None
 
 
-CERTAIN = (swapped, second_query, subquery, call, dated, decimal, alias_word, two_nots, wrong_quotes, by_word, doubled, grouped, half_a_comparison, qualified, arithmetic, star)
+CERTAIN = (
+    swapped, second_query, subquery, call, dated, decimal, unquoted, alias_word, two_nots, wrong_quotes, order, by_word,
+    doubled, grouped, half_a_comparison, qualified, arithmetic, star,
+)
 GUESSES = (comma_too_many, reserved, no_condition, misspelled, comma_missing)

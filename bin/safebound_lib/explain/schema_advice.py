@@ -1,37 +1,62 @@
 """What to write in place of what isn't part of the language of schemas."""
+from __future__ import annotations
+
+from typing import TYPE_CHECKING
+
 from ..near import nearest
 from ..spot import plain
 from ..tokens import RESERVED
 
-TYPES = "The types are INTEGER (also INT, SMALLINT and BIGINT, all of 64 bits) and VARCHAR(n), a text of at most n characters."
+if TYPE_CHECKING:
+    from .texts import Place
+
+TYPES = (
+    "The types are INTEGER (also INT, SMALLINT and BIGINT, all of 64 bits) and VARCHAR(n), a text of at most n"
+    " characters."
+)
 DATES = "Store dates and times as texts of the form YYYY-MM-DD, which compare as dates do: VARCHAR(10)."
 DECIMALS = "Store decimals as integers of the smallest unit, as cents in the place of euros: INTEGER."
 TEXTS = "Give texts a length: VARCHAR(n) with n of up to 1,000,000."
 BOOLEANS = "Store yes and no as INTEGER 1 and 0."
 INSTEAD = {
-    **dict.fromkeys(("TEXT", "STRING", "CLOB", "CHAR", "CHARACTER", "NCHAR", "NVARCHAR", "VARCHAR2", "CITEXT", "TINYTEXT", "MEDIUMTEXT", "LONGTEXT", "UUID", "JSON", "JSONB", "BLOB", "BYTEA", "ENUM"), TEXTS),
+    **dict.fromkeys(
+        (
+            "TEXT", "STRING", "CLOB", "CHAR", "CHARACTER", "NCHAR", "NVARCHAR", "VARCHAR2", "CITEXT", "TINYTEXT",
+            "MEDIUMTEXT", "LONGTEXT", "UUID", "JSON", "JSONB", "BLOB", "BYTEA", "ENUM",
+        ),
+        TEXTS,
+    ),
     **dict.fromkeys(("DATE", "TIME", "TIMESTAMP", "DATETIME", "TIMESTAMPTZ", "INTERVAL", "YEAR"), DATES),
     **dict.fromkeys(("DECIMAL", "NUMERIC", "DEC", "FLOAT", "REAL", "DOUBLE", "MONEY", "NUMBER"), DECIMALS),
     **dict.fromkeys(("BOOLEAN", "BOOL", "BIT"), BOOLEANS),
-    **dict.fromkeys(("SERIAL", "BIGSERIAL", "TINYINT", "MEDIUMINT", "INT2", "INT4", "INT8", "UNSIGNED", "LONG"), "Write INTEGER: it has 64 bits and a sign."),
+    **dict.fromkeys(
+        ("SERIAL", "BIGSERIAL", "TINYINT", "MEDIUMINT", "INT2", "INT4", "INT8", "UNSIGNED", "LONG"),
+        "Write INTEGER: it has 64 bits and a sign.",
+    ),
 }
 RULES_OF_COLUMNS = "The rules of a column are NOT NULL, PRIMARY KEY, UNIQUE and REFERENCES."
 NOT_PART = {
     "DEFAULT": "DEFAULT isn't part of the language: rows come from files, which have every value. Leave it out.",
     "CHECK": "CHECK isn't part of the language: put the condition into the query's WHERE.",
     "NULL": "Tables have no nulls: write NOT NULL.",
-    **dict.fromkeys(("AUTO_INCREMENT", "AUTOINCREMENT", "IDENTITY", "GENERATED", "COLLATE", "COMMENT", "UNSIGNED", "INDEX", "KEY", "ASC", "DESC"), "{} isn't part of the language: leave it out. " + RULES_OF_COLUMNS),
+    **dict.fromkeys(
+        (
+            "AUTO_INCREMENT", "AUTOINCREMENT", "IDENTITY", "GENERATED", "COLLATE", "COMMENT", "UNSIGNED", "INDEX",
+            "KEY", "ASC", "DESC",
+        ),
+        "{} isn't part of the language: leave it out. " + RULES_OF_COLUMNS,
+    ),
 }
 STATEMENTS = ("INSERT", "DROP", "ALTER", "UPDATE", "DELETE", "SET", "USE", "GRANT", "BEGIN", "COMMIT", "PRAGMA", "COPY")
 
 
-def swapped(place):
+def swapped(place: Place) -> str | None:
     if place.at == 0 and place.word() in ("SELECT", "WITH"):
         return "This looks like a query: the command takes SCHEMA first and then QUERY."
     return None
 
 
-def statement(place):
+def statement(place: Place) -> str | None:
     if place.word() in STATEMENTS and "CREATE" in place.tested:
         return "A schema text holds CREATE TABLE alone. Rows come from the table files."
     if place.word(-1) == "CREATE":
@@ -45,7 +70,7 @@ def statement(place):
     return None
 
 
-def no_type(place):
+def no_type(place: Place) -> str | None:
     """No type where one has to stand."""
     if "VARCHAR" not in place.tested and "VARYING" not in place.tested:
         return None
@@ -56,13 +81,13 @@ def no_type(place):
     return f"{called}{f'Did you mean {near}? ' if near else ''}{TYPES} {instead}".strip()
 
 
-def index(place):
+def index(place: Place) -> str | None:
     if place.word(-1) in ("INDEX", "KEY", "FULLTEXT") and place.token().is_one("(") and "VARCHAR" in place.tested:
         return f"{place.word(-1)} isn't part of the language: leave it out. A key is PRIMARY KEY (X) or UNIQUE (X)."
     return None
 
 
-def no_length(place):
+def no_length(place: Place) -> str | None:
     if place.word(-1) in ("VARCHAR", "VARYING"):
         return "A text has its length: VARCHAR(n), of at most n characters."
     if place.token(-1).is_one("(") and "a length of at least 1" in place.tested:
@@ -72,12 +97,12 @@ def no_length(place):
     return None
 
 
-def not_part(place):
+def not_part(place: Place) -> str | None:
     said = NOT_PART.get(place.word())
     return said.format(place.word()) if said else None
 
 
-def comma(place):
+def comma(place: Place) -> str | None:
     if place.token().is_one(")") and place.token(-1).is_one(","):
         return "A comma too many stands before the )."
     if place.token().is_name and "," in place.tested:
@@ -85,24 +110,32 @@ def comma(place):
     return None
 
 
-def reserved(place):
+def reserved(place: Place) -> str | None:
     wants_name = any(what in ("a table's name", "a column's name") for what in place.tested)
     if place.word() in RESERVED and wants_name:
-        return f'{place.word()} is a reserved word. Give it another name, or write it in double quotes, here and in the query: "{place.word()}".'
+        return (
+            f'{place.word()} is a reserved word. Give it another name, or write it in double quotes, here and in the'
+            f' query: "{place.word()}".'
+        )
     return None
 
 
-def qualified(place):
+def qualified(place: Place) -> str | None:
     if place.token().is_one("."):
         return "A table has one name: there are no names of schemas or databases before it."
     return None
 
 
-def wrong_quotes(place):
+def wrong_quotes(place: Place) -> str | None:
     """A text where a name has to stand."""
-    wanted = next((what for what in place.tested if what in ("a table's name", "a column's name", "a rule's name")), None)
+    wanted = next(
+        (what for what in place.tested if what in ("a table's name", "a column's name", "a rule's name")), None
+    )
     if place.token().kind == "text" and wanted:
-        return f"In single quotes stands a text, and here {wanted} has to stand: write {plain(place.token().source[1:-1])} without quotes."
+        return (
+            f"In single quotes stands a text, and here {wanted} has to stand: write"
+            f" {plain(place.token().source[1:-1])} without quotes."
+        )
     return None
 
 

@@ -1,36 +1,72 @@
-"""`error stats CAUSE AT`: a statistics file that isn't one, or that lacks what the query needs or the table that gets new rows."""
+"""`error stats CAUSE AT`: a statistics file that isn't one, or that lacks what the query needs or the table that gets
+new rows.
+"""
+from __future__ import annotations
+
+import shlex
+from typing import TYPE_CHECKING
+
 from ..near import hint, listed
 from ..spot import plain
 
-ANEW = "Make it anew: safebound stats {schema} {query} > {stats}"
+if TYPE_CHECKING:
+    from ..faults import Fault
+    from . import Run
 
 
-def explain(fault, run):
-    file, at = plain(run.stats_file or ""), fault["at"]
-    anew = ANEW.format(schema=plain(run.schema_file), query=plain(run.query_file or "QUERY"), stats=file)
-    if fault["cause"] == "missing" and run.command == "append":
+def made_anew(run: Run) -> str:
+    """The line that makes the file, to paste where the user is."""
+    texts = [run.query_file or "QUERY"] if run.is_proposed else [run.schema_file, run.query_file or "QUERY"]
+    data = f" --data {run.path_of('.')}" if run.before else ""
+    return plain(f"safebound stats {' '.join(map(shlex.quote, texts))}{data} > {run.path_of(run.stats_file or '')}")
+
+
+def explain(fault: Fault, run: Run) -> list[str]:
+    file, at = plain(run.stats_file or ""), fault.at
+    anew = f"Make it anew:\n    {made_anew(run)}"
+    if fault.cause == "missing" and run.command == "append":
         return without_section(file, run)
-    if fault["cause"] == "missing":
-        return [f"{lacking(run, at)} needs statistics that {file} doesn't have: it was made for a query that doesn't name its table, or compares or joins other columns.", anew]
-    if fault["cause"] == "syntax":
+    if fault.cause == "missing":
+        return [
+            (
+                f"{lacking(run, at)} needs statistics that {file} doesn't have: it was made for a query that doesn't"
+                " name its table, or compares or joins other columns."
+            ),
+            anew,
+        ]
+    if fault.cause == "syntax":
         return [f"{file} is no statistics file from line {at} on: it is cut there, or was changed.", anew]
-    return [f"Line {at} of {file} can't follow those before it: it names what the schema doesn't have, or a number or a list is past its limit or out of order.",
-            "Was the file made over another schema?", anew]
+    return [
+        (
+            f"Line {at} of {file} can't follow those before it: it names what the schema doesn't have, or a number or a"
+            " list is past its limit or out of order."
+        ),
+        "Was the file made over another schema?",
+        anew,
+    ]
 
 
-def without_section(file, run):
+def without_section(file: str, run: Run) -> list[str]:
     """Which of the two is missing, the table in the schema or its statistics in the file."""
     names = [table.name for table in run.schema.tables]
     if not any(name.upper() == run.table.upper() for name in names):
         return [f"The schema has no table {plain(run.table)}. Its tables are {listed(names)}.{hint(run.table, names)}"]
     table = plain(run.table)
-    return [f"{file} has no statistics of the table {table}: it was made for a query that doesn't name it. `append` adds rows to the tables that are in the file, and no table.",
-            f"Put the new rows into the table's own file, and make the statistics anew with a query that names {table}: safebound stats {plain(run.schema_file)} QUERY > {file}"]
+    return [
+        (
+            f"{file} has no statistics of the table {table}: it was made for a query that doesn't name it. `append`"
+            " adds rows to the tables that are in the file, and no table."
+        ),
+        (
+            "Put the new rows into the table's own file, and make the statistics anew with a query that names"
+            f" {table}:\n    {made_anew(run)}"
+        ),
+    ]
 
 
-def lacking(run, entry):
+def lacking(run: Run, entry: int) -> str:
     """The FROM entry with this number, by its name where the query can be read."""
     try:
         return f"The FROM entry {plain(run.query.entries[entry].name)}"
-    except Exception:
+    except (OSError, IndexError, RecursionError):
         return f"The FROM entry {entry}, counted from 0,"

@@ -1,18 +1,45 @@
-"""What explanations of schema and query texts share: the place, what was read, what may stand there, and bytes that are no text."""
+"""What explanations of schema and query texts share: the place, what was read, what may stand there, and bytes that are
+no text.
+"""
+from __future__ import annotations
+
+import itertools
 import unicodedata
 from dataclasses import dataclass
+from collections.abc import Callable
+from typing import Optional, Tuple, TYPE_CHECKING
 
+from ..convert import packed
 from ..near import hint, listed
 from ..spot import plain, spot
 from ..tokens import Token
 
-INVISIBLE = {"\u00a0": "a no-break space", "\ufeff": "a byte order mark", "\u200b": "a space of no width", "\u3000": "a wide space", "\f": "a form feed", "\v": "a vertical tab", "\0": "a NUL"}
+if TYPE_CHECKING:
+    from . import Run
+    from ..query import Query
+    from ..schema import Schema
+
+INVISIBLE = {
+    "\u00a0": "a no-break space",
+    "\ufeff": "a byte order mark",
+    "\u200b": "a space of no width",
+    "\u3000": "a wide space",
+    "\f": "a form feed",
+    "\v": "a vertical tab",
+    "\0": "a NUL",
+}
 WITHIN_NAMES = {"\n": "a line end", "\r": "a line end", "\t": "a tab"}
 QUOTES = "\u2018\u2019\u201c\u201d\u201e\u00ab\u00bb\u00b4"
 CHARACTERS = {
     "!": "Unequal is written <>, as in A.X <> B.X.",
-    "`": 'Names take double quotes where they need any, and no backticks: "name". Without quotes a name is read in upper case.',
-    "[": 'Names take double quotes where they need any, and no brackets: "name". Without quotes a name is read in upper case.',
+    "`": (
+        'Names take double quotes where they need any, and no backticks: "name". Without quotes a name is read in upper'
+        ' case.'
+    ),
+    "[": (
+        'Names take double quotes where they need any, and no brackets: "name". Without quotes a name is read in upper'
+        ' case.'
+    ),
     "]": 'Names take double quotes where they need any, and no brackets: "name".',
     "#": "A comment begins with -- and goes to the end of its line.",
     "{": "A comment begins with -- and goes to the end of its line.",
@@ -25,37 +52,53 @@ CHARACTERS = {
 }
 
 
+NO_ARITHMETIC_THERE = (
+    "There is no arithmetic in SELECT: take the column itself, and compute behind the command, or store the result as a"
+    " column."
+)
+
+
 @dataclass
 class Place:
     """Where the tokens of a text go wrong: the token there, those around it, and what may stand there."""
-    tokens: list
+    tokens: list[Token]
     at: int
-    tested: tuple
+    tested: tuple[str, ...]
     # Where the text goes wrong, and at which token the grammar alone does.
     is_grammar: bool = True
+    # The output columns of a query, for ORDER BY: the names of each, and whether it is a number.
+    outs: tuple[tuple[set[str], bool], ...] = ()
 
-    def token(self, ahead=0):
+    def token(self, ahead: int = 0) -> Token:
         at = self.at + ahead
         return self.tokens[at] if 0 <= at < len(self.tokens) else Token("end", -1, -1, "")
 
-    def word(self, ahead=0):
+    def word(self, ahead: int = 0) -> str:
         return self.token(ahead).word
 
 
-def place_of(read, at):
+def is_in_select(place: Place) -> bool:
+    """Whether a place lies between SELECT and FROM."""
+    return any(token.is_one("SELECT") for token in place.tokens[: place.at]) and not any(
+        token.is_one("FROM") for token in place.tokens[: place.at]
+    )
+
+
+def place_of(read: Query | Schema, at: int) -> Place:
     """The place with the token that begins at a byte."""
     found = next((i for i, token in enumerate(read.tokens) if token.start >= at), len(read.tokens))
     return Place(read.tokens, found, read.tested, read.wrong == found)
 
 
-def marked(file, data, read, at, length):
+def marked(file: str, data: bytes, read: Query | Schema, at: int, length: int) -> str:
     """The place of a text: a name with its accents whole, and the end of a text behind its last token."""
     name = accented(data, read.tokens, at)
     if name:
         return spot(file, data, at - name.offset, name.length)
     last = read.tokens[-1] if read.tokens else None
-    behind = last is not None and last.kind != "bad" and at >= last.end
-    return spot(file, data, last.end if behind else at, length)
+    if last is not None and last.kind != "bad" and at >= last.end:
+        at = last.end
+    return spot(file, data, at, length)
 
 
 @dataclass
@@ -65,63 +108,80 @@ class Accented:
     offset: int
 
     @property
-    def length(self):
+    def length(self) -> int:
         return len(self.name.encode())
 
 
-def is_letter(c):
+def is_letter(c: str) -> bool:
     return c.isalnum() or c == "_" or unicodedata.combining(c) > 0
 
 
-def accented(data, tokens, at):
+def accented(data: bytes, tokens: list[Token], at: int) -> Accented | None:
     """The whole name that another letter than A to Z at this byte belongs to, or nothing."""
     number = next((i for i, token in enumerate(tokens) if token.kind == "bad" and token.start == at), None)
     if number is None or not (tokens[number].source[:1].isalpha() or unicodedata.combining(tokens[number].source[:1])):
         return None
-    before = tokens[number - 1] if number and tokens[number - 1].kind == "word" and tokens[number - 1].end == at else None
+    before = (
+        tokens[number - 1] if number and tokens[number - 1].kind == "word" and tokens[number - 1].end == at else None
+    )
     text = data[before.start if before else at:].decode("utf-8", "replace")
     length = next((i for i, c in enumerate(text) if not is_letter(c)), len(text))
     return Accented(text[:length], at - before.start if before else 0)
 
 
-def quotes_for(found, names):
+def quotes_for(found: Accented, names: list[str]) -> str:
     """What to do about a name with an accent: one that is there without it, or double quotes."""
     bare = "".join(c for c in unicodedata.normalize("NFD", found.name) if not unicodedata.combining(c))
-    return f'A name with other letters than A to Z stands in double quotes, which keep its upper and lower case: "{plain(found.name)}".{hint(bare, names)}'
+    return (
+        'A name with other letters than A to Z stands in double quotes, which keep its upper and lower case:'
+        f' "{plain(found.name)}".{hint(bare, names)}'
+    )
 
 
-def no_text(file, data, at, run):
+def no_text(file: str, data: bytes, at: int, run: Run) -> list[str] | None:
     """Where the bytes are no UTF-8: an explanation, else nothing."""
     try:
         data.decode("utf-8")
     except UnicodeDecodeError as bad:
         if bad.start == at:
-            return [spot(file, data, at), f"This byte (0x{data[at]:02X}) is no UTF-8. {how_to_convert(data, file, run)}"]
+            return [
+                spot(file, data, at), f"This byte (0x{data[at]:02X}) is no UTF-8. {how_to_convert(data, file, run)}",
+            ]
     return None
 
 
-def how_to_convert(data, file, run):
+def how_to_convert(data: bytes, file: str, run: Run) -> str:
     """The command that writes a file in UTF-8."""
+    if packed(data):
+        return f"The file {packed(data)}."
     is_wide = data[:2] in (b"\xff\xfe", b"\xfe\xff")
-    looks = "The file looks like UTF-16, as Excel writes its Unicode texts" if is_wide else "The file may be Latin-1 or Windows-1252, as older programs write it"
-    return f"{looks}. This writes it in UTF-8: {convert_line(file, run)}"
+    looks = (
+        "The file looks like UTF-16, as Excel writes its Unicode texts" if is_wide
+        else "The file may be Latin-1 or Windows-1252, as older programs write it"
+    )
+    return f"{looks}. This writes it in UTF-8:{convert_line(file, run)}"
 
 
-def convert_line(file, run):
-    """The command line that converts a file."""
-    return f"safebound convert {plain(run.path_of(file))}"
+def convert_line(file: str, run: Run) -> str:
+    """The command line that converts a file, on a line of its own."""
+    return f"\n    safebound convert {plain(run.path_of(file))}"
 
 
-def bad_character(place):
+def bad_character(place: Place) -> str:
     """What to do about a place that begins no token."""
     token = place.token()
     first = token.source[:1]
     if token.source[:2] in JOINERS:
         return joiner(token.source[:2], "AND" in place.tested)
     if first in WITHIN_NAMES:
-        return f'Here is {WITHIN_NAMES[first]} within a name in double quotes. A name stands on one line, and has no control characters: take it away, or close the name before it by a ".'
+        return (
+            f'Here is {WITHIN_NAMES[first]} within a name in double quotes. A name stands on one line, and has no'
+            ' control characters: take it away, or close the name before it by a ".'
+        )
     if token.source.startswith("/*"):
         return "A comment begins with -- and goes to the end of its line; there is no /* */."
+    if first in "/%" and is_in_select(place):
+        return NO_ARITHMETIC_THERE
     if first == "/":
         return "There is no arithmetic in conditions: compute the value, and write that."
     if first in INVISIBLE:
@@ -129,23 +189,46 @@ def bad_character(place):
     if first in QUOTES:
         return "These are quotes of a word processor: texts take ' and names take \"."
     if first == "'":
-        return "This text isn't closed: a ' is missing behind it. A quote within a text is written twice: 'it''s'."
+        missing = "This text isn't closed: a ' is missing behind it. A quote within a text is written twice: 'it''s'."
+        return quote_within(place) or missing
     if first == '"':
         return bad_name(token.source)
     return CHARACTERS.get(first, f"The character {plain(first)} has no meaning here.")
 
 
+def quote_within(place: Place) -> str:
+    """A sentence on a text that a quote within it ends, as 'O'Brien': a word goes on where the text ends."""
+    tokens = place.tokens
+    at = next(
+        (i for i, t in enumerate(tokens[:-1]) if t.kind == "text" and tokens[i + 1].kind == "word"
+         and tokens[i + 1].start == t.end), None
+    )
+    if at is None:
+        return ""
+    behind = list(itertools.takewhile(lambda token: not token.source.startswith("'"), tokens[at + 1:]))
+    rest = "".join(" " * (token.start - before.end) + token.source for before, token in zip(tokens[at:], behind))
+    within = tokens[at].source[1:-1].rstrip("\\")
+    return (
+        "This text isn't closed, since the one before it ends within"
+        f" {plain(within.split(' ')[-1])}'{plain(behind[0].source)}. A quote within a text is"
+        f" written twice: '{plain(within)}''{plain(rest)}'."
+    )
+
+
 JOINERS = {"||": "OR", "&&": "AND"}
 
 
-def joiner(sign, is_behind_a_condition):
+def joiner(sign: str, is_behind_a_condition: bool) -> str:
     """What stands in the place of a sign by which other languages join conditions, or texts."""
     if sign == "||" and not is_behind_a_condition:
-        return "Texts can't be put together: || isn't part of the language. Take both columns, and put them together behind the command."
+        return (
+            "Texts can't be put together: || isn't part of the language. Take both columns, and put them together"
+            " behind the command."
+        )
     return f"Conditions are joined by {JOINERS[sign]}: {sign} isn't part of the language."
 
 
-def bad_name(source):
+def bad_name(source: str) -> str:
     if source.startswith('""'):
         return "A name has at least one character. An empty text is written ''."
     return 'This name isn\'t closed: a " is missing behind it, on the same line.'
@@ -154,32 +237,39 @@ def bad_name(source):
 SPOKEN = {",": "a comma", ".": "a point", ";": "a semicolon"}
 
 
-def spoken(source):
+def spoken(source: str) -> str:
     """A token in a sentence."""
     return SPOKEN.get(source, plain(source)[:40])
 
 
-def stands(place):
+def stands(place: Place) -> str:
     """What was read at the place, behind what."""
     token, before = place.token(), place.token(-1)
     behind = f" behind {spoken(before.source)}" if before.source else ""
     if token.kind == "end":
         return f"The text ends here{behind}." if behind else "The text holds nothing."
     said = spoken(token.source)
-    return f"{said[0].upper()}{said[1:]} can't stand here{behind}." if token.source in SPOKEN else f"{said} can't stand here{behind}."
+    return (
+        f"{said[0].upper()}{said[1:]} can't stand here{behind}." if token.source in SPOKEN
+        else f"{said} can't stand here{behind}."
+    )
 
 
-def may_stand(place):
+def may_stand(place: Place) -> str:
     tested = list(dict.fromkeys(spoken(what) for group in place.tested for what in group.split(" or ")))
     return f"Here may stand {listed(tested, 'or', 16)}." if tested else ""
 
 
-def first_said(rules, place):
+# Pieces of advice: what each says of a place that it fits.
+Rules = Tuple[Callable[["Place"], Optional[str]], ...]
+
+
+def first_said(rules: Rules, place: Place) -> str:
     """The first piece of advice that fits."""
     return next((said for rule in rules for said in [rule(place)] if said), "")
 
 
-def advised(place, certain, guesses):
+def advised(place: Place, certain: Rules, guesses: Rules) -> list[str]:
     """What was read, and what to do: where that is a guess, also what may stand there."""
     said = first_said(certain, place)
     return [stands(place), said] if said else [stands(place), first_said(guesses, place), may_stand(place)]

@@ -1,0 +1,157 @@
+"""Pieces of work side by side, each in a process of its own, which has a database of its own."""
+
+from __future__ import annotations
+
+import multiprocessing
+import os
+import sys
+import time
+import unittest
+from collections import Counter
+from dataclasses import dataclass, field
+from multiprocessing.connection import Connection, wait
+from typing import Any, Callable, Dict, Generic, Iterator, TypeVar
+
+T = TypeVar("T")
+
+PASSED_OVER = "passed over"
+
+
+@dataclass(frozen=True)
+class Result:
+    """What became of a test: nothing to say, that it was passed over, or how it failed. Processor time is without the
+    servers'."""
+
+    name: str
+    seconds: float
+    worked: float
+    outcome: str = "ok"
+    said: str = ""
+
+
+@dataclass(frozen=True)
+class Done:
+    """The results of a piece, and what its tests counted."""
+
+    results: list[Result]
+    counted: Counter[str] = field(default_factory=Counter)
+
+
+@dataclass(frozen=True)
+class Piece(Generic[T]):
+    """Some work under a name. It begins in a process in which nothing of safebound_sql is loaded."""
+
+    name: str
+    work: Callable[[], T]
+
+
+Place = Dict[str, str]
+
+
+def all_done(pieces: list[Piece[T]], places: list[Place]) -> Iterator[tuple[Piece[T], T | None]]:
+    """What came of each piece, as soon as it is there; None where its process ended without an answer.
+
+    A place is the environment of one process at a time.
+    """
+    waiting, free = pieces[::-1], list(places)
+    running: dict[Connection, tuple[Piece[T], Place]] = {}
+    while waiting or running:
+        while waiting and free:
+            piece, place = waiting.pop(), free.pop()
+            running[_started(piece, place)] = piece, place
+        for ready in wait(list(running)):
+            assert isinstance(ready, Connection)
+            piece, place = running.pop(ready)
+            free.append(place)
+            yield piece, _received(ready)
+
+
+def _started(piece: Piece[T], place: Place) -> Connection:
+    """A process as this one is now."""
+    fork = multiprocessing.get_context("fork")
+    receives, sends = fork.Pipe(duplex=False)
+    fork.Process(target=_worked, args=(piece, place, sends), daemon=True).start()
+    sends.close()
+    return receives
+
+
+def _worked(piece: Piece[T], place: Place, sends: Connection) -> None:
+    os.environ.update(place)
+    sends.send(piece.work())
+
+
+def _received(receives: Connection) -> Any:
+    try:
+        return receives.recv()
+    except EOFError:
+        return None
+    finally:
+        receives.close()
+
+
+class Told(unittest.TestResult):
+    """Results of tests, with the time that each took."""
+
+    def __init__(self) -> None:
+        super().__init__()
+        self.took: dict[str, tuple[float, float]] = {}
+
+    def startTest(self, test: unittest.TestCase) -> None:
+        super().startTest(test)
+        self.took[test.id()] = time.monotonic(), _processor_time()
+
+    def stopTest(self, test: unittest.TestCase) -> None:
+        super().stopTest(test)
+        begin, worked = self.took[test.id()]
+        self.took[test.id()] = time.monotonic() - begin, _processor_time() - worked
+
+    def results(self) -> list[Result]:
+        failed = [(test, "failed", text) for test, text in self.failures + self.errors]
+        failed += [(test, "failed", "succeeded, and shouldn't") for test in self.unexpectedSuccesses]
+        over = [(test, PASSED_OVER, why) for test, why in self.skipped]
+        wrong = [
+            Result(test.id(), *self.took.get(test.id(), (0, 0)), outcome, text) for test, outcome, text in failed + over
+        ]
+        names = {result.name for result in wrong}
+        return wrong + [Result(name, *took) for name, took in self.took.items() if name not in names]
+
+
+def _processor_time() -> float:
+    """Of this process and those that it started."""
+    return sum(os.times()[:4])
+
+
+def tests(names: list[str]) -> Done:
+    """Runs tests by their names."""
+    told = Told()
+    unittest.defaultTestLoader.loadTestsFromNames(names).run(told)
+    bases = sys.modules.get("bases")
+    return Done(told.results(), bases.COUNTED if bases else Counter())
+
+
+def found(names: list[str], processes: int) -> list[tuple[str, list[str]]]:
+    """The tests of these names, or all, in pieces: those of a class together, or where they may be apart in a few
+    pieces."""
+    loader = unittest.defaultTestLoader
+    suite = loader.loadTestsFromNames(names) if names else loader.discover(os.getcwd(), "test_*.py")
+    classes: dict[str, dict[str, None]] = {}
+    apart = set()
+    for test in _each(suite):
+        name = test.id().rpartition(".")[0]
+        classes.setdefault(name, {})[test.id()] = None
+        if getattr(type(test), "apart", False):
+            apart.add(name)
+    pieces = []
+    for name, ids in classes.items():
+        own = list(ids)
+        size = -(-len(own) // (2 * processes)) if name in apart else len(own)
+        pieces += [(name, own[at : at + size]) for at in range(0, len(own), size)]
+    return pieces
+
+
+def _each(suite: unittest.TestSuite) -> Iterator[unittest.TestCase]:
+    for test in suite:
+        if isinstance(test, unittest.TestSuite):
+            yield from _each(test)
+        else:
+            yield test

@@ -1,0 +1,1 @@
+SELECT name FROM pupils WHERE class = '5A'
