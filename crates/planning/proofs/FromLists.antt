@@ -131,13 +131,13 @@ module _ (query : Query) (tables : Tables) (lists : List (List ℕ)) (key : Keys
         let below = both_below (length query.from) subset (get_or es k d) fits joins in
         (columns.0 below.0, columns.1 below.1)
 
-    have_lists : SetHasLists bounds (equalities_of query) subset
+    pub have_lists : SetHasLists bounds (equalities_of query) subset
     have_lists = each_named (HasList bounds) subset es (λ k d low joins. let both = both_stand k d low joins in (both.0.has, both.1.has))
 
     dominates_at : (entry column : ℕ) → ColumnStands lists key bounds entry column → Dominates bounds (scanned (list_at lists) key) entry column
     dominates_at entry column stands = record { keys = stands.dominates; key_per_row = length-map (list_at lists entry) (key entry column) }
 
-    dominate : SetDominates bounds (scanned (list_at lists) key) (equalities_of query) subset
+    pub dominate : SetDominates bounds (scanned (list_at lists) key) (equalities_of query) subset
     dominate = record {
       rows = each_in_set (RowsFit bounds (scanned (list_at lists) key)) subset (λ k low has. stand.rows k (entry_below (length query.from) subset k fits has));
       columns = each_named (Dominates bounds (scanned (list_at lists) key)) subset es (λ k d low joins.
