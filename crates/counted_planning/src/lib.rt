@@ -1,4 +1,4 @@
-//! Bounds by counting, as bounds of all sets from which plans are chosen. Laws, and nothing that runs.
+//! Why bounds by counting serve for plans. Laws, and nothing that runs.
 //!
 //! In: a list of rows for each entry of a query, and which choices of conjuncts are counted over them (`Counted` of counted_bounds). Out: why
 //! the bound of each set (`counted_bounds_of_sets`) serves as one for a plan: no level over the lists has more rows, it is no more than the
