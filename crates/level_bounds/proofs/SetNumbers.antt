@@ -1,5 +1,5 @@
 -- Different entries as orders of their set.
-use Rattle.std.proofs.Common.{◌≡◌, ◌≢◌, ℕ, zero, suc, ◌+◌, ◌/◌, ◌%◌, ◌^◌, ◌<◌, ◌≤◌, true, false, nat_eq, List, [], ◌∷◌, length, take, refl, ap, sym, ◌∙◌, subst, arith, inl, inr}
+use Rattle.std.proofs.Common.{◌≡◌, ◌≢◌, ℕ, zero, suc, ◌+◌, ◌/◌, ◌%◌, ◌^◌, ◌<◌, ◌≤◌, true, false, eqb, nat_eq, List, [], ◌∷◌, length, take, refl, ap, sym, ◌∙◌, subst, arith, inl, inr}
 use Rattle.std.specs.Int.{bit_at}
 use Rattle.std.specs.List.{AllByRecursion, Contains, IsDistinct, range_with_len}
 use Rattle.std.specs.Set.{is_member}
@@ -14,6 +14,7 @@ use Rattle.entry_sets.proofs.Bits.{twice, bit_added}
 use Rattle.entry_sets.proofs.Listing.{set_bits, set_bits_only}
 use Rattle.entry_sets.proofs.Listing.{one_in, in_front, in_rest, in_none}
 use Rattle.tree_bounds.proofs.NearSets.{none_twice}
+use Rattle.degree_sequences.proofs.Counting.{IsDistinct-filter}
 use Rattle.degree_sequences.proofs.ProductDominates.{All-first}
 use Rattle.level_bounds.specs.Orders.{IsOrderOfSet}
 use Rattle.level_bounds.proofs.Lists.{each_of, all_from, is_in, in_true, true_in, in_range, range_within}
@@ -26,6 +27,11 @@ range_distinct a (suc n) =
     IsDistinct-cons nat_eq a (range_with_len (a + 1) n)
     (all_from (λ y. nat_eq a y ≡ false) (range_with_len (a + 1) n) (λ y k. ne_eqb a y (λ e. absurd (omega (arith, (range_within (a + 1) n y k).0, e)))))
     (range_distinct (a + 1) n)
+
+-- so are the entries of a set
+pub set_once : (set : ℕ) → IsDistinct nat_eq (entries_of_set set)
+unfolding entries_of_set
+set_once set = IsDistinct-filter (λ entry. eqb (bit_at set entry) 1) (range_with_len 0 16) (range_distinct 0 16)
 
 pub range_is_order : (n : ℕ) → IsOrderOfSet (range_with_len 0 n) (range_with_len 0 n)
 range_is_order n = record {

@@ -1,18 +1,12 @@
 -- How many entries a set has, of which there is an order.
 use Rattle.std.proofs.Common.{◌≡◌, ℕ, ◌≤◌, eqb, List, length, arith}
-use Rattle.std.specs.List.{AllByRecursion, Contains, IsDistinct, range_with_len}
-use Rattle.std.specs.Int.{bit_at}
+use Rattle.std.specs.List.{AllByRecursion, Contains, IsDistinct}
 use Rattle.std.proofs.lemmas.Cmp.{nat_eq_equiv}
 use Rattle.std.proofs.lemmas.Map.Made.{length-le_from_is_member}
-use Rattle.degree_sequences.proofs.Counting.{IsDistinct-filter}
 use Rattle.entry_sets.specs.Sets.{entries_of_set}
 use Rattle.level_bounds.specs.Orders.{IsOrderOfSet}
 use Rattle.level_bounds.proofs.Lists.{each_of, in_true, true_in}
-use Rattle.level_bounds.proofs.SetNumbers.{range_distinct}
-
-set_once : (set : ℕ) → IsDistinct eqb (entries_of_set set)
-unfolding entries_of_set
-set_once set = IsDistinct-filter (λ entry. eqb (bit_at set entry) 1) (range_with_len 0 16) (range_distinct 0 16)
+use Rattle.level_bounds.proofs.SetNumbers.{set_once}
 
 no_longer : (xs ys : List ℕ) → IsDistinct eqb xs → AllByRecursion (Contains ys) xs → length xs ≤ length ys
 no_longer xs ys once within =
