@@ -15,7 +15,7 @@ use Rattle.query_types.specs.declared.types.Query.{Query}
 use Rattle.sql_meaning.specs.Tables.{Tables}
 use Rattle.prepared_runs.specs.Allowed.{shape_cost}
 use Rattle.prepared_runs.specs.Shapes.{answer_of, planned_by}
-use Rattle.prepared_runs.specs.Sources.{Sourced, set_bounds_by}
+use Rattle.prepared_runs.specs.Sources.{Sourced}
 use Rattle.prepared_runs.specs.declared.shapes.Shaped.{Shaped}
 use Rattle.safebound_words.specs.declared.command.Shape.{Shape}
 use Rattle.safebound_words.specs.declared.command.Shape.TheVariants as shapes
@@ -43,7 +43,7 @@ module _ (sets scans : List ℕ) (budget : ℕ) where
       subst (λ (p : Shaped). shape_cost p ≤ budget) it.2 (tree_costs it.0 some few it.1)
 
 pub plan_costs : (query : Query) (tables : Tables) (given : Sourced) (accuracy budget : ℕ) → BoundLists query tables given.lists (given.scans accuracy) → 1 ≤ length query.from → length query.from ≤ 12
-    → (shape : Shape) (plan : Shaped) → planned_by shape given query accuracy budget ≡ Ok plan → shape_cost plan ≤ budget
+    → (shape : Shape) (plan : Shaped) → planned_by shape given accuracy budget ≡ Ok plan → shape_cost plan ≤ budget
 unfolding planned_by
 plan_costs query tables given accuracy budget bound some few shape plan made =
-    answer_costs (set_bounds_by given query accuracy) (given.scans accuracy) budget shape plan (omega (arith, some, bound.one_each)) (omega (arith, few, bound.one_each)) made
+    answer_costs (given.sets accuracy) (given.scans accuracy) budget shape plan (omega (arith, some, bound.one_each)) (omega (arith, few, bound.one_each)) made

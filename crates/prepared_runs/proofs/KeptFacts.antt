@@ -31,7 +31,7 @@ use Rattle.prepared_runs.specs.Outcome.{Outcome, Planned}
 use Rattle.prepared_runs.specs.Prepared.{bytes_held, plan_in, plan_left, text_left, AreListed, HoldsBytes}
 use Rattle.prepared_runs.specs.Shapes.{answer_of, part_count, part_rows, part_sizes, parts_bytes, planned_by, scan_bounds, shape_bytes}
 use Rattle.prepared_runs.specs.Shops.{shop_of, store_read}
-use Rattle.prepared_runs.specs.Sources.{Sourced, set_bounds_by}
+use Rattle.prepared_runs.specs.Sources.{Sourced}
 use Rattle.prepared_runs.specs.Verdict.{aim_run, command_run, command_stage, schema_stage, verdict}
 use Rattle.prepared_runs.specs.declared.joined.Joined.{Joined}
 use Rattle.prepared_runs.specs.declared.joined.Joined.TheVariants as joined
@@ -87,10 +87,10 @@ module _ (query : Query) (tables : Tables) (lists : List (List ℕ)) (sets scans
       subst (λ (p : Shaped). scan_bounds p ≡ scans) it.2 (stages.scans_kept query tables lists sets scans budget it.0 bound some few it.1)
 
 pub scans_given : (query : Query) (tables : Tables) (given : Sourced) (accuracy budget : ℕ) → BoundLists query tables given.lists (given.scans accuracy) → 1 ≤ length query.from → length query.from ≤ 12
-    → (shape : Shape) (plan : Shaped) → planned_by shape given query accuracy budget ≡ Ok plan → scan_bounds plan ≡ given.scans accuracy
+    → (shape : Shape) (plan : Shaped) → planned_by shape given accuracy budget ≡ Ok plan → scan_bounds plan ≡ given.scans accuracy
 unfolding planned_by
 scans_given query tables given accuracy budget bound some few shape plan made =
-    answer_scans query tables given.lists (set_bounds_by given query accuracy) (given.scans accuracy) budget bound some few shape plan made
+    answer_scans query tables given.lists (given.sets accuracy) (given.scans accuracy) budget bound some few shape plan made
 
 -- ---- the bytes of a plan
 

@@ -25,11 +25,11 @@
 --
 -- Sources of lists
 --
--- - What a source gives is a value (`sourced`, a record of bounds, scan bounds and lists), and what holds of it is one record
---   (`IsSource`) with a line for each source in each of its three parts (`rows_kept`, `scans_bound`, `known_stand` in SourceFacts).
+-- - What a source gives is a value (`sourced`, a record of bounds of sets, scan bounds and lists), and what holds of it is one record
+--   (`IsSource`) with a line for each source in each of its parts (`rows_kept`, `scans_bound`, `levels_bound`, `all_sets` in SourceFacts).
 --   Everything above speaks of any value with that record: plans (`plan_fits`, `plan_over`), levels, rooms, texts. So no proof above goes
 --   by cases on the source.
--- - `known_by`, `scans_by`, `lists_by` and `planned_by` are `unfoldable`: goals stay as long as these names. They are opened in SourceFacts,
+-- - `sets_by`, `scans_by`, `lists_by` and `planned_by` are `unfoldable`: goals stay as long as these names. They are opened in SourceFacts,
 --   in the answers of `given_by` (`rw c.in-Columns.is`, and then the clause of the call is the goal), in ShapeFacts, and where the headline
 --   says what each source's scans are (`of_columns`, `of_keyed`, `of_reduced` in Runs). `sourced` itself is transparent, so that its lists are
 --   `lists_by` without a lemma; a prepared run keeps no schema, since lists and scan bounds don't depend on it.

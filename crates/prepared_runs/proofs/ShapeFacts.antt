@@ -31,12 +31,12 @@ use Rattle.outcomes.specs.Reads.{seen}
 use Rattle.planning.specs.declared.known.Known.{Known}
 use Rattle.planning.specs.Gives.{Gives}
 use Rattle.planning.specs.Standing.{BoundLevels}
-use Rattle.planning.proofs.FromLists.{levels_bound, plan_over_lists, scan_kept}
+use Rattle.planning.proofs.FromLists.{plan_over_lists, scan_kept}
 use Rattle.planning.proofs.ReducedPlans.{levels_of_scans}
 use Rattle.bushy_planning.proofs.Stages as stages
 use Rattle.prepared_runs.specs.Shapes.{IsPlanOver, IsShapedPlan, answer_of, joined_entries, part_bound, part_count, part_rows, planned_by, scan_bounds, whole_parts}
 use Rattle.safebound_words.specs.Commands.{most_budget_of}
-use Rattle.prepared_runs.specs.Sources.{Sourced, set_bounds_by}
+use Rattle.prepared_runs.specs.Sources.{Sourced}
 use Rattle.prepared_runs.specs.Standing.{IsSource, LoseNoRow}
 use Rattle.prepared_runs.specs.declared.shapes.Shaped.{Shaped}
 use Rattle.prepared_runs.specs.declared.shapes.Shaped.TheVariants as shaped
@@ -59,14 +59,14 @@ along plan = shaped.Along plan
 abbrev pub over : BushyPlan → Shaped
 over plan = shaped.Over plan
 
-pub never_wants_memory : (shape : Shape) (given : Sourced) (query : Query) (accuracy budget : ℕ) → planned_by shape given query accuracy budget ≢ Err error.NoMemory
+pub never_wants_memory : (shape : Shape) (given : Sourced) (accuracy budget : ℕ) → planned_by shape given accuracy budget ≢ Err error.NoMemory
 unfolding planned_by
-never_wants_memory shapes.Order given query accuracy budget =
-    never_seen along (plan_answer (set_bounds_by given query accuracy) (given.scans accuracy) budget) error.NoMemory
-    (orders.never_memory (set_bounds_by given query accuracy) (given.scans accuracy) budget)
-never_wants_memory shapes.Tree given query accuracy budget =
-    never_seen over (tree_answer (set_bounds_by given query accuracy) (given.scans accuracy) budget) error.NoMemory
-    (trees.never_memory (set_bounds_by given query accuracy) (given.scans accuracy) budget)
+never_wants_memory shapes.Order given accuracy budget =
+    never_seen along (plan_answer (given.sets accuracy) (given.scans accuracy) budget) error.NoMemory
+    (orders.never_memory (given.sets accuracy) (given.scans accuracy) budget)
+never_wants_memory shapes.Tree given accuracy budget =
+    never_seen over (tree_answer (given.sets accuracy) (given.scans accuracy) budget) error.NoMemory
+    (trees.never_memory (given.sets accuracy) (given.scans accuracy) budget)
 
 -- an answer that is another, or want of memory, is so with its value seen as another
 pub seen_answer : {A B : Type 0} (f : A → B) (r answer : Result A PlanError) → (r ≡ Err error.NoMemory) ⊎ (r ≡ answer)
@@ -75,11 +75,11 @@ seen_answer {A} f r answer (inl none) = inl (ap (λ (x : Result A PlanError). se
 seen_answer {A} f r answer (inr is) = inr (ap (λ (x : Result A PlanError). seen f x) is)
 
 -- by bounds that are known the answer is the plan
-pub planned_known : (shape : Shape) (given : Sourced) (query : Query) (accuracy budget : ℕ) (known : Known) → Gives (set_bounds_by given query accuracy) (given.scans accuracy) known
-    → answer_of shape known.sets known.scans budget ≡ planned_by shape given query accuracy budget
+pub planned_known : (shape : Shape) (given : Sourced) (accuracy budget : ℕ) (known : Known) → Gives (given.sets accuracy) (given.scans accuracy) known
+    → answer_of shape known.sets known.scans budget ≡ planned_by shape given accuracy budget
 unfolding planned_by
-planned_known shape given query accuracy budget known gives =
-    ap (λ (s : List ℕ). answer_of shape s known.scans budget) gives.sets ∙ ap (λ (s : List ℕ). answer_of shape (set_bounds_by given query accuracy) s budget) gives.scans
+planned_known shape given accuracy budget known gives =
+    ap (λ (s : List ℕ). answer_of shape s known.scans budget) gives.sets ∙ ap (λ (s : List ℕ). answer_of shape (given.sets accuracy) s budget) gives.scans
 
 -- ---- a plan by what a source gives
 
@@ -91,13 +91,13 @@ pub record Fits (query : Query) (tables : Tables) (lists : List (List ℕ)) (mad
 
 module _ (query : Query) (tables : Tables) (given : Sourced) (is : IsSource query tables given) (accuracy budget : ℕ) (some : 1 ≤ length query.from) (few : length query.from ≤ 12) where
   abbrev sets : List ℕ
-  sets = set_bounds_by given query accuracy
+  sets = given.sets accuracy
 
   abbrev scans : List ℕ
   scans = given.scans accuracy
 
   levels : BoundLevels query tables given.lists sets
-  levels = let stands = is.of_entries accuracy in levels_bound query tables given.lists stands.0 (given.bounds accuracy) stands.1
+  levels = is.of_sets accuracy
 
   order_over : (plan : Plan) → budget ≤ 20000000 → plan_answer sets scans budget ≡ Ok plan → IsPlanOf query tables given.lists plan
   order_over plan small made = plan_over_lists query tables given.lists sets scans levels (is.of_scans accuracy) budget plan few small made
@@ -148,7 +148,7 @@ module _ (query : Query) (tables : Tables) (given : Sourced) (is : IsSource quer
       subst (λ (p : Shaped). get_or (scan_bounds p) entry 0 ≡ get_or scans entry 0) it.2
       (ap (λ (s : List ℕ). get_or s entry 0) (stages.scans_kept query tables given.lists sets scans budget it.0 (is.of_scans accuracy) some few it.1))
 
-  module _ (shape : Shape) (plan : Shaped) (made : planned_by shape given query accuracy budget ≡ Ok plan) where
+  module _ (shape : Shape) (plan : Shaped) (made : planned_by shape given accuracy budget ≡ Ok plan) where
     pub plan_fits : budget ≤ most_budget_of shape → Fits query tables given.lists plan
     unfolding planned_by
     plan_fits small = answer_fits shape plan small made

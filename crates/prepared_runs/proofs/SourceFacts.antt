@@ -1,5 +1,6 @@
 -- What each source gives stands for the rows of the query.
-use Rattle.std.proofs.Common.{ℕ, List, length, ap, sym, ◌∙◌}
+use Rattle.std.proofs.Common.{◌≡◌, ℕ, ◌^◌, List, length, ap, sym, ◌∙◌}
+use Rattle.std.proofs.lemmas.List.FromFn.{length-map-range_with_len}
 use Rattle.std.proofs.Math.Seq.{take-length}
 use Rattle.schema_types.specs.declared.types.Schema.{Schema}
 use Rattle.query_types.specs.declared.types.Query.{Query}
@@ -7,25 +8,24 @@ use Rattle.join_graph.specs.Conjuncts.{equalities_of}
 use Rattle.sql_meaning.specs.Answers.{conjuncts_of}
 use Rattle.sql_meaning.specs.Levels.{level_of, level_over}
 use Rattle.sql_meaning.specs.Tables.{Tables, row_counts}
-use Rattle.join_steps.specs.Lists.{list_at, scans_of, AreOfScans}
+use Rattle.join_steps.specs.Lists.{list_at, scans_of}
 use Rattle.join_steps.proofs.WholeScans.{whole_of_scans}
-use Rattle.level_bounds.specs.Keys.{Keys}
-use Rattle.table_stats.proofs.ValueNumbers.{have_keys}
-use Rattle.set_bounds.specs.AllSets.{in_every_set}
+use Rattle.tree_bounds.specs.TreeBounds.{EntryBounds}
+use Rattle.set_bounds.specs.AllSets.{bound_told, bounds_in_sets, in_every_set}
 use Rattle.query_bounds.specs.Bounds.{entry_bounds}
 use Rattle.gathered_stats.specs.Statistics.{statistics_of}
 use Rattle.reduced_scans.specs.Rounds.{reduced_of}
 use Rattle.reduced_scans.proofs.ByRounds.{reduced_scans_by_rounds}
 use Rattle.reduced_scans.proofs.SameLevel.{same_level}
 use Rattle.planning.specs.ListedBounds.{entry_bounds_over}
-use Rattle.planning.proofs.Facts.{facts}
-use Rattle.planning.proofs.FromLists.{stand_in_every_set}
-use Rattle.planning.proofs.ListBounds.{lists_stand, sizes_bound}
-use Rattle.planning.proofs.NeverUnder.{entries_stand, told_bound}
+use Rattle.planning.proofs.ListBounds.{sizes_bound}
+use Rattle.planning.proofs.ListedPlans.{level_never_under_over}
+use Rattle.planning.proofs.NeverUnder.{told_bound, told_levels}
 use Rattle.planning.proofs.ReducedPlans.{levels_of_scans, reduced_of_scans}
-use Rattle.planning.specs.Standing.{BoundLists, StandForLists}
-use Rattle.key_bounds.proofs.Standing.{stand_by_keys}
-use Rattle.prepared_runs.specs.Sources.{Needs, known_by, lists_by, scans_by, sourced}
+use Rattle.planning.specs.Standing.{BoundLevels, BoundLists}
+use Rattle.key_bounds.specs.Bounds.{bounds_by_keys}
+use Rattle.key_bounds.proofs.Plans.{levels_by_keys}
+use Rattle.prepared_runs.specs.Sources.{Needs, sets_by, lists_by, scans_by, sourced}
 use Rattle.prepared_runs.specs.Standing.{IsSource, LoseNoRow}
 use Rattle.safebound_words.specs.declared.command.ListSource.{ListSource}
 use Rattle.safebound_words.specs.declared.command.ListSource.TheVariants as sources
@@ -59,30 +59,25 @@ module _ (query : Query) (tables : Tables) where
   scans_bound sources.Keyed accuracy = told_bound query tables accuracy
   scans_bound sources.Reduced accuracy = sizes_bound query tables (reduced_of query tables) (reduced_of_scans query tables)
 
-  columns_stand : (accuracy : ℕ) → (key : Keys) × StandForLists query tables (scans_of query tables) key (in_every_set (entry_bounds query (statistics_of tables accuracy)))
-  columns_stand accuracy =
-      let key : Keys = (facts tables accuracy).key in (
-        key,
-        stand_in_every_set query tables (scans_of query tables) key (entry_bounds query (statistics_of tables accuracy)) (whole_of_scans query tables) (entries_stand query tables accuracy),
-      )
-
-  reduced_stand : (accuracy : ℕ) → (key : Keys) × StandForLists query tables (reduced_of query tables) key (in_every_set (entry_bounds_over tables (reduced_of query tables) accuracy))
-  reduced_stand accuracy =
-      let lists : List (List ℕ) = reduced_of query tables in
-      let are : AreOfScans query tables lists = reduced_of_scans query tables in
-      let keys = have_keys tables in (
-        keys.0,
-        stand_in_every_set query tables lists keys.0 (entry_bounds_over tables lists accuracy) are
-            (lists_stand tables lists accuracy query are keys.0 keys.1 (keys.2 (equalities_of query))),
-      )
+  many : (bounds : ℕ → EntryBounds) → length (bounds_in_sets bounds (equalities_of query) (length query.from)) ≡ 2 ^ length query.from
+  many bounds = length-map-range_with_len (λ subset. bound_told (bounds subset) (equalities_of query) subset) 0 (2 ^ length query.from)
 
   module _ (schema : Schema) where
-    known_stand : (source : ListSource) → Needs source schema query tables → (accuracy : ℕ)
-        → (key : Keys) × StandForLists query tables (lists_by source query tables) key (known_by source schema query tables accuracy)
-    unfolding known_by lists_by
-    known_stand sources.Columns needs accuracy = columns_stand accuracy
-    known_stand sources.Keyed needs accuracy = stand_by_keys schema query tables accuracy needs
-    known_stand sources.Reduced needs accuracy = reduced_stand accuracy
+    -- nor any level, where the tables keep what the source needs
+    levels_bound : (source : ListSource) → Needs source schema query tables → (accuracy : ℕ)
+        → BoundLevels query tables (lists_by source query tables) (sets_by source schema query tables accuracy)
+    unfolding sets_by lists_by
+    levels_bound sources.Columns needs accuracy = told_levels query tables accuracy
+    levels_bound sources.Keyed needs accuracy = levels_by_keys schema query tables accuracy needs
+    levels_bound sources.Reduced needs accuracy =
+        λ subset order fits o. level_never_under_over query tables (reduced_of query tables) accuracy subset order (reduced_of_scans query tables) fits o
+
+    -- each set has its bound
+    pub all_sets : (source : ListSource) (accuracy : ℕ) → length (sets_by source schema query tables accuracy) ≡ 2 ^ length query.from
+    unfolding sets_by
+    all_sets sources.Columns accuracy = many (in_every_set (entry_bounds query (statistics_of tables accuracy)))
+    all_sets sources.Keyed accuracy = many (bounds_by_keys schema query tables accuracy)
+    all_sets sources.Reduced accuracy = many (in_every_set (entry_bounds_over tables (reduced_of query tables) accuracy))
 
     pub stand : (source : ListSource) → Needs source schema query tables → IsSource query tables (sourced source schema query tables)
-    stand source needs = record { rows = rows_kept source; of_scans = scans_bound source; of_entries = known_stand source needs }
+    stand source needs = record { rows = rows_kept source; of_scans = scans_bound source; of_sets = levels_bound source needs; of_all_sets = all_sets source }

@@ -23,7 +23,7 @@ use Rattle.bushy_join.specs.Trees.{node_rows, whole_rows, IsTreePlanOf}
 use Rattle.outcomes.specs.Reads.{seen}
 use Rattle.printed_texts.specs.Plans.{audit_lines, plan_lines}
 use Rattle.printed_texts.specs.TreePlans.{tree_audits, tree_lines}
-use Rattle.prepared_runs.specs.Sources.{Sourced, set_bounds_by}
+use Rattle.prepared_runs.specs.Sources.{Sourced}
 use Rattle.prepared_runs.specs.declared.shapes.Shaped.{Shaped}
 use Rattle.prepared_runs.specs.declared.shapes.Shaped.TheVariants as shaped
 use Rattle.safebound_words.specs.declared.command.Shape.{Shape}
@@ -37,8 +37,8 @@ answer_of shapes.Order sets scans budget = seen (λ plan. shaped.Along plan) (pl
 answer_of shapes.Tree sets scans budget = seen (λ plan. shaped.Over plan) (tree_answer sets scans budget)
 
 -- the plan by what a source gives, at an accuracy and within a budget: the best of its shape, or PastBits, or Budget with the least cost
-unfoldable pub planned_by : Shape → Sourced → Query → ℕ → ℕ → Result Shaped PlanError
-planned_by shape given query accuracy budget = answer_of shape (set_bounds_by given query accuracy) (given.scans accuracy) budget
+unfoldable pub planned_by : Shape → Sourced → ℕ → ℕ → Result Shaped PlanError
+planned_by shape given accuracy budget = answer_of shape (given.sets accuracy) (given.scans accuracy) budget
 
 -- ---- what a plan says
 

@@ -1,19 +1,14 @@
 -- What the bounds of a run are made from, and the rows that are joined. Here alone one source is told from another.
-use Rattle.std.specs.Prelude.{ℕ, List, length, ⊤}
+use Rattle.std.specs.Prelude.{ℕ, List, ⊤}
 use Rattle.schema_types.specs.declared.types.Schema.{Schema}
 use Rattle.query_types.specs.declared.types.Query.{Query}
-use Rattle.join_graph.specs.Conjuncts.{equalities_of}
-use Rattle.tree_bounds.specs.TreeBounds.{EntryBounds}
 use Rattle.sql_meaning.specs.Tables.{Tables}
 use Rattle.join_steps.specs.Lists.{list_sizes, scans_of}
-use Rattle.query_bounds.specs.Bounds.{entry_bounds}
-use Rattle.gathered_stats.specs.Statistics.{statistics_of}
 use Rattle.reduced_scans.specs.Rounds.{reduced_of}
-use Rattle.planning.specs.Bounds.{scan_bounds_of}
-use Rattle.planning.specs.ListedBounds.{entry_bounds_over}
-use Rattle.set_bounds.specs.AllSets.{bounds_in_sets, in_every_set}
+use Rattle.planning.specs.Bounds.{scan_bounds_of, set_bounds_of}
+use Rattle.planning.specs.ListedBounds.{set_bounds_over}
 use Rattle.key_carriers.specs.Keys.{KeysHold}
-use Rattle.key_bounds.specs.Bounds.{bounds_by_keys}
+use Rattle.key_bounds.specs.Bounds.{set_bounds_by_keys}
 use Rattle.safebound_words.specs.declared.command.ListSource.{ListSource}
 use Rattle.safebound_words.specs.declared.command.ListSource.TheVariants as sources
 
@@ -29,23 +24,23 @@ scans_by sources.Columns query tables accuracy = scan_bounds_of query tables acc
 scans_by sources.Keyed query tables accuracy = scan_bounds_of query tables accuracy
 scans_by sources.Reduced query tables accuracy = list_sizes query (reduced_of query tables)
 
--- what is known of the entries in each set, at an accuracy: statistics of whole columns; these, and conditions that are carried through keys
--- within the set; or the degree lists of the columns over reduced scans
-unfoldable pub known_by : ListSource → Schema → Query → Tables → ℕ → ℕ → EntryBounds
-known_by sources.Columns schema query tables accuracy = in_every_set (entry_bounds query (statistics_of tables accuracy))
-known_by sources.Keyed schema query tables accuracy = bounds_by_keys schema query tables accuracy
-known_by sources.Reduced schema query tables accuracy = in_every_set (entry_bounds_over tables (reduced_of query tables) accuracy)
+-- the bound of each set of entries, at an accuracy: from statistics of whole columns; from these, and conditions that are carried through keys
+-- within the set; or from the degree lists of the columns over reduced scans
+unfoldable pub sets_by : ListSource → Schema → Query → Tables → ℕ → List ℕ
+sets_by sources.Columns schema query tables accuracy = set_bounds_of query tables accuracy
+sets_by sources.Keyed schema query tables accuracy = set_bounds_by_keys schema query tables accuracy
+sets_by sources.Reduced schema query tables accuracy = set_bounds_over query tables (reduced_of query tables) accuracy
 
--- what a source gives for a query of a schema over its tables: at an accuracy, what is known of the entries in each set and a bound of each
--- scan; and for each entry the rows that are joined
+-- what a source gives for a query of a schema over its tables: at an accuracy, a bound of each set of entries and one of each scan; and for
+-- each entry the rows that are joined
 pub record Sourced : Type 0 where
-  pub bounds : ℕ → ℕ → EntryBounds
+  pub sets : ℕ → List ℕ
   pub scans : ℕ → List ℕ
   pub lists : List (List ℕ)
 
 abbrev pub sourced : ListSource → Schema → Query → Tables → Sourced
 sourced source schema query tables = record {
-  bounds = known_by source schema query tables;
+  sets = sets_by source schema query tables;
   scans = scans_by source query tables;
   lists = lists_by source query tables;
 }
@@ -55,7 +50,3 @@ abbrev pub Needs : ListSource → Schema → Query → Tables → Type 0
 Needs sources.Columns schema query tables = ⊤
 Needs sources.Keyed schema query tables = KeysHold schema query tables
 Needs sources.Reduced schema query tables = ⊤
-
--- the bound of each set of entries by what a source gives, at an accuracy
-abbrev pub set_bounds_by : Sourced → Query → ℕ → List ℕ
-set_bounds_by given query accuracy = bounds_in_sets (given.bounds accuracy) (equalities_of query) (length query.from)

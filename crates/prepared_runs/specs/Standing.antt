@@ -1,14 +1,13 @@
 -- What holds of what each source gives (safebound_laws, law `sources_stand`).
-use Rattle.std.specs.Prelude.{◌≡◌, ℕ, List, length}
+use Rattle.std.specs.Prelude.{◌≡◌, ℕ, ◌^◌, List, length}
 use Rattle.query_types.specs.Named.{NamesItsEntries}
 use Rattle.query_types.specs.declared.types.Query.{Query}
 use Rattle.sql_meaning.specs.Answers.{conjuncts_of, entries_of}
 use Rattle.sql_meaning.specs.Levels.{level}
 use Rattle.sql_meaning.specs.Tables.{Tables, row_counts}
 use Rattle.join_steps.specs.Lists.{list_levels, AreOfScans}
-use Rattle.level_bounds.specs.Keys.{Keys}
 use Rattle.level_bounds.specs.Orders.{IsOrderOfSet}
-use Rattle.planning.specs.Standing.{BoundLists, StandForLists}
+use Rattle.planning.specs.Standing.{BoundLevels, BoundLists}
 use Rattle.prepared_runs.specs.Sources.{Sourced}
 
 -- lists of scanned rows that lose no row of the answer: the last level over them is that of the query
@@ -17,9 +16,9 @@ pub record LoseNoRow (query : Query) (tables : Tables) (lists : List (List ℕ))
   pub last : NamesItsEntries query → (order : List ℕ) → IsOrderOfSet (entries_of query) order
       → list_levels query tables lists order (length order) ≡ level (conjuncts_of query tables) (row_counts tables) order (length order)
 
--- it gives such lists, and at every accuracy bounds that stand for them: of scans, and, by keys that rows share where an equality joins them,
--- of entries
+-- it gives such lists, and at every accuracy a bound of each scan and one of each set of entries that are never under these
 pub record IsSource (query : Query) (tables : Tables) (given : Sourced) : Type 0 where
   pub rows : LoseNoRow query tables given.lists
   pub of_scans : (accuracy : ℕ) → BoundLists query tables given.lists (given.scans accuracy)
-  pub of_entries : (accuracy : ℕ) → (key : Keys) × StandForLists query tables given.lists key (given.bounds accuracy)
+  pub of_sets : (accuracy : ℕ) → BoundLevels query tables given.lists (given.sets accuracy)
+  pub of_all_sets : (accuracy : ℕ) → length (given.sets accuracy) ≡ 2 ^ length query.from

@@ -64,7 +64,7 @@ query_stage name schema files = do
 
 -- the plan of a query of a schema over its tables, of the shape that is asked for, by what the source gives
 abbrev pub plan_asked : PlanWork → Schema → Query → Tables → Result Shaped PlanError
-plan_asked task schema query ts = planned_by task.shape (sourced task.source schema query ts) query task.accuracy task.budget
+plan_asked task schema query ts = planned_by task.shape (sourced task.source schema query ts) task.accuracy task.budget
 
 -- the run of a plan, over the rows that the source gives
 abbrev pub run_asked : PlanWork → Query → List (List Row) → Shaped → Accepted

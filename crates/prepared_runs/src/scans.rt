@@ -10,7 +10,7 @@ ghost use Rattle.safebound_words.specs.InRange.{IsInRange};
 ghost use Rattle.prepared_runs.specs.Allowed.{MayJoin, shape_cost};
 ghost use Rattle.prepared_runs.specs.Prepared.{CanJoin, HoldExactly, bytes_held, lists_in, plan_in};
 ghost use Rattle.prepared_runs.specs.Shapes.{IsPlanOver, scan_bounds, shape_bytes};
-ghost use Rattle.prepared_runs.specs.Sources.{lists_by, scans_by, set_bounds_by, sourced};
+ghost use Rattle.prepared_runs.specs.Sources.{lists_by, scans_by, sourced};
 ghost use Rattle.prepared_runs.specs.Standing.{LoseNoRow};
 ghost use Rattle.prepared_runs.specs.Verdict.{plan_asked};
 
@@ -70,7 +70,7 @@ fn given_by(
 ) -> Result<Given, NoMemory>
     requires database { IsDatabaseOf query.now db.now }
     ensures known { let given = sourced source schema.now query.now (tables_of db.now) in
-        IfOk result (λ made. Gives (set_bounds_by given query.now accuracy) (given.scans accuracy) made.known) }
+        IfOk result (λ made. Gives (given.sets accuracy) (given.scans accuracy) made.known) }
     ensures lists { IfOk result (λ made. lists_in made.scans query.now (tables_of db.now)
         ≡ lists_by source query.now (tables_of db.now)) }
     ensures exact { IfOk result (λ made. HoldExactly made.scans (scans_by source query.now (tables_of db.now) accuracy)) }

@@ -47,7 +47,7 @@ use Rattle.prepared_runs.specs.Limits.{within_limit}
 use Rattle.prepared_runs.specs.Outcome.{Outcome, Planned, PlannedByFile}
 use Rattle.safebound_top.specs.OutcomeTexts.{out_text}
 use Rattle.prepared_runs.specs.Shapes.{planned_by, shape_bytes}
-use Rattle.prepared_runs.specs.Sources.{known_by, scans_by}
+use Rattle.prepared_runs.specs.Sources.{sets_by, scans_by}
 use Rattle.prepared_runs.specs.Verdict.{aim_run, command_run, plan_asked, plan_stage, query_stage, run_asked, schema_stage, work_run}
 use Rattle.prepared_runs.specs.declared.shapes.Shaped.TheVariants as shaped
 use Rattle.safebound_words.specs.declared.command.ListSource.TheVariants as sources
@@ -118,7 +118,7 @@ module _ (schema : Schema) (query : Query) (db : Database) (over : IsOverSchema 
   from_file = rw filed_same refl
 
   asked_same : plan_asked (task budget accuracy memory) schema query (tables_of db) ≡ seen (λ plan. shaped.Along plan) (planned query (tables_of db) accuracy budget)
-  unfolding planned planned_by known_by scans_by
+  unfolding planned planned_by sets_by scans_by
   asked_same = refl
 
   from_tables : tables_in (entry_rows db) ≡ tables_of db

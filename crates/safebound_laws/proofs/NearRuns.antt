@@ -24,7 +24,7 @@ use Rattle.safebound_words.specs.declared.command.Command.{Command}
 use Rattle.safebound_words.specs.declared.command.Work.TheVariants as works
 use Rattle.prepared_runs.specs.Outcome.{Planned}
 use Rattle.prepared_runs.specs.Shapes.{answer_of, planned_by}
-use Rattle.prepared_runs.specs.Sources.{known_by, scans_by, sourced}
+use Rattle.prepared_runs.specs.Sources.{sets_by, scans_by, sourced}
 use Rattle.prepared_runs.specs.Verdict.{command_run, command_stage, run_asked, verdict}
 use Rattle.prepared_runs.specs.declared.shapes.Shaped.{Shaped}
 use Rattle.prepared_runs.specs.declared.shapes.Shaped.TheVariants as shaped
@@ -64,15 +64,15 @@ tree_is_answer shapes.Order sets scans budget plan e = absurd (no_tree (plan_ans
 
 -- a plan from whole columns is planning's
 order_planned : (shape : Shape) (schema : Schema) (query : Query) (ts : Tables) (accuracy budget : ℕ) (plan : Plan)
-    → planned_by shape (sourced sources.Columns schema query ts) query accuracy budget ≡ Ok (shaped.Along plan)
+    → planned_by shape (sourced sources.Columns schema query ts) accuracy budget ≡ Ok (shaped.Along plan)
     → planned query ts accuracy budget ≡ Ok plan
-unfolding planned_by known_by scans_by planned
+unfolding planned_by sets_by scans_by planned
 order_planned shape schema query ts accuracy budget plan e = order_answer shape _ _ budget plan e
 
 tree_planned : (shape : Shape) (schema : Schema) (query : Query) (ts : Tables) (accuracy budget : ℕ) (plan : BushyPlan)
-    → planned_by shape (sourced sources.Columns schema query ts) query accuracy budget ≡ Ok (shaped.Over plan)
+    → planned_by shape (sourced sources.Columns schema query ts) accuracy budget ≡ Ok (shaped.Over plan)
     → tree_answer (set_bounds_of query ts accuracy) (scan_bounds_of query ts accuracy) budget ≡ Ok plan
-unfolding planned_by known_by scans_by
+unfolding planned_by sets_by scans_by
 tree_planned shape schema query ts accuracy budget plan e = tree_is_answer shape _ _ budget plan e
 
 -- ---- of an accepted run
@@ -92,9 +92,9 @@ module _ (schema_file query_file : List ℕ) (task : PlanWork) (files : Files) (
   its_source = ap (λ (r : Accepted). r.source) same_run ∙ source
 
   made : (plan : Shaped) → run.plan ≡ plan
-      → planned_by task.shape (sourced sources.Columns s.schema s.query (tables_in s.rows)) s.query task.accuracy task.budget ≡ Ok plan
+      → planned_by task.shape (sourced sources.Columns s.schema s.query (tables_in s.rows)) task.accuracy task.budget ≡ Ok plan
   made plan is =
-      ap (λ (from : ListSource). planned_by task.shape (sourced from s.schema s.query (tables_in s.rows)) s.query task.accuracy task.budget) (sym its_source)
+      ap (λ (from : ListSource). planned_by task.shape (sourced from s.schema s.query (tables_in s.rows)) task.accuracy task.budget) (sym its_source)
       ∙ s.planned ∙ ap (λ (p : Shaped). Ok p) (ap (λ (r : Accepted). r.plan) same_run ∙ is)
 
   pub run_levels : (plan : Plan) → run.plan ≡ shaped.Along plan → LevelsAreNear run.query (tables run) task.accuracy plan

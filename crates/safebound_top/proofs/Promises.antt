@@ -202,7 +202,7 @@ prints : (task : PlanWork) (schema : Schema) (query : Query) (rows : List (List 
 unfolding planned_by
 prints task schema query rows plan made h within = by task.shape made
   where
-    by : (shape : Shape) → planned_by shape (sourced task.source schema query (tables_in rows)) query task.accuracy task.budget ≡ Ok plan
+    by : (shape : Shape) → planned_by shape (sourced task.source schema query (tables_in rows)) task.accuracy task.budget ≡ Ok plan
         → PrintsPlan shape task.memory query (tables_in rows) (lists_by task.source query (tables_in rows)) (plan_text (run_asked task query rows plan))
     by shapes.Order e =
         let found = seen_ok (λ p. shaped.Along p) _ plan e in

@@ -51,7 +51,7 @@ use Rattle.prepared_runs.specs.Accepted.{Accepted}
 use Rattle.prepared_runs.specs.Limits.{within_limit}
 use Rattle.prepared_runs.specs.Outcome.{Planned}
 use Rattle.prepared_runs.specs.Shapes.{answer_of, planned_by, shape_bytes}
-use Rattle.prepared_runs.specs.Sources.{known_by, scans_by, sourced}
+use Rattle.prepared_runs.specs.Sources.{sets_by, scans_by, sourced}
 use Rattle.prepared_runs.specs.Verdict.{aim_run, command_run, command_stage, plan_stage, query_stage, run_asked, schema_stage, verdict, work_run}
 use Rattle.prepared_runs.specs.declared.shapes.Shaped.{Shaped}
 use Rattle.prepared_runs.specs.declared.shapes.Shaped.TheVariants as shaped
@@ -129,8 +129,8 @@ along answer = seen (λ plan. shaped.Along plan) answer
 abbrev plan : Shaped
 plan = shaped.Along (plan_of (1 ∷ 0 ∷ []) (5 ∷ 1 ∷ []) (1 ∷ 2 ∷ []))
 
-plan_found : planned_by shapes.Order (sourced sources.Keyed worker_schema by_manager (tables_in (rows ∷ rows ∷ []))) by_manager 1 1000000 ≡ Ok plan
-unfolding planned_by known_by scans_by
+plan_found : planned_by shapes.Order (sourced sources.Keyed worker_schema by_manager (tables_in (rows ∷ rows ∷ []))) 1 1000000 ≡ Ok plan
+unfolding planned_by sets_by scans_by
 plan_found =
     ap (λ (ts : Tables). answer_of shapes.Order (bounds_in_sets (bounds_by_keys worker_schema by_manager ts 1) (equalities_of by_manager) 2) (scan_bounds_of by_manager ts 1) 1000000)
     (fun_ext one_table)

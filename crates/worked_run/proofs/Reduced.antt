@@ -38,7 +38,7 @@ use Rattle.safebound_words.specs.declared.command.Work.TheVariants as works
 use Rattle.prepared_runs.specs.Limits.{within_limit}
 use Rattle.prepared_runs.specs.Outcome.{Planned}
 use Rattle.prepared_runs.specs.Shapes.{answer_of, planned_by, shape_bytes}
-use Rattle.prepared_runs.specs.Sources.{known_by, lists_by, scans_by, sourced}
+use Rattle.prepared_runs.specs.Sources.{sets_by, lists_by, scans_by, sourced}
 use Rattle.prepared_runs.specs.Verdict.{command_stage, plan_stage, run_asked, verdict}
 use Rattle.prepared_runs.specs.declared.shapes.Shaped.{Shaped}
 use Rattle.prepared_runs.specs.declared.shapes.Shaped.TheVariants as shaped
@@ -79,8 +79,8 @@ chosen = refl
 abbrev along : Result Plan PlanError → Result Shaped PlanError
 along answer = seen (λ plan. shaped.Along plan) answer
 
-plan_found : planned_by shapes.Order (sourced sources.Reduced two_tables pair T) pair 1 1000000 ≡ Ok (shaped.Along (plan_of (1 ∷ 0 ∷ []) (3 ∷ 2 ∷ []) (2 ∷ 6 ∷ [])))
-unfolding planned_by known_by scans_by
+plan_found : planned_by shapes.Order (sourced sources.Reduced two_tables pair T) 1 1000000 ≡ Ok (shaped.Along (plan_of (1 ∷ 0 ∷ []) (3 ∷ 2 ∷ []) (2 ∷ 6 ∷ [])))
+unfolding planned_by sets_by scans_by
 plan_found =
     ap (λ (lists : List (List ℕ)). answer_of shapes.Order (bounds_in_sets (in_every_set (entry_bounds_over T lists 1)) (equalities_of pair) 2) (list_sizes pair lists) 1000000) kept
     ∙ ap (λ (bounds : List ℕ). answer_of shapes.Order bounds (3 ∷ 2 ∷ []) 1000000) sets

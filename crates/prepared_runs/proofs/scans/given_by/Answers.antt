@@ -2,12 +2,12 @@ use Rattle.std.proofs.Common.{refl}
 use Rattle.planning.proofs.ReducedPlans.{reduced_of_scans}
 use Rattle.reduced_scans.specs.Rounds.{reduced_of}
 use Rattle.sql_meaning.specs.Tables.{tables_of}
-use Rattle.prepared_runs.specs.Sources.{known_by, lists_by, scans_by}
+use Rattle.prepared_runs.specs.Sources.{sets_by, lists_by, scans_by}
 use Rattle.prepared_runs.proofs.KeptFacts.{own_bytes}
 use Rattle.prepared_runs.proofs.scans.given_by.Goals as goal
 
 pub returns-in_ok-known-in-Columns-clause-known : goal.returns-in_ok-known-in-Columns-clause-known
-unfolding known_by scans_by
+unfolding sets_by scans_by
 returns-in_ok-known-in-Columns-clause-known c = rw c.in-Columns.is c.in_ok-known-in-Columns.ensures
 
 pub returns-in_ok-known-in-Columns-clause-lists : goal.returns-in_ok-known-in-Columns-clause-lists
@@ -15,7 +15,7 @@ unfolding lists_by
 returns-in_ok-known-in-Columns-clause-lists c = rw c.in-Columns.is refl
 
 pub returns-in_ok-known-in-Keyed-clause-known : goal.returns-in_ok-known-in-Keyed-clause-known
-unfolding known_by scans_by
+unfolding sets_by scans_by
 returns-in_ok-known-in-Keyed-clause-known c = rw c.in-Keyed.is c.in_ok-known-in-Keyed.ensures
 
 pub returns-in_ok-known-in-Keyed-clause-lists : goal.returns-in_ok-known-in-Keyed-clause-lists
@@ -23,7 +23,7 @@ unfolding lists_by
 returns-in_ok-known-in-Keyed-clause-lists c = rw c.in-Keyed.is refl
 
 pub returns-in_ok-reduced-in-Reduced-clause-known : goal.returns-in_ok-reduced-in-Reduced-clause-known
-unfolding known_by scans_by
+unfolding sets_by scans_by
 returns-in_ok-reduced-in-Reduced-clause-known c = rw c.in-Reduced.is c.in_ok-reduced-in-Reduced.ensures.gives
 
 pub returns-in_ok-reduced-in-Reduced-clause-lists : goal.returns-in_ok-reduced-in-Reduced-clause-lists

@@ -1,16 +1,15 @@
-use Rattle.std.proofs.Common.{◌≡◌, ℕ, length, arith, sym, subst, ◌∙◌}
+use Rattle.std.proofs.Common.{◌≡◌, ℕ, ◌^◌, List, length, arith, ap, sym, subst, ◌∙◌}
 use Rattle.std.proofs.lemmas.Result.{err_from_is_err_and}
 use Rattle.sql_meaning.specs.Tables.{tables_of}
 use Rattle.planning.specs.Gives.{Gives}
-use Rattle.planning.proofs.Giving.{known_long, known_many}
 use Rattle.prepared_runs.specs.Prepared.{HoldExactly}
 use Rattle.prepared_runs.specs.Shapes.{answer_of}
-use Rattle.prepared_runs.specs.Sources.{Sourced, scans_by, set_bounds_by, sourced}
+use Rattle.prepared_runs.specs.Sources.{scans_by, sourced}
 use Rattle.prepared_runs.proofs.AllowedFacts.{plan_costs}
 use Rattle.prepared_runs.proofs.Answered.{was_made, was_refused}
 use Rattle.prepared_runs.proofs.KeptFacts.{scans_given}
 use Rattle.prepared_runs.proofs.ShapeFacts.{planned_known}
-use Rattle.prepared_runs.proofs.SourceFacts.{scans_bound}
+use Rattle.prepared_runs.proofs.SourceFacts.{all_sets, scans_bound}
 use Rattle.prepared_runs.proofs.scans.plan_task.Goals as goal
 
 pub plan_by-requires : goal.plan_by-requires
@@ -18,15 +17,15 @@ plan_by-requires c =
     let task = c.args.task.now in
     let query = c.args.query.now in
     let tables = tables_of c.args.db.now in
-    let given : Sourced = sourced task.source c.args.schema.now query tables in
     let known = c.in_ok-known.field-0.known in
-    let known_is = subst (λ (a : ℕ). Gives (set_bounds_by (sourced task.source c.args.schema.now query tables) query a) ((sourced task.source c.args.schema.now query tables).scans a) known) c.of.ensures c.in_ok-known.ensures.known in
+    let known_is = subst (λ (a : ℕ). Gives ((sourced task.source c.args.schema.now query tables).sets a) ((sourced task.source c.args.schema.now query tables).scans a) known) c.of.ensures c.in_ok-known.ensures.known in
     let one_each = (scans_bound query tables task.source task.accuracy).one_each in
-    let long : length known.scans ≡ length query.from = known_long query (given.bounds task.accuracy) (given.scans task.accuracy) known known_is one_each in
+    let long : length known.scans ≡ length query.from = ap (λ (s : List ℕ). length s) known_is.scans ∙ one_each in
     record {
       some = omega (arith, long, c.requires.database.some);
       few = omega (arith, long, c.requires.database.few);
-      sets = known_many query (given.bounds task.accuracy) (given.scans task.accuracy) known known_is one_each;
+      sets =
+          ap (λ (s : List ℕ). length s) known_is.sets ∙ all_sets query tables c.args.schema.now task.source task.accuracy ∙ ap (λ (k : ℕ). 2 ^ k) (sym long);
       budget = c.requires.ranges.budget;
     }
 
@@ -36,9 +35,9 @@ returns-in_err-plan-clause-refused c =
     let query = c.args.query.now in
     let tables = tables_of c.args.db.now in
     let known = c.in_ok-known.field-0.known in
-    let known_is = subst (λ (a : ℕ). Gives (set_bounds_by (sourced task.source c.args.schema.now query tables) query a) ((sourced task.source c.args.schema.now query tables).scans a) known) c.of.ensures c.in_ok-known.ensures.known in
+    let known_is = subst (λ (a : ℕ). Gives ((sourced task.source c.args.schema.now query tables).sets a) ((sourced task.source c.args.schema.now query tables).scans a) known) c.of.ensures c.in_ok-known.ensures.known in
     let p = err_from_is_err_and c.from_residual-in_err-plan.result c.from_residual-in_err-plan.ensures.1 in
-    rw (p.1, p.2, ← planned_known task.shape (sourced task.source c.args.schema.now query tables) query task.accuracy task.budget known known_is)
+    rw (p.1, p.2, ← planned_known task.shape (sourced task.source c.args.schema.now query tables) task.accuracy task.budget known known_is)
     (was_refused (answer_of task.shape known.sets known.scans task.budget) c.in_err-plan.field-0.0 c.in_err-plan.ensures)
 
 pub returns-clause-planned : goal.returns-clause-planned
@@ -47,8 +46,8 @@ returns-clause-planned c =
     let query = c.args.query.now in
     let tables = tables_of c.args.db.now in
     let known = c.in_ok-known.field-0.known in
-    let known_is = subst (λ (a : ℕ). Gives (set_bounds_by (sourced task.source c.args.schema.now query tables) query a) ((sourced task.source c.args.schema.now query tables).scans a) known) c.of.ensures c.in_ok-known.ensures.known in
-    sym (planned_known task.shape (sourced task.source c.args.schema.now query tables) query task.accuracy task.budget known known_is)
+    let known_is = subst (λ (a : ℕ). Gives ((sourced task.source c.args.schema.now query tables).sets a) ((sourced task.source c.args.schema.now query tables).scans a) known) c.of.ensures c.in_ok-known.ensures.known in
+    sym (planned_known task.shape (sourced task.source c.args.schema.now query tables) task.accuracy task.budget known known_is)
     ∙ was_made (answer_of task.shape known.sets known.scans task.budget) c.in_ok-plan.plan c.in_ok-plan.ensures
 
 pub returns-clause-affordable : goal.returns-clause-affordable
