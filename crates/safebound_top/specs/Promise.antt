@@ -105,6 +105,7 @@ abbrev pub AreScans : ListSource → Query → Tables → List (List ℕ) → Ty
 AreScans sources.Columns query tables scans = scans ≡ scans_of query tables
 AreScans sources.Keyed query tables scans = scans ≡ scans_of query tables
 AreScans sources.Reduced query tables scans = AreReducedScans query tables scans
+AreScans sources.Counted query tables scans = AreReducedScans query tables scans
 
 -- each way to take one row of its scan for each of these entries, such that every conjunct holds that names no other entry
 abbrev pub choices_over : Query → Tables → List (List ℕ) → List ℕ → List (List ℕ)
