@@ -26,7 +26,7 @@ use Rattle.outcomes.specs.declared.refusal.Refusal.{Refusal}
 use Rattle.table_files.specs.EntryTables.{tables_in}
 use Rattle.table_files.specs.Stage.{tables_stage}
 use Rattle.table_files.specs.TableFile.{read}
-use Rattle.join_steps.specs.Lists.{list_at, scans_of}
+use Rattle.join_steps.specs.Lists.{list_at, scans_of, list_sizes}
 use Rattle.join_steps.proofs.WholeScans.{scan_at, size_at}
 use Rattle.reduced_scans.specs.Rounds.{reduced_of}
 use Rattle.prepared_runs.specs.Accepted.{Accepted, BoundsHold, IsOverReducedScans, IsOverWholeScans, RowsAreTheAnswer, tables}

@@ -63,7 +63,7 @@ pub fn no_reader_wants_memory()
     ensures schemas { (text : List ℕ) → schema_answer text ≢ Err schema_error.NoMemory }
     ensures queries { (schema : Schema) (text : List ℕ) → query_answer schema text ≢ Err query_error.NoMemory }
     ensures tables { (table : Table) (bytes : List ℕ) → rows_of_file table bytes ≢ Err table_error.NoMemory }
-    ensures plans { (shape : Shape) (given : Sourced) (query : Query) (accuracy budget : ℕ)
+    ensures plans { (shape : Shape) (given : Sourced) (accuracy budget : ℕ)
         → planned_by shape given accuracy budget ≢ Err plan_error.NoMemory }
     ensures statistics { (schema : Schema) (text : List ℕ) → stats_answer schema text ≢ Err stats_error.NoMemory }
     ensures filed_plans { (query : Query) (file : StatsFile) (budget : ℕ)
