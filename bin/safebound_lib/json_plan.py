@@ -5,7 +5,7 @@ from . import program
 from .explain import Run, read
 from .plans import option_of, read_audit, read_plan
 from .query import meant, references_of
-from .table import ACCURACY, BUDGET, KEYS, REDUCE, USUAL_BUDGET
+from .table import ACCURACY, BUDGET, COUNT, KEYS, REDUCE, USUAL_BUDGET
 
 
 def show(path, line):
@@ -39,6 +39,7 @@ def as_json(run, plan, rows):
         "reduce": any(word == REDUCE.word for word in run.words),
         "bushy": plan.is_tree,
         "keys": any(word == KEYS.word for word in run.words),
+        "count": any(word == COUNT.word for word in run.words),
         "stats": run.stats_file,
         "entries": [{"entry": e.name, "table": e.table.name, "file": e.table.name.lower() + ".csv", "bound": plan.scans[e.name],
                      "conditions": [c["text"] for c in conditions if c["entries"] == [e.name]]} for e in query.entries],

@@ -7,7 +7,7 @@ from ..plans import option_of, read_plan
 from ..program import answer
 from ..query import equality, groups
 from ..terminal import saying
-from ..table import ACCURACY, BUDGET, BUSHY, KEYS, MOST_BUDGET, MOST_BUDGET_OF_A_TREE, REDUCE, USUAL_BUDGET
+from ..table import ACCURACY, BUDGET, BUSHY, COUNT, KEYS, MOST_BUDGET, MOST_BUDGET_OF_A_TREE, REDUCE, USUAL_BUDGET
 from ..faults import fault_of
 
 SECONDS = 60
@@ -83,7 +83,7 @@ def planned_words(words):
             return found + [word, *left]
         if word in (BUDGET.word, ACCURACY.word):
             del left[:1]
-        elif word not in (REDUCE.word, BUSHY.word, KEYS.word) and not word.startswith((BUDGET.word + "=", ACCURACY.word + "=")):
+        elif word not in (REDUCE.word, BUSHY.word, KEYS.word, COUNT.word) and not word.startswith((BUDGET.word + "=", ACCURACY.word + "=")):
             found.append(word)
     return found
 
@@ -108,13 +108,12 @@ def at_fault(run, least, budget):
 
 
 def given(run, budget, accuracy=None, flag=None):
-    """The options of the run, with these beside them. `--keys` stands beside no other flag, so the one that is tried takes its place."""
-    kept = accuracy or option_of(run.words, ACCURACY.word)
-    words = [BUDGET.word, str(budget)] + ([ACCURACY.word, kept] if kept else [])
-    flags = [one for one in (REDUCE, BUSHY, KEYS) if has(run, one)]
+    """The options of the run, with these beside them. A flag that is tried takes the place of those beside which it can't stand."""
+    flags = [one for one in (REDUCE, BUSHY, KEYS, COUNT) if has(run, one)]
     if flag is not None:
-        flags = [flag] if KEYS in (flag, *flags) else [*flags, flag]
-    return words + [one.word for one in flags]
+        flags = [one for one in flags if {one, flag} <= {REDUCE, BUSHY} or {one, flag} <= {BUSHY, COUNT}] + [flag]
+    kept = None if COUNT in flags else accuracy or option_of(run.words, ACCURACY.word)
+    return [BUDGET.word, str(budget)] + ([ACCURACY.word, kept] if kept else []) + [one.word for one in flags]
 
 
 def has(run, flag):
@@ -129,8 +128,10 @@ def refers(run):
     return any(table is not None and table.references for table in tables)
 
 
-def tried(run, budget, apart):
-    """What the other options come to, and what else there is to do."""
+def other_sources(run):
+    """What bounds may be made from in place of what the words ask for. Beside counting nothing lowers them."""
+    if has(run, COUNT):
+        return []
     is_close = int(option_of(run.words, ACCURACY.word) or 1) >= int(CLOSER)
     ways = []
     if not has(run, REDUCE):
@@ -141,6 +142,12 @@ def tried(run, budget, apart):
         ways.append(("With both", dict(flag=REDUCE, accuracy=CLOSER)))
     if not has(run, KEYS) and refers(run):
         ways.append((f"With {KEYS.word}", dict(flag=KEYS)))
+    return ways + [(f"With {COUNT.word}", dict(flag=COUNT))]
+
+
+def tried(run, budget, apart):
+    """What the other options come to, and what else there is to do."""
+    ways = other_sources(run)
     if not has(run, BUSHY) and len(run.query.entries) > 3 and budget <= MOST_BUDGET_OF_A_TREE:
         ways.append((f"With {BUSHY.word}", dict(flag=BUSHY)))
     found = [f"    {name} {said_of(with_words(run, given(run, budget, **how)), budget)}" for name, how in ways]
