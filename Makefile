@@ -12,7 +12,7 @@ EXAMPLE := trips
 DATA := examples/$(EXAMPLE)
 WORDS := run schema.sql query.sql
 
-.PHONY: help run archive build install uninstall deb release library command engines test edits bench memory limits clean
+.PHONY: help run archive build install uninstall deb release library command engines test checks edits bench memory limits clean
 
 ## make run       runs a query over examples/trips, or over a folder of yours: make run DATA=FOLDER
 ##                (2 seconds with the built program, or where the kit isn't here with the release's; else a minute, and nothing is proved)
@@ -26,6 +26,7 @@ WORDS := run schema.sql query.sql
 ## make engines   tests safebound-sql on SQLite and on a PostgreSQL of its own, over the library (docs/ENGINES.md; minutes)
 ## make release   builds the last commit twice, from clean clones, and lays the result in dist/ (minutes, where the proofs are kept)
 ## make test      the gate: every proof, the gate's own edits, every test (about 40 minutes from nothing; it says how far it is)
+## make checks    the gate's tests of what is built, side by side (minutes)
 ## make edits     every wrong body that a contract must refuse (two hours); make edits CRATES="plans set_bounds" some of them
 ## make bench     measures beside plain Rust and databases (minutes, once built)
 ## make memory    runs with each request for memory refused in turn (minutes)
@@ -78,6 +79,42 @@ command:
 # Everything: each proof that this machine hasn't kept, the gate's own edits, the tests, the stored runs, random ones.
 test:
 	.ci/run
+
+# What the gate does behind its proofs, side by side, the longest first: each reads what was built, and writes into folders of its own.
+CHECKS := engines library command install friendly browser differential process pages cases examples memory-there release
+FEATURES := run,plan,audit,stats,append,many-entries,filters,words,accuracy,reduce,bushy,keys
+
+.PHONY: $(CHECKS:%=check-%)
+
+checks:
+	@$(MAKE) --jobs=$$(nproc) --keep-going --output-sync=target --no-print-directory $(CHECKS:%=check-%)
+
+check-pages:
+	tools/check-docs
+check-memory-there:
+	tests/memory-there
+check-cases:
+	cases/run-cases --features $(FEATURES),demo,sql,cyclic,memory "$(PROGRAM)"
+check-examples:
+	examples/check "$(PROGRAM)"
+check-process:
+	cases/process "$(PROGRAM)"
+check-differential:
+	cases/differential --features $(FEATURES) --runs 300 "$(PROGRAM)"
+check-friendly:
+	tests/friendly "$(PROGRAM)"
+check-browser:
+	tests/browser "$(PROGRAM)"
+check-library: library
+	library/test
+check-command: command
+	library/test-command
+check-install: library command
+	library/test-install
+check-engines: library
+	engines/test --queries 50
+check-release:
+	tools/release --check
 
 # Every wrong body that a contract must refuse, those on the shelf too; or those of some crates: make edits CRATES="plans set_bounds".
 edits:

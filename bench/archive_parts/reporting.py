@@ -80,7 +80,7 @@ def whole_queries(sets: list[dict[str, str]], runs: list[dict[str, str]]) -> Non
             cost = {one["question"]: int(one["cost"]) for one in runs if one["flags"] == flags.name and one["cost"]}
             refused = [sum(cost.get(name, budget + 1) > budget for name in names) for budget in (BUDGET, SMALL_BUDGET)]
             rows.append([flags.name, *spread(bounded(asked, flags.name)), *map(str, refused)])
-        header = ["bound of the whole query over its rows", "median", "75th", "90th percentile", "worst", "refused at 20,000,000", "at 1,000,000"]
+        header = ["bound over rows of the whole query", "median", "75th", "90th percentile", "worst", "refused at 20,000,000", "at 1,000,000"]
         print(f"{len(names)} questions, {title}:\n")
         table(header, rows)
 
