@@ -1,11 +1,12 @@
 -- The counted bounds of all sets: each is the one of its set.
-use Rattle.std.proofs.Common.{◌≡◌, ◌⊎◌, ℕ, ◌^◌, ◌<◌, ◌≤◌, true, List, [], Ok, length, get_or, refl, sym, ◌∙◌, subst, arith}
+use Rattle.std.proofs.Common.{◌≡◌, ◌⊎◌, ℕ, ◌^◌, ◌<◌, ◌≤◌, true, List, [], Ok, length, get_or, refl, sym, ◌∙◌, subst, arith, ◌+◌, take}
 use Rattle.std.proofs.lemmas.List.FromFn.{get_or-map-range_with_len}
 use Rattle.limits.specs.Profile.{most_budget, most_entries, top_bound}
 use Rattle.degree_sequences.specs.Saturation.{saturated}
-use Rattle.entry_sets.specs.Sets.{entries_of_set}
+use Rattle.entry_sets.specs.Sets.{entries_of_set, set_of}
 use Rattle.berge_tree.specs.declared.edges.Edge.{Edge}
 use Rattle.plans.specs.declared.left_deep.Plan.{Plan}
+use Rattle.order_search.specs.Orders.{IsBest}
 use Rattle.plan_answers.specs.PlanAnswer.{plan_answer}
 use Rattle.query_types.specs.declared.types.Query.{Query}
 use Rattle.join_graph.specs.Conjuncts.{equalities_of}
@@ -19,8 +20,9 @@ use Rattle.sql_meaning.specs.Tables.{Tables}
 use Rattle.level_bounds.specs.Keys.{JoinsEqualKeys}
 use Rattle.level_bounds.specs.Orders.{IsOrderOfSet}
 use Rattle.level_bounds.proofs.Lists.{all_filtered}
-use Rattle.join_steps.specs.Lists.{AreOfScans, list_at, list_sizes}
+use Rattle.join_steps.specs.Lists.{AreOfScans, list_at, list_levels, list_sizes}
 use Rattle.join_steps.specs.Plans.{IsPlanOf}
+use Rattle.join_steps.proofs.WholeScans.{size_count}
 use Rattle.table_stats.proofs.ValueNumbers.{have_keys}
 use Rattle.reduced_scans.proofs.FamilyRows.{row_low}
 use Rattle.counted_bounds.specs.Bounds.{AllAreCounted, Counted, counted_bound, counted_bounds_of_sets}
@@ -28,7 +30,8 @@ use Rattle.counted_bounds.proofs.NotAbove.{not_above}
 use Rattle.counted_bounds.proofs.QueryBounds.{exact, never_under}
 use Rattle.planning.specs.ListedBounds.{entry_bounds_over, set_bounds_over}
 use Rattle.planning.specs.Standing.{BoundLevels, EntriesStand}
-use Rattle.planning.proofs.FromLists.{dominate, have_lists, plan_over_lists}
+use Rattle.planning.proofs.FromLists.{dominate, have_lists, is_best_from, level_bound, level_within_budget, plan_over_lists}
+use Rattle.planning.proofs.Levels.{prefix_below, prefix_of}
 use Rattle.planning.proofs.ListBounds.{lists_stand, sizes_bound}
 
 module _ (counted : Counted) (query : Query) (tables : Tables) (lists : List (List ℕ)) where
@@ -52,6 +55,25 @@ module _ (counted : Counted) (query : Query) (tables : Tables) (lists : List (Li
       → all_hold (conjuncts_of query tables) [] (row_in [] []) ≡ true
       → get_or (counted_bounds_of_sets counted query tables lists) subset 0 ≡ saturated (length (level_over (conjuncts_of query tables) (list_at lists) order))
   exact_at subset order fits o all constants = at subset fits ∙ exact counted query tables lists subset order o all constants
+
+  -- a level of a plan has exactly its bound, which is within the budget and so far below the top bound
+  pub level_exact : (budget k : ℕ) (plan : Plan) → length query.from ≤ most_entries → budget ≤ most_budget
+      → plan_answer (counted_bounds_of_sets counted query tables lists) (list_sizes query lists) budget ≡ Ok plan → k < length query.from
+      → AllAreCounted counted query tables (set_of (take (k + 1) plan.order)) → all_hold (conjuncts_of query tables) [] (row_in [] []) ≡ true
+      → get_or plan.levels k 0 ≡ length (list_levels query tables lists plan.order (k + 1))
+  level_exact budget k plan few small made low all constants =
+      let n : ℕ = length query.from in
+      let scans : List ℕ = list_sizes query lists in
+      let one_each : length (list_sizes query lists) ≡ length query.from = size_count query lists in
+      let best : IsBest sets n plan.order = is_best_from sets scans n budget one_each plan made in
+      omega (
+        arith,
+        exact_at (set_of (take (k + 1) plan.order)) (take (k + 1) plan.order) (prefix_below n (k + 1) plan.order best.is_order) (prefix_of n (k + 1) plan.order few best.is_order)
+            all constants,
+        level_bound sets scans n budget one_each plan made k low,
+        level_within_budget sets scans n budget one_each plan made k,
+        small,
+      )
 
   module _ (accuracy : ℕ) (are : AreOfScans query tables lists) (subset : ℕ) (fits : subset < 2 ^ length query.from) where
     abbrev bounds : EntryBounds

@@ -1,8 +1,8 @@
 //! What holds of counted bounds of all sets: no law computes anything, and the contract is the law.
-ghost use Rattle.std.specs.Prelude.{◌≡◌, ◌^◌, ◌<◌, ◌≤◌, ℕ, true, List, [], Ok, length, slice_index};
+ghost use Rattle.std.specs.Prelude.{◌≡◌, ◌+◌, ◌^◌, ◌<◌, ◌≤◌, ℕ, true, List, [], Ok, length, slice_index, take};
 ghost use Rattle.limits.specs.Profile.{most_budget, most_entries};
 ghost use Rattle.degree_sequences.specs.Saturation.{saturated};
-ghost use Rattle.entry_sets.specs.Sets.{entries_of_set};
+ghost use Rattle.entry_sets.specs.Sets.{entries_of_set, set_of};
 ghost use Rattle.plans.specs.declared.left_deep.Plan.{Plan};
 ghost use Rattle.plan_answers.specs.PlanAnswer.{plan_answer};
 ghost use Rattle.query_types.specs.declared.types.Query.{Query};
@@ -10,7 +10,7 @@ ghost use Rattle.sql_meaning.specs.Answers.{conjuncts_of};
 ghost use Rattle.sql_meaning.specs.Levels.{all_hold, level_over, row_in};
 ghost use Rattle.sql_meaning.specs.Tables.{Tables};
 ghost use Rattle.level_bounds.specs.Orders.{IsOrderOfSet};
-ghost use Rattle.join_steps.specs.Lists.{AreOfScans, list_at, list_sizes};
+ghost use Rattle.join_steps.specs.Lists.{AreOfScans, list_at, list_levels, list_sizes};
 ghost use Rattle.join_steps.specs.Plans.{IsPlanOf};
 ghost use Rattle.counted_bounds.specs.Bounds.{AllAreCounted, Counted, counted_bounds_of_sets};
 ghost use Rattle.reduced_scans.specs.Rounds.{reduced_of};
@@ -29,13 +29,19 @@ pub fn counts_are_never_under()
 {}
 
 /// Where all conjuncts of each part of a set are counted, and no conjunct without entries is false, its bound is the number of rows of each
-/// level over it, or both saturate.
+/// level over it, or both saturate. So it is of each level of a plan: the level has exactly as many rows as the plan says.
 pub fn counts_are_exact()
-    ensures { (counted : Counted) (query : Query) (tables : Tables) (lists : List (List ℕ)) (subset : ℕ) (order : List ℕ)
+    ensures sets { (counted : Counted) (query : Query) (tables : Tables) (lists : List (List ℕ)) (subset : ℕ) (order : List ℕ)
         → subset < 2 ^ length query.from → IsOrderOfSet (entries_of_set subset) order → AllAreCounted counted query tables subset
         → all_hold (conjuncts_of query tables) [] (row_in [] []) ≡ true
         → slice_index (counted_bounds_of_sets counted query tables lists) subset
         ≡ saturated (length (level_over (conjuncts_of query tables) (list_at lists) order)) }
+    ensures levels { (counted : Counted) (query : Query) (tables : Tables) (lists : List (List ℕ)) (budget k : ℕ) (plan : Plan)
+        → length query.from ≤ most_entries → budget ≤ most_budget
+        → plan_answer (counted_bounds_of_sets counted query tables lists) (list_sizes query lists) budget ≡ Ok plan → k < length query.from
+        → AllAreCounted counted query tables (set_of (take (k + 1) plan.order))
+        → all_hold (conjuncts_of query tables) [] (row_in [] []) ≡ true
+        → slice_index plan.levels k ≡ length (list_levels query tables lists plan.order (k + 1)) }
 {}
 
 /// Whatever is counted, no bound is above the one from degree sequences of the same lists, at any accuracy. The reduced scans are such lists.
