@@ -330,6 +330,11 @@ OPTIONS = [
     usage("run schema.sql query.sql --keys --reduce", "--reduce can't stand beside --keys", "an order over whole tables"),
     usage("plan schema.sql query.sql --bushy --keys", "--bushy can't stand beside --keys"),
     usage("plan schema.sql query.sql --keys --stats old.stats", "--keys can't stand beside --stats"),
+    usage("run schema.sql query.sql --count --reduce", "--reduce can't stand beside --count", "compresses nothing"),
+    usage("plan schema.sql query.sql --accuracy 8 --count", "--accuracy can't stand beside --count"),
+    usage("plan schema.sql query.sql --keys --count --bushy", "--keys can't stand beside --count"),
+    usage("plan schema.sql query.sql --count --stats old.stats", "--count can't stand beside --stats"),
+    usage("run schema.sql query.sql --count=1", "--count takes no value"),
     usage("demo 7 --budget 5", "demo has no option --budget"),
     usage("run schema.sql query.sql --budget --explain", "has the value --explain"),
 ]

@@ -54,11 +54,15 @@ KEYS = Option(
     "--keys", None,
     "carries conditions on a table to those that refer to its key; stands beside neither --reduce nor --bushy",
 )
+COUNT = Option(
+    "--count", None,
+    "as --reduce, with bounds that are counted, mostly exact; stands beside neither --reduce, --keys nor --accuracy",
+)
 MEMORY = Option(
     "--memory", "N",
     "the most bytes that the buffers of the plan may take; the plan then ends with a line of its bytes", 1, 2**40,
 )
-OF_PLANS = (BUDGET, ACCURACY, MEMORY, REDUCE, BUSHY, KEYS)
+OF_PLANS = (BUDGET, ACCURACY, MEMORY, REDUCE, BUSHY, KEYS, COUNT)
 STATS = Option(
     "--stats",
     "FILE",

@@ -98,13 +98,14 @@ pub record AreInFile (files : Files) (schema : Schema) (query : Query) (entry : 
 
 -- ---- what the plan text says
 
--- the rows that are joined: for each FROM entry those for which every conjunct holds that names just this entry. With `--reduce` they are the
--- greatest lists of such rows in which each row has, for every conjunct that says that a column of its entry equals one of another entry, a
--- row of equal value in the other's list
+-- the rows that are joined: for each FROM entry those for which every conjunct holds that names just this entry. With `--reduce`, and with
+-- `--count`, they are the greatest lists of such rows in which each row has, for every conjunct that says that a column of its entry equals
+-- one of another entry, a row of equal value in the other's list
 abbrev pub AreScans : ListSource → Query → Tables → List (List ℕ) → Type 0
 AreScans sources.Columns query tables scans = scans ≡ scans_of query tables
 AreScans sources.Keyed query tables scans = scans ≡ scans_of query tables
 AreScans sources.Reduced query tables scans = AreReducedScans query tables scans
+AreScans sources.Counted query tables scans = AreReducedScans query tables scans
 
 -- each way to take one row of its scan for each of these entries, such that every conjunct holds that names no other entry
 abbrev pub choices_over : Query → Tables → List (List ℕ) → List ℕ → List (List ℕ)
