@@ -17,6 +17,7 @@ td, th { text-align: right; padding: 1px 10px 1px 0; font-weight: normal; } th {
 HOW_LISTS_MEET = "<p>Of several lists of a column the bound takes the least running sums; of the members of an OR, the sums together.</p>"
 NO_LISTS = {
     "--reduce": "With --reduce lists are made of the rows that stay in each scan, and the program doesn't print them.",
+    "--count": "With --count there are no lists: what the conditions leave of the entries together is counted.",
     "--keys": "With --keys further lists, of the rows that refer to rows that pass, lower bounds; the program doesn't print these.",
 }
 

@@ -41,9 +41,10 @@ BUDGET = Option("--budget", "N", "the most rows that the bound of any level may 
 ACCURACY = Option("--accuracy", "K", "how closely lists of degrees are kept: more takes longer and mostly lowers bounds; 1 without it", 1, 64)
 REDUCE = Option("--reduce", None, "puts rows aside that lack a partner, and makes bounds over those that are left")
 BUSHY = Option("--bushy", None, "joins by the best tree of any shape and not along an order; a budget is then at most 4,000,000")
+COUNT = Option("--count", None, "as --reduce, with bounds that are counted, mostly exact; stands beside neither --reduce, --keys nor --accuracy")
 KEYS = Option("--keys", None, "carries conditions on a table to those that refer to its key; stands beside neither --reduce nor --bushy")
 MEMORY = Option("--memory", "N", "the most bytes that the buffers of the plan may take; the plan then ends with a line of its bytes", 1, 2**40)
-OF_PLANS = (BUDGET, ACCURACY, MEMORY, REDUCE, BUSHY, KEYS)
+OF_PLANS = (BUDGET, ACCURACY, MEMORY, REDUCE, COUNT, BUSHY, KEYS)
 STATS = Option("--stats", "FILE", "plans from this statistics file, which `stats` wrote, and reads no table; beside it only --budget and --memory may stand")
 
 DATA = Option("--data", "DIR", "runs in the folder DIR, where the tables are; SCHEMA and QUERY are looked up there too. With QUERY alone, a schema is proposed from the tables and shown on standard error", is_own=True)

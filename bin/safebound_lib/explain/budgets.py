@@ -7,7 +7,7 @@ from ..plans import option_of, read_plan
 from ..program import answer
 from ..query import equality, groups
 from ..terminal import saying
-from ..table import ACCURACY, BUDGET, BUSHY, KEYS, MOST_BUDGET, MOST_BUDGET_OF_A_TREE, REDUCE, USUAL_BUDGET
+from ..table import ACCURACY, BUDGET, BUSHY, COUNT, KEYS, MOST_BUDGET, MOST_BUDGET_OF_A_TREE, REDUCE, USUAL_BUDGET
 from ..faults import fault_of
 
 SECONDS = 60
@@ -24,7 +24,7 @@ def explain(fault, run):
     else:
         first = f"The best {shape} has a {step} whose bound is {least:,} rows, and the budget is {budget:,}. The least budget is --budget {least}."
     apart = not_connected(run)
-    several = several_equalities(run)
+    several = [] if has(run, COUNT) else several_equalities(run)
     with saying("trying other options .."):
         return [first, at_fault(run, least, budget), apart, *several, *tried(run, budget, apart)]
 
@@ -83,7 +83,7 @@ def planned_words(words):
             return found + [word, *left]
         if word in (BUDGET.word, ACCURACY.word):
             del left[:1]
-        elif word not in (REDUCE.word, BUSHY.word, KEYS.word) and not word.startswith((BUDGET.word + "=", ACCURACY.word + "=")):
+        elif word not in (REDUCE.word, COUNT.word, BUSHY.word, KEYS.word) and not word.startswith((BUDGET.word + "=", ACCURACY.word + "=")):
             found.append(word)
     return found
 
@@ -108,12 +108,13 @@ def at_fault(run, least, budget):
 
 
 def given(run, budget, accuracy=None, flag=None):
-    """The options of the run, with these beside them. `--keys` stands beside no other flag, so the one that is tried takes its place."""
-    kept = accuracy or option_of(run.words, ACCURACY.word)
-    words = [BUDGET.word, str(budget)] + ([ACCURACY.word, kept] if kept else [])
-    flags = [one for one in (REDUCE, BUSHY, KEYS) if has(run, one)]
+    """The options of the run, with these beside them. `--keys` stands beside no other flag, so the one that is tried takes its place.
+    `--count` takes the place of `--reduce`, and of an accuracy."""
+    flags = [one for one in (REDUCE, COUNT, BUSHY, KEYS) if has(run, one)]
     if flag is not None:
-        flags = [flag] if KEYS in (flag, *flags) else [*flags, flag]
+        flags = [flag] if KEYS in (flag, *flags) else [*(one for one in flags if (one, flag) != (REDUCE, COUNT)), flag]
+    kept = None if COUNT in flags else accuracy or option_of(run.words, ACCURACY.word)
+    words = [BUDGET.word, str(budget)] + ([ACCURACY.word, kept] if kept else [])
     return words + [one.word for one in flags]
 
 
@@ -132,14 +133,16 @@ def refers(run):
 def tried(run, budget, apart):
     """What the other options come to, and what else there is to do."""
     is_close = int(option_of(run.words, ACCURACY.word) or 1) >= int(CLOSER)
-    ways = []
-    if not has(run, REDUCE):
+    ways, is_counted = [], has(run, COUNT)
+    if not has(run, REDUCE) and not is_counted:
         ways.append((f"With {REDUCE.word}", dict(flag=REDUCE)))
-    if not is_close:
+    if not is_close and not is_counted:
         ways.append((f"With {ACCURACY.word} {CLOSER}", dict(accuracy=CLOSER)))
     if len(ways) == 2:
         ways.append(("With both", dict(flag=REDUCE, accuracy=CLOSER)))
-    if not has(run, KEYS) and refers(run):
+    if not is_counted:
+        ways.append((f"With {COUNT.word}", dict(flag=COUNT)))
+    if not has(run, KEYS) and not is_counted and refers(run):
         ways.append((f"With {KEYS.word}", dict(flag=KEYS)))
     if not has(run, BUSHY) and len(run.query.entries) > 3 and budget <= MOST_BUDGET_OF_A_TREE:
         ways.append((f"With {BUSHY.word}", dict(flag=BUSHY)))

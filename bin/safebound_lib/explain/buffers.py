@@ -1,10 +1,10 @@
 """`error memory-limit BYTES`: what the buffers of the plan take."""
 from ..plans import option_of
-from ..table import BUSHY, KEYS, MEMORY, REDUCE
+from ..table import BUSHY, COUNT, KEYS, MEMORY, REDUCE
 
 
 def explain(fault, run):
     limit = option_of(run.words, MEMORY.word)
-    others = [option.word for option in (REDUCE, BUSHY) if not {option.word, KEYS.word} & set(run.words)]
+    others = [option.word for option in (COUNT, BUSHY) if not {option.word, KEYS.word} & set(run.words)]
     first = f"The buffers of the plan take {fault['found']:,} bytes, and the limit is {int(limit):,}. The least limit is {MEMORY.word} {fault['found']}."
     return [first, "Conditions on single tables lower the bounds, and so the bytes." + (f" So may {' or '.join(others)}." if others else "")]

@@ -6,7 +6,7 @@ import stat
 def explain(fault, run):
     if fault["kind"] == "memory":
         return ["The system gave too little memory, before anything was printed. All memory is taken before the first row, from the bounds of the plan.",
-                "`plan` tells the bounds without taking that memory. Lower bounds take less: ask more closely, give --reduce, or --accuracy 8. "
+                "`plan` tells the bounds without taking that memory. Lower bounds take less: ask more closely, give --count or --reduce. "
                 "A lower --budget refuses such a query at once."]
     return [f"{wanting(1 if fault['cause'] == 'out' else 2)} What was written until then is a beginning of the answer. Nothing is wrong with the data."]
 

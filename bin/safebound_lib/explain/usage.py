@@ -5,7 +5,7 @@ import shlex
 from ..near import hint, listed
 from ..pages import entry, places_of
 from ..spot import plain
-from ..table import ACCURACY, BUDGET, BUSHY, BY_WORD, COMMANDS, KEYS, MOST_BUDGET_OF_A_TREE, MOST_SEED, REDUCE, STATS, TEXTS, program_options
+from ..table import ACCURACY, BUDGET, BUSHY, BY_WORD, COMMANDS, COUNT, KEYS, MOST_BUDGET_OF_A_TREE, MOST_SEED, REDUCE, STATS, TEXTS, program_options
 from ..terminal import columns
 from ..tokens import tokens_of
 
@@ -73,9 +73,12 @@ def unknown(command, word, behind):
 
 def wrong_beside(seen):
     """Which options can't stand beside each other, if some do."""
-    others = [option.word for option in (ACCURACY, REDUCE, BUSHY, KEYS) if option.word in seen]
+    others = [option.word for option in (ACCURACY, REDUCE, COUNT, BUSHY, KEYS) if option.word in seen]
     if STATS.word in seen and others:
         return f"{others[0]} can't stand beside {STATS.word}: a statistics file has its own accuracy, and tells of whole tables."
+    if COUNT.word in seen and set(others) & {ACCURACY.word, REDUCE.word, KEYS.word}:
+        other = next(word for word in others if word in (ACCURACY.word, REDUCE.word, KEYS.word))
+        return f"{other} can't stand beside {COUNT.word}. {COUNT.word} reduces scans as {REDUCE.word} does, and counts over them: no list is compressed, and none is carried."
     if KEYS.word in seen and len(set(others) - {ACCURACY.word}) > 1:
         other = next(word for word in others if word in (REDUCE.word, BUSHY.word))
         return f"{other} can't stand beside {KEYS.word}. {KEYS.word} is for an order over whole tables."
