@@ -71,7 +71,7 @@ enum {
     SAFEBOUND_BAD_ACCURACY = 17,   /* the accuracy */
     SAFEBOUND_BAD_RUN = 18,        /* an element of `runs` */
     SAFEBOUND_BAD_OTHER_RUN = 19,  /* an element of `others` */
-    SAFEBOUND_BAD_SUM = 20,        /* the sum of two lists */
+    SAFEBOUND_BAD_SUM = 20,        /* the sum of what two lists make */
     SAFEBOUND_BAD_ENTRIES = 21,    /* the number of entries */
     SAFEBOUND_BAD_ROWS = 22,       /* an element of `rows` */
     SAFEBOUND_BAD_EQUALITIES = 23, /* the number of equalities */
@@ -84,7 +84,17 @@ enum {
     SAFEBOUND_BAD_LEVEL = 30,      /* an element of `levels` */
     SAFEBOUND_BAD_JOINS = 31,      /* the number of joins */
     SAFEBOUND_BAD_JOIN = 32,       /* an element of `joins` */
-    SAFEBOUND_BAD_SET = 33         /* the set */
+    SAFEBOUND_BAD_SET = 33,        /* the set */
+    SAFEBOUND_BAD_JOIN_KIND = 34   /* the kind of a join */
+};
+
+/* The kinds of joins of safebound_joined_rows. */
+enum {
+    SAFEBOUND_LEFT_JOIN = 1,  /* LEFT OUTER JOIN */
+    SAFEBOUND_RIGHT_JOIN = 2, /* RIGHT OUTER JOIN */
+    SAFEBOUND_FULL_JOIN = 3,  /* FULL OUTER JOIN */
+    SAFEBOUND_SEMI_JOIN = 4,  /* the rows of the left side that are joined, as EXISTS keeps them */
+    SAFEBOUND_ANTI_JOIN = 5   /* the rows of the left side that are not, as NOT EXISTS keeps them */
 };
 
 /* So many keys stand in `degree` rows each.
@@ -170,7 +180,8 @@ safebound_status safebound_compress(const safebound_run *runs, size_t runs_lengt
                                     safebound_run *into, size_t room, uint64_t *detail);
 
 /* The rank-wise sum of two lists: that of a column with rows that came later. Rank by rank it is the sum of both
-   degrees, so it dominates the old and the new rows together, whichever values repeat.
+   degrees, so it dominates the old and the new rows together, whichever values repeat. Of a list of the rows that satisfy
+   one condition and a list of those that satisfy another one it makes a list of the rows that satisfy at least one (OR).
 
    SAFEBOUND_BAD_RUN          `detail` is the element of `runs`
    SAFEBOUND_BAD_OTHER_RUN    `detail` is the element of `others`
@@ -184,6 +195,53 @@ safebound_status safebound_compress(const safebound_run *runs, size_t runs_lengt
        safebound_status status = safebound_append(old, 2, later, 1, both, 3, &detail); */
 safebound_status safebound_append(const safebound_run *runs, size_t runs_length, const safebound_run *others,
                                   size_t others_length, safebound_run *into, size_t room, uint64_t *detail);
+
+/* The lesser of two lists. Of a list of the rows that satisfy one condition and a list of those that satisfy another one it
+   makes a list of the rows that satisfy both (AND). At each rank its degrees sum, from the first on, to the lesser of what
+   those of the two lists sum to. The lesser degree at each rank would be too low.
+
+   SAFEBOUND_BAD_RUN          `detail` is the element of `runs`
+   SAFEBOUND_BAD_OTHER_RUN    `detail` is the element of `others`
+   SAFEBOUND_NO_MEMORY
+   SAFEBOUND_ROOM             at most three times as many as both lists have
+   SAFEBOUND_OK
+
+   Example: (3, 2) and (4, 1), (1, 2) give (3, 1), (2, 1), (1, 1).
+
+       safebound_status status = safebound_lesser(red, 1, circles, 2, both, 9, &detail); */
+safebound_status safebound_lesser(const safebound_run *runs, size_t runs_length, const safebound_run *others,
+                                  size_t others_length, safebound_run *into, size_t room, uint64_t *detail);
+
+/* The greater of two lists, rank by rank. Of a list of the rows that have one value in a column and a list of those that have
+   another one it makes a list that dominates either: that of the rows of any one of these values, whichever it is. For the
+   rows of both values together take safebound_append.
+
+   SAFEBOUND_BAD_RUN          `detail` is the element of `runs`
+   SAFEBOUND_BAD_OTHER_RUN    `detail` is the element of `others`
+   SAFEBOUND_BAD_SUM          the greater degrees sum to more than 2^48; `detail` is that sum
+   SAFEBOUND_NO_MEMORY
+   SAFEBOUND_ROOM             at most as many as both lists have
+   SAFEBOUND_OK
+
+   Example: (3, 1), (1, 1) and (2, 2), (1, 1) give (3, 1), (2, 1), (1, 1).
+
+       safebound_status status = safebound_greater(red, 2, blue, 2, any, 4, &detail); */
+safebound_status safebound_greater(const safebound_run *runs, size_t runs_length, const safebound_run *others,
+                                   size_t others_length, safebound_run *into, size_t room, uint64_t *detail);
+
+/* A list that is cut at a number of rows: what is known of at most so many rows that the list dominates. Its degrees are
+   those of the list as far as they sum to that number, and then what is left of it.
+
+   SAFEBOUND_BAD_RUN      `detail` is the element of `runs`
+   SAFEBOUND_NO_MEMORY
+   SAFEBOUND_ROOM         at most one more than `runs` has
+   SAFEBOUND_OK           no elements where `rows` is 0
+
+   Example: (5, 1), (4, 1) cut at 7 rows gives (5, 1), (2, 1).
+
+       safebound_status status = safebound_cut(runs, 2, 7, few, 3, &detail); */
+safebound_status safebound_cut(const safebound_run *runs, size_t runs_length, uint64_t rows, safebound_run *into,
+                               size_t room, uint64_t *detail);
 
 /* The bounds of all sets of entries, in rows. A set is the number whose bit i is 1 where entry i is in it: of the n
    entries there are 2^n sets, `into[set]` is its bound, and `into[0]` is 1.
@@ -267,6 +325,27 @@ safebound_status safebound_bounds_within(const uint64_t *rows, size_t entries, c
 safebound_status safebound_set_bound(const uint64_t *rows, size_t entries, const safebound_equality *equalities,
                                      size_t equalities_length, const safebound_list *lists, size_t lists_length,
                                      const safebound_run *runs, size_t runs_length, uint64_t set, uint64_t *detail);
+
+/* How many rows an outer join, a semi-join or an anti-join has at most. `inner` is a bound of the inner join of both sides by
+   the same condition; `left` and `right` are bounds of the sides. A side counts with all its rows: an outer join and an
+   anti-join keep rows that their own condition (ON) leaves out, also where it names that side alone. At SAFEBOUND_OK
+   `detail` is
+
+       SAFEBOUND_LEFT_JOIN     inner + left
+       SAFEBOUND_RIGHT_JOIN    inner + right
+       SAFEBOUND_FULL_JOIN     inner + left + right
+       SAFEBOUND_SEMI_JOIN     the lesser of inner and left
+       SAFEBOUND_ANTI_JOIN     left
+
+   A number that is SAFEBOUND_NO_BOUND or more is SAFEBOUND_NO_BOUND. As an argument it says that no bound is known.
+
+   SAFEBOUND_BAD_JOIN_KIND     none of these; `detail` is the kind
+   SAFEBOUND_OK
+
+   Example: where 6 rows and 5 rows have an inner join of at most 12, the left join has at most 18.
+
+       safebound_status status = safebound_joined_rows(SAFEBOUND_LEFT_JOIN, 12, 6, 5, &detail); */
+safebound_status safebound_joined_rows(uint64_t kind, uint64_t inner, uint64_t left, uint64_t right, uint64_t *detail);
 
 /* The best left-deep order over bounds of all sets, as safebound_bounds gives them: 2^n numbers, of which the first, that
    of no entry, isn't looked at.

@@ -13,7 +13,7 @@ const char *safebound_status_text(safebound_status status) {
     case SAFEBOUND_BAD_ACCURACY: return "the accuracy isn't from 1 to 64";
     case SAFEBOUND_BAD_RUN: return "a run is empty, rises, or makes a list sum to more than 2^48";
     case SAFEBOUND_BAD_OTHER_RUN: return "a run of the other list is empty, rises, or makes it sum to more than 2^48";
-    case SAFEBOUND_BAD_SUM: return "both lists sum to more than 2^48";
+    case SAFEBOUND_BAD_SUM: return "what two lists make sums to more than 2^48";
     case SAFEBOUND_BAD_ENTRIES: return "the number of entries isn't from 1 to 12";
     case SAFEBOUND_BAD_ROWS: return "a row bound is more than 2^48";
     case SAFEBOUND_BAD_EQUALITIES: return "there are more than 256 equalities";
@@ -27,6 +27,7 @@ const char *safebound_status_text(safebound_status status) {
     case SAFEBOUND_BAD_JOINS: return "there is not one join less than entries";
     case SAFEBOUND_BAD_JOIN: return "a join is of a node that doesn't stand before it";
     case SAFEBOUND_BAD_SET: return "the set has an entry that isn't there";
+    case SAFEBOUND_BAD_JOIN_KIND: return "no join has this number";
     default: return "no status of this library";
     }
 }

@@ -1,10 +1,12 @@
 /* Makes the calls that it reads, one a line, as C makes them, and writes one line for each: status, detail, elements.
 
-     degrees ROOM N KEY..             append ROOM N (DEGREE KEYS).. M (DEGREE KEYS)..
-     compress ACCURACY ROOM N (DEGREE KEYS)..
+     degrees ROOM N KEY..
+     append, lesser or greater, and ROOM N (DEGREE KEYS).. M (DEGREE KEYS)..
+     compress ACCURACY ROOM N (DEGREE KEYS)..                                cut ROWS ROOM N (DEGREE KEYS)..
      bounds ROOM QUERY                bounds_within LIMIT ROOM QUERY         set_bound SET ROOM QUERY
        with a QUERY of N ROWS.. N (4 NUMBERS).. N (4 NUMBERS).. N (DEGREE KEYS)..
      order BUDGET ROOM N BOUND..      tree BUDGET ROOM N BOUND..      version ROOM
+     joined_rows KIND ROOM 3 INNER LEFT RIGHT
 
    Before a call `refuse N` lets its Nth request for memory fail. Each array ends where its page ends, and the next page
    can't be touched, so that a step past a length ends the program. After a call nothing that was given has changed, no
@@ -136,12 +138,29 @@ static void compress(uint64_t *detail) {
     tell(safebound_compress(runs, n, accuracy, (safebound_run *)into.bytes, room, detail), detail, &into, sizeof(safebound_run));
 }
 
-static void append(uint64_t *detail) {
+static void cut(uint64_t *detail) {
+    uint64_t rows = number();
+    size_t room = number(), n;
+    array into = array_of(room * sizeof(safebound_run));
+    const safebound_run *runs = elements(&n, 2, 0);
+    tell(safebound_cut(runs, n, rows, (safebound_run *)into.bytes, room, detail), detail, &into, sizeof(safebound_run));
+}
+
+typedef safebound_status of_two_lists(const safebound_run *, size_t, const safebound_run *, size_t, safebound_run *, size_t,
+                                      uint64_t *);
+
+static void of_both(of_two_lists *call, uint64_t *detail) {
     size_t room = number(), n, m;
     array into = array_of(room * sizeof(safebound_run));
     const safebound_run *runs = elements(&n, 2, 0), *others = elements(&m, 2, 0);
-    tell(safebound_append(runs, n, others, m, (safebound_run *)into.bytes, room, detail), detail, &into, sizeof(safebound_run));
+    tell(call(runs, n, others, m, (safebound_run *)into.bytes, room, detail), detail, &into, sizeof(safebound_run));
 }
+
+static void append(uint64_t *detail) { of_both(safebound_append, detail); }
+
+static void lesser(uint64_t *detail) { of_both(safebound_lesser, detail); }
+
+static void greater(uint64_t *detail) { of_both(safebound_greater, detail); }
 
 typedef struct {
     const uint64_t *rows;
@@ -205,6 +224,15 @@ static void tree(uint64_t *detail) {
     tell(safebound_tree(given_bounds, n, budget, (safebound_join *)into.bytes, room, detail), detail, &into, sizeof(safebound_join));
 }
 
+static void joined_rows(uint64_t *detail) {
+    uint64_t kind = number();
+    array into = array_of(number() * 8);
+    size_t n;
+    const uint64_t *rows = elements(&n, 1, 0);
+    if (n != 3) stop("there are three bounds");
+    tell(safebound_joined_rows(kind, rows[0], rows[1], rows[2], detail), detail, &into, 0);
+}
+
 static void version(uint64_t *detail) {
     size_t room = number();
     array into = array_of(room);
@@ -222,8 +250,10 @@ static const struct {
     const char *name;
     void (*call)(uint64_t *detail);
 } CALLS[] = {{"degrees", degrees}, {"compress", compress},           {"append", append},
+             {"lesser", lesser},   {"greater", greater},             {"cut", cut},
              {"bounds", bounds},   {"bounds_within", bounds_within}, {"set_bound", set_bound},
-             {"order", order},     {"tree", tree},                   {"version", version}};
+             {"order", order},     {"tree", tree},                   {"joined_rows", joined_rows},
+             {"version", version}};
 
 static void make_call(void) {
     requests = 0;

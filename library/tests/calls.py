@@ -24,11 +24,14 @@ UNTOUCHED = 0xA5A5A5A5A5A5A5A5
 
 NUMBER, BYTE = ctypes.c_uint64, ctypes.c_char
 QUERY = [NUMBER, _library.Equality, _library.List, _library.Run]
-ELEMENTS = {"degrees": _library.Run, "compress": _library.Run, "append": _library.Run, "bounds": NUMBER, "bounds_within": NUMBER,
-            "set_bound": NUMBER, "order": _library.Level, "tree": _library.Join, "version": BYTE}
-ARRAYS = {"degrees": [NUMBER], "compress": [_library.Run], "append": [_library.Run] * 2, "bounds": QUERY, "bounds_within": QUERY,
-          "set_bound": QUERY, "order": [NUMBER], "tree": [NUMBER], "version": []}
-WITHOUT_ROOM = {"set_bound"}
+OF_RUNS = ("degrees", "compress", "append", "lesser", "greater", "cut")
+OF_NUMBERS = ("bounds", "bounds_within", "set_bound", "joined_rows")
+ELEMENTS = {**dict.fromkeys(OF_RUNS, _library.Run), **dict.fromkeys(OF_NUMBERS, NUMBER),
+            "order": _library.Level, "tree": _library.Join, "version": BYTE}
+ARRAYS = {"degrees": [NUMBER], "compress": [_library.Run], "cut": [_library.Run], "order": [NUMBER], "tree": [NUMBER],
+          **dict.fromkeys(("append", "lesser", "greater"), [_library.Run] * 2),
+          **dict.fromkeys(("bounds", "bounds_within", "set_bound"), QUERY), "version": []}
+WITHOUT_ROOM = {"set_bound", "joined_rows"}
 
 
 class Answer(NamedTuple):
@@ -38,7 +41,7 @@ class Answer(NamedTuple):
 
 
 class Call(NamedTuple):
-    """A call's name, its arrays, the room for its answer, and the accuracy, the budget, the limit or the set."""
+    """A call's name, its arrays, the room for its answer, and the number that it takes beside them, as an accuracy."""
 
     name: str
     arrays: list
@@ -68,11 +71,15 @@ def shaped(name, numbers):
     return [n if wide == 1 else tuple(numbers[at : at + wide]) for at, n in enumerate(numbers) if at % wide == 0]
 
 
-def by_ctypes(call):
+def arguments(call):
     given = []
     for kind, array in zip(ARRAYS[call.name], call.arrays):
         given += [(kind * len(array))(*array), len(array)]
-    given += [] if call.number is None else [call.number]
+    return given + ([] if call.number is None else [call.number])
+
+
+def by_ctypes(call):
+    given = [call.number, *call.arrays[0]] if call.name == "joined_rows" else arguments(call)
     into, detail = (ELEMENTS[call.name] * call.room)(), NUMBER(UNTOUCHED)
     given += [] if call.name in WITHOUT_ROOM else [into, call.room]
     status = getattr(_library._library(), "safebound_" + call.name)(*given, ctypes.byref(detail))

@@ -51,6 +51,37 @@ static void rows_that_came_later(void) {
     is_run(both[2], 1, 1);
 }
 
+static void rows_of_two_conditions(void) {
+    safebound_run red[] = {{3, 2}}, circles[] = {{4, 1}, {1, 2}}, both[9];
+    uint64_t detail;
+    CHECK(safebound_lesser(red, 1, circles, 2, both, 9, &detail) == SAFEBOUND_OK);
+    CHECK(detail == 3);
+    is_run(both[0], 3, 1);
+    is_run(both[1], 2, 1);
+    is_run(both[2], 1, 1);
+}
+
+static void rows_of_one_of_two_values(void) {
+    safebound_run red[] = {{3, 1}, {1, 1}}, blue[] = {{2, 2}, {1, 1}}, any[4];
+    uint64_t detail;
+    CHECK(safebound_greater(red, 2, blue, 2, any, 4, &detail) == SAFEBOUND_OK);
+    CHECK(detail == 3);
+    is_run(any[0], 3, 1);
+    is_run(any[1], 2, 1);
+    is_run(any[2], 1, 1);
+}
+
+static void few_rows(void) {
+    safebound_run runs[] = {{5, 1}, {4, 1}}, few[3];
+    uint64_t detail;
+    CHECK(safebound_cut(runs, 2, 7, few, 3, &detail) == SAFEBOUND_OK);
+    CHECK(detail == 2);
+    is_run(few[0], 5, 1);
+    is_run(few[1], 2, 1);
+    CHECK(safebound_cut(runs, 2, 0, few, 3, &detail) == SAFEBOUND_OK);
+    CHECK(detail == 0);
+}
+
 static void bounds_of_two_entries(void) {
     uint64_t rows[] = {6, 5}, bounds[4], detail;
     safebound_equality equalities[] = {{0, 0, 1, 0}};
@@ -88,10 +119,22 @@ static void bound_of_one_set(void) {
     CHECK(detail == 4);
 }
 
+static void rows_of_joined_tables(void) {
+    uint64_t detail, expected[] = {18, 17, 23, 6, 6};
+    for (uint64_t kind = SAFEBOUND_LEFT_JOIN; kind <= SAFEBOUND_ANTI_JOIN; kind++) {
+        CHECK(safebound_joined_rows(kind, 12, 6, 5, &detail) == SAFEBOUND_OK);
+        CHECK(detail == expected[kind - SAFEBOUND_LEFT_JOIN]);
+    }
+    CHECK(safebound_joined_rows(SAFEBOUND_FULL_JOIN, SAFEBOUND_NO_BOUND, 6, 5, &detail) == SAFEBOUND_OK);
+    CHECK(detail == SAFEBOUND_NO_BOUND);
+    CHECK(safebound_joined_rows(6, 12, 6, 5, &detail) == SAFEBOUND_BAD_JOIN_KIND);
+    CHECK(detail == 6);
+}
+
 /* Each status has a text of its own, and nothing else has one. */
 static void texts_of_statuses(void) {
-    const char *none = safebound_status_text(SAFEBOUND_BAD_SET + 1);
-    for (safebound_status status = SAFEBOUND_OK; status <= SAFEBOUND_BAD_SET; status++) {
+    const char *none = safebound_status_text(SAFEBOUND_BAD_JOIN_KIND + 1);
+    for (safebound_status status = SAFEBOUND_OK; status <= SAFEBOUND_BAD_JOIN_KIND; status++) {
         int is_status = status <= SAFEBOUND_WORK || status >= SAFEBOUND_BAD_KEYS;
         CHECK(is_status == (strcmp(safebound_status_text(status), none) != 0));
         for (safebound_status other = SAFEBOUND_OK; is_status && other < status; other++)
@@ -152,9 +195,13 @@ static void *all(void *times) {
         degrees_of_a_column();
         few_runs();
         rows_that_came_later();
+        rows_of_two_conditions();
+        rows_of_one_of_two_values();
+        few_rows();
         bounds_of_two_entries();
         bounds_within_a_limit();
         bound_of_one_set();
+        rows_of_joined_tables();
         texts_of_statuses();
         best_order();
         best_tree();

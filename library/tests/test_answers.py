@@ -2,6 +2,7 @@
 
 import itertools
 import random
+import sqlite3
 import time
 import unittest
 from collections import Counter
@@ -56,12 +57,58 @@ class Lists(unittest.TestCase):
             made.append((Call("append", [runs_of(one), runs_of(other)], 24), reading.by_rank(sum, [one, other])))
         self.check(made)
 
+    def test_lesser_and_greater(self):
+        made = []
+        for seed in range(RUNS):
+            pick = random.Random(seed)
+            lists = [random_degrees(pick), random_degrees(pick)]
+            runs = [runs_of(degrees) for degrees in lists]
+            made.append((Call("lesser", runs, 72), reading.least_sums(lists)))
+            made.append((Call("greater", runs, 24), reading.by_rank(max, lists)))
+        self.check(made)
+
+    def test_cut(self):
+        made = []
+        for seed in range(RUNS):
+            pick = random.Random(seed)
+            degrees = random_degrees(pick)
+            rows = pick.choice([0, 1, pick.randint(0, sum(degrees)), sum(degrees), sum(degrees) + 1, 2**64 - 1])
+            made.append((Call("cut", [runs_of(degrees)], 13, rows), reading.cut(degrees, rows)))
+        self.check(made)
+
+    def test_lists_of_conditions_dominate(self):
+        """Over rows with a key, a colour and a size: what calls make of lists of these is never below true counts."""
+        calls, keys = [], []
+        for seed in range(RUNS):
+            pick = random.Random(seed)
+            rows = [(pick.choice(range(6)), pick.choice("rgb"), pick.choice("SML")) for _ in range(pick.randint(0, 60))]
+            red, small, green = ([key for key, *rest in rows if value in rest] for value in "rSg")
+            lists = [runs_of(reading.falling(some)) for some in (red, small, green)]
+            calls.append(Call("lesser", lists[:2], 99))
+            keys.append([key for key, *rest in rows if rest == ["r", "S"]])
+            calls.append(Call("append", lists[:2], 99))
+            keys.append([key for key, colour, size in rows if colour == "r" or size == "S"])
+            calls.append(Call("greater", [lists[0], lists[2]], 99))
+            keys.append(pick.choice([red, green]))
+            few = pick.sample(red, pick.randint(0, len(red)))
+            calls.append(Call("cut", [lists[0]], 99, len(few)))
+            keys.append(few)
+        for call, some, answer in zip(calls, keys, answers(calls)):
+            self.assertEqual(answer.status, Status.OK)
+            bound = list(itertools.accumulate(degrees_of(answer.elements)))
+            for rank, rows in enumerate(itertools.accumulate(reading.falling(some))):
+                self.assertLessEqual(rows, bound[min(rank, len(bound) - 1)], call)
+
     def test_numbers_at_the_limit(self):
         most = 2**48
         self.check_runs([
             (Call("compress", [[(most, 1)]], 2, 64), [(most, 1)]),
             (Call("compress", [[(2, 1), (1, most - 2)]], 3, 1), [(2, most // 2)]),
             (Call("append", [[(1, most - 1)], [(1, 1)]], 2), [(2, 1), (1, most - 2)]),
+            (Call("lesser", [[(most, 1)], [(1, most)]], 1), [(1, most)]),
+            (Call("greater", [[(most, 1)], [(most, 1)]], 1), [(most, 1)]),
+            (Call("greater", [[(most - 1, 1)], [(1, 2)]], 2), [(most - 1, 1), (1, 1)]),
+            (Call("cut", [[(1, most)]], 1, most - 1), [(1, most - 1)]),
         ])
 
     def test_ten_billion_rows(self):
@@ -249,6 +296,52 @@ class Bounds(unittest.TestCase):
 
 
 # ---- plans
+
+
+KINDS = {
+    1: "SELECT COUNT(*) FROM r LEFT JOIN s ON {}",
+    2: "SELECT COUNT(*) FROM r RIGHT JOIN s ON {}",
+    3: "SELECT COUNT(*) FROM r FULL JOIN s ON {}",
+    4: "SELECT COUNT(*) FROM r WHERE EXISTS (SELECT * FROM s WHERE {})",
+    5: "SELECT COUNT(*) FROM r WHERE NOT EXISTS (SELECT * FROM s WHERE {})",
+}
+CONDITIONS = ["r.x = s.x", "r.x < s.x", "r.x = s.x AND r.y = 1", "r.x = s.x AND s.y <> 1", "r.x = s.x OR r.y IS NULL",
+              "1 = 0", "r.y IS NOT NULL"]
+
+
+class JoinedTables(unittest.TestCase):
+    """Joined tables that SQLite counts, with nulls and equal rows."""
+
+    @unittest.skipIf(sqlite3.sqlite_version_info < (3, 39), "this SQLite has no RIGHT and no FULL JOIN")
+    def test_never_under(self):
+        calls, counts = [], []
+        for seed in range(RUNS):
+            pick = random.Random(seed)
+            store = sqlite3.connect(":memory:")
+            for table in "rs":
+                store.execute(f"CREATE TABLE {table} (x, y)")
+                rows = [(pick.choice([None, 1, 2, 3]), pick.choice([None, 1, 2])) for _ in range(pick.randint(0, 9))]
+                store.executemany(f"INSERT INTO {table} VALUES (?, ?)", rows)
+            condition = pick.choice(CONDITIONS)
+            parts = [f"r JOIN s ON {condition}", "r", "s"]
+            bounds = [store.execute(f"SELECT COUNT(*) FROM {part}").fetchone()[0] for part in parts]
+            for kind, statement in KINDS.items():
+                calls.append(Call("joined_rows", [bounds], 0, kind))
+                counts.append(store.execute(statement.format(condition)).fetchone()[0])
+            store.close()
+        for call, count, answer in zip(calls, counts, answers(calls)):
+            self.assertEqual(answer.status, Status.OK)
+            self.assertGreaterEqual(answer.detail, count, call)
+
+    def test_each_kind(self):
+        """Sums that 64 bits don't hold, and bounds that say nothing."""
+        numbers = [0, 1, 5, 2**48, 2**63, 2**64 - 2, NO_BOUND]
+        triples = list(itertools.product(numbers, repeat=3))
+        calls = [Call("joined_rows", [bounds], 0, kind) for kind in KINDS for bounds in triples]
+        for call, answer in zip(calls, answers(calls)):
+            inner, left, right = call.arrays[0]
+            most = {1: inner + left, 2: inner + right, 3: inner + left + right, 4: min(inner, left), 5: left}
+            self.assertEqual(answer, (Status.OK, min(most[call.number], NO_BOUND), []))
 
 
 def orders(bounds, entries):

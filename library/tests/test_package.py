@@ -14,7 +14,7 @@ from array import array
 import calls
 
 import safebound
-from safebound import _library, bounds, lists, plans, query
+from safebound import _library, bounds, joins, lists, plans, query
 
 PAIR = [(("r", "x"), ("s", "x"))]
 
@@ -26,7 +26,7 @@ def pair(**changed):
 
 class Pages(unittest.TestCase):
     def test_what_docstrings_show(self):
-        for module in (safebound, bounds, lists, plans, query):
+        for module in (safebound, bounds, joins, lists, plans, query):
             failed, tried = doctest.testmod(module)
             self.assertEqual((failed, tried > 0), (0, True), module)
 
@@ -36,6 +36,8 @@ class Pages(unittest.TestCase):
         for name, number in vars(_library.Status).items():
             if not name.startswith("_"):
                 self.assertIn(f"SAFEBOUND_{name} = {number}", header.replace(",", " ").replace("\n", " "))
+        for kind, number in joins._KINDS.items():
+            self.assertIn(f"SAFEBOUND_{kind.upper()}_JOIN = {number}", header)
 
 
 class Errors(unittest.TestCase):
@@ -51,9 +53,24 @@ class Errors(unittest.TestCase):
             self.raises(safebound.BadAccuracy, number, lambda: safebound.compress([(1, 1)], number))
         for wrong in [(0, 1), (1, 0), (-1, 1), (1, -1), (2**64 + 1, 1), (1, 2**64 + 1), (6, 1)]:
             self.raises(safebound.BadRun, 1, lambda: safebound.compress([(5, 1), wrong], 1))
-            self.raises(safebound.BadRun, 1, lambda: safebound.append([(5, 1), wrong], []))
-            self.raises(safebound.BadOtherRun, 1, lambda: safebound.append([], [(5, 1), wrong]))
+            self.raises(safebound.BadRun, 1, lambda: safebound.cut([(5, 1), wrong], 3))
+            for of_both in (safebound.append, safebound.lesser, safebound.greater):
+                self.raises(safebound.BadRun, 1, lambda: of_both([(5, 1), wrong], []))
+                self.raises(safebound.BadOtherRun, 1, lambda: of_both([], [(5, 1), wrong]))
         self.raises(safebound.BadSum, 2**48 + 1, lambda: safebound.append([(2**48, 1)], [(1, 1)]))
+        self.raises(safebound.BadSum, 2**48 + 1, lambda: safebound.greater([(2**48, 1)], [(1, 2)]))
+        for number in (-1, 2**64):
+            self.raises(safebound.BadRows, number, lambda: safebound.cut([(5, 1)], number))
+
+    def test_joined_rows(self):
+        for kind in ("inner", "LEFT", "", None, 1):
+            self.raises(safebound.BadJoinKind, kind, lambda: safebound.joined_rows(kind, 12, 6, 5))
+        for number in (-1, 2**64):
+            for bounds in ((number, 6, 5), (12, number, 5), (12, 6, number)):
+                self.raises(safebound.BadRows, number, lambda: safebound.joined_rows("semi", *bounds))
+        kinds = ("left", "right", "full", "semi", "anti")
+        self.assertEqual([safebound.joined_rows(kind, 12, 6, 5) for kind in kinds], [18, 17, 23, 6, 6])
+        self.assertEqual([safebound.joined_rows(kind, None, 6, 5) for kind in kinds], [None, None, None, 6, 6])
 
     def test_queries(self):
         one, other = ("r", "x"), ("s", "x")

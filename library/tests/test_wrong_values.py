@@ -55,14 +55,18 @@ class WrongValues(unittest.TestCase):
 
     def test_runs_of_lists(self):
         self.check([(Call("compress", [runs], 8, 1), Status.BAD_RUN, place) for runs, place in WRONG_LISTS])
-        self.check([(Call("append", [runs, RIGHT], 8), Status.BAD_RUN, place) for runs, place in WRONG_LISTS])
-        self.check([(Call("append", [RIGHT, runs], 8), Status.BAD_OTHER_RUN, place) for runs, place in WRONG_LISTS])
-        self.check([(Call("append", [runs, runs], 8), Status.BAD_RUN, place) for runs, place in WRONG_LISTS])
+        self.check([(Call("cut", [runs], 8, 3), Status.BAD_RUN, place) for runs, place in WRONG_LISTS])
+        for name in ("append", "lesser", "greater"):
+            self.check([(Call(name, [runs, RIGHT], 8), Status.BAD_RUN, place) for runs, place in WRONG_LISTS])
+            self.check([(Call(name, [RIGHT, runs], 8), Status.BAD_OTHER_RUN, place) for runs, place in WRONG_LISTS])
+            self.check([(Call(name, [runs, runs], 8), Status.BAD_RUN, place) for runs, place in WRONG_LISTS])
 
     def test_sum_of_two_lists(self):
         self.check([
             (Call("append", [[(MOST_ROWS, 1)], [(1, 1)]], 2), Status.BAD_SUM, MOST_ROWS + 1),
             (Call("append", [[(1, MOST_ROWS)], [(MOST_ROWS, 1)]], 2), Status.BAD_SUM, 2 * MOST_ROWS),
+            (Call("greater", [[(MOST_ROWS, 1)], [(1, 2)]], 2), Status.BAD_SUM, MOST_ROWS + 1),
+            (Call("greater", [[(1, MOST_ROWS)], [(MOST_ROWS, 1)]], 2), Status.BAD_SUM, 2 * MOST_ROWS - 1),
         ])
 
     def test_number_of_entries(self):
@@ -90,6 +94,10 @@ class WrongValues(unittest.TestCase):
     def test_sets(self):
         query = bounds_of().arrays
         self.check([(Call("set_bound", query, 0, set), Status.BAD_SET, set) for set in (8, 9, 2**16, 2**32, 2**63, 2**64 - 1)])
+
+    def test_kind_of_join(self):
+        for kind in (0, 6, 2**32 + 1, 2**64 - 1):
+            self.check([(Call("joined_rows", [[12, 6, 5]], 0, kind), Status.BAD_JOIN_KIND, kind)])
 
     def test_work(self):
         query = bounds_of().arrays
@@ -148,6 +156,7 @@ class WrongValues(unittest.TestCase):
             (Call("compress", [[(0, 0)]], 0, 0), Status.BAD_ACCURACY, 0),
             (Call("compress", [[(0, 0)]], 0, 1), Status.BAD_RUN, 0),
             (Call("append", [[(MOST_ROWS, 1)], [(1, 1)]], 0), Status.BAD_SUM, MOST_ROWS + 1),
+            (Call("greater", [[(MOST_ROWS, 1)], [(1, 2)]], 0), Status.BAD_SUM, MOST_ROWS + 1),
             (Call("order", [[1] * 3], 0, MOST_BUDGET + 1), Status.BAD_BOUNDS, 3),
             (Call("order", [BOUNDS], 0, MOST_BUDGET + 1), Status.BAD_BUDGET, MOST_BUDGET + 1),
             (Call("order", [BOUNDS], 2, 0), Status.ROOM, 3),
@@ -165,6 +174,12 @@ CALLS = [
     Call("compress", [[(60 - at, 1) for at in range(60)]], 60, 64),
     Call("append", [[(3, 1), (1, 2)], [(2, 2)]], 3),
     Call("append", [[(60 - at, 1) for at in range(60)], [(60 - at, 2) for at in range(30)]], 60),
+    Call("lesser", [[(3, 2)], [(4, 1), (1, 2)]], 3),
+    Call("lesser", [[(60 - at, 1) for at in range(60)], [(60 - at, 2) for at in range(30)]], 60),
+    Call("greater", [[(3, 1), (1, 1)], [(2, 2), (1, 1)]], 3),
+    Call("greater", [[(60 - at, 1) for at in range(60)], [(60 - at, 2) for at in range(30)]], 30),
+    Call("cut", [[(5, 1), (4, 1)]], 2, 7),
+    Call("cut", [[(60 - at, 1) for at in range(60)]], 50, 1774),
     bounds_of(),
     bounds_of(equalities=EQUALITIES + [(2, 0, 0, 0)]),
     bounds_of(rows=[0, 9, 1]),

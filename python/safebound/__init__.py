@@ -20,10 +20,12 @@ from ._library import path, version
 from .bounds import Bounds
 from .command import Output, Plan, append_stats, plan_stats, run
 from .errors import *  # noqa: F401,F403
-from .lists import Run, Runs, append, compress, degree_sequence
+from .joins import joined_rows
+from .lists import Run, Runs, append, compress, cut, degree_sequence, greater, lesser
 from .plans import Join, Order, Tree
 from .query import NO_VALUES, Column, Query
 
 __all__ = [name for name, value in vars(errors).items() if isinstance(value, type)]
 __all__ += ["NO_VALUES", "Bounds", "Column", "Join", "Order", "Output", "Plan", "Query", "Run", "Runs", "Tree"]
-__all__ += ["__version__", "append", "append_stats", "compress", "degree_sequence", "path", "plan_stats", "run", "version"]
+__all__ += ["__version__", "append", "append_stats", "compress", "cut", "degree_sequence", "greater", "joined_rows"]
+__all__ += ["lesser", "path", "plan_stats", "run", "version"]

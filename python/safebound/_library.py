@@ -46,8 +46,9 @@ class Status:
     """The numbers of safebound.h."""
 
     OK, ROOM, NO_MEMORY, BUDGET, PAST_BITS, WORK = range(6)
-    (BAD_KEYS, BAD_ACCURACY, BAD_RUN, BAD_OTHER_RUN, BAD_SUM, BAD_ENTRIES, BAD_ROWS, BAD_EQUALITIES, BAD_EQUALITY, BAD_LIST,
-     MISSING_LIST, BAD_BOUNDS, BAD_BUDGET, BAD_LEVELS, BAD_LEVEL, BAD_JOINS, BAD_JOIN, BAD_SET) = range(16, 34)
+    (BAD_KEYS, BAD_ACCURACY, BAD_RUN, BAD_OTHER_RUN, BAD_SUM, BAD_ENTRIES, BAD_ROWS, BAD_EQUALITIES, BAD_EQUALITY,
+     BAD_LIST, MISSING_LIST, BAD_BOUNDS, BAD_BUDGET, BAD_LEVELS, BAD_LEVEL, BAD_JOINS, BAD_JOIN, BAD_SET,
+     BAD_JOIN_KIND) = range(16, 35)
 
 
 WRONG = {
@@ -55,7 +56,7 @@ WRONG = {
     Status.BAD_ACCURACY: (errors.BadAccuracy, "an accuracy is from 1 to 64, not {}"),
     Status.BAD_RUN: (errors.BadRun, "run {} is of nothing, rises, or sums to more than 2**48"),
     Status.BAD_OTHER_RUN: (errors.BadOtherRun, "run {} of the second list is of nothing, rises, or sums to more than 2**48"),
-    Status.BAD_SUM: (errors.BadSum, "both lists together have {} rows, more than 2**48"),
+    Status.BAD_SUM: (errors.BadSum, "what both lists make has {} rows, more than 2**48"),
     Status.BAD_ENTRIES: (errors.BadEntries, "a query has 1 to 12 entries, not {}"),
     Status.BAD_ROWS: (errors.BadRows, "the row bound of entry {} isn't from 0 to 2**48"),
     Status.BAD_EQUALITIES: (errors.BadEqualities, "a query has at most 256 equalities, not {}"),
@@ -126,6 +127,9 @@ def _library() -> ctypes.CDLL:
         "degrees": [numbers, size, runs, size, detail],
         "compress": [runs, size, _Number, runs, size, detail],
         "append": [runs, size, runs, size, runs, size, detail],
+        "lesser": [runs, size, runs, size, runs, size, detail],
+        "greater": [runs, size, runs, size, runs, size, detail],
+        "cut": [runs, size, _Number, runs, size, detail],
         "bounds": [*query, numbers, size, detail],
         "bounds_within": [*query, _Number, numbers, size, detail],
         "set_bound": [*query, _Number, detail],
@@ -133,14 +137,25 @@ def _library() -> ctypes.CDLL:
         "tree": [numbers, size, _Number, ctypes.POINTER(Join), size, detail],
         "memory": [numbers, size, ctypes.POINTER(Level), size, detail],
         "tree_memory": [numbers, size, ctypes.POINTER(Join), size, detail],
+        "joined_rows": [_Number] * 4 + [detail],
         "version": [ctypes.c_char_p, size, detail],
     }
     for name, form in forms.items():
-        function = getattr(found, "safebound_" + name)
-        function.argtypes, function.restype = form, ctypes.c_uint32
+        # A library of the last release lacks the calls that came since.
+        function = getattr(found, "safebound_" + name, None)
+        if function is not None:
+            function.argtypes, function.restype = form, ctypes.c_uint32
     text, told = ctypes.create_string_buffer(64), _Number()
     if found.safebound_version(text, 64, ctypes.byref(told)) != Status.OK or text.value.decode() != VERSION:
         raise errors.LibraryNotFound(f"{path()} isn't of version {VERSION}")
+    return found
+
+
+def _function(name: str) -> Any:
+    """A call of the library."""
+    found = getattr(_library(), "safebound_" + name, None)
+    if found is None:
+        raise errors.LibraryNotFound(f"{path()} has no call safebound_{name}: it is older than this package")
     return found
 
 
@@ -158,7 +173,7 @@ def array_of(element: Any, parts: Sequence[Any]) -> Any:
 
 def call(name: str, given: list[Any], element: Any, room: int) -> tuple[int, int, Any]:
     """Calls with so much room for elements, and with more where more is needed. Its status, detail and room."""
-    function = getattr(_library(), "safebound_" + name)
+    function = _function(name)
     while True:
         into, detail = (element * room)(), _Number()
         status = function(*given, into, room, ctypes.byref(detail))
@@ -170,7 +185,7 @@ def call(name: str, given: list[Any], element: Any, room: int) -> tuple[int, int
 def ask(name: str, given: list[Any]) -> tuple[int, int]:
     """Calls what answers a number. Its status and the number."""
     detail = _Number()
-    status = getattr(_library(), "safebound_" + name)(*given, ctypes.byref(detail))
+    status = _function(name)(*given, ctypes.byref(detail))
     return status, detail.value
 
 

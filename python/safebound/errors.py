@@ -104,7 +104,7 @@ class BadOtherRun(BadRun):
 
 
 class BadSum(WrongValue):
-    """Two lists together have more than 2**48 rows. `place` is how many."""
+    """What two lists make has more than 2**48 rows. `place` is how many."""
 
 
 class BadEntries(WrongValue):
@@ -145,6 +145,10 @@ class BadBudget(WrongValue):
 
 class BadLimit(WrongValue):
     """The limit of work isn't from 0 to 2**64 - 1. `place` is the limit."""
+
+
+class BadJoinKind(WrongValue):
+    """There is no such kind of join. `place` is what was given for one."""
 
 
 class Refused(SafeBoundError):

@@ -8,9 +8,9 @@ from typing import Any, Hashable, Iterable, NamedTuple, Sequence, SupportsIndex,
 from . import _library
 from ._library import Status
 from .columns import keys_of
-from .errors import BadAccuracy, BadOtherRun, BadRun, WrongType
+from .errors import BadAccuracy, BadOtherRun, BadRows, BadRun, WrongType
 
-__all__ = ["Run", "Runs", "append", "compress", "degree_sequence"]
+__all__ = ["Run", "Runs", "append", "compress", "cut", "degree_sequence", "greater", "lesser"]
 
 
 class Run(NamedTuple):
@@ -76,6 +76,9 @@ def compress(runs: Runs, accuracy: SupportsIndex) -> list[Run]:
 def append(runs: Runs, others: Runs) -> list[Run]:
     """The rank-wise sum of two lists: a list of a column's old rows and of rows that came later.
 
+    It is also the list of the rows that satisfy at least one of two conditions (OR), from a list of those that satisfy
+    each.
+
     Args:
         runs: pairs of a degree and a number of keys, as for `compress`.
         others: likewise.
@@ -91,8 +94,77 @@ def append(runs: Runs, others: Runs) -> list[Run]:
     >>> append([(3, 1), (1, 2)], [(2, 2)])
     [Run(degree=5, keys=1), Run(degree=3, keys=1), Run(degree=1, keys=1)]
     """
-    first, second = encoded(runs), encoded(others, BadOtherRun)
-    return _runs_of("append", [first, len(first), second, len(second)], len(first) + len(second), first, second)
+    return _of_both("append", runs, others, 1)
+
+
+def lesser(runs: Runs, others: Runs) -> list[Run]:
+    """The list of the rows that satisfy two conditions (AND), from a list of those that satisfy each.
+
+    At each rank its degrees sum, from the first on, to the lesser of what those of the two lists sum to. The lesser
+    degree at each rank would be too low.
+
+    Args:
+        runs: pairs of a degree and a number of keys, as for `compress`.
+        others: likewise.
+
+    Returns:
+        Runs that dominate what both lists dominate.
+
+    Raises:
+        BadRun, BadOtherRun: a run of the first or of the second list isn't right.
+        OutOfMemory: memory was wanting.
+
+    >>> lesser([(3, 2)], [(4, 1), (1, 2)])
+    [Run(degree=3, keys=1), Run(degree=2, keys=1), Run(degree=1, keys=1)]
+    """
+    return _of_both("lesser", runs, others, 3)
+
+
+def greater(runs: Runs, others: Runs) -> list[Run]:
+    """The list of the rows of any one of two values, whichever it is, from a list of the rows of each.
+
+    It is the greater degree at each rank. For the rows of both values together take `append`.
+
+    Args:
+        runs: pairs of a degree and a number of keys, as for `compress`.
+        others: likewise.
+
+    Returns:
+        Runs that dominate what either list dominates.
+
+    Raises:
+        BadRun, BadOtherRun: a run of the first or of the second list isn't right.
+        BadSum: the greater degrees sum to more than 2**48.
+        OutOfMemory: memory was wanting.
+
+    >>> greater([(3, 1), (1, 1)], [(2, 2), (1, 1)])
+    [Run(degree=3, keys=1), Run(degree=2, keys=1), Run(degree=1, keys=1)]
+    """
+    return _of_both("greater", runs, others, 1)
+
+
+def cut(runs: Runs, rows: SupportsIndex) -> list[Run]:
+    """The list of at most so many rows that a list dominates.
+
+    Args:
+        runs: pairs of a degree and a number of keys, as for `compress`.
+        rows: how many rows there are at most.
+
+    Returns:
+        The degrees of the list as far as they sum to that number, and then what is left of it.
+
+    Raises:
+        BadRows: the number isn't from 0 to 2**64 - 1.
+        BadRun: a run isn't right.
+        OutOfMemory: memory was wanting.
+
+    >>> cut([(5, 1), (4, 1)], 7)
+    [Run(degree=5, keys=1), Run(degree=2, keys=1)]
+    """
+    given, number = encoded(runs), _library.whole(rows)
+    if number is None:
+        raise BadRows(f"a number of rows is from 0 to 2**64 - 1, not {rows}", rows)
+    return _runs_of("cut", [given, len(given), number], len(given) + 1, given)
 
 
 def encoded(runs: Runs, error: type[BadRun] = BadRun, column: object = None) -> Any:
@@ -136,6 +208,12 @@ def _pair(run: Any, place: int, head: str) -> tuple[Any, Any]:
     except (TypeError, ValueError):
         raise WrongType(f"{head}run {place} is {run!r}, and not a pair of a degree and a number of keys") from None
     return degree, keys
+
+
+def _of_both(name: str, runs: Runs, others: Runs, times: int) -> list[Run]:
+    """What a call makes of two lists: at most so many times as many runs as both have."""
+    first, second = encoded(runs), encoded(others, BadOtherRun)
+    return _runs_of(name, [first, len(first), second, len(second)], times * (len(first) + len(second)), first, second)
 
 
 def _runs_of(name: str, given: list[Any], room: int, runs: Sequence[Any] = (), others: Sequence[Any] = ()) -> list[Run]:

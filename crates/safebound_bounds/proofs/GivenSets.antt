@@ -109,6 +109,7 @@ module _ (rows : List ℕ) (equalities : List Equality) (lists : List ColumnList
   within_cause limit room (refusal.Joins count) h = h
   within_cause limit room (refusal.Join place) h = h
   within_cause limit room (refusal.Set given) h = h
+  within_cause limit room (refusal.JoinKind given) h = h
 
   set_cause : (subset : ℕ) (why : Refusal) → IsBoundsCause rows equalities lists runs (2 ^ length rows) why → IsSetCause rows equalities lists runs subset why
   set_cause subset (refusal.Set given) h = absurd h
@@ -133,6 +134,7 @@ module _ (rows : List ℕ) (equalities : List Equality) (lists : List ColumnList
   set_cause subset (refusal.Level place) h = h
   set_cause subset (refusal.Joins count) h = h
   set_cause subset (refusal.Join place) h = h
+  set_cause subset (refusal.JoinKind given) h = h
   set_cause subset (refusal.Work needed) h = h
 
   pub refused_within : {A : Type 0} (limit room : ℕ) (r : Result A Refusal) → IfErr r (IsBoundsCause rows equalities lists runs room)

@@ -29,6 +29,7 @@ refused_so (refusal.Level place) h = omega arith
 refused_so (refusal.Joins count) h = omega arith
 refused_so (refusal.Join place) h = omega arith
 refused_so (refusal.Set given) h = omega arith
+refused_so (refusal.JoinKind given) h = omega arith
 
 pub done_so : (P : Type 0) (answer : Result ℕ Refusal) (status : ℕ) → status ≡ status_of answer → status ≡ 0 → OnOk answer P → P
 done_so P (Ok count) status is zero h = h

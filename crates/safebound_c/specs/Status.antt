@@ -31,6 +31,7 @@ status_of_refusal (refusal.Level place) = 30
 status_of_refusal (refusal.Joins count) = 31
 status_of_refusal (refusal.Join place) = 32
 status_of_refusal (refusal.Set given) = 33
+status_of_refusal (refusal.JoinKind given) = 34
 
 -- the number that goes with it, or the old one where none does
 abbrev pub detail_of_refusal : Refusal → ℕ → ℕ
@@ -57,6 +58,7 @@ detail_of_refusal (refusal.Level place) old = place
 detail_of_refusal (refusal.Joins count) old = count
 detail_of_refusal (refusal.Join place) old = place
 detail_of_refusal (refusal.Set given) old = given
+detail_of_refusal (refusal.JoinKind given) old = given
 
 -- an answer is how many elements were written, or the number that was asked for, or a refusal
 abbrev pub status_of : Result ℕ Refusal → ℕ

@@ -5,12 +5,17 @@
 #![tactic(auto)]
 
 mod bounding;
+mod joining;
 mod listing;
 mod planning;
 mod status;
 mod version;
 
 pub use bounding::{safebound_bounds, safebound_bounds_within, safebound_set_bound};
-pub use listing::{safebound_append, safebound_compress, safebound_degrees};
+pub use joining::safebound_joined_rows;
+pub use listing::{
+    safebound_append, safebound_compress, safebound_cut, safebound_degrees, safebound_greater,
+    safebound_lesser,
+};
 pub use planning::{safebound_memory, safebound_order, safebound_tree, safebound_tree_memory};
 pub use version::safebound_version;

@@ -1,16 +1,17 @@
 //! Calls on lists.
 ghost use Rattle.std.specs.Prelude.{◌≡◌, ◌≤◌, length};
 ghost use Rattle.limits.specs.Profile.{greatest_rows};
-ghost use Rattle.degree_sequences.specs.ByRank.{rank_sum};
+ghost use Rattle.degree_sequences.specs.ByRank.{rank_maximum, rank_sum};
 ghost use Rattle.degree_sequences.specs.Compression.{compressed};
 ghost use Rattle.degree_sequences.specs.Degrees.{degree_list};
-ghost use Rattle.safebound_lists.specs.Causes.{IsAppendCause, IsCompressCause, IsDegreesCause};
-ghost use Rattle.safebound_lists.specs.Runs.{MayBeAdded, MayBeCompressed, list_of};
+ghost use Rattle.degree_sequences.specs.RunningSums.{cut_at, lesser};
+ghost use Rattle.safebound_lists.specs.Causes.{IsAppendCause, IsCompressCause, IsCutCause, IsDegreesCause, IsGreaterCause, IsLesserCause};
+ghost use Rattle.safebound_lists.specs.Runs.{AreBothRight, AreRight, MayBeAdded, MayBeCompressed, MayBeRaised, list_of};
 ghost use Rattle.safebound_lists.specs.Written.{IsWritten};
 ghost use Rattle.safebound_c.specs.Status.{TellsAnswer, done};
 
 use crate::status::told;
-use safebound_lists::{Run, append, compress, degrees};
+use safebound_lists::{Run, append, compress, cut, degrees, greater_of, lesser_of};
 use std::alloc::Global;
 
 /// Writes the degree sequence of a column's keys, as runs whose degrees fall.
@@ -58,4 +59,52 @@ pub extern "C" fn safebound_append(
     ensures right { result ≡ done → MayBeAdded runs.now others.now }
 {
     told(append(alloc, runs, others, into), detail)
+}
+
+/// Writes the list of the rows that satisfy two conditions, from the lists of both.
+#[unsafe(no_mangle)]
+pub extern "C" fn safebound_lesser(
+    alloc: Global,
+    runs: &[Run],
+    others: &[Run],
+    into: &mut [Run],
+    detail: &mut u64,
+) -> u32
+    ensures exact { TellsAnswer (IsWritten (lesser (list_of runs.now) (list_of others.now)) into.old into.new)
+        (IsLesserCause runs.now others.now (length into.old)) into.old into.new detail.old result detail.new }
+    ensures right { result ≡ done → AreBothRight runs.now others.now }
+{
+    told(lesser_of(alloc, runs, others, into), detail)
+}
+
+/// Writes the list of the rows of one of two values, whichever of them it is, from the lists of both.
+#[unsafe(no_mangle)]
+pub extern "C" fn safebound_greater(
+    alloc: Global,
+    runs: &[Run],
+    others: &[Run],
+    into: &mut [Run],
+    detail: &mut u64,
+) -> u32
+    ensures exact { TellsAnswer (IsWritten (rank_maximum (list_of runs.now) (list_of others.now)) into.old into.new)
+        (IsGreaterCause runs.now others.now (length into.old)) into.old into.new detail.old result detail.new }
+    ensures right { result ≡ done → MayBeRaised runs.now others.now }
+{
+    told(greater_of(alloc, runs, others, into), detail)
+}
+
+/// Writes the list of at most so many rows that a list dominates.
+#[unsafe(no_mangle)]
+pub extern "C" fn safebound_cut(
+    alloc: Global,
+    runs: &[Run],
+    rows: u64,
+    into: &mut [Run],
+    detail: &mut u64,
+) -> u32
+    ensures exact { TellsAnswer (IsWritten (cut_at (list_of runs.now) rows) into.old into.new)
+        (IsCutCause runs.now rows (length into.old)) into.old into.new detail.old result detail.new }
+    ensures right { result ≡ done → AreRight runs.now }
+{
+    told(cut(alloc, runs, rows, into), detail)
 }

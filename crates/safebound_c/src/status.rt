@@ -52,6 +52,8 @@ const BAD_JOIN: u32 = 32;
 
 const BAD_SET: u32 = 33;
 
+const BAD_JOIN_KIND: u32 = 34;
+
 fn status(refusal: Refusal) -> u32
     ensures { result ≡ status_of_refusal refusal }
 {
@@ -79,6 +81,7 @@ fn status(refusal: Refusal) -> u32
         Refusal::Joins { count: _ } => BAD_JOINS,
         Refusal::Join { place: _ } => BAD_JOIN,
         Refusal::Set { given: _ } => BAD_SET,
+        Refusal::JoinKind { given: _ } => BAD_JOIN_KIND,
     }
 }
 
@@ -109,6 +112,7 @@ fn detail_with(refusal: Refusal, old: u64) -> u64
         Refusal::Joins { count } => count,
         Refusal::Join { place } => place,
         Refusal::Set { given } => given,
+        Refusal::JoinKind { given } => given,
     }
 }
 

@@ -1,3 +1,4 @@
+pub mod Conditions
 pub mod FallingRuns
 pub mod Following
 pub mod Small

@@ -3,15 +3,16 @@
 use Rattle.std.specs.Prelude.{◌≡◌, ◌⊎◌, ℕ, ◌+◌, ◌<◌, ◌≤◌, ⊤, List, length}
 use Rattle.std.specs.List.{sum}
 use Rattle.limits.specs.Profile.{greatest_rows, most_accuracy}
-use Rattle.degree_sequences.specs.ByRank.{rank_sum}
+use Rattle.degree_sequences.specs.ByRank.{rank_maximum, rank_sum}
 use Rattle.degree_sequences.specs.Compression.{compressed}
 use Rattle.degree_sequences.specs.Degrees.{degree_list}
+use Rattle.degree_sequences.specs.RunningSums.{cut_at, lesser}
 use Rattle.degree_sequences.specs.Runs.{runs as runs_in}
 use Rattle.safebound_lists.specs.declared.refusal.Refusal.{Refusal}
 use Rattle.safebound_lists.specs.declared.refusal.Refusal.TheVariants as refusal
 use Rattle.safebound_lists.specs.declared.runs.Run.{Run}
 use Rattle.safebound_lists.specs.First.{IsFirstWrong}
-use Rattle.safebound_lists.specs.Runs.{AreRight, IsRightAt, MayBeAdded, MayBeCompressed, list_of}
+use Rattle.safebound_lists.specs.Runs.{AreBothRight, AreRight, IsRightAt, MayBeAdded, MayBeCompressed, MayBeRaised, list_of}
 
 -- of the degrees of keys: too many keys, too little room, or want of memory, which needs no cause
 abbrev pub IsDegreesCause : List ℕ → ℕ → Refusal → Type 0
@@ -40,3 +41,30 @@ IsCompressCause runs accuracy room (refusal.Room needed) =
     MayBeCompressed runs accuracy × (needed ≡ runs_in (compressed accuracy (list_of runs))) × (room < needed)
 IsCompressCause runs accuracy room refusal.NoMemory = ⊤
 IsCompressCause runs accuracy room _ = ⊥
+
+-- of the lesser of two lists: a wrong run, too little room, or want of memory
+abbrev pub IsLesserCause : List Run → List Run → ℕ → Refusal → Type 0
+IsLesserCause runs others room (refusal.Run place) = IsFirstWrong (IsRightAt runs) (length runs) place
+IsLesserCause runs others room (refusal.OtherRun place) = AreRight runs × IsFirstWrong (IsRightAt others) (length others) place
+IsLesserCause runs others room (refusal.Room needed) =
+    AreBothRight runs others × (needed ≡ runs_in (lesser (list_of runs) (list_of others))) × (room < needed)
+IsLesserCause runs others room refusal.NoMemory = ⊤
+IsLesserCause runs others room _ = ⊥
+
+-- of the greater of two lists: a wrong run, a sum that is too large, too little room, or want of memory
+abbrev pub IsGreaterCause : List Run → List Run → ℕ → Refusal → Type 0
+IsGreaterCause runs others room (refusal.Run place) = IsFirstWrong (IsRightAt runs) (length runs) place
+IsGreaterCause runs others room (refusal.OtherRun place) = AreRight runs × IsFirstWrong (IsRightAt others) (length others) place
+IsGreaterCause runs others room (refusal.Sum of_both) =
+    AreBothRight runs others × (of_both ≡ sum (rank_maximum (list_of runs) (list_of others))) × (greatest_rows < of_both)
+IsGreaterCause runs others room (refusal.Room needed) =
+    MayBeRaised runs others × (needed ≡ runs_in (rank_maximum (list_of runs) (list_of others))) × (room < needed)
+IsGreaterCause runs others room refusal.NoMemory = ⊤
+IsGreaterCause runs others room _ = ⊥
+
+-- of a list that is cut at a number of rows: a wrong run, too little room, or want of memory
+abbrev pub IsCutCause : List Run → ℕ → ℕ → Refusal → Type 0
+IsCutCause runs rows room (refusal.Run place) = IsFirstWrong (IsRightAt runs) (length runs) place
+IsCutCause runs rows room (refusal.Room needed) = AreRight runs × (needed ≡ runs_in (cut_at (list_of runs) rows)) × (room < needed)
+IsCutCause runs rows room refusal.NoMemory = ⊤
+IsCutCause runs rows room _ = ⊥

@@ -2,6 +2,7 @@
 use Rattle.std.specs.Prelude.{ℕ, ◌+◌, ◌<◌, ◌≤◌, List, [], ◌∷◌, ◌++◌, map, length, take, slice_index_or}
 use Rattle.std.specs.List.{AllByRecursion, sum}
 use Rattle.limits.specs.Profile.{greatest_rows, most_accuracy}
+use Rattle.degree_sequences.specs.ByRank.{rank_maximum}
 use Rattle.piece_math.specs.declared.pieces.Piece.{Piece}
 use Rattle.piece_math.specs.Expanded.{expanded}
 use Rattle.safebound_lists.specs.declared.runs.Run.{Run}
@@ -49,3 +50,13 @@ pub record MayBeAdded (runs others : List Run) : Type 0 where
   pub right : AreRight runs
   pub others_right : AreRight others
   pub small : sum (list_of runs) + sum (list_of others) ≤ greatest_rows
+
+-- a lesser list: two right ones
+pub record AreBothRight (runs others : List Run) : Type 0 where
+  pub right : AreRight runs
+  pub others_right : AreRight others
+
+-- a greater list: two right ones, of which the greater degrees sum to at most 2^48
+pub record MayBeRaised (runs others : List Run) : Type 0 where
+  pub both : AreBothRight runs others
+  pub small : sum (rank_maximum (list_of runs) (list_of others)) ≤ greatest_rows

@@ -1,10 +1,12 @@
-//! Why lists that calls make of others still say what is true, as a law. The call does nothing.
-ghost use Rattle.std.specs.Prelude.{ℕ, List, ◌++◌};
-ghost use Rattle.degree_sequences.specs.ByRank.{rank_sum};
+//! Why lists that calls make of others still say what is true, as laws. The calls do nothing.
+ghost use Rattle.std.specs.Prelude.{◌≡◌, ◌⊎◌, ◌≤◌, ◌==◌, ◌&&◌, ◌||◌, ℕ, Bool, List, ◌++◌, length, map};
+ghost use Rattle.std.specs.List.{filter};
+ghost use Rattle.degree_sequences.specs.ByRank.{rank_maximum, rank_sum};
 ghost use Rattle.degree_sequences.specs.Compression.{compressed};
 ghost use Rattle.degree_sequences.specs.Degrees.{degree_list};
 ghost use Rattle.degree_sequences.specs.Domination.{DominatesKeys};
 ghost use Rattle.degree_sequences.specs.Falling.{IsFalling};
+ghost use Rattle.degree_sequences.specs.RunningSums.{cut_at, lesser};
 
 /// Degrees dominate their keys, a compressed list dominates what the list dominates, and a sum of two lists the keys of both.
 pub fn lists_dominate()
@@ -13,4 +15,22 @@ pub fn lists_dominate()
         → DominatesKeys list keys → DominatesKeys (compressed accuracy list) keys }
     ensures added { (list later : List ℕ) (keys more : List ℕ)
         → DominatesKeys list keys → DominatesKeys later more → DominatesKeys (rank_sum list later) (keys ++ more) }
+{}
+
+/// What lists of conditions make known of rows, which are told by their numbers and have a key each: the lesser list dominates the rows that
+/// satisfy both conditions, the sum those that satisfy at least one. The greater list dominates the rows of any one of two values, and a list
+/// that is cut dominates what has no more rows.
+pub fn conditions_dominate()
+    ensures both { (rows : List ℕ) (key : ℕ → ℕ) (first second : ℕ → Bool) (list other : List ℕ)
+        → DominatesKeys list (map key (filter first rows)) → DominatesKeys other (map key (filter second rows))
+        → DominatesKeys (lesser list other) (map key (filter (λ row. first row && second row) rows)) }
+    ensures at_least_one { (rows : List ℕ) (key : ℕ → ℕ) (first second : ℕ → Bool) (list other : List ℕ)
+        → DominatesKeys list (map key (filter first rows)) → DominatesKeys other (map key (filter second rows))
+        → DominatesKeys (rank_sum list other) (map key (filter (λ row. first row || second row) rows)) }
+    ensures one_of { (rows : List ℕ) (key value : ℕ → ℕ) (one another : ℕ) (list other : List ℕ)
+        → DominatesKeys list (map key (filter (λ row. value row == one) rows))
+        → DominatesKeys other (map key (filter (λ row. value row == another) rows))
+        → (any : ℕ) → (any ≡ one) ⊎ (any ≡ another)
+        → DominatesKeys (rank_maximum list other) (map key (filter (λ row. value row == any) rows)) }
+    ensures cut { (list keys : List ℕ) (rows : ℕ) → DominatesKeys list keys → length keys ≤ rows → DominatesKeys (cut_at list rows) keys }
 {}

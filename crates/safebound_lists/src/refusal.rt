@@ -50,6 +50,8 @@ pub enum Refusal {
     Budget { least: u64 },
     /// The set has an entry that isn't there.
     Set { given: u64 },
+    /// There is no such kind of join.
+    JoinKind { given: u64 },
     /// The work passes the limit: the least limit that would do, or 2^64 - 1 where it is more.
     Work { needed: u64 },
     /// Each plan has a part without a bound, or what was asked for has more than 64 bits.

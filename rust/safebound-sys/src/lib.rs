@@ -53,7 +53,7 @@ statuses! {
     SAFEBOUND_BAD_ACCURACY = 17, "`detail` is the accuracy.";
     SAFEBOUND_BAD_RUN = 18, "`detail` is an element of `runs`.";
     SAFEBOUND_BAD_OTHER_RUN = 19, "`detail` is an element of `others`.";
-    SAFEBOUND_BAD_SUM = 20, "`detail` is the sum of two lists.";
+    SAFEBOUND_BAD_SUM = 20, "`detail` is the sum of what two lists make.";
     SAFEBOUND_BAD_ENTRIES = 21, "`detail` is the number of entries.";
     SAFEBOUND_BAD_ROWS = 22, "`detail` is an element of `rows`.";
     SAFEBOUND_BAD_EQUALITIES = 23, "`detail` is the number of equalities.";
@@ -67,7 +67,19 @@ statuses! {
     SAFEBOUND_BAD_JOINS = 31, "`detail` is the number of joins.";
     SAFEBOUND_BAD_JOIN = 32, "`detail` is an element of `joins`.";
     SAFEBOUND_BAD_SET = 33, "`detail` is the set.";
+    SAFEBOUND_BAD_JOIN_KIND = 34, "`detail` is the kind of a join.";
 }
+
+/// The left outer join, of [`safebound_joined_rows`].
+pub const SAFEBOUND_LEFT_JOIN: u64 = 1;
+/// The right outer join.
+pub const SAFEBOUND_RIGHT_JOIN: u64 = 2;
+/// The full outer join.
+pub const SAFEBOUND_FULL_JOIN: u64 = 3;
+/// The rows of the left side that are joined.
+pub const SAFEBOUND_SEMI_JOIN: u64 = 4;
+/// The rows of the left side that are not joined.
+pub const SAFEBOUND_ANTI_JOIN: u64 = 5;
 
 /// So many keys stand in `degree` rows each.
 #[repr(C)]
@@ -170,6 +182,38 @@ extern "C" {
         detail: *mut u64,
     ) -> safebound_status;
 
+    /// The lesser of two lists.
+    pub fn safebound_lesser(
+        runs: *const safebound_run,
+        runs_length: usize,
+        others: *const safebound_run,
+        others_length: usize,
+        into: *mut safebound_run,
+        room: usize,
+        detail: *mut u64,
+    ) -> safebound_status;
+
+    /// The greater of two lists, rank by rank.
+    pub fn safebound_greater(
+        runs: *const safebound_run,
+        runs_length: usize,
+        others: *const safebound_run,
+        others_length: usize,
+        into: *mut safebound_run,
+        room: usize,
+        detail: *mut u64,
+    ) -> safebound_status;
+
+    /// A list that is cut at a number of rows.
+    pub fn safebound_cut(
+        runs: *const safebound_run,
+        runs_length: usize,
+        rows: u64,
+        into: *mut safebound_run,
+        room: usize,
+        detail: *mut u64,
+    ) -> safebound_status;
+
     /// The bounds of all sets of entries, in rows.
     pub fn safebound_bounds(
         rows: *const u64,
@@ -214,6 +258,9 @@ extern "C" {
         set: u64,
         detail: *mut u64,
     ) -> safebound_status;
+
+    /// How many rows an outer join, a semi-join or an anti-join has at most.
+    pub fn safebound_joined_rows(kind: u64, inner: u64, left: u64, right: u64, detail: *mut u64) -> safebound_status;
 
     /// The best left-deep order over bounds of all sets.
     pub fn safebound_order(

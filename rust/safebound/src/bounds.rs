@@ -26,6 +26,10 @@ impl Bound {
         }
     }
 
+    pub(crate) fn number(self) -> u64 {
+        self.rows().unwrap_or(sys::SAFEBOUND_NO_BOUND)
+    }
+
     pub(crate) fn of_number(number: u64) -> Bound {
         if number == sys::SAFEBOUND_NO_BOUND {
             return Bound::NoBound;

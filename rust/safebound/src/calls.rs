@@ -69,11 +69,37 @@ pub(crate) fn compress(runs: &[Run], accuracy: u64) -> Result<Vec<Run>, Refusal>
     }
 }
 
+pub(crate) fn cut(runs: &[Run], rows: u64) -> Result<Vec<Run>, Refusal> {
+    unsafe {
+        answer(runs.len() + 1, |into: *mut Run, room, detail| {
+            sys::safebound_cut(runs.as_ptr().cast(), runs.len(), rows, into.cast(), room, detail)
+        })
+    }
+}
+
 pub(crate) fn append(runs: &[Run], others: &[Run]) -> Result<Vec<Run>, Refusal> {
     let (one, other) = (runs.as_ptr().cast(), others.as_ptr().cast());
     unsafe {
         answer(runs.len() + others.len(), |into: *mut Run, room, detail| {
             sys::safebound_append(one, runs.len(), other, others.len(), into.cast(), room, detail)
+        })
+    }
+}
+
+pub(crate) fn lesser(runs: &[Run], others: &[Run]) -> Result<Vec<Run>, Refusal> {
+    let (one, other) = (runs.as_ptr().cast(), others.as_ptr().cast());
+    unsafe {
+        answer(3 * (runs.len() + others.len()), |into: *mut Run, room, detail| {
+            sys::safebound_lesser(one, runs.len(), other, others.len(), into.cast(), room, detail)
+        })
+    }
+}
+
+pub(crate) fn greater(runs: &[Run], others: &[Run]) -> Result<Vec<Run>, Refusal> {
+    let (one, other) = (runs.as_ptr().cast(), others.as_ptr().cast());
+    unsafe {
+        answer(runs.len() + others.len(), |into: *mut Run, room, detail| {
+            sys::safebound_greater(one, runs.len(), other, others.len(), into.cast(), room, detail)
         })
     }
 }
@@ -150,6 +176,14 @@ pub(crate) fn set_bound(query: &Numbers, set: u64) -> Result<u64, Refusal> {
         )
     };
     match status {
+        sys::SAFEBOUND_OK => Ok(detail),
+        status => Err(Refusal { status, detail }),
+    }
+}
+
+pub(crate) fn joined_rows(kind: u64, inner: u64, left: u64, right: u64) -> Result<u64, Refusal> {
+    let mut detail = 0;
+    match unsafe { sys::safebound_joined_rows(kind, inner, left, right, &mut detail) } {
         sys::SAFEBOUND_OK => Ok(detail),
         status => Err(Refusal { status, detail }),
     }

@@ -136,7 +136,7 @@ pub enum Error {
         /// What is wrong with it.
         why: WrongRun,
     },
-    /// Two lists together have more than 2^48 rows.
+    /// What two lists make has more than 2^48 rows.
     BadSum {
         /// How many.
         sum: u64,
@@ -260,7 +260,7 @@ impl fmt::Display for Error {
             Error::BadRun { place, column: None, why } => why.write(f, "", *place),
             Error::BadRun { place, column: Some(column), why } => why.write(f, &format!("{column}: "), *place),
             Error::BadOtherRun { place, why } => why.write(f, "second list: ", *place),
-            Error::BadSum { sum } => write!(f, "both lists together have {sum} rows, more than 2^48"),
+            Error::BadSum { sum } => write!(f, "what both lists make has {sum} rows, more than 2^48"),
             Error::BadEntries { count } => write!(f, "a query has 1 to 12 entries, not {count}"),
             Error::RepeatedEntry { entry } => write!(f, "entry {entry} comes twice"),
             Error::UnknownEntry { entry } => write!(f, "there is no entry {entry}"),

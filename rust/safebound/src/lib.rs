@@ -31,6 +31,7 @@ mod calls;
 #[cfg(feature = "command")]
 mod command;
 mod errors;
+mod joins;
 mod lists;
 mod plans;
 mod query;
@@ -40,6 +41,7 @@ pub use calls::version;
 #[cfg(feature = "command")]
 pub use command::{Command, Output};
 pub use errors::{Column, Error, WrongEquality, WrongList, WrongRun};
-pub use lists::{append, compress, degree_sequence, degree_sequence_of_keys, Run};
+pub use joins::{joined_rows, JoinKind};
+pub use lists::{append, compress, cut, degree_sequence, degree_sequence_of_keys, greater, lesser, Run};
 pub use plans::{Join, Order, Shape, Tree};
 pub use query::Query;

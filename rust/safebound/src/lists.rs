@@ -94,6 +94,8 @@ pub fn compress(runs: &[Run], accuracy: u64) -> Result<Vec<Run>, Error> {
 
 /// The rank-wise sum of two lists: a list of a column's old rows and of rows that came later, whichever values repeat.
 ///
+/// It is also the list of the rows that satisfy at least one of two conditions (OR), from a list of those that satisfy each.
+///
 /// ```
 /// use safebound::{append, Run};
 ///
@@ -108,4 +110,62 @@ pub fn compress(runs: &[Run], accuracy: u64) -> Result<Vec<Run>, Error> {
 /// together have more than 2^48 rows, [`Error::OutOfMemory`].
 pub fn append(runs: &[Run], others: &[Run]) -> Result<Vec<Run>, Error> {
     calls::append(runs, others).map_err(|refusal| Error::of_lists(refusal, runs, others))
+}
+
+/// The list of the rows that satisfy two conditions (AND), from a list of those that satisfy each.
+///
+/// At each rank its degrees sum, from the first on, to the lesser of what those of the two lists sum to. The lesser degree at
+/// each rank would be too low.
+///
+/// ```
+/// use safebound::{lesser, Run};
+///
+/// let both = lesser(&[(3, 2)].map(Run::from), &[(4, 1), (1, 2)].map(Run::from))?;
+/// assert_eq!(both, [(3, 1), (2, 1), (1, 1)].map(Run::from));
+/// # Ok::<(), safebound::Error>(())
+/// ```
+///
+/// # Errors
+///
+/// [`Error::BadRun`] for a run of the first list, [`Error::BadOtherRun`] for one of the second, [`Error::OutOfMemory`].
+pub fn lesser(runs: &[Run], others: &[Run]) -> Result<Vec<Run>, Error> {
+    calls::lesser(runs, others).map_err(|refusal| Error::of_lists(refusal, runs, others))
+}
+
+/// The list of the rows of any one of two values, whichever it is, from a list of the rows of each.
+///
+/// It is the greater degree at each rank. For the rows of both values together take [`append`].
+///
+/// ```
+/// use safebound::{greater, Run};
+///
+/// let any = greater(&[(3, 1), (1, 1)].map(Run::from), &[(2, 2), (1, 1)].map(Run::from))?;
+/// assert_eq!(any, [(3, 1), (2, 1), (1, 1)].map(Run::from));
+/// # Ok::<(), safebound::Error>(())
+/// ```
+///
+/// # Errors
+///
+/// [`Error::BadRun`] for a run of the first list, [`Error::BadOtherRun`] for one of the second, [`Error::BadSum`] where the
+/// greater degrees sum to more than 2^48 rows, [`Error::OutOfMemory`].
+pub fn greater(runs: &[Run], others: &[Run]) -> Result<Vec<Run>, Error> {
+    calls::greater(runs, others).map_err(|refusal| Error::of_lists(refusal, runs, others))
+}
+
+/// The list of at most so many rows that a list dominates: its degrees as far as they sum to that number, and then what is
+/// left of it.
+///
+/// ```
+/// use safebound::{cut, Run};
+///
+/// let few = cut(&[(5, 1), (4, 1)].map(Run::from), 7)?;
+/// assert_eq!(few, [(5, 1), (2, 1)].map(Run::from));
+/// # Ok::<(), safebound::Error>(())
+/// ```
+///
+/// # Errors
+///
+/// [`Error::BadRun`], [`Error::OutOfMemory`].
+pub fn cut(runs: &[Run], rows: u64) -> Result<Vec<Run>, Error> {
+    calls::cut(runs, rows).map_err(|refusal| Error::of_lists(refusal, runs, &[]))
 }

@@ -1,7 +1,7 @@
 //! Random queries: their bounds, orders and trees are what the C program library/tests/calls.c gets, which
 //! SAFEBOUND_CALLS names. The query is written for both here, with other numbers of columns than the crate has.
 
-use safebound::{append, compress, degree_sequence_of_keys, Bounds, Error, Query, Run};
+use safebound::{append, compress, cut, degree_sequence_of_keys, greater, lesser, Bounds, Error, Query, Run};
 use std::io::Write;
 use std::process::{Command, Stdio};
 
@@ -168,6 +168,9 @@ fn lists() {
         let keys_text: String = keys.iter().map(|key| format!(" {key}")).collect();
         want(format!("compress {accuracy} 99 {}", list_text(&one)), compress(&one, accuracy));
         want(format!("append 99 {} {}", list_text(&one), list_text(&other)), append(&one, &other));
+        want(format!("lesser 99 {} {}", list_text(&one), list_text(&other)), lesser(&one, &other));
+        want(format!("greater 99 {} {}", list_text(&one), list_text(&other)), greater(&one, &other));
+        want(format!("cut {spread} 99 {}", list_text(&one)), cut(&one, spread as u64));
         want(format!("degrees 99 {}{keys_text}", keys.len()), degree_sequence_of_keys(&keys));
     }
     assert_eq!(asked(&program, &lines), wanted);

@@ -1,6 +1,9 @@
 //! The header's examples, its statuses, and what a query's names may be.
 
-use safebound::{append, compress, degree_sequence, degree_sequence_of_keys, Bound, Error, Join, Query, Run};
+use safebound::{
+    append, compress, cut, degree_sequence, degree_sequence_of_keys, greater, joined_rows, lesser, Bound, Error, Join,
+    JoinKind, Query, Run,
+};
 use std::path::Path;
 
 fn runs<const N: usize>(pairs: [(u64, u64); N]) -> Vec<Run> {
@@ -21,9 +24,26 @@ fn lists() -> Result<(), Error> {
     assert_eq!(degree_sequence_of_keys(&[8, 8, 8, 8, 8, 2, 2, 2, 5])?, runs([(5, 1), (3, 1), (1, 1)]));
     assert_eq!(compress(&runs([(5, 1), (4, 1), (3, 1), (1, 1)]), 1)?, runs([(5, 2), (3, 1)]));
     assert_eq!(append(&runs([(3, 1), (1, 2)]), &runs([(2, 2)]))?, runs([(5, 1), (3, 1), (1, 1)]));
+    assert_eq!(lesser(&runs([(3, 2)]), &runs([(4, 1), (1, 2)]))?, runs([(3, 1), (2, 1), (1, 1)]));
+    assert_eq!(greater(&runs([(3, 1), (1, 1)]), &runs([(2, 2), (1, 1)]))?, runs([(3, 1), (2, 1), (1, 1)]));
+    assert_eq!(cut(&runs([(5, 1), (4, 1)]), 7)?, runs([(5, 1), (2, 1)]));
+    assert_eq!(cut(&runs([(5, 1), (4, 1)]), 0)?, []);
     assert_eq!(degree_sequence_of_keys(&[])?, []);
     assert_eq!(compress(&[], 1)?, []);
     assert_eq!(append(&[], &[])?, []);
+    Ok(())
+}
+
+#[test]
+fn joined_tables() -> Result<(), Error> {
+    let [inner, left, right] = [12, 6, 5].map(Bound::Rows);
+    for (kind, most) in
+        [(JoinKind::Left, 18), (JoinKind::Right, 17), (JoinKind::Full, 23), (JoinKind::Semi, 6), (JoinKind::Anti, 6)]
+    {
+        assert_eq!(joined_rows(kind, inner, left, right)?, Bound::Rows(most));
+    }
+    assert_eq!(joined_rows(JoinKind::Full, Bound::NoBound, left, right)?, Bound::NoBound);
+    assert_eq!(joined_rows(JoinKind::Semi, Bound::NoBound, left, right)?, left);
     Ok(())
 }
 
@@ -138,14 +158,24 @@ fn version_is_this_one() -> Result<(), Error> {
 }
 
 #[test]
-fn statuses_are_those_of_the_header() {
+fn numbers_are_those_of_the_header() {
     let header = Path::new(env!("CARGO_MANIFEST_DIR")).join("../../include/safebound.h");
     let text = std::fs::read_to_string(header).expect("the header");
+    let kinds = [
+        ("SAFEBOUND_LEFT_JOIN", safebound_sys::SAFEBOUND_LEFT_JOIN),
+        ("SAFEBOUND_RIGHT_JOIN", safebound_sys::SAFEBOUND_RIGHT_JOIN),
+        ("SAFEBOUND_FULL_JOIN", safebound_sys::SAFEBOUND_FULL_JOIN),
+        ("SAFEBOUND_SEMI_JOIN", safebound_sys::SAFEBOUND_SEMI_JOIN),
+        ("SAFEBOUND_ANTI_JOIN", safebound_sys::SAFEBOUND_ANTI_JOIN),
+    ];
     for (name, number) in safebound_sys::STATUSES {
+        assert!(text.contains(&format!("    {name} = {number}")), "{name}");
+    }
+    for (name, number) in kinds {
         assert!(text.contains(&format!("    {name} = {number}")), "{name}");
     }
     assert_eq!(
         text.lines().filter(|line| line.starts_with("    SAFEBOUND_") && line.contains(" = ")).count(),
-        safebound_sys::STATUSES.len()
+        safebound_sys::STATUSES.len() + kinds.len()
     );
 }

@@ -1,6 +1,8 @@
 //! Each wrong value, told with its place.
 
-use safebound::{append, compress, Column, Error, Query, Run, WrongEquality, WrongList, WrongRun};
+use safebound::{
+    append, compress, cut, greater, lesser, Column, Error, Query, Run, WrongEquality, WrongList, WrongRun,
+};
 
 const MOST_ROWS: u64 = 1 << 48;
 const MOST_BUDGET: u64 = 1 << 59;
@@ -74,10 +76,14 @@ fn runs_of_lists() {
     ] {
         let list = runs([(5, 1), wrong]);
         assert_eq!(compress(&list, 1), Err(Error::BadRun { place: 1, column: None, why }));
-        assert_eq!(append(&list, &[]), Err(Error::BadRun { place: 1, column: None, why }));
-        assert_eq!(append(&[], &list), Err(Error::BadOtherRun { place: 1, why }));
+        assert_eq!(cut(&list, 3), Err(Error::BadRun { place: 1, column: None, why }));
+        for of_both in [append, lesser, greater] {
+            assert_eq!(of_both(&list, &[]), Err(Error::BadRun { place: 1, column: None, why }));
+            assert_eq!(of_both(&[], &list), Err(Error::BadOtherRun { place: 1, why }));
+        }
     }
     assert_eq!(append(&runs([(MOST_ROWS, 1)]), &runs([(1, 1)])), Err(Error::BadSum { sum: MOST_ROWS + 1 }));
+    assert_eq!(greater(&runs([(MOST_ROWS, 1)]), &runs([(1, 2)])), Err(Error::BadSum { sum: MOST_ROWS + 1 }));
 }
 
 #[test]

@@ -1,0 +1,40 @@
+-- Bounds in 64 bits, of which the greatest says nothing.
+use Rattle.std.proofs.Common.{ℕ, ◌+◌, ◌≤◌, min, inl, inr, arith}
+use Rattle.std.proofs.lemmas.Bool.{cases_lt}
+use Rattle.safebound_bounds.specs.Meaning.{narrowed, no_bound}
+use Rattle.joined_tables.specs.Bounds.{IsWithin}
+
+-- no more rows than a number are within it, as 64 bits hold it
+pub narrowed_within : (rows n : ℕ) → rows ≤ n → IsWithin rows (narrowed n)
+narrowed_within rows n few = elim (cases_lt n no_bound) [
+  | inl low ↦ inl (omega (arith, few, low))
+  | inr high ↦ inr (omega (arith, high))
+]
+
+pub sum_within : (rows more x y : ℕ) → IsWithin rows x → IsWithin more y → IsWithin (rows + more) (narrowed (x + y))
+sum_within rows more x y few others = elim few [
+  | inl low ↦ elim others [
+    | inl small ↦ narrowed_within (rows + more) (x + y) (omega (arith, low, small))
+    | inr none ↦ inr (omega (arith, none))
+  ]
+  | inr none ↦ inr (omega (arith, none))
+]
+
+pub least_within : (rows x y : ℕ) → x ≤ no_bound → y ≤ no_bound → IsWithin rows x → IsWithin rows y → IsWithin rows (min x y)
+least_within rows x y x_fits y_fits few others = elim few [
+  | inl low ↦ elim others [
+    | inl small ↦ inl (omega (arith, low, small))
+    | inr none ↦ inl (omega (arith, low, none, x_fits))
+  ]
+  | inr none ↦ elim others [
+    | inl small ↦ inl (omega (arith, small, none, y_fits))
+    | inr neither ↦ inr (omega (arith, none, neither))
+  ]
+]
+
+-- fewer rows are within too
+pub fewer_within : (rows more x : ℕ) → rows ≤ more → IsWithin more x → IsWithin rows x
+fewer_within rows more x less few = elim few [
+  | inl low ↦ inl (omega (arith, less, low))
+  | inr none ↦ inr none
+]

@@ -1,0 +1,73 @@
+//! The call for outer joins, semi-joins and anti-joins.
+ghost use Rattle.std.specs.Prelude.{◌≡◌, ℕ, [], length, IfErr, IfOk, Some};
+ghost use Rattle.joined_tables.specs.Bounds.{IsWithin};
+ghost use Rattle.joined_tables.specs.Tables.{Condition, Table, inner_join, joined};
+ghost use Rattle.joined_tables.specs.declared.joins.Join.{Join};
+ghost use Rattle.safebound_c.specs.Kinds.{IsJoined, IsKindCause, join_of};
+ghost use Rattle.safebound_c.specs.Status.{TellsAnswer, done};
+
+use crate::status::told;
+use joined_tables::{Join, joined_rows};
+use safebound_lists::Refusal;
+
+const LEFT: u64 = 1;
+
+const RIGHT: u64 = 2;
+
+const FULL: u64 = 3;
+
+const SEMI: u64 = 4;
+
+const ANTI: u64 = 5;
+
+// The join of a number.
+fn join_named(kind: u64) -> Option<Join>
+    ensures { result ≡ join_of kind }
+{
+    match kind {
+        LEFT => Some(Join::Left),
+        RIGHT => Some(Join::Right),
+        FULL => Some(Join::Full),
+        SEMI => Some(Join::Semi),
+        ANTI => Some(Join::Anti),
+        _ => None,
+    }
+}
+
+// How many rows a joined table has at most, by bounds of the inner join and of both tables.
+fn rows_of_kind(kind: u64, inner: u64, left: u64, right: u64) -> Result<u64, Refusal>
+    ensures done { IfOk result (IsJoined kind inner left right) }
+    ensures never_under { IfOk result (λ rows. (join : Join) → join_of kind ≡ Some join
+        → (is_true : Condition) (left_table right_table : Table)
+        → IsWithin (length (inner_join is_true left_table right_table)) inner
+        → IsWithin (length left_table.rows) left → IsWithin (length right_table.rows) right
+        → IsWithin (length (joined join is_true left_table right_table)) rows) }
+    ensures refused { IfErr result (IsKindCause kind) }
+{
+    match join_named(kind) {
+        Some(join) => Ok(joined_rows(join, inner, left, right)),
+        None => Err(Refusal::JoinKind { given: kind }),
+    }
+}
+
+/// How many rows an outer join, a semi-join or an anti-join of two tables has at most.
+///
+/// Never under: where the inner join and both tables have at most as many rows as their bounds say, the joined table has at most as many as
+/// the answer says, or the answer is 2^64 - 1. A bound of 2^64 - 1 says nothing.
+#[unsafe(no_mangle)]
+pub extern "C" fn safebound_joined_rows(
+    kind: u64,
+    inner: u64,
+    left: u64,
+    right: u64,
+    detail: &mut u64,
+) -> u32
+    ensures exact { TellsAnswer {A = ℕ} (IsJoined kind inner left right) (IsKindCause kind) [] [] detail.old result detail.new }
+    ensures never_under { result ≡ done → (join : Join) → join_of kind ≡ Some join
+        → (is_true : Condition) (left_table right_table : Table)
+        → IsWithin (length (inner_join is_true left_table right_table)) inner
+        → IsWithin (length left_table.rows) left → IsWithin (length right_table.rows) right
+        → IsWithin (length (joined join is_true left_table right_table)) detail.new }
+{
+    told(rows_of_kind(kind, inner, left, right), detail)
+}

@@ -1,0 +1,73 @@
+//! The lesser and the greater of two lists.
+ghost use Rattle.std.specs.Prelude.{◌≡◌, length, IfErr, IfOk, OnErr, OnOk};
+ghost use Rattle.degree_sequences.specs.ByRank.{rank_maximum};
+ghost use Rattle.degree_sequences.specs.RunningSums.{lesser};
+ghost use Rattle.safebound_lists.specs.Causes.{IsGreaterCause, IsLesserCause};
+ghost use Rattle.safebound_lists.specs.Runs.{AreBothRight, MayBeRaised, list_of};
+ghost use Rattle.safebound_lists.specs.Written.{IsWritten};
+
+use crate::refusal::Refusal;
+use crate::runs::{Run, first_wrong_run, pieces_of};
+use crate::written::write_runs;
+use limits::GREATEST_ROWS;
+use std::alloc::Global;
+
+/// The list of the rows that satisfy two conditions, each of which has a list: its running sums are the lesser ones.
+pub fn lesser_of(
+    alloc: Global,
+    runs: &[Run],
+    others: &[Run],
+    into: &mut [Run],
+) -> Result<u64, Refusal>
+    ensures done { IfOk result (IsWritten (lesser (list_of runs.now) (list_of others.now)) into.old into.new) }
+    ensures right { OnOk result (AreBothRight runs.now others.now) }
+    ensures refused { IfErr result (IsLesserCause runs.now others.now (length into.old)) }
+    ensures kept { OnErr result (into.new ≡ into.old) }
+{
+    if let Some(place) = first_wrong_run(runs) {
+        return Err(Refusal::Run {
+            place: place as u64,
+        });
+    }
+    if let Some(place) = first_wrong_run(others) {
+        return Err(Refusal::OtherRun {
+            place: place as u64,
+        });
+    }
+    let list = pieces_of(alloc, runs)?;
+    let other = pieces_of(alloc, others)?;
+    let both = list.lesser(&other)?;
+    write_runs(&both, into)
+}
+
+/// The list of the rows of one of two values, whichever of them it is: rank by rank the greater degree.
+pub fn greater_of(
+    alloc: Global,
+    runs: &[Run],
+    others: &[Run],
+    into: &mut [Run],
+) -> Result<u64, Refusal>
+    ensures done { IfOk result (IsWritten (rank_maximum (list_of runs.now) (list_of others.now)) into.old into.new) }
+    ensures right { OnOk result (MayBeRaised runs.now others.now) }
+    ensures refused { IfErr result (IsGreaterCause runs.now others.now (length into.old)) }
+    ensures kept { OnErr result (into.new ≡ into.old) }
+{
+    if let Some(place) = first_wrong_run(runs) {
+        return Err(Refusal::Run {
+            place: place as u64,
+        });
+    }
+    if let Some(place) = first_wrong_run(others) {
+        return Err(Refusal::OtherRun {
+            place: place as u64,
+        });
+    }
+    let list = pieces_of(alloc, runs)?;
+    let other = pieces_of(alloc, others)?;
+    let both = list.greater(&other)?;
+    let sum = both.total();
+    if sum > u128::from(GREATEST_ROWS) {
+        return Err(Refusal::Sum { sum: sum as u64 });
+    }
+    write_runs(&both, into)
+}

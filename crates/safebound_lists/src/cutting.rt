@@ -1,0 +1,28 @@
+//! A list that is cut at a number of rows.
+ghost use Rattle.std.specs.Prelude.{◌≡◌, length, IfErr, IfOk, OnErr, OnOk};
+ghost use Rattle.degree_sequences.specs.RunningSums.{cut_at};
+ghost use Rattle.safebound_lists.specs.Causes.{IsCutCause};
+ghost use Rattle.safebound_lists.specs.Runs.{AreRight, list_of};
+ghost use Rattle.safebound_lists.specs.Written.{IsWritten};
+
+use crate::refusal::Refusal;
+use crate::runs::{Run, first_wrong_run, pieces_of};
+use crate::written::write_runs;
+use std::alloc::Global;
+
+/// The list of at most so many rows that a list dominates: no running sum is above their number.
+pub fn cut(alloc: Global, runs: &[Run], rows: u64, into: &mut [Run]) -> Result<u64, Refusal>
+    ensures done { IfOk result (IsWritten (cut_at (list_of runs.now) rows) into.old into.new) }
+    ensures right { OnOk result (AreRight runs.now) }
+    ensures refused { IfErr result (IsCutCause runs.now rows (length into.old)) }
+    ensures kept { OnErr result (into.new ≡ into.old) }
+{
+    if let Some(place) = first_wrong_run(runs) {
+        return Err(Refusal::Run {
+            place: place as u64,
+        });
+    }
+    let list = pieces_of(alloc, runs)?;
+    let few = list.cap(rows)?;
+    write_runs(&few, into)
+}

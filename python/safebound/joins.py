@@ -1,0 +1,54 @@
+"""Rows of outer joins, semi-joins and anti-joins."""
+
+from __future__ import annotations
+
+from typing import Optional, SupportsIndex
+
+from . import _library
+from ._library import NO_BOUND
+from .errors import BadJoinKind, BadRows
+
+__all__ = ["joined_rows"]
+
+# As safebound.h numbers them.
+_KINDS = {"left": 1, "right": 2, "full": 3, "semi": 4, "anti": 5}
+
+
+def joined_rows(
+    kind: str, inner: Optional[SupportsIndex], left: Optional[SupportsIndex], right: Optional[SupportsIndex]
+) -> Optional[int]:
+    """How many rows an outer join, a semi-join or an anti-join has at most.
+
+    Args:
+        kind: `"left"`, `"right"` or `"full"` of an outer join; `"semi"` for the rows of the left side that are joined,
+            as EXISTS keeps them, and `"anti"` for those that are not, as NOT EXISTS keeps them.
+        inner: a bound of the inner join of both sides by the same condition, or None where none is known.
+        left: a bound of the left side, likewise. It is of all rows of the side: an outer join and an anti-join keep
+            rows that their own condition (ON) leaves out, also where it names that side alone.
+        right: a bound of the right side, likewise.
+
+    Returns:
+        `inner` and what the join adds to it; of a semi-join the lesser of `inner` and `left`, and of an anti-join
+        `left`. None where no bound is known.
+
+    Raises:
+        BadJoinKind: there is no such kind.
+        BadRows: a bound isn't from 0 to 2**64 - 1.
+
+    >>> joined_rows("left", inner=12, left=6, right=5)
+    18
+    """
+    if not isinstance(kind, str) or kind not in _KINDS:
+        raise BadJoinKind(f"a join is {', '.join(_KINDS)}, not {kind!r}", kind)
+    status, rows = _library.ask("joined_rows", [_KINDS[kind], _bound(inner), _bound(left), _bound(right)])
+    _library.raise_for(status, rows)
+    return None if rows == NO_BOUND else rows
+
+
+def _bound(rows: Optional[SupportsIndex]) -> int:
+    if rows is None:
+        return NO_BOUND
+    number = _library.whole(rows)
+    if number is None:
+        raise BadRows(f"a bound is from 0 to 2**64 - 1, not {rows}", rows)
+    return number
