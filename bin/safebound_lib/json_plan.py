@@ -60,9 +60,9 @@ def as_json(run: Run, plan: Plan, rows: list[int] | None) -> dict[str, object]:
             int(option_of(run.words, ACCURACY.word) or 1) if run.stats_file is None else accuracy_in(run.stats_file)
         ),
         "reduce": any(word == REDUCE.word for word in run.words),
+        "count": any(word == COUNT.word for word in run.words),
         "bushy": plan.is_tree,
         "keys": any(word == KEYS.word for word in run.words),
-        "count": any(word == COUNT.word for word in run.words),
         "stats": run.stats_file,
         "entries": [
             {

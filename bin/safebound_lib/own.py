@@ -136,7 +136,7 @@ def drawn(run: Run, shown: Shown, to: str) -> str:
     """The picture, or where its file is one of HTML the page."""
     if not to.lower().endswith((".html", ".htm")):
         return draw(shown)
-    flags = [flag.word for flag in (REDUCE, KEYS, COUNT) if has(run, flag)]
+    flags = [flag.word for flag in (REDUCE, COUNT, KEYS) if has(run, flag)]
     return page(shown, {} if {REDUCE.word, COUNT.word} & set(flags) else lists_beside(run), flags)
 
 

@@ -40,7 +40,7 @@ def explain(fault: Fault, run: Run) -> list[str]:
             f" budget is --budget {least}."
         )
     apart = not_connected(run)
-    several = several_equalities(run)
+    several = [] if has(run, COUNT) else several_equalities(run)
     with saying("trying other options .."):
         past = "" if is_past_bits else at_fault(run, least, budget)
         return [first, past, apart, *several, *tried(run, budget, apart)]

@@ -13,8 +13,7 @@ if TYPE_CHECKING:
 
 def explain(fault: Fault, run: Run) -> list[str]:
     limit = option_of(run.words, MEMORY.word)
-    apart = {REDUCE: (KEYS, COUNT), BUSHY: (KEYS,), COUNT: (REDUCE, KEYS)}
-    others = [one.word for one, never in apart.items() if not {one.word, *(n.word for n in never)} & set(run.words)]
+    others = [option.word for option in (COUNT, BUSHY) if not {option.word, KEYS.word} & set(run.words)]
     first = (
         f"The buffers of the plan take {fault.found:,} bytes, and the limit is {int(limit or 0):,}. The least limit"
         f" is {MEMORY.word} {fault.found}."

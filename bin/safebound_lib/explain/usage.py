@@ -154,7 +154,7 @@ def unknown(command: Command, word: str, behind: str) -> str:
 
 def wrong_beside(seen: set[str]) -> str | None:
     """Which options can't stand beside each other, if some do."""
-    others = [option.word for option in (ACCURACY, REDUCE, BUSHY, KEYS, COUNT) if option.word in seen]
+    others = [option.word for option in (ACCURACY, REDUCE, COUNT, BUSHY, KEYS) if option.word in seen]
     if STATS.word in seen and others:
         return (
             f"{others[0]} can't stand beside {STATS.word}: a statistics file has its own accuracy, and tells of whole"
@@ -163,7 +163,8 @@ def wrong_beside(seen: set[str]) -> str | None:
     if COUNT.word in seen and set(others) - {COUNT.word, BUSHY.word}:
         other = next(word for word in others if word not in (COUNT.word, BUSHY.word))
         return (
-            f"{other} can't stand beside {COUNT.word}. {COUNT.word} counts over reduced scans, and compresses nothing."
+            f"{other} can't stand beside {COUNT.word}. {COUNT.word} reduces scans as {REDUCE.word} does, and counts over"
+            " them: no list is compressed, and none is carried."
         )
     if KEYS.word in seen and len(set(others) - {ACCURACY.word}) > 1:
         other = next(word for word in others if word in (REDUCE.word, BUSHY.word))
