@@ -4,7 +4,7 @@ from __future__ import annotations
 from typing import TYPE_CHECKING
 
 from ..plans import option_of
-from ..table import BUSHY, COUNT, KEYS, MEMORY, REDUCE
+from ..table import BUSHY, COUNT, KEYS, MEMORY
 
 if TYPE_CHECKING:
     from ..faults import Fault
