@@ -163,8 +163,8 @@ def wrong_beside(seen: set[str]) -> str | None:
     if COUNT.word in seen and set(others) - {COUNT.word, BUSHY.word}:
         other = next(word for word in others if word not in (COUNT.word, BUSHY.word))
         return (
-            f"{other} can't stand beside {COUNT.word}. {COUNT.word} reduces scans as {REDUCE.word} does, and counts over"
-            " them: no list is compressed, and none is carried."
+            f"{other} can't stand beside {COUNT.word}. {COUNT.word} reduces scans as {REDUCE.word} does, and counts"
+            " over them: no list is compressed, and none is carried."
         )
     if KEYS.word in seen and len(set(others) - {ACCURACY.word}) > 1:
         other = next(word for word in others if word in (REDUCE.word, BUSHY.word))
