@@ -84,8 +84,8 @@ abbrev along : Result Plan PlanError → Result Shaped PlanError
 along answer = seen (λ plan. shaped.Along plan) answer
 
 -- the plan from bounds of the sets, over the rows that are left
-pub plan_over : (sets : List ℕ) → sets ≡ 1 ∷ 3 ∷ 2 ∷ 6 ∷ [] → answer_of shapes.Order sets (list_sizes pair reduced_lists) 1000000 ≡ Ok (shaped.Along plan)
-plan_over sets are = ap (λ (bounds : List ℕ). answer_of shapes.Order bounds (3 ∷ 2 ∷ []) 1000000) are ∙ ap along chosen
+pub plan_over : (found : List ℕ) → found ≡ 1 ∷ 3 ∷ 2 ∷ 6 ∷ [] → answer_of shapes.Order found (list_sizes pair reduced_lists) 1000000 ≡ Ok (shaped.Along plan)
+plan_over found are = ap (λ (bounds : List ℕ). answer_of shapes.Order bounds (3 ∷ 2 ∷ []) 1000000) are ∙ ap along chosen
 
 plan_found : planned_by shapes.Order (sourced sources.Reduced two_tables pair T) 1 1000000 ≡ Ok (shaped.Along plan)
 unfolding planned_by sets_by scans_by
