@@ -87,7 +87,7 @@ test:
 
 # What the gate does behind its proofs, side by side, the longest first: each reads what was built, and writes into folders of its own.
 CHECKS := engines postgres library command install friendly browser differential process pages cases examples memory-there python release
-FEATURES := run,plan,audit,stats,append,many-entries,filters,words,accuracy,reduce,bushy,keys
+FEATURES := run,plan,audit,stats,append,many-entries,filters,words,accuracy,reduce,count,bushy,keys
 
 .PHONY: $(CHECKS:%=check-%)
 

@@ -326,10 +326,18 @@ OPTIONS = [
     usage("run schema.sql query.sql --budget 5 --budget 6", "--budget stands twice"),
     usage("run schema.sql query.sql --reduce --reduce", "--reduce stands twice"),
     usage("run schema.sql query.sql --reduce=1", "--reduce takes no value"),
+    usage("run schema.sql query.sql --count --count", "--count stands twice"),
+    usage("run schema.sql query.sql --count=1", "--count takes no value"),
+    usage("run schema.sql query.sql --count --reduce", "--reduce can't stand beside --count", "counts over them"),
+    usage("run schema.sql query.sql --count --keys", "--keys can't stand beside --count"),
+    usage("audit schema.sql query.sql --accuracy 1 --count", "--accuracy can't stand beside --count"),
+    usage("plan schema.sql query.sql --count --stats old.stats", "--count can't stand beside --stats"),
     usage("run schema.sql query.sql --keys=yes", "--keys takes no value"),
     usage("run schema.sql query.sql --keys --reduce", "--reduce can't stand beside --keys", "an order over whole tables"),
     usage("plan schema.sql query.sql --bushy --keys", "--bushy can't stand beside --keys"),
     usage("plan schema.sql query.sql --keys --stats old.stats", "--keys can't stand beside --stats"),
+    usage("plan schema.sql query.sql --accuracy 8 --count", "--accuracy can't stand beside --count"),
+    usage("plan schema.sql query.sql --keys --count --bushy", "--keys can't stand beside --count"),
     usage("demo 7 --budget 5", "demo has no option --budget"),
     usage("run schema.sql query.sql --budget --explain", "has the value --explain"),
 ]
@@ -355,7 +363,7 @@ BUDGETS = [
     past_budget("SELECT R.NAME FROM READER R, LOAN L, BOOK B", "error budget 60", "60 rows", "budget is 50", "aren't connected: R; L; B", "forgotten", words="--budget 50"),
     past_budget("SELECT R.NAME FROM READER R, LOAN L, BOOK B WHERE L.BOOK = B.ID", "error budget 15", "aren't connected: R; L and B", words="--budget 10"),
     past_budget("SELECT R.X FROM R, S WHERE R.X = S.X", "error budget 81", "The least budget is --budget 81", "level 2", "81 rows", "With --reduce the least budget is 81",
-                "With --accuracy 8 the least budget is 81", words="--budget 80", files=EQUAL),
+                "With --accuracy 8 the least budget is 81", "With --count the least budget is 81", words="--budget 80", files=EQUAL),
     past_budget("SELECT R.X FROM R, S WHERE R.X = S.X", "error budget 9", "level 2 (S), of 9 rows", "With --reduce it fits: no level has a bound of more than 3 rows", words="--budget=5",
                 files={**EQUAL, "r.csv": b"X\r\n1\r\n2\r\n3\r\n", "s.csv": b"X\r\n1\r\n1\r\n1\r\n7\r\n7\r\n7\r\n8\r\n8\r\n8\r\n"}),
 ]
@@ -369,6 +377,7 @@ PAIRS = {"schema.sql": b"CREATE TABLE R (A INTEGER NOT NULL, B INTEGER NOT NULL)
          "r.csv": b"A,B\r\n1,1\r\n1,2\r\n2,1\r\n2,2\r\n", "s.csv": b"A,B\r\n1,1\r\n1,2\r\n2,1\r\n2,2\r\n"}
 BUDGETS += [
     past_budget("SELECT R.A FROM R, S WHERE R.A = S.A AND R.B = S.B", "error budget 8", "R and S are joined by 2 equalities: R.A = S.A and R.B = S.B", "count as one", words="--budget 7", files=PAIRS),
+    past_budget("SELECT R.A FROM R, S WHERE R.A = S.A AND R.B = S.B", "error budget 8", "With --count it fits: no level has a bound of more than 4 rows", words="--budget 7", files=PAIRS),
     past_budget(OF_REGION, "error budget 4", "level 2 (O), of 4 rows", "With --keys it fits: no level has a bound of more than 1 rows", words="--budget=3", files=REGION),
 ]
 LIMITS = [
@@ -382,7 +391,7 @@ SMALL = {
 }
 BUFFERS = (
     Mistake("error memory-limit 556", ("take 556 bytes", "the limit is 555", "--memory 556"), SMALL, ("run", "schema.sql", "query.sql", "--memory", "555")),
-    Mistake("error memory-limit 556", ("the limit is 1", "So may --reduce or --bushy"), SMALL, ("audit", "schema.sql", "query.sql", "--memory=1")),
+    Mistake("error memory-limit 556", ("the limit is 1", "So may --count or --bushy"), SMALL, ("audit", "schema.sql", "query.sql", "--memory=1")),
 )
 
 

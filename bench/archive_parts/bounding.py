@@ -27,6 +27,9 @@ class Flags(NamedTuple):
 
 
 ALL = (Flags("statistics", 1), Flags("statistics", 8), Flags("keys", 8), Flags("reduce", 1), Flags("reduce", 64))
+COUNT = Flags("count", 1)
+# Those that are run: the bounds of --count are what the program prints, beside PostgreSQL's rows and the bounds of --reduce.
+TRIED = (*ALL, COUNT)
 
 
 class Bounder:

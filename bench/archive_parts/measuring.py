@@ -10,7 +10,7 @@ import tempfile
 from typing import Iterator
 
 from . import asked, places, running, server
-from .bounding import ALL, Bounder
+from .bounding import ALL, TRIED, Bounder
 from .columns import kept
 from .truth import Counter
 
@@ -61,7 +61,7 @@ def runs(url: str) -> Iterator[list]:
             shutil.copy(question.path, places.TABLES)
             by_postgres = running.by_postgres(url, question.text, out, ASKING)
             true = running.rows_of(out, False) if by_postgres.status == 0 else None
-            for flags in ALL:
+            for flags in TRIED:
                 yield [question.name, flags.name, *one_run(question, flags.words, out, true), true and true.number, by_postgres.seconds]
 
 
@@ -80,6 +80,6 @@ def plans() -> Iterator[list]:
         for question in asked.questions():
             say(f"plans of {question.name}")
             shutil.copy(question.path, places.TABLES)
-            for flags in ALL:
+            for flags in TRIED:
                 both = [running.by_program(command, os.path.basename(question.path), flags.words, out) for command in COMMANDS]
                 yield [question.name, flags.name, os.getloadavg()[0], *(getattr(one, figure) for one in both for figure in FIGURES)]

@@ -7,7 +7,7 @@ from typing import Iterable
 
 import numpy as np
 
-from .bounding import ALL
+from .bounding import ALL, COUNT, TRIED, Flags
 from .measuring import COMMANDS, PLANS, RUNS, SETS
 from .running import BUDGET
 
@@ -47,6 +47,17 @@ def table(header: list[str], rows: Iterable[list[str]]) -> None:
     print()
 
 
+def tried(found: list[dict[str, str]]) -> list[Flags]:
+    """The sets of flags that were run."""
+    return [flags for flags in TRIED if any(one["flags"] == flags.name for one in found)]
+
+
+def counted(runs: list[dict[str, str]], names: set[str]) -> list[float]:
+    """What `--count` prints of whole queries that it admits, over PostgreSQL's rows."""
+    own = [one for one in runs if one["flags"] == COUNT.name and one["question"] in names and one["last"] and one["postgres_rows"]]
+    return [int(one["last"]) / max(int(one["postgres_rows"]), 1) for one in own]
+
+
 def factor(one: dict[str, str], name: str) -> float:
     return int(one[name]) / max(int(one["rows"]), 1)
 
@@ -60,14 +71,17 @@ def check(sets: list[dict[str, str]], runs: list[dict[str, str]]) -> None:
     under = [one for one in sets for flags in ALL if one["rows"] and int(one[flags.name]) < int(one["rows"])]
     bound = {(one["question"], flags.name): int(one[flags.name]) for one in sets if one["whole"] == "1" for flags in ALL}
     ran = [one for one in runs if one["status"] == "0"]
-    others = [one for one in ran if int(one["last"]) != bound[one["question"], one["flags"]]]
-    low = [one for one in runs if int(one["cost"]) < bound[one["question"], one["flags"]]]
+    others = [one for one in ran if one["flags"] != COUNT.name and int(one["last"]) != bound[one["question"], one["flags"]]]
+    low = [one for one in runs if one["flags"] != COUNT.name and int(one["cost"]) < bound[one["question"], one["flags"]]]
+    under += [one for one in ran if one["postgres_rows"] and int(one["last"]) < int(one["postgres_rows"])]
+    reduced = {question: bound[question, flags.name] for question, _ in bound for flags in ALL if flags.source == "reduce"}
+    above = [one for one in ran if one["flags"] == COUNT.name and int(one["last"]) > reduced[one["question"]]]
     wrong = [one for one in ran if one["same"] == "0"]
     print(f"{len(sets)} sets, of which {sum(not one['rows'] for one in sets)} weren't counted; bounds that were under: {len(under)}."
           f" {len(ran)} runs, of which {sum(one['same'] == '1' for one in ran)} have PostgreSQL's rows and {len(wrong)} others;"
           f" {len(ran) - len(others)} print the bound of the definitions.\n")
-    if under or wrong or others or low:
-        raise SystemExit(f"archive: {under + wrong + others + low}")
+    if under or wrong or others or low or above:
+        raise SystemExit(f"archive: {under + wrong + others + low + above}")
 
 
 def whole_queries(sets: list[dict[str, str]], runs: list[dict[str, str]]) -> None:
@@ -76,10 +90,11 @@ def whole_queries(sets: list[dict[str, str]], runs: list[dict[str, str]]) -> Non
         asked = [one for one in sets if one["whole"] == "1" and chosen in (None, one["cyclic"])]
         names = {one["question"] for one in asked}
         rows = []
-        for flags in ALL:
+        for flags in tried(runs):
             cost = {one["question"]: int(one["cost"]) for one in runs if one["flags"] == flags.name and one["cost"]}
             refused = [sum(cost.get(name, budget + 1) > budget for name in names) for budget in (BUDGET, SMALL_BUDGET)]
-            rows.append([flags.name, *spread(bounded(asked, flags.name)), *map(str, refused)])
+            factors = counted(runs, names) if flags == COUNT else bounded(asked, flags.name)
+            rows.append([flags.name, *spread(factors), *map(str, refused)])
         header = ["bound over rows of the whole query", "median", "75th", "90th percentile", "worst", "refused at 20,000,000", "at 1,000,000"]
         print(f"{len(names)} questions, {title}:\n")
         table(header, rows)
@@ -107,7 +122,7 @@ def estimates(sets: list[dict[str, str]]) -> None:
 
 def times(runs: list[dict[str, str]]) -> None:
     rows = []
-    for flags in ALL:
+    for flags in tried(runs):
         own = [one for one in runs if one["flags"] == flags.name]
         ran = [one for one in own if one["status"] == "0"]
         seconds, beside = sum(float(one["seconds"]) for one in ran), sum(float(one["postgres_seconds"]) for one in ran)
@@ -125,8 +140,8 @@ def sums(runs: list[dict[str, str]]) -> None:
     sides = [f"{sum(side):.1f} s, {np.median(side):.2f} s in the median" for side in zip(*both)]
     print(f"{len(both)} questions that `--reduce` admits and PostgreSQL ended: `run` took {sides[0]}, PostgreSQL {sides[1]}; `run` was faster for"
           f" {sum(mine < other for mine, other in both)}.\n")
-    admitted = set.intersection(*({one["question"] for one in ran if one["flags"] == flags.name} for flags in ALL))
-    took = {flags.name: sum(float(one["seconds"]) for one in ran if one["flags"] == flags.name and one["question"] in admitted) for flags in ALL}
+    admitted = set.intersection(*({one["question"] for one in ran if one["flags"] == flags.name} for flags in tried(ran)))
+    took = {flags.name: sum(float(one["seconds"]) for one in ran if one["flags"] == flags.name and one["question"] in admitted) for flags in tried(ran)}
     print(f"{len(admitted)} questions are admitted whatever the flags: " + ", ".join(f"{seconds:.1f} s with {name}" for name, seconds in took.items()) + ".\n")
 
 
@@ -134,7 +149,7 @@ def plans(found: list[dict[str, str]]) -> None:
     """`plan` beside the `run` right after it, for what the budget admits: each cell has median, 90th percentile and worst."""
     figures = (("seconds", "seconds"), ("processor", "seconds of processor"), ("peak", "peak in MiB"))
     rows = []
-    for flags in ALL:
+    for flags in tried(found):
         ran = [one for one in found if one["flags"] == flags.name and one["run_status"] == "0"]
         rows.append([flags.name, str(len(ran)), *(three(float(one[f"{command}_{name}"]) for one in ran) for name, _ in figures for command in COMMANDS)])
     loads, refused = [float(one["load"]) for one in found], [one for one in found if one["run_status"] != "0"]
@@ -144,6 +159,14 @@ def plans(found: list[dict[str, str]]) -> None:
     table(["", "admitted", *(f"`{command}`, {title}" for _, title in figures for command in COMMANDS)], rows)
     if any(one["plan_status"] != one["run_status"] for one in found):
         raise SystemExit("archive: a plan and its run ended otherwise")
+
+
+def beside_reduce(found: list[dict[str, str]]) -> None:
+    """How much longer `plan --count` takes than `plan --reduce` of the same question."""
+    took = {(one["question"], one["flags"]): float(one["plan_seconds"]) for one in found}
+    ratios = [seconds / took[question, "`--reduce`"] for (question, flags), seconds in took.items() if flags == COUNT.name]
+    if ratios:
+        print(f"`plan --count` took {three(ratios)} times as long as `plan --reduce` (median, 90th percentile, worst).\n")
 
 
 def worst(sets: list[dict[str, str]], number: int = 10) -> None:
@@ -163,4 +186,5 @@ def report() -> None:
     times(runs)
     sums(runs)
     plans(read(PLANS))
+    beside_reduce(read(PLANS))
     worst(sets)

@@ -32,6 +32,7 @@ HOW_LISTS_MEET = (
 )
 NO_LISTS = {
     "--reduce": "With --reduce lists are made of the rows that stay in each scan, and the program doesn't print them.",
+    "--count": "With --count there are no lists: what the conditions leave of the entries together is counted.",
     "--keys": (
         "With --keys further lists, of the rows that refer to rows that pass, lower bounds; the program doesn't print"
         " these."

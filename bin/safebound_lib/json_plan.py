@@ -9,7 +9,7 @@ from . import program
 from .explain import Run, read
 from .plans import option_of, read_audit, read_plan
 from .query import found_of, references_of
-from .table import ACCURACY, BUDGET, KEYS, REDUCE, USUAL_BUDGET
+from .table import ACCURACY, BUDGET, COUNT, KEYS, REDUCE, USUAL_BUDGET
 
 if TYPE_CHECKING:
     from .plans import Plan
@@ -60,6 +60,7 @@ def as_json(run: Run, plan: Plan, rows: list[int] | None) -> dict[str, object]:
             int(option_of(run.words, ACCURACY.word) or 1) if run.stats_file is None else accuracy_in(run.stats_file)
         ),
         "reduce": any(word == REDUCE.word for word in run.words),
+        "count": any(word == COUNT.word for word in run.words),
         "bushy": plan.is_tree,
         "keys": any(word == KEYS.word for word in run.words),
         "stats": run.stats_file,

@@ -20,7 +20,7 @@ from .plans import Plan, option_of, read_audit, read_plan
 from .query import read_query
 from .schema import read_schema
 from .shown import shown_of
-from .table import ACCURACY, BUDGET, KEYS, OUTPUT, REDUCE, SHELLS, USUAL_BUDGET
+from .table import ACCURACY, BUDGET, COUNT, KEYS, OUTPUT, REDUCE, SHELLS, USUAL_BUDGET
 from .words import Misused, places as places_of
 
 if TYPE_CHECKING:
@@ -136,8 +136,8 @@ def drawn(run: Run, shown: Shown, to: str) -> str:
     """The picture, or where its file is one of HTML the page."""
     if not to.lower().endswith((".html", ".htm")):
         return draw(shown)
-    flags = [flag.word for flag in (REDUCE, KEYS) if has(run, flag)]
-    return page(shown, {} if REDUCE.word in flags else lists_beside(run), flags)
+    flags = [flag.word for flag in (REDUCE, COUNT, KEYS) if has(run, flag)]
+    return page(shown, {} if {REDUCE.word, COUNT.word} & set(flags) else lists_beside(run), flags)
 
 
 def lists_beside(run: Run) -> dict[str, list[Listed]]:

@@ -47,6 +47,10 @@ ACCURACY = Option(
     "how closely lists of degrees are kept: more takes longer and mostly lowers bounds; 1 without it", 1, 64,
 )
 REDUCE = Option("--reduce", None, "puts rows aside that lack a partner, and makes bounds over those that are left")
+COUNT = Option(
+    "--count", None,
+    "as --reduce, with bounds that are counted, mostly exact; stands beside neither --reduce, --keys nor --accuracy",
+)
 BUSHY = Option(
     "--bushy", None, "joins by the best tree of any shape and not along an order; a budget is then at most 4,000,000"
 )
@@ -58,7 +62,7 @@ MEMORY = Option(
     "--memory", "N",
     "the most bytes that the buffers of the plan may take; the plan then ends with a line of its bytes", 1, 2**40,
 )
-OF_PLANS = (BUDGET, ACCURACY, MEMORY, REDUCE, BUSHY, KEYS)
+OF_PLANS = (BUDGET, ACCURACY, MEMORY, REDUCE, COUNT, BUSHY, KEYS)
 STATS = Option(
     "--stats",
     "FILE",

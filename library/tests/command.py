@@ -164,7 +164,7 @@ class Memory(unittest.TestCase):
         return done.returncode, done.stdout, done.stderr
 
     def test_each_request_refused(self):
-        for words, out in ((RUN, ROWS), (PLAN, b""), (RUN + ["--reduce"], ROWS)):
+        for words, out in ((RUN, ROWS), (PLAN, b""), (RUN + ["--reduce"], ROWS), (RUN + ["--count"], ROWS)):
             whole = self.ends(10**9, words)
             self.assertEqual((whole[0], whole[1]), (0, out))
             answers = []

@@ -10,7 +10,7 @@ from ..plans import option_of, read_plan
 from ..program import answer
 from ..query import equality, groups
 from ..terminal import saying
-from ..table import ACCURACY, BUDGET, BUSHY, KEYS, MOST_BUDGET, MOST_BUDGET_OF_A_TREE, REDUCE, USUAL_BUDGET
+from ..table import ACCURACY, BUDGET, BUSHY, COUNT, KEYS, MOST_BUDGET, MOST_BUDGET_OF_A_TREE, REDUCE, USUAL_BUDGET
 from ..faults import fault_of
 
 if TYPE_CHECKING:
@@ -40,7 +40,7 @@ def explain(fault: Fault, run: Run) -> list[str]:
             f" budget is --budget {least}."
         )
     apart = not_connected(run)
-    several = several_equalities(run)
+    several = [] if has(run, COUNT) else several_equalities(run)
     with saying("trying other options .."):
         past = "" if is_past_bits else at_fault(run, least, budget)
         return [first, past, apart, *several, *tried(run, budget, apart)]
@@ -107,7 +107,7 @@ def planned_words(words: list[str]) -> list[str]:
             return found + [word, *left]
         if word in (BUDGET.word, ACCURACY.word):
             del left[:1]
-        elif word not in (REDUCE.word, BUSHY.word, KEYS.word) and not word.startswith(
+        elif word not in (REDUCE.word, BUSHY.word, KEYS.word, COUNT.word) and not word.startswith(
             (BUDGET.word + "=", ACCURACY.word + "=")
         ):
             found.append(word)
@@ -134,13 +134,12 @@ def at_fault(run: Run, least: int, budget: int) -> str:
 
 
 def given(run: Run, budget: int, accuracy: str | None = None, flag: Option | None = None) -> list[str]:
-    """The run's options, with these beside them. `--keys` stands alone: the flag that is tried takes its place."""
-    kept = accuracy or option_of(run.words, ACCURACY.word)
-    words = [BUDGET.word, str(budget)] + ([ACCURACY.word, kept] if kept else [])
-    flags = [one for one in (REDUCE, BUSHY, KEYS) if has(run, one)]
+    """The run's options, with these. A flag that is tried takes the place of those beside which it can't stand."""
+    flags = [one for one in (REDUCE, BUSHY, KEYS, COUNT) if has(run, one)]
     if flag is not None:
-        flags = [flag] if KEYS in (flag, *flags) else [*flags, flag]
-    return words + [one.word for one in flags]
+        flags = [one for one in flags if {one, flag} <= {REDUCE, BUSHY} or {one, flag} <= {BUSHY, COUNT}] + [flag]
+    kept = None if COUNT in flags else accuracy or option_of(run.words, ACCURACY.word)
+    return [BUDGET.word, str(budget)] + ([ACCURACY.word, kept] if kept else []) + [one.word for one in flags]
 
 
 def has(run: Run, flag: Option) -> bool:
@@ -155,8 +154,10 @@ def refers(run: Run) -> bool:
     return any(table is not None and table.references for table in tables)
 
 
-def tried(run: Run, budget: int, apart: str) -> list[str]:
-    """What the other options come to, and what else there is to do."""
+def other_sources(run: Run) -> list[tuple[str, tuple[str | None, Option | None]]]:
+    """What bounds may be made from in place of what the words ask for. Beside counting nothing lowers them."""
+    if has(run, COUNT):
+        return []
     is_close = int(option_of(run.words, ACCURACY.word) or 1) >= int(CLOSER)
     ways: list[tuple[str, tuple[str | None, Option | None]]] = []
     if not has(run, REDUCE):
@@ -167,6 +168,12 @@ def tried(run: Run, budget: int, apart: str) -> list[str]:
         ways.append(("With both", (CLOSER, REDUCE)))
     if not has(run, KEYS) and refers(run):
         ways.append((f"With {KEYS.word}", (None, KEYS)))
+    return [*ways, (f"With {COUNT.word}", (None, COUNT))]
+
+
+def tried(run: Run, budget: int, apart: str) -> list[str]:
+    """What the other options come to, and what else there is to do."""
+    ways = other_sources(run)
     if not has(run, BUSHY) and len(run.query.entries) > 3 and budget <= MOST_BUDGET_OF_A_TREE:
         ways.append((f"With {BUSHY.word}", (None, BUSHY)))
     found = [f"    {name} {said_of(with_words(run, given(run, budget, *how)), budget)}" for name, how in ways]

@@ -4,7 +4,7 @@ from __future__ import annotations
 from typing import TYPE_CHECKING
 
 from ..plans import option_of
-from ..table import BUSHY, KEYS, MEMORY, REDUCE
+from ..table import BUSHY, COUNT, KEYS, MEMORY
 
 if TYPE_CHECKING:
     from ..faults import Fault
@@ -13,7 +13,7 @@ if TYPE_CHECKING:
 
 def explain(fault: Fault, run: Run) -> list[str]:
     limit = option_of(run.words, MEMORY.word)
-    others = [option.word for option in (REDUCE, BUSHY) if not {option.word, KEYS.word} & set(run.words)]
+    others = [option.word for option in (COUNT, BUSHY) if not {option.word, KEYS.word} & set(run.words)]
     first = (
         f"The buffers of the plan take {fault.found:,} bytes, and the limit is {int(limit or 0):,}. The least limit"
         f" is {MEMORY.word} {fault.found}."

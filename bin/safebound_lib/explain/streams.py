@@ -19,7 +19,7 @@ def explain(fault: Fault, run: Run) -> list[str]:
             ),
             (
                 "`plan` tells the bounds without taking that memory. Lower bounds take less: ask more closely, give"
-                " --reduce, or --accuracy 8. A lower --budget refuses such a query at once."
+                " --count, --reduce, or --accuracy 8. A lower --budget refuses such a query at once."
             ),
         ]
     return [

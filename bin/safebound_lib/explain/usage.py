@@ -10,8 +10,8 @@ from ..near import hint, listed
 from ..pages import entry, places_of
 from ..spot import plain
 from ..table import (
-    ACCURACY, BUDGET, BUSHY, BY_WORD, COMMANDS, DATA, KEYS, MOST_BUDGET_OF_A_TREE, MOST_SEED, REDUCE, STATS, TEXTS,
-    program_options,
+    ACCURACY, BUDGET, BUSHY, BY_WORD, COMMANDS, COUNT, DATA, KEYS, MOST_BUDGET_OF_A_TREE, MOST_SEED, REDUCE, STATS,
+    TEXTS, program_options,
 )
 from ..terminal import columns
 from ..tokens import tokens_of
@@ -154,11 +154,17 @@ def unknown(command: Command, word: str, behind: str) -> str:
 
 def wrong_beside(seen: set[str]) -> str | None:
     """Which options can't stand beside each other, if some do."""
-    others = [option.word for option in (ACCURACY, REDUCE, BUSHY, KEYS) if option.word in seen]
+    others = [option.word for option in (ACCURACY, REDUCE, COUNT, BUSHY, KEYS) if option.word in seen]
     if STATS.word in seen and others:
         return (
             f"{others[0]} can't stand beside {STATS.word}: a statistics file has its own accuracy, and tells of whole"
             " tables."
+        )
+    if COUNT.word in seen and set(others) - {COUNT.word, BUSHY.word}:
+        other = next(word for word in others if word not in (COUNT.word, BUSHY.word))
+        return (
+            f"{other} can't stand beside {COUNT.word}. {COUNT.word} reduces scans as {REDUCE.word} does, and counts"
+            " over them: no list is compressed, and none is carried."
         )
     if KEYS.word in seen and len(set(others) - {ACCURACY.word}) > 1:
         other = next(word for word in others if word in (REDUCE.word, BUSHY.word))

@@ -32,6 +32,6 @@ mod sources;
 pub use bounds::{scan_bounds, subset_bounds};
 pub use examples::small_plans;
 pub use known::{Known, bounds_from, plan_from};
-pub use reduced::{Reduced, from_reduced};
+pub use reduced::{Reduced, from_reduced, reduced_lists};
 pub use scans::scan_entries;
 pub use sources::{from_rows, from_statistics, from_told};

@@ -29,8 +29,8 @@ pub struct Reduced {
     pub lists: Vec<RowBuf<u32>>,
 }
 
-// The reduced scans of a query. The scans are let go.
-fn reduced_lists(
+/// The reduced scans of a query. The scans are let go.
+pub fn reduced_lists(
     alloc: Global,
     query: &Query,
     equalities: &[Edge],

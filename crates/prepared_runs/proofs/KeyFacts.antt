@@ -74,6 +74,7 @@ pub needs_met : (source : ListSource) (schema : Schema) (query : Query) (tables 
 needs_met sources.Columns schema query tables holds = tt
 needs_met sources.Keyed schema query tables holds = holds
 needs_met sources.Reduced schema query tables holds = tt
+needs_met sources.Counted schema query tables holds = tt
 
 pub needs_read : (source : ListSource) (schema : Schema) (query : Query) (files : Files) (rows : List (List Row)) → IsOf schema query
     → tables_stage schema query.from files ≡ Ok rows → Needs source schema query (tables_in rows)

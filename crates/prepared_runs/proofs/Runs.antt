@@ -26,7 +26,7 @@ use Rattle.outcomes.specs.declared.refusal.Refusal.{Refusal}
 use Rattle.table_files.specs.EntryTables.{tables_in}
 use Rattle.table_files.specs.Stage.{tables_stage}
 use Rattle.table_files.specs.TableFile.{read}
-use Rattle.join_steps.specs.Lists.{list_at, scans_of}
+use Rattle.join_steps.specs.Lists.{list_at, scans_of, list_sizes}
 use Rattle.join_steps.proofs.WholeScans.{scan_at, size_at}
 use Rattle.reduced_scans.specs.Rounds.{reduced_of}
 use Rattle.prepared_runs.specs.Accepted.{Accepted, BoundsHold, IsOverReducedScans, IsOverWholeScans, RowsAreTheAnswer, tables}
@@ -166,16 +166,25 @@ module _ (run : Accepted) (is : IsRun run) where
   unfolding lists_by
   of_keyed from' = of_whole (is.lists ∙ ap lists_from from')
 
-  of_reduced : run.source ≡ sources.Reduced → IsOverReducedScans run
-  unfolding lists_by scans_by
-  of_reduced from' =
-      let reduced : run.lists ≡ reduced_of run.query (tables run) = is.lists ∙ ap lists_from from' in
+  of_reduced_scans : (source : ListSource) → run.source ≡ source → lists_by source run.query (tables run) ≡ reduced_of run.query (tables run)
+      → scans_by source run.query (tables run) is.scans.0 ≡ list_sizes run.query (reduced_of run.query (tables run)) → IsOverReducedScans run
+  of_reduced_scans source from' rows sizes =
+      let reduced : run.lists ≡ reduced_of run.query (tables run) = is.lists ∙ ap lists_from from' ∙ rows in
       record {
         scans = reduced;
         exact = λ entry low.
             is.scans.1 entry ∙ ap (λ (source : ListSource). get_or (scans_by source run.query (tables run) is.scans.0) entry 0) from'
+            ∙ ap (λ (s : List ℕ). get_or s entry 0) sizes
             ∙ size_at run.query (reduced_of run.query (tables run)) entry low ∙ ap (λ (l : List (List ℕ)). length (list_at l entry)) (sym reduced);
       }
+
+  of_reduced : run.source ≡ sources.Reduced → IsOverReducedScans run
+  unfolding lists_by scans_by
+  of_reduced from' = of_reduced_scans sources.Reduced from' refl refl
+
+  of_counted : run.source ≡ sources.Counted → IsOverReducedScans run
+  unfolding lists_by scans_by
+  of_counted from' = of_reduced_scans sources.Counted from' refl refl
 
   run_bounds : BoundsHold run
   run_bounds = record {
@@ -185,6 +194,7 @@ module _ (run : Accepted) (is : IsRun run) where
     of_columns = of_columns;
     of_keyed = of_keyed;
     of_reduced = of_reduced;
+    of_counted = of_counted;
   }
 
   run_rows : RowsAreTheAnswer run

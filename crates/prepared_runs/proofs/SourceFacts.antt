@@ -25,6 +25,10 @@ use Rattle.planning.proofs.ReducedPlans.{levels_of_scans, reduced_of_scans}
 use Rattle.planning.specs.Standing.{BoundLevels, BoundLists}
 use Rattle.key_bounds.specs.Bounds.{bounds_by_keys}
 use Rattle.key_bounds.proofs.Plans.{levels_by_keys}
+use Rattle.counted_bounds.specs.Bounds.{counted_bound}
+use Rattle.counted_factors.specs.Limits.{counted_of}
+use Rattle.counted_planning.specs.Bounds.{set_bounds_by_counts}
+use Rattle.counted_planning.proofs.InSets.{bound_levels}
 use Rattle.prepared_runs.specs.Sources.{Needs, sets_by, lists_by, scans_by, sourced}
 use Rattle.prepared_runs.specs.Standing.{IsSource, LoseNoRow}
 use Rattle.safebound_words.specs.declared.command.ListSource.{ListSource}
@@ -51,6 +55,7 @@ module _ (query : Query) (tables : Tables) where
   rows_kept sources.Columns = whole_rows
   rows_kept sources.Keyed = whole_rows
   rows_kept sources.Reduced = reduced_rows
+  rows_kept sources.Counted = reduced_rows
 
   -- and no scan has more rows than its bound
   pub scans_bound : (source : ListSource) (accuracy : ℕ) → BoundLists query tables (lists_by source query tables) (scans_by source query tables accuracy)
@@ -58,9 +63,19 @@ module _ (query : Query) (tables : Tables) where
   scans_bound sources.Columns accuracy = told_bound query tables accuracy
   scans_bound sources.Keyed accuracy = told_bound query tables accuracy
   scans_bound sources.Reduced accuracy = sizes_bound query tables (reduced_of query tables) (reduced_of_scans query tables)
+  scans_bound sources.Counted accuracy = sizes_bound query tables (reduced_of query tables) (reduced_of_scans query tables)
 
   many : (bounds : ℕ → EntryBounds) → length (bounds_in_sets bounds (equalities_of query) (length query.from)) ≡ 2 ^ length query.from
   many bounds = length-map-range_with_len (λ subset. bound_told (bounds subset) (equalities_of query) subset) 0 (2 ^ length query.from)
+
+  counted_levels : BoundLevels query tables (reduced_of query tables) (set_bounds_by_counts query tables (reduced_of query tables))
+  unfolding set_bounds_by_counts
+  counted_levels = bound_levels (counted_of query tables (reduced_of query tables)) query tables (reduced_of query tables)
+
+  counted_sets : length (set_bounds_by_counts query tables (reduced_of query tables)) ≡ 2 ^ length query.from
+  unfolding set_bounds_by_counts
+  counted_sets =
+      length-map-range_with_len (counted_bound (counted_of query tables (reduced_of query tables)) query tables (reduced_of query tables)) 0 (2 ^ length query.from)
 
   module _ (schema : Schema) where
     -- nor any level, where the tables keep what the source needs
@@ -71,6 +86,7 @@ module _ (query : Query) (tables : Tables) where
     levels_bound sources.Keyed needs accuracy = levels_by_keys schema query tables accuracy needs
     levels_bound sources.Reduced needs accuracy =
         λ subset order fits o. level_never_under_over query tables (reduced_of query tables) accuracy subset order (reduced_of_scans query tables) fits o
+    levels_bound sources.Counted needs accuracy = counted_levels
 
     -- each set has its bound
     pub all_sets : (source : ListSource) (accuracy : ℕ) → length (sets_by source schema query tables accuracy) ≡ 2 ^ length query.from
@@ -78,6 +94,7 @@ module _ (query : Query) (tables : Tables) where
     all_sets sources.Columns accuracy = many (in_every_set (entry_bounds query (statistics_of tables accuracy)))
     all_sets sources.Keyed accuracy = many (bounds_by_keys schema query tables accuracy)
     all_sets sources.Reduced accuracy = many (in_every_set (entry_bounds_over tables (reduced_of query tables) accuracy))
+    all_sets sources.Counted accuracy = counted_sets
 
     pub stand : (source : ListSource) → Needs source schema query tables → IsSource query tables (sourced source schema query tables)
     stand source needs = record { rows = rows_kept source; of_scans = scans_bound source; of_sets = levels_bound source needs; of_all_sets = all_sets source }

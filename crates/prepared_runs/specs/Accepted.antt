@@ -66,6 +66,7 @@ pub record BoundsHold (run : Accepted) : Type 0 where
   pub of_columns : run.source ≡ sources.Columns → IsOverWholeScans run
   pub of_keyed : run.source ≡ sources.Keyed → IsOverWholeScans run
   pub of_reduced : run.source ≡ sources.Reduced → IsOverReducedScans run
+  pub of_counted : run.source ≡ sources.Counted → IsOverReducedScans run
 
 -- the rows printed are the answer of the query, each as often as there
 abbrev pub RowsAreTheAnswer : Accepted → Type 0

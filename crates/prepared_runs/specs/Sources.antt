@@ -9,6 +9,7 @@ use Rattle.planning.specs.Bounds.{scan_bounds_of, set_bounds_of}
 use Rattle.planning.specs.ListedBounds.{set_bounds_over}
 use Rattle.key_carriers.specs.Keys.{KeysHold}
 use Rattle.key_bounds.specs.Bounds.{set_bounds_by_keys}
+use Rattle.counted_planning.specs.Bounds.{set_bounds_by_counts}
 use Rattle.safebound_words.specs.declared.command.ListSource.{ListSource}
 use Rattle.safebound_words.specs.declared.command.ListSource.TheVariants as sources
 
@@ -17,19 +18,22 @@ unfoldable pub lists_by : ListSource → Query → Tables → List (List ℕ)
 lists_by sources.Columns query tables = scans_of query tables
 lists_by sources.Keyed query tables = scans_of query tables
 lists_by sources.Reduced query tables = reduced_of query tables
+lists_by sources.Counted query tables = reduced_of query tables
 
 -- a bound of each entry's scan, at an accuracy: its row bound by the statistics of its table, or its number of rows
 unfoldable pub scans_by : ListSource → Query → Tables → ℕ → List ℕ
 scans_by sources.Columns query tables accuracy = scan_bounds_of query tables accuracy
 scans_by sources.Keyed query tables accuracy = scan_bounds_of query tables accuracy
 scans_by sources.Reduced query tables accuracy = list_sizes query (reduced_of query tables)
+scans_by sources.Counted query tables accuracy = list_sizes query (reduced_of query tables)
 
 -- the bound of each set of entries, at an accuracy: from statistics of whole columns; from these, and conditions that are carried through keys
--- within the set; or from the degree lists of the columns over reduced scans
+-- within the set; from the degree lists of the columns over reduced scans; or by counting over these, which compresses nothing
 unfoldable pub sets_by : ListSource → Schema → Query → Tables → ℕ → List ℕ
 sets_by sources.Columns schema query tables accuracy = set_bounds_of query tables accuracy
 sets_by sources.Keyed schema query tables accuracy = set_bounds_by_keys schema query tables accuracy
 sets_by sources.Reduced schema query tables accuracy = set_bounds_over query tables (reduced_of query tables) accuracy
+sets_by sources.Counted schema query tables accuracy = set_bounds_by_counts query tables (reduced_of query tables)
 
 -- what a source gives for a query of a schema over its tables: at an accuracy, a bound of each set of entries and one of each scan; and for
 -- each entry the rows that are joined
@@ -50,3 +54,4 @@ abbrev pub Needs : ListSource → Schema → Query → Tables → Type 0
 Needs sources.Columns schema query tables = ⊤
 Needs sources.Keyed schema query tables = KeysHold schema query tables
 Needs sources.Reduced schema query tables = ⊤
+Needs sources.Counted schema query tables = ⊤

@@ -16,6 +16,7 @@ ghost use Rattle.prepared_runs.specs.Verdict.{plan_asked};
 
 use crate::shapes::{Room, Shaped, bounds_of_scans, plan_by, reserve_room};
 use base_io::NoMemory;
+use counted_planning::from_counted;
 use csv_tables::Database;
 use join_steps::scan_all;
 use key_bounds::from_keys;
@@ -95,6 +96,13 @@ fn given_by(
             Ok(Given {
                 known: reduced.known,
                 scans: Scans::Listed(reduced.lists),
+            })
+        }
+        ListSource::Counted => {
+            let counted = from_counted(alloc, query, db)?;
+            Ok(Given {
+                known: counted.known,
+                scans: Scans::Listed(counted.lists),
             })
         }
     }

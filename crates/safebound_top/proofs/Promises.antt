@@ -152,6 +152,7 @@ module _ (task : PlanWork) (query : Query) (rows : List (List Row)) where
   scans_are sources.Columns = refl
   scans_are sources.Keyed = refl
   scans_are sources.Reduced = reduced_scans_by_rounds query (tables_in rows)
+  scans_are sources.Counted = reduced_scans_by_rounds query (tables_in rows)
 
   along : (plan : Plan) → BoundsHold (run_asked task query rows (shaped.Along plan))
       → HoldsAlong query (tables_in rows) (lists_by task.source query (tables_in rows)) plan

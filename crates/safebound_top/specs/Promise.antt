@@ -8,7 +8,7 @@
 -- - Bounds count rows that are kept, and not those that are tried. A choice has one scanned row of each entry of a level or node. It counts
 --   where every conjunct holds that names no other entry. A conjunct that names no entry is tested at every level and node, but not in scans:
 --   under `WHERE 1 = 2` every level and node is empty, and the scans are what they are without it.
--- - With `--reduce` the text looks as it does without. Its scan lines then speak of the reduced scans, and levels and nodes are over these.
+-- - With `--reduce` or `--count` the text looks the same. Its scan lines then speak of the reduced scans, and levels and nodes are over these.
 -- - With `--bushy` there is a line for each inner node. A tree of one FROM entry has none: then the scan's line is the bound of the answer.
 -- - With `--keys` exactly the same is promised as without: scans, levels and choices are those of the query's own conjuncts.
 -- - But for the limit of `--memory`, nothing is said of how high a bound may be. Budget, accuracy, that limit and the flags decide which
@@ -22,8 +22,8 @@
 --   base_io, by `ReadsAt`). The program's own folder and streams tell nothing; docs/PROVED.md says what is trusted of them.
 -- - Plan and rows are promised side by side. That the rows were found along the printed plan isn't said here, but by the clause `buffers`
 --   (`KeepsItsBuffers`, in Kept.antt).
--- - Only Done is promised something here, and only of words that ask for `run`. Words with a flag or an option twice, with `--keys` beside
---   another flag, or with a number out of its range ask for nothing. The headline says in which cases a call ends otherwise, and what the
+-- - Only Done is promised something here, and only of words that ask for `run`. Words with a flag or an option twice, with two that can't
+--   stand together, or with a number out of its range ask for nothing. The headline says in which cases a call ends otherwise, and what the
 --   other commands print. That each call keeps the promise is a clause of the top call (`promise` of `safebound`, in src/top_call.rt).
 use Rattle.std.specs.Prelude.{ℕ, ◌≡◌, ◌+◌, ◌<◌, ◌≤◌, ◌++◌, List, length, slice_get, slice_index, take, Option, None, Some, Ok, IsPermutation}
 use Rattle.base_io.specs.Devices.{Growth}
@@ -98,13 +98,14 @@ pub record AreInFile (files : Files) (schema : Schema) (query : Query) (entry : 
 
 -- ---- what the plan text says
 
--- the rows that are joined: for each FROM entry those for which every conjunct holds that names just this entry. With `--reduce` they are the
--- greatest lists of such rows in which each row has, for every conjunct that says that a column of its entry equals one of another entry, a
--- row of equal value in the other's list
+-- the rows that are joined: for each FROM entry those for which every conjunct holds that names just this entry. With `--reduce`, and with
+-- `--count`, they are the greatest lists of such rows in which each row has, for every conjunct that says that a column of its entry equals
+-- one of another entry, a row of equal value in the other's list
 abbrev pub AreScans : ListSource → Query → Tables → List (List ℕ) → Type 0
 AreScans sources.Columns query tables scans = scans ≡ scans_of query tables
 AreScans sources.Keyed query tables scans = scans ≡ scans_of query tables
 AreScans sources.Reduced query tables scans = AreReducedScans query tables scans
+AreScans sources.Counted query tables scans = AreReducedScans query tables scans
 
 -- each way to take one row of its scan for each of these entries, such that every conjunct holds that names no other entry
 abbrev pub choices_over : Query → Tables → List (List ℕ) → List ℕ → List (List ℕ)

@@ -1,14 +1,14 @@
 -- The values of a command are in their ranges, and `demo` alone has a shop.
 use Rattle.std.proofs.Common.{◌≡◌, ◌≤◌, ◌&&◌, ◌||◌, ℕ, Bool, true, false, inl, inr, List, [], ◌∷◌, Option, None, Some, ap, sym, refl, ◌∙◌, subst, arith}
-use Rattle.std.specs.Prelude.{nat_le, if◌then◌else◌, option_map}
+use Rattle.std.specs.Prelude.{nat_le, not, if◌then◌else◌, option_map}
 use Rattle.std.proofs.lemmas.Bool.{cases_Bool}
 use Rattle.std.proofs.lemmas.Bool.Decides.{nat_tests}
 use Rattle.safebound_words.specs.Answer.{command_of, reading_of}
 use Rattle.safebound_words.specs.CommandLines.{Reading, requested}
-use Rattle.safebound_words.specs.Commands.{demo_of, most_budget_of, over_query, plan_by, shape_by, with_rows}
+use Rattle.safebound_words.specs.Commands.{demo_of, most_budget_of, over_query, plan_over, shape_by, source_by, with_rows}
 use Rattle.safebound_words.specs.InRange.{HasRanges}
 use Rattle.safebound_words.specs.Numbers.{is_number, number_of, number_within}
-use Rattle.safebound_words.specs.Table.{Given, command_row, file_of, from_file, is_set, limit_of, of_append, of_number, of_stats, over_files, over_two, planned_from, stands_alone, value_of, ◌>>=◌}
+use Rattle.safebound_words.specs.Table.{Given, command_row, count_alone, file_of, from_file, is_set, limit_of, of_append, of_number, of_stats, over_files, over_two, planned_from, stands_alone, value_of, ◌>>=◌}
 use Rattle.safebound_words.specs.Words.{Word}
 use Rattle.safebound_words.specs.declared.command.Command.{Command}
 use Rattle.safebound_words.specs.declared.command.OutText.{OutText}
@@ -80,17 +80,28 @@ by_value : (value : Option ℕ) (next : ℕ → Option Command) (r : Command) �
 by_value None next r h is = absurd (cc)
 by_value (Some n) next r h is = h n is
 
-values_in : (out : OutText) (memory budget accuracy : Option ℕ) (reduce bushy keys : Option Bool) (schema query : Word) (r : Command) → ((n : ℕ) → accuracy ≡ Some n → (1 ≤ n) × (n ≤ 64))
-    → (budget >>= λ b. accuracy >>= λ a. reduce >>= λ s. bushy >>= λ t. keys >>= λ k. if k && (s || t) then None else if nat_le b (most_budget_of (shape_by t)) then Some (over_query None schema query (plan_by out b a s t k memory)) else None) ≡ Some r → IsAsked r
-values_in out memory None accuracy reduce bushy keys schema query r close is = absurd (cc)
-values_in out memory (Some b) None reduce bushy keys schema query r close is = absurd (cc)
-values_in out memory (Some b) (Some a) None bushy keys schema query r close is = absurd (cc)
-values_in out memory (Some b) (Some a) (Some s) None keys schema query r close is = absurd (cc)
-values_in out memory (Some b) (Some a) (Some s) (Some t) None schema query r close is = absurd (cc)
-values_in out memory (Some b) (Some a) (Some s) (Some t) (Some k) schema query r close is =
-    let alone = alone_asks (k && (s || t)) (if nat_le b (most_budget_of (shape_by t)) then Some (over_query None schema query (plan_by out b a s t k memory)) else None) r is in
-    let made = request_if (nat_le b (most_budget_of (shape_by t))) (over_query None schema query (plan_by out b a s t k memory)) r alone in
-    subst IsAsked made.1 (of_store (over_query None schema query (plan_by out b a s t k memory)) refl (record {
+-- what the flags ask for, where these may stand together
+abbrev asked_together : OutText → Option ℕ → ℕ → ℕ → Bool → Bool → Bool → Bool → (Bool → Bool → Bool) → Word → Word → Option Command
+asked_together out memory b a s t k c alone schema query =
+    if k && (s || t) then None
+    else if c && not (alone s k) then None
+    else if nat_le b (most_budget_of (shape_by t)) then Some (over_query None schema query (plan_over out b a (source_by s k c) t memory)) else None
+
+values_in : (out : OutText) (memory budget accuracy : Option ℕ) (reduce bushy keys count : Option Bool) (by_itself : Bool → Bool → Bool) (schema query : Word) (r : Command)
+    → ((n : ℕ) → accuracy ≡ Some n → (1 ≤ n) × (n ≤ 64))
+    → (budget >>= λ b. accuracy >>= λ a. reduce >>= λ s. bushy >>= λ t. keys >>= λ k. count >>= λ c. asked_together out memory b a s t k c by_itself schema query) ≡ Some r → IsAsked r
+values_in out memory None accuracy reduce bushy keys count by_itself schema query r close is = absurd (cc)
+values_in out memory (Some b) None reduce bushy keys count by_itself schema query r close is = absurd (cc)
+values_in out memory (Some b) (Some a) None bushy keys count by_itself schema query r close is = absurd (cc)
+values_in out memory (Some b) (Some a) (Some s) None keys count by_itself schema query r close is = absurd (cc)
+values_in out memory (Some b) (Some a) (Some s) (Some t) None count by_itself schema query r close is = absurd (cc)
+values_in out memory (Some b) (Some a) (Some s) (Some t) (Some k) None by_itself schema query r close is = absurd (cc)
+values_in out memory (Some b) (Some a) (Some s) (Some t) (Some k) (Some c) by_itself schema query r close is =
+    let work : Command = over_query None schema query (plan_over out b a (source_by s k c) t memory) in
+    let asks : Option Command = if nat_le b (most_budget_of (shape_by t)) then Some work else None in
+    let alone = alone_asks (c && not (by_itself s k)) asks r (alone_asks (k && (s || t)) (if c && not (by_itself s k) then None else asks) r is) in
+    let made = request_if (nat_le b (most_budget_of (shape_by t))) work r alone in
+    subst IsAsked made.1 (of_store work refl (record {
       accuracy_least = omega (arith, (close a refl).0);
       accuracy_most = (close a refl).1;
       budget = most_if (most_budget_of (shape_by t)) b made.0;
@@ -101,7 +112,7 @@ two_in out memory [] given r is = absurd (cc)
 two_in out memory (schema ∷ []) given r is = absurd (cc)
 two_in out memory (schema ∷ query ∷ []) given r is =
     values_in out memory (value_of option.Budget (given.values option.Budget)) (value_of option.Accuracy (given.values option.Accuracy))
-    (is_set (given.times flag.Reduce)) (is_set (given.times flag.Bushy)) (is_set (given.times flag.Keys)) schema query r (accuracy_in (given.values option.Accuracy)) is
+    (is_set (given.times flag.Reduce)) (is_set (given.times flag.Bushy)) (is_set (given.times flag.Keys)) (is_set (given.times flag.Count)) (count_alone given) schema query r (accuracy_in (given.values option.Accuracy)) is
 two_in out memory (schema ∷ query ∷ more ∷ places) given r is = absurd (cc)
 
 files_in : (out : OutText) (places : List Word) (given : Given) (r : Command) → over_files out places given ≡ Some r → IsAsked r

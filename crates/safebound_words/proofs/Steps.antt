@@ -1,5 +1,5 @@
 -- One word more: what is asked for by what was collected and what is left stays the same, or nothing can be.
-use Rattle.std.proofs.Common.{◌≡◌, ℕ, ◌+◌, ◌<◌, ◌≤◌, ◌==◌, ◌&&◌, ◌||◌, nat_le, Bool, true, false, if◌then◌else◌, option_map, List, [], ◌∷◌, ◌++◌, length, map, drop, Option, Some, None, Result, Ok, Err, Bor, sym, refl, ap, ◌∙◌, append_assoc, append-nil, length-append, suc, zero, arith}
+use Rattle.std.proofs.Common.{◌≡◌, ℕ, ◌+◌, ◌<◌, ◌≤◌, ◌==◌, ◌&&◌, ◌||◌, not, nat_le, Bool, true, false, if◌then◌else◌, option_map, List, [], ◌∷◌, ◌++◌, length, map, drop, Option, Some, None, Result, Ok, Err, Bor, sym, refl, ap, ◌∙◌, append_assoc, append-nil, length-append, suc, zero, arith}
 use Rattle.std.proofs.Math.Path.{fun_ext}
 use Rattle.std.proofs.lemmas.Bool.{false≢true, ne_eqb}
 use Rattle.std.proofs.lemmas.List.{drop_all}
@@ -11,8 +11,8 @@ use Rattle.std.specs.Result.{OnErr}
 use Rattle.safebound_words.specs.Answer.{Kind, Ends, IsPlace, Sets, Wants, Gives, Unknown, Parts, in_front, kind_of, parts_from, read_by}
 use Rattle.safebound_words.specs.Collected.{asked_by, asked_from, asked_with, collected, given_of, given_to, given_with, times_of, words_of}
 use Rattle.safebound_words.specs.CommandLines.{Alone, Beside, Item, Joined, Place, given_by, given_in, has_flag, has_option, place_words, same_flag, same_option, set_by}
-use Rattle.safebound_words.specs.Commands.{most_budget_of, over_query, plan_by, shape_by}
-use Rattle.safebound_words.specs.Table.{Given, command_row, file_of, flag_word, from_file, is_set, limit_of, of_append, of_number, of_stats, option_row, over_files, over_two, planned_from, stands_alone, value_of, with_limit, ◌>>=◌}
+use Rattle.safebound_words.specs.Commands.{most_budget_of, over_query, plan_over, shape_by, source_by}
+use Rattle.safebound_words.specs.Table.{Given, command_row, count_alone, file_of, flag_word, from_file, is_set, limit_of, of_append, of_number, of_stats, option_row, over_files, over_two, planned_from, stands_alone, value_of, with_limit, ◌>>=◌}
 use Rattle.safebound_words.specs.Words.{Word}
 use Rattle.safebound_words.specs.declared.command.Command.{Command}
 use Rattle.safebound_words.specs.declared.command.OutText.{OutText}
@@ -226,9 +226,13 @@ set_once (suc (suc more)) many = refl
 
 -- the stages behind the budget
 module _ (out : OutText) (limit : Option ℕ) (a b : Word) (given : Given) where
+  abbrev by_count : ℕ → ℕ → Bool → Bool → Bool → Bool → Option Command
+  by_count budget accuracy reduce bushy keys count = if keys && (reduce || bushy) then None
+      else if count && not (count_alone given reduce keys) then None
+      else if nat_le budget (most_budget_of (shape_by bushy)) then Some (over_query None a b (plan_over out budget accuracy (source_by reduce keys count) bushy limit)) else None
+
   abbrev by_keys : ℕ → ℕ → Bool → Bool → Bool → Option Command
-  by_keys budget accuracy reduce bushy keys = if keys && (reduce || bushy) then None
-      else if nat_le budget (most_budget_of (shape_by bushy)) then Some (over_query None a b (plan_by out budget accuracy reduce bushy keys limit)) else None
+  by_keys budget accuracy reduce bushy keys = is_set (given.times flag.Count) >>= λ count. by_count budget accuracy reduce bushy keys count
 
   abbrev by_bushy : ℕ → ℕ → Bool → Bool → Option Command
   by_bushy budget accuracy reduce bushy = is_set (given.times flag.Keys) >>= λ keys. by_keys budget accuracy reduce bushy keys
@@ -245,6 +249,11 @@ module _ (out : OutText) (limit : Option ℕ) (a b : Word) (given : Given) where
   many_keys : (budget accuracy : ℕ) (reduce bushy : Bool) → 1 < given.times flag.Keys → by_bushy budget accuracy reduce bushy ≡ None
   many_keys budget accuracy reduce bushy many = none_first (is_set (given.times flag.Keys)) (λ keys. by_keys budget accuracy reduce bushy keys) (set_once (given.times flag.Keys) many)
 
+  many_counts : (budget accuracy : ℕ) (reduce bushy : Bool) → 1 < given.times flag.Count → by_bushy budget accuracy reduce bushy ≡ None
+  many_counts budget accuracy reduce bushy many =
+      none_behind (is_set (given.times flag.Keys)) (λ keys. by_keys budget accuracy reduce bushy keys)
+      (λ keys. none_first (is_set (given.times flag.Count)) (λ count. by_count budget accuracy reduce bushy keys count) (set_once (given.times flag.Count) many))
+
   many_flags : (budget accuracy : ℕ) (f : FlagName) → 1 < given.times f → by_accuracy budget accuracy ≡ None
   many_flags budget accuracy flag.Reduce many = none_first (is_set (given.times flag.Reduce)) (λ reduce. by_reduce budget accuracy reduce) (set_once (given.times flag.Reduce) many)
   many_flags budget accuracy flag.Bushy many =
@@ -253,6 +262,9 @@ module _ (out : OutText) (limit : Option ℕ) (a b : Word) (given : Given) where
   many_flags budget accuracy flag.Keys many =
       none_behind (is_set (given.times flag.Reduce)) (λ reduce. by_reduce budget accuracy reduce)
       (λ reduce. none_behind (is_set (given.times flag.Bushy)) (λ bushy. by_bushy budget accuracy reduce bushy) (λ bushy. many_keys budget accuracy reduce bushy many))
+  many_flags budget accuracy flag.Count many =
+      none_behind (is_set (given.times flag.Reduce)) (λ reduce. by_reduce budget accuracy reduce)
+      (λ reduce. none_behind (is_set (given.times flag.Bushy)) (λ bushy. by_bushy budget accuracy reduce bushy) (λ bushy. many_counts budget accuracy reduce bushy many))
 
   no_flag_of_two : (f : FlagName) → 1 < given.times f → over_two out limit (a ∷ b ∷ []) given ≡ None
   no_flag_of_two f many =
@@ -281,11 +293,14 @@ nowhere false = refl
 flag_twice : (n : ℕ) → 1 < n → (n == 0) ≡ false
 flag_twice n many = ne_eqb n 0 (λ e. absurd (omega (arith, e, many)))
 
-flags_twice : (given : Given) (f : FlagName) → 1 < given.times f → (given.times flag.Reduce == 0 && (given.times flag.Bushy == 0 && given.times flag.Keys == 0)) ≡ false
+flags_twice : (given : Given) (f : FlagName) → 1 < given.times f → (given.times flag.Reduce == 0 && (given.times flag.Bushy == 0 && (given.times flag.Keys == 0 && given.times flag.Count == 0))) ≡ false
 flags_twice given flag.Reduce many = let some = flag_twice (given.times flag.Reduce) many in rw some refl
 flags_twice given flag.Bushy many = let some = flag_twice (given.times flag.Bushy) many in rw some (nowhere (given.times flag.Reduce == 0))
 flags_twice given flag.Keys many =
     let some = flag_twice (given.times flag.Keys) many in rw some (rw (nowhere (given.times flag.Bushy == 0)) (nowhere (given.times flag.Reduce == 0)))
+flags_twice given flag.Count many =
+    let some = flag_twice (given.times flag.Count) many in
+    rw some (rw (nowhere (given.times flag.Keys == 0), nowhere (given.times flag.Bushy == 0)) (nowhere (given.times flag.Reduce == 0)))
 
 times_twice : (given : Given) (f : FlagName) → 1 < given.times f → stands_alone given ≡ false
 times_twice given f many = let some = flags_twice given f many in rw some (nowhere (length (given.values option.Accuracy) == 0))
@@ -325,7 +340,7 @@ file_without_accuracy : (file : Word) (limit : Option ℕ) (places : List Word) 
 file_without_accuracy file limit [] given many = refl
 file_without_accuracy file limit (a ∷ []) given many = refl
 file_without_accuracy file limit (a ∷ b ∷ []) given many =
-    not_alone file limit a b given (words_twice (given.values option.Accuracy) (given.times flag.Reduce == 0 && (given.times flag.Bushy == 0 && given.times flag.Keys == 0)) many)
+    not_alone file limit a b given (words_twice (given.values option.Accuracy) (given.times flag.Reduce == 0 && (given.times flag.Bushy == 0 && (given.times flag.Keys == 0 && given.times flag.Count == 0))) many)
 file_without_accuracy file limit (a ∷ b ∷ d ∷ rest) given many = refl
 
 plan_without_accuracy : (file : Option Word) (places : List Word) (given : Given) → 1 < length (given.values option.Accuracy) → planned_from file places given ≡ None
@@ -566,12 +581,13 @@ start_asked name line words places given times =
 
 -- the line before any word
 abbrev no_words : Line
-no_words = record { places = places.Nothing; budget = None; accuracy = None; memory = None; stats = None; reduce = false; bushy = false; keys = false }
+no_words = record { places = places.Nothing; budget = None; accuracy = None; memory = None; stats = None; reduce = false; bushy = false; keys = false; count = false }
 
 never_set : (f : FlagName) → times_of no_words f ≡ 0
 never_set flag.Reduce = refl
 never_set flag.Bushy = refl
 never_set flag.Keys = refl
+never_set flag.Count = refl
 
 pub first_asked : (name : CommandName) (words : List Word) → asked_from name no_words next.Item words ≡ asked_by name words
 first_asked name words = start_asked name no_words words refl (nothing_given no_words refl refl refl refl) never_set

@@ -146,6 +146,7 @@ record AreFew (places : List Word) (given : Given) : Type 0 where
   reduce : given.times flag.Reduce ≤ 1
   bushy : given.times flag.Bushy ≤ 1
   keys : given.times flag.Keys ≤ 1
+  count : given.times flag.Count ≤ 1
 
 two_few : (out : OutText) (memory : Option ℕ) (places : List Word) (given : Given) (r : Command) → over_two out memory places given ≡ Some r → AreFew places given
 two_few out memory [] given r is = absurd (cc)
@@ -156,6 +157,7 @@ two_few out memory (schema ∷ query ∷ []) given r is =
     let reduce = bind_so (is_set (given.times flag.Reduce)) _ r accuracy.2 in
     let bushy = bind_so (is_set (given.times flag.Bushy)) _ r reduce.2 in
     let keys = bind_so (is_set (given.times flag.Keys)) _ r bushy.2 in
+    let count = bind_so (is_set (given.times flag.Count)) _ r keys.2 in
     record {
       two = refl;
       budget = one_value option.Budget (given.values option.Budget) budget.0 budget.1;
@@ -163,6 +165,7 @@ two_few out memory (schema ∷ query ∷ []) given r is =
       reduce = once (given.times flag.Reduce) reduce.0 reduce.1;
       bushy = once (given.times flag.Bushy) bushy.0 bushy.1;
       keys = once (given.times flag.Keys) keys.0 keys.1;
+      count = once (given.times flag.Count) count.0 count.1;
     }
 two_few out memory (schema ∷ query ∷ more ∷ places) given r is = absurd (cc)
 
@@ -180,14 +183,16 @@ from_few file memory (schema ∷ query ∷ []) given r is =
     let alone = asked_if _ (over_query None schema query (works.PlanFrom file budget.0 memory)) r budget.2 in
     let first = both_true (length (given.values option.Accuracy) == 0) _ alone in
     let second = both_true (given.times flag.Reduce == 0) _ first.1 in
-    let third = both_true (given.times flag.Bushy == 0) (given.times flag.Keys == 0) second.1 in
+    let third = both_true (given.times flag.Bushy == 0) _ second.1 in
+    let fourth = both_true (given.times flag.Keys == 0) (given.times flag.Count == 0) third.1 in
     record {
       two = refl;
       budget = one_value option.Budget (given.values option.Budget) budget.0 budget.1;
       accuracy = omega (arith, eqb-true (length (given.values option.Accuracy)) 0 first.0);
       reduce = omega (arith, eqb-true (given.times flag.Reduce) 0 second.0);
       bushy = omega (arith, eqb-true (given.times flag.Bushy) 0 third.0);
-      keys = omega (arith, eqb-true (given.times flag.Keys) 0 third.1);
+      keys = omega (arith, eqb-true (given.times flag.Keys) 0 fourth.0);
+      count = omega (arith, eqb-true (given.times flag.Count) 0 fourth.1);
     }
 from_few file memory (schema ∷ query ∷ more ∷ places) given r is = absurd (cc)
 
@@ -218,11 +223,11 @@ demo_few [] given r is = absurd (cc)
 demo_few (number ∷ []) given r is = refl
 demo_few (number ∷ more ∷ places) given r is = absurd (cc)
 
--- two places, three options and three flags; a plan may have one option more
-whole_few : (places : List Word) (given : Given) → AreFew places given → length (given.values option.Memory) ≤ 1 → weight command.Run places given ≤ 11
-whole_few places given few memory = omega (arith, few.two, few.budget, few.accuracy, few.reduce, few.bushy, few.keys, memory)
+-- two places, three options and four flags; a plan may have one option more
+whole_few : (places : List Word) (given : Given) → AreFew places given → length (given.values option.Memory) ≤ 1 → weight command.Run places given ≤ 12
+whole_few places given few memory = omega (arith, few.two, few.budget, few.accuracy, few.reduce, few.bushy, few.keys, few.count, memory)
 
-asks_few : (name : CommandName) (places : List Word) (given : Given) (r : Command) → (command_row name).asks places given ≡ Some r → weight name places given ≤ 13
+asks_few : (name : CommandName) (places : List Word) (given : Given) (r : Command) → (command_row name).asks places given ≡ Some r → weight name places given ≤ 14
 asks_few command.Run places given r is = let few = files_few out_text.Rows places given r is in omega (arith, whole_few places given few.0 few.1)
 asks_few command.Plan places given r is =
     let file = bind_so (file_of (given.values option.Stats)) _ r is in
@@ -247,7 +252,7 @@ few_words words r is =
     let reading = asked.0 in
     let reads = asked.1 in
     let places = flat_map place_words reading.items in
-    let takes : weight reading.command (places ++ reading.behind) (given_in reading.items) ≤ 13 = asks_few reading.command _ _ r asked.2 in
+    let takes : weight reading.command (places ++ reading.behind) (given_in reading.items) ≤ 14 = asks_few reading.command _ _ r asked.2 in
     omega (
       arith,
       ap (λ (ws : List Word). length ws) reads.spelled,

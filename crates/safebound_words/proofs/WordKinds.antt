@@ -33,21 +33,27 @@ unfolding kind_of
 kind-sets command.Run flag.Reduce has = refl
 kind-sets command.Run flag.Bushy has = refl
 kind-sets command.Run flag.Keys has = refl
+kind-sets command.Run flag.Count has = refl
 kind-sets command.Plan flag.Reduce has = refl
 kind-sets command.Plan flag.Bushy has = refl
 kind-sets command.Plan flag.Keys has = refl
+kind-sets command.Plan flag.Count has = refl
 kind-sets command.Audit flag.Reduce has = refl
 kind-sets command.Audit flag.Bushy has = refl
 kind-sets command.Audit flag.Keys has = refl
+kind-sets command.Audit flag.Count has = refl
 kind-sets command.Stats flag.Reduce has = absurd (false≢true has)
 kind-sets command.Stats flag.Bushy has = absurd (false≢true has)
 kind-sets command.Stats flag.Keys has = absurd (false≢true has)
+kind-sets command.Stats flag.Count has = absurd (false≢true has)
 kind-sets command.Append flag.Reduce has = absurd (false≢true has)
 kind-sets command.Append flag.Bushy has = absurd (false≢true has)
 kind-sets command.Append flag.Keys has = absurd (false≢true has)
+kind-sets command.Append flag.Count has = absurd (false≢true has)
 kind-sets command.Demo flag.Reduce has = absurd (false≢true has)
 kind-sets command.Demo flag.Bushy has = absurd (false≢true has)
 kind-sets command.Demo flag.Keys has = absurd (false≢true has)
+kind-sets command.Demo flag.Count has = absurd (false≢true has)
 
 -- an option's word wants a value
 pub kind-wants : (name : CommandName) (o : OptionName) → IsTrue (has_option name o) → kind_of name (option_row o).word ≡ Wants o

@@ -42,6 +42,7 @@ abbrev pub times_of : Line → FlagName → ℕ
 times_of line flag.Reduce = if line.reduce then 1 else 0
 times_of line flag.Bushy = if line.bushy then 1 else 0
 times_of line flag.Keys = if line.keys then 1 else 0
+times_of line flag.Count = if line.count then 1 else 0
 
 abbrev pub given_of : Line → Given
 given_of line = record { values = given_to line; times = times_of line }

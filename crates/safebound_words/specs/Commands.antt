@@ -22,21 +22,26 @@ over_query shop schema query work = record { schema_file = schema; aim = aims.Qu
 abbrev pub with_rows : Word → NewRows → Command
 with_rows schema rows = record { schema_file = schema; aim = aims.Append rows; shop = None }
 
--- by the flags `--reduce` and `--keys`, which never stand together: without one of them the statistics of whole columns
-abbrev pub source_by : Bool → Bool → ListSource
-source_by false false = sources.Columns
-source_by false true = sources.Keyed
-source_by true keys = sources.Reduced
+-- by the flags `--reduce`, `--keys` and `--count`, of which one stands at most: without one of them the statistics of whole columns
+abbrev pub source_by : Bool → Bool → Bool → ListSource
+source_by false false false = sources.Columns
+source_by false true false = sources.Keyed
+source_by true keys false = sources.Reduced
+source_by reduce keys true = sources.Counted
 
 -- by the flag `--bushy`: without it an order
 abbrev pub shape_by : Bool → Shape
 shape_by false = shapes.Order
 shape_by true = shapes.Tree
 
--- a text for out, a budget, an accuracy, the flags `--reduce`, `--bushy` and `--keys`, and a limit of memory, where there is one
+-- a text for out, a budget, an accuracy, a source, the flag `--bushy`, and a limit of memory, where there is one
+abbrev pub plan_over : OutText → ℕ → ℕ → ListSource → Bool → Option ℕ → Work
+plan_over out budget accuracy source bushy memory = works.Plan
+    (record { budget = budget; accuracy = accuracy; source = source; shape = shape_by bushy; memory = memory; out = out })
+
+-- the same by the flags `--reduce`, `--bushy` and `--keys`
 abbrev pub plan_by : OutText → ℕ → ℕ → Bool → Bool → Bool → Option ℕ → Work
-plan_by out budget accuracy reduce bushy keys memory = works.Plan
-    (record { budget = budget; accuracy = accuracy; source = source_by reduce keys; shape = shape_by bushy; memory = memory; out = out })
+plan_by out budget accuracy reduce bushy keys memory = plan_over out budget accuracy (source_by reduce keys false) bushy memory
 
 -- `demo` asks what `audit schema.sql query.sql` asks, of the files of a shop
 abbrev pub demo_of : ℕ → Command

@@ -2,7 +2,7 @@
 use Rattle.std.specs.Prelude.{ℕ, ◌^◌, ◌-◌, ◌==◌, ◌&&◌, ◌||◌, not, nat_le, if◌then◌else◌, suc, zero, Bool, true, false, List, [], ◌∷◌, length, Option, Some, None, codes}
 use Rattle.std.specs.Option.{option_map}
 use Rattle.limits.specs.Profile.{least_accuracy, least_budget, most_accuracy, most_budget, usual_accuracy, usual_budget}
-use Rattle.safebound_words.specs.Commands.{demo_of, most_budget_of, over_query, plan_by, shape_by, with_rows}
+use Rattle.safebound_words.specs.Commands.{demo_of, most_budget_of, over_query, plan_over, shape_by, source_by, with_rows}
 use Rattle.safebound_words.specs.Numbers.{number_within}
 use Rattle.safebound_words.specs.Words.{Word}
 use Rattle.safebound_words.specs.declared.command.Command.{Command}
@@ -49,6 +49,7 @@ abbrev pub flag_word : FlagName → Word
 flag_word flag.Reduce = codes "--reduce"
 flag_word flag.Bushy = codes "--bushy"
 flag_word flag.Keys = codes "--keys"
+flag_word flag.Count = codes "--count"
 
 -- the words that a line gives to each option, in order, and how often each flag stands in it
 pub record Given : Type 0 where
@@ -98,6 +99,10 @@ abbrev pub ◌>>=◌ : {A B : Type 0} → Option A → (A → Option B) → Opti
 None >>= rest = None
 (Some value) >>= rest = rest value
 
+-- beside `--count` stands no other source, and no accuracy, since nothing is compressed
+abbrev pub count_alone : Given → Bool → Bool → Bool
+count_alone given reduce keys = not (reduce || (keys || not (length (given.values option.Accuracy) == 0)))
+
 -- exactly two place words, SCHEMA and QUERY; `--keys` beside no other flag, and a budget that is at most that of the shape
 abbrev pub over_two : OutText → Option ℕ → List Word → Given → Option Command
 over_two out limit (schema ∷ query ∷ []) given = do
@@ -106,8 +111,11 @@ over_two out limit (schema ∷ query ∷ []) given = do
   reduce ← is_set (given.times flag.Reduce)
   bushy ← is_set (given.times flag.Bushy)
   keys ← is_set (given.times flag.Keys)
+  count ← is_set (given.times flag.Count)
   if keys && (reduce || bushy) then None
-      else if nat_le budget (most_budget_of (shape_by bushy)) then Some (over_query None schema query (plan_by out budget accuracy reduce bushy keys limit))
+      else if count && not (count_alone given reduce keys) then None
+      else if nat_le budget (most_budget_of (shape_by bushy))
+      then Some (over_query None schema query (plan_over out budget accuracy (source_by reduce keys count) bushy limit))
       else None
 over_two out limit places given = None
 
@@ -121,7 +129,8 @@ over_files out places given = with_limit (over_two out) places given
 -- beside a statistics file stands no accuracy, which is the file's, and no flag; the budget and a limit of memory may
 abbrev pub stands_alone : Given → Bool
 stands_alone given =
-    length (given.values option.Accuracy) == 0 && (given.times flag.Reduce == 0 && (given.times flag.Bushy == 0 && given.times flag.Keys == 0))
+    length (given.values option.Accuracy) == 0
+    && (given.times flag.Reduce == 0 && (given.times flag.Bushy == 0 && (given.times flag.Keys == 0 && given.times flag.Count == 0)))
 
 -- a plan from a statistics file: SCHEMA and QUERY, and the budget
 abbrev pub from_file : Word → Option ℕ → List Word → Given → Option Command
@@ -155,9 +164,9 @@ of_number places given = None
 
 -- one line for each command
 abbrev pub command_row : CommandName → CommandRow
-command_row command.Run = named (codes "run") (option.Budget ∷ option.Accuracy ∷ option.Memory ∷ []) (flag.Reduce ∷ flag.Bushy ∷ flag.Keys ∷ []) (over_files out_text.Rows)
-command_row command.Plan = named (codes "plan") (option.Budget ∷ option.Accuracy ∷ option.Memory ∷ option.Stats ∷ []) (flag.Reduce ∷ flag.Bushy ∷ flag.Keys ∷ []) of_plan
-command_row command.Audit = named (codes "audit") (option.Budget ∷ option.Accuracy ∷ option.Memory ∷ []) (flag.Reduce ∷ flag.Bushy ∷ flag.Keys ∷ []) (over_files out_text.Audit)
+command_row command.Run = named (codes "run") (option.Budget ∷ option.Accuracy ∷ option.Memory ∷ []) (flag.Reduce ∷ flag.Bushy ∷ flag.Keys ∷ flag.Count ∷ []) (over_files out_text.Rows)
+command_row command.Plan = named (codes "plan") (option.Budget ∷ option.Accuracy ∷ option.Memory ∷ option.Stats ∷ []) (flag.Reduce ∷ flag.Bushy ∷ flag.Keys ∷ flag.Count ∷ []) of_plan
+command_row command.Audit = named (codes "audit") (option.Budget ∷ option.Accuracy ∷ option.Memory ∷ []) (flag.Reduce ∷ flag.Bushy ∷ flag.Keys ∷ flag.Count ∷ []) (over_files out_text.Audit)
 command_row command.Stats = named (codes "stats") (option.Accuracy ∷ []) [] of_stats
 command_row command.Append = named (codes "append") [] [] of_append
 command_row command.Demo = named (codes "demo") [] [] of_number

@@ -1,7 +1,8 @@
 //! What small command lines ask for.
 ghost use Rattle.std.specs.Prelude.{◌≡◌, Some, None, [], ◌∷◌, codes, false, true};
 ghost use Rattle.safebound_words.specs.Answer.{command_of};
-ghost use Rattle.safebound_words.specs.Commands.{demo_of, over_query, plan_by, with_rows};
+ghost use Rattle.safebound_words.specs.Commands.{demo_of, over_query, plan_by, plan_over, with_rows};
+ghost use Rattle.safebound_words.specs.declared.command.ListSource.TheVariants as sources;
 ghost use Rattle.safebound_words.specs.declared.command.OutText.TheVariants as out_text;
 ghost use Rattle.safebound_words.specs.declared.command.Work.TheVariants as works;
 
@@ -114,6 +115,27 @@ pub fn small_keys()
     ensures reduced { command_of (codes "run" ∷ codes "--keys" ∷ codes "s" ∷ codes "q" ∷ codes "--reduce" ∷ []) ≡ None }
     ensures tree { command_of (codes "plan" ∷ codes "--bushy" ∷ codes "s" ∷ codes "q" ∷ codes "--keys" ∷ []) ≡ None }
     ensures of_a_file { command_of (codes "plan" ∷ codes "s" ∷ codes "q" ∷ codes "--stats=f" ∷ codes "--keys" ∷ []) ≡ None }
+{}
+
+/// Words with `--count`. It does nothing.
+pub fn small_counts()
+    ensures behind { command_of (codes "run" ∷ codes "s" ∷ codes "q" ∷ codes "--count" ∷ [])
+        ≡ Some (over_query None (codes "s") (codes "q") (plan_over out_text.Rows 1000000 1 sources.Counted false None)) }
+    ensures tree { command_of (codes "audit" ∷ codes "--count" ∷ codes "s" ∷ codes "q" ∷ codes "--bushy" ∷ codes "--budget=5" ∷ [])
+        ≡ Some (over_query None (codes "s") (codes "q") (plan_over out_text.Audit 5 1 sources.Counted true None)) }
+    ensures limit { command_of (codes "plan" ∷ codes "s" ∷ codes "--count" ∷ codes "q" ∷ codes "--memory=9" ∷ [])
+        ≡ Some (over_query None (codes "s") (codes "q") (plan_over out_text.Nothing 1000000 1 sources.Counted false (Some 9))) }
+    ensures past_most { command_of (codes "plan" ∷ codes "--budget=4000001" ∷ codes "s" ∷ codes "q" ∷ codes "--bushy" ∷ codes "--count" ∷ []) ≡ None }
+    ensures twice { command_of (codes "run" ∷ codes "--count" ∷ codes "s" ∷ codes "q" ∷ codes "--count" ∷ []) ≡ None }
+    ensures value { command_of (codes "run" ∷ codes "s" ∷ codes "q" ∷ codes "--count=1" ∷ []) ≡ None }
+    ensures of_demo { command_of (codes "demo" ∷ codes "7" ∷ codes "--count" ∷ []) ≡ None }
+    ensures of_stats { command_of (codes "stats" ∷ codes "s" ∷ codes "q" ∷ codes "--count" ∷ []) ≡ None }
+
+    // It stands beside no other source, and nothing is compressed.
+    ensures reduced { command_of (codes "run" ∷ codes "--count" ∷ codes "s" ∷ codes "q" ∷ codes "--reduce" ∷ []) ≡ None }
+    ensures keyed { command_of (codes "plan" ∷ codes "--keys" ∷ codes "s" ∷ codes "q" ∷ codes "--count" ∷ []) ≡ None }
+    ensures of_a_file { command_of (codes "plan" ∷ codes "s" ∷ codes "q" ∷ codes "--stats=f" ∷ codes "--count" ∷ []) ≡ None }
+    ensures accuracy { command_of (codes "audit" ∷ codes "s" ∷ codes "q" ∷ codes "--count" ∷ codes "--accuracy" ∷ codes "1" ∷ []) ≡ None }
 {}
 
 /// `stats`, and `plan` with `--stats`. It does nothing.

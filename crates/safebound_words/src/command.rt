@@ -22,6 +22,8 @@ pub enum ListSource {
     Keyed,
     /// Reduced scans, for both.
     Reduced,
+    /// Reduced scans, for both, of which choices are counted.
+    Counted,
 }
 
 /// How a plan joins its entries.

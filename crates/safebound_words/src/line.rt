@@ -37,6 +37,7 @@ pub(crate) struct Line<'a> {
     pub reduce: bool,
     pub bushy: bool,
     pub keys: bool,
+    pub count: bool,
 }
 
 // Puts a word where there is none.
@@ -109,6 +110,7 @@ impl<'a> Line<'a> {
             FlagName::Reduce => mark(&mut self.reduce),
             FlagName::Bushy => mark(&mut self.bushy),
             FlagName::Keys => mark(&mut self.keys),
+            FlagName::Count => mark(&mut self.count),
         }
     }
 
@@ -174,6 +176,7 @@ pub(crate) fn read_line<'a>(name: CommandName, words: &[&'a str]) -> Result<Line
         reduce: false,
         bushy: false,
         keys: false,
+        count: false,
     };
     let mut next = Next::Item;
     'words: for word in words {

@@ -38,13 +38,14 @@ fn limit_in(line: &Line) -> Option<Option<u64>>
 }
 
 // The source that the flags ask for.
-fn source_of(reduce: bool, keys: bool) -> ListSource
-    ensures { result ≡ source_by reduce keys }
+fn source_of(reduce: bool, keys: bool, count: bool) -> ListSource
+    ensures { result ≡ source_by reduce keys count }
 {
-    match (reduce, keys) {
-        (true, _) => ListSource::Reduced,
-        (false, true) => ListSource::Keyed,
-        (false, false) => ListSource::Columns,
+    match (reduce, keys, count) {
+        (_, _, true) => ListSource::Counted,
+        (true, _, false) => ListSource::Reduced,
+        (false, true, false) => ListSource::Keyed,
+        (false, false, false) => ListSource::Columns,
     }
 }
 
@@ -93,6 +94,9 @@ fn over_files<'a>(out: OutText, line: &Line<'a>) -> Option<Command<'a>>
     if line.keys && (line.reduce || line.bushy) {
         return None;
     }
+    if line.count && (line.reduce || line.keys || line.accuracy.is_some()) {
+        return None;
+    }
     let shape = shape_of(line.bushy);
     if budget > most_budget(shape) {
         return None;
@@ -100,7 +104,7 @@ fn over_files<'a>(out: OutText, line: &Line<'a>) -> Option<Command<'a>>
     let plan = PlanWork {
         budget,
         accuracy: accuracy as u8,
-        source: source_of(line.reduce, line.keys),
+        source: source_of(line.reduce, line.keys, line.count),
         shape,
         memory,
         out,
@@ -127,7 +131,7 @@ fn plan_from<'a>(line: &Line<'a>, stats: &'a str) -> Option<Command<'a>>
         return None;
     };
     let budget = value_of(OptionName::Budget, line.budget)?;
-    if line.accuracy.is_some() || line.reduce || line.bushy || line.keys {
+    if line.accuracy.is_some() || line.reduce || line.bushy || line.keys || line.count {
         return None;
     }
     let file = Word::new(stats);

@@ -38,6 +38,7 @@ pub enum FlagName {
     Reduce,
     Bushy,
     Keys,
+    Count,
 }
 
 /// The least and the greatest value of an option, and its value where it doesn't stand.
@@ -154,6 +155,8 @@ fn any_flag_named(word: &str) -> Option<FlagName>
         Some(FlagName::Bushy)
     } else if word == "--keys" {
         Some(FlagName::Keys)
+    } else if word == "--count" {
+        Some(FlagName::Count)
     } else {
         None
     }

@@ -6,6 +6,7 @@ pub mod Levels
 pub mod Verdicts
 pub mod Calls
 pub mod Reduced
+pub mod Counted
 pub mod StatsFiles
 pub mod Keyed
 pub mod TwoCalls

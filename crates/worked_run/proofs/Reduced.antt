@@ -1,4 +1,4 @@
--- The run over reduced scans, by computation.
+-- The run over reduced scans, by computation. What doesn't depend on how bounds over them are made serves the run by counting too.
 use Rattle.std.proofs.Common.{◌≡◌, ℕ, ◌+◌, List, [], ◌∷◌, None, Some, Result, Ok, map, refl, ap, ◌∙◌, arith}
 use Rattle.std.specs.Fmt.{digits}
 use Rattle.std.specs.Prelude.{codes}
@@ -30,6 +30,7 @@ use Rattle.safebound_words.specs.Answer.{command_of, kind_of, parts_from, readin
 use Rattle.safebound_words.specs.Commands.{over_query}
 use Rattle.safebound_words.specs.Numbers.{number_of}
 use Rattle.safebound_words.specs.Table.{over_files}
+use Rattle.safebound_words.specs.declared.command.ListSource.{ListSource}
 use Rattle.safebound_words.specs.declared.command.ListSource.TheVariants as sources
 use Rattle.safebound_words.specs.declared.command.OutText.TheVariants as out_text
 use Rattle.safebound_words.specs.declared.command.PlanWork.{PlanWork}
@@ -48,15 +49,15 @@ use Rattle.worked_run.specs.TwoTables.{reduced_words, small_files}
 use Rattle.worked_run.proofs.Levels.{T, said, says, scans_found}
 use Rattle.worked_run.proofs.Verdicts.{of_words}
 
-abbrev task : PlanWork
-task = record { budget = 1000000; accuracy = 1; source = sources.Reduced; shape = shapes.Order; memory = None; out = out_text.Rows }
+abbrev pub task : ListSource → PlanWork
+task source = record { budget = 1000000; accuracy = 1; source = source; shape = shapes.Order; memory = None; out = out_text.Rows }
 
 -- ---- what is left
 
-joins : equalities_of pair ≡ edge_of 0 0 1 0 ∷ []
+pub joins : equalities_of pair ≡ edge_of 0 0 1 0 ∷ []
 joins = rw (equality_two 0 0 1 0 (λ e. absurd (omega (arith, e)))) refl
 
-kept : reduced_of pair T ≡ reduced_lists
+pub kept : reduced_of pair T ≡ reduced_lists
 unfolding reduced_of
 kept =
     ap (λ (lists : List (List ℕ)). after_rounds (equalities_of pair) (are_equal_at T) (rows_in_all lists + 1) lists) scans_found
@@ -72,52 +73,61 @@ sets : bounds_in_sets (in_every_set (entry_bounds_over T reduced_lists 1)) (equa
 unfolding entries_of_set
 sets = rw joins refl
 
-chosen : plan_answer (1 ∷ 3 ∷ 2 ∷ 6 ∷ []) (3 ∷ 2 ∷ []) 1000000 ≡ Ok (plan_of (1 ∷ 0 ∷ []) (3 ∷ 2 ∷ []) (2 ∷ 6 ∷ []))
+abbrev pub plan : Plan
+plan = plan_of (1 ∷ 0 ∷ []) (3 ∷ 2 ∷ []) (2 ∷ 6 ∷ [])
+
+chosen : plan_answer (1 ∷ 3 ∷ 2 ∷ 6 ∷ []) (3 ∷ 2 ∷ []) 1000000 ≡ Ok plan
 unfolding plan_answer best_order
 chosen = refl
 
 abbrev along : Result Plan PlanError → Result Shaped PlanError
 along answer = seen (λ plan. shaped.Along plan) answer
 
-plan_found : planned_by shapes.Order (sourced sources.Reduced two_tables pair T) 1 1000000 ≡ Ok (shaped.Along (plan_of (1 ∷ 0 ∷ []) (3 ∷ 2 ∷ []) (2 ∷ 6 ∷ [])))
+-- the plan from bounds of the sets, over the rows that are left
+pub plan_over : (found : List ℕ) → found ≡ 1 ∷ 3 ∷ 2 ∷ 6 ∷ [] → answer_of shapes.Order found (list_sizes pair reduced_lists) 1000000 ≡ Ok (shaped.Along plan)
+plan_over found are = ap (λ (bounds : List ℕ). answer_of shapes.Order bounds (3 ∷ 2 ∷ []) 1000000) are ∙ ap along chosen
+
+plan_found : planned_by shapes.Order (sourced sources.Reduced two_tables pair T) 1 1000000 ≡ Ok (shaped.Along plan)
 unfolding planned_by sets_by scans_by
 plan_found =
     ap (λ (lists : List (List ℕ)). answer_of shapes.Order (bounds_in_sets (in_every_set (entry_bounds_over T lists 1)) (equalities_of pair) 2) (list_sizes pair lists) 1000000) kept
-    ∙ ap (λ (bounds : List ℕ). answer_of shapes.Order bounds (3 ∷ 2 ∷ []) 1000000) sets
-    ∙ ap along chosen
+    ∙ plan_over (bounds_in_sets (in_every_set (entry_bounds_over T reduced_lists 1)) (equalities_of pair) 2) sets
 
-with_lists : run_asked task pair small_rows two_tables_reduced.plan ≡ two_tables_reduced
-with_lists = ap (λ (lists : List (List ℕ)). record {
+with_lists : (source : ListSource) → lists_by source pair T ≡ reduced_lists
+    → run_asked (task source) pair small_rows (shaped.Along plan) ≡ two_tables_reduced source
+with_lists source is = ap (λ (lists : List (List ℕ)). record {
   query = pair;
   rows = small_rows;
-  plan = two_tables_reduced.plan;
-  source = sources.Reduced;
+  plan = shaped.Along plan;
+  source = source;
   lists = lists;
   memory = None;
   out = out_text.Rows;
-}) lists_kept
+}) is
 
-plan_made : plan_stage task two_tables pair small_rows ≡ Ok (Planned two_tables_reduced)
+pub plan_made : (source : ListSource) → lists_by source pair T ≡ reduced_lists
+    → planned_by shapes.Order (sourced source two_tables pair T) 1 1000000 ≡ Ok (shaped.Along plan)
+    → plan_stage (task source) two_tables pair small_rows ≡ Ok (Planned (two_tables_reduced source))
 unfolding plan_stage
-plan_made =
+plan_made source lists found =
     ap (λ (answer : Result Shaped PlanError). told plan_refusal answer
-    >>= λ plan. within_limit None (shape_bytes plan) (Planned (run_asked task pair small_rows plan))) plan_found
-    ∙ ap (λ run. Ok (Planned run)) with_lists
+    >>= λ plan. within_limit None (shape_bytes plan) (Planned (run_asked (task source) pair small_rows plan))) found
+    ∙ ap (λ run. Ok (Planned run)) (with_lists source lists)
 
 -- ---- the verdict
 
-asked : command_stage reduced_words ≡ Ok (over_query None (codes "schema.sql") (codes "query.sql") (works.Plan task))
+asked : command_stage reduced_words ≡ Ok (over_query None (codes "schema.sql") (codes "query.sql") (works.Plan (task sources.Reduced)))
 unfolding command_of reading_of over_files parts_from kind_of number_of
 asked = refl
 
-pub reduced_verdict : verdict reduced_words small_files ≡ Ok (Planned two_tables_reduced)
-reduced_verdict = of_words reduced_words task asked ∙ plan_made
+pub reduced_verdict : verdict reduced_words small_files ≡ Ok (Planned (two_tables_reduced sources.Reduced))
+reduced_verdict = of_words reduced_words (task sources.Reduced) asked ∙ plan_made sources.Reduced lists_kept plan_found
 
 -- ---- the texts
 
-pub reduced_notes : plan_text two_tables_reduced ≡ codes "scan R 3\nscan S 2\nlevel 1 S 2\nlevel 2 R 6\n"
+pub reduced_notes : (source : ListSource) → plan_text (two_tables_reduced source) ≡ codes "scan R 3\nscan S 2\nlevel 1 S 2\nlevel 2 R 6\n"
 unfolding digits
-reduced_notes = refl
+reduced_notes source = refl
 
 second_level : list_levels pair T reduced_lists (1 ∷ 0 ∷ []) 2
     ≡ (0 ∷ 0 ∷ []) ∷ (0 ∷ 1 ∷ []) ∷ (0 ∷ 2 ∷ []) ∷ (1 ∷ 0 ∷ []) ∷ (1 ∷ 1 ∷ []) ∷ (1 ∷ 2 ∷ []) ∷ []
@@ -125,6 +135,6 @@ second_level = filter_agree (λ choice. all_hold (conjuncts_of pair T) (1 ∷ 0 
     (λ choice. says (1 ∷ 0 ∷ []) (row_in (1 ∷ 0 ∷ []) choice))
     (λ choice. said (1 ∷ 0 ∷ []) (row_in (1 ∷ 0 ∷ []) choice)) (choices (map (list_at reduced_lists) (1 ∷ 0 ∷ [])))
 
-pub reduced_printed : out_text_of two_tables_reduced ≡ Some (codes "X\r\n1\r\n1\r\n1\r\n1\r\n1\r\n1\r\n")
+pub reduced_printed : (source : ListSource) → out_text_of (two_tables_reduced source) ≡ Some (codes "X\r\n1\r\n1\r\n1\r\n1\r\n1\r\n1\r\n")
 unfolding digits
-reduced_printed = ap (λ (choices : List (List ℕ)). Some (rows_lines pair.select (map (λ choice. selected pair T (row_in (1 ∷ 0 ∷ []) choice)) choices))) second_level
+reduced_printed source = ap (λ (choices : List (List ℕ)). Some (rows_lines pair.select (map (λ choice. selected pair T (row_in (1 ∷ 0 ∷ []) choice)) choices))) second_level

@@ -15,6 +15,7 @@ use Rattle.table_files.specs.Examples.{two_tables}
 use Rattle.prepared_runs.specs.Accepted.{Accepted}
 use Rattle.prepared_runs.specs.Outcome.{Appended, Filed, Outcome}
 use Rattle.prepared_runs.specs.declared.shapes.Shaped.TheVariants as shaped
+use Rattle.safebound_words.specs.declared.command.ListSource.{ListSource}
 use Rattle.safebound_words.specs.declared.command.ListSource.TheVariants as sources
 use Rattle.safebound_words.specs.declared.command.OutText.{OutText}
 use Rattle.safebound_words.specs.declared.command.OutText.TheVariants as out_text
@@ -59,13 +60,13 @@ two_tables_tree out memory = record {
 abbrev pub reduced_lists : List (List ℕ)
 reduced_lists = (0 ∷ 1 ∷ 2 ∷ []) ∷ (0 ∷ 1 ∷ []) ∷ []
 
--- the join of these in the order S, R, with bounds 3 and 2 of the scans and 2 and 6 of the levels
-abbrev pub two_tables_reduced : Accepted
-two_tables_reduced = record {
+-- the join of these in the order S, R, with bounds 3 and 2 of the scans and 2 and 6 of the levels, from degree lists or by counting
+abbrev pub two_tables_reduced : ListSource → Accepted
+two_tables_reduced source = record {
   query = pair;
   rows = small_rows;
   plan = shaped.Along (plan_of (1 ∷ 0 ∷ []) (3 ∷ 2 ∷ []) (2 ∷ 6 ∷ []));
-  source = sources.Reduced;
+  source = source;
   lists = reduced_lists;
   memory = None;
   out = out_text.Rows;

@@ -1,4 +1,4 @@
--- Two tables that are joined by one column: the words of ten commands, and the files.
+-- Two tables that are joined by one column: the words of eleven commands, and the files.
 use Rattle.std.specs.Prelude.{ℕ, List, [], ◌∷◌, ◌++◌, codes, replicate}
 use Rattle.std.specs.List.{concat}
 use Rattle.base_io.specs.Files.{Files}
@@ -95,6 +95,9 @@ thrifty_words = codes "run" ∷ codes "schema.sql" ∷ codes "query.sql" ∷ cod
 -- over the rows that are left by semi-joins
 abbrev pub reduced_words : List (List ℕ)
 reduced_words = codes "run" ∷ codes "schema.sql" ∷ codes "query.sql" ∷ codes "--reduce" ∷ []
+
+abbrev pub counted_words : List (List ℕ)
+counted_words = codes "run" ∷ codes "schema.sql" ∷ codes "query.sql" ∷ codes "--count" ∷ []
 
 -- the statistics file, a plan from it, and the file with two rows more
 abbrev pub stats_words : List (List ℕ)

@@ -2,12 +2,13 @@
 ghost use Rattle.std.specs.Prelude.{◌≡◌, Ok, Err, None, Some, codes};
 ghost use Rattle.outcomes.specs.declared.refusal.Refusal.TheVariants as refusal;
 ghost use Rattle.outcomes.specs.declared.status.Status.TheVariants as status;
+ghost use Rattle.safebound_words.specs.declared.command.ListSource.TheVariants as sources;
 ghost use Rattle.safebound_words.specs.declared.command.OutText.TheVariants as out_text;
 ghost use Rattle.prepared_runs.specs.Outcome.{Planned};
 ghost use Rattle.safebound_top.specs.Texts.{out_text_of, plan_text};
 ghost use Rattle.prepared_runs.specs.Verdict.{verdict};
 ghost use Rattle.worked_run.specs.Calls.{EachCallEnds};
-ghost use Rattle.worked_run.specs.TwoTables.{audit_words, limited_words, narrow_words, reduced_words, run_words, small_files, thrifty_words, tree_words};
+ghost use Rattle.worked_run.specs.TwoTables.{audit_words, counted_words, limited_words, narrow_words, reduced_words, run_words, small_files, thrifty_words, tree_words};
 ghost use Rattle.worked_run.specs.Meaning.{two_tables_reduced, two_tables_run, two_tables_tree};
 
 /// `run schema.sql query.sql`: of 30 pairs of rows six are joined. Both orders cost 12, the bound of both tables; S, R has the
@@ -58,9 +59,18 @@ pub fn above_its_limit()
 /// `run schema.sql query.sql --reduce`: three rows of R and two of S have a partner. Both orders cost 6, and S, R has the smaller sum; both
 /// bounds are exact.
 pub fn joined_over_reduced_scans()
-    ensures verdict { verdict reduced_words small_files ≡ Ok (Planned two_tables_reduced) }
-    ensures notes { plan_text two_tables_reduced ≡ codes "scan R 3\nscan S 2\nlevel 1 S 2\nlevel 2 R 6\n" }
-    ensures out { out_text_of two_tables_reduced ≡ Some (codes "X\r\n1\r\n1\r\n1\r\n1\r\n1\r\n1\r\n") }
+    ensures verdict { verdict reduced_words small_files ≡ Ok (Planned (two_tables_reduced sources.Reduced)) }
+    ensures notes { plan_text (two_tables_reduced sources.Reduced) ≡ codes "scan R 3\nscan S 2\nlevel 1 S 2\nlevel 2 R 6\n" }
+    ensures out { out_text_of (two_tables_reduced sources.Reduced) ≡ Some (codes "X\r\n1\r\n1\r\n1\r\n1\r\n1\r\n1\r\n") }
     ensures call { EachCallEnds small_files reduced_words status.Done (Some (codes "scan R 3\nscan S 2\nlevel 1 S 2\nlevel 2 R 6\n"))
+        (Some (codes "X\r\n1\r\n1\r\n1\r\n1\r\n1\r\n1\r\n")) }
+{}
+
+/// `run schema.sql query.sql --count`: two rows of S are left, and two times three choices of a row of both tables satisfy the condition.
+pub fn joined_by_counts()
+    ensures verdict { verdict counted_words small_files ≡ Ok (Planned (two_tables_reduced sources.Counted)) }
+    ensures notes { plan_text (two_tables_reduced sources.Counted) ≡ codes "scan R 3\nscan S 2\nlevel 1 S 2\nlevel 2 R 6\n" }
+    ensures out { out_text_of (two_tables_reduced sources.Counted) ≡ Some (codes "X\r\n1\r\n1\r\n1\r\n1\r\n1\r\n1\r\n") }
+    ensures call { EachCallEnds small_files counted_words status.Done (Some (codes "scan R 3\nscan S 2\nlevel 1 S 2\nlevel 2 R 6\n"))
         (Some (codes "X\r\n1\r\n1\r\n1\r\n1\r\n1\r\n1\r\n")) }
 {}

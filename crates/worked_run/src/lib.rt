@@ -1,7 +1,7 @@
-//! Eleven calls over small tables, from the words and the bytes of the files to the bytes of both streams, as theorems by
-//! computation. `examples` has those of `run` and `audit`: along an order, by a join tree, over reduced scans, with a budget that is one too
-//! small, and with a limit of memory that is just enough and with one that is a byte too small. `statistics` has `stats`, `plan --stats` and
-//! `append`, and `keys` has `plan --keys`.
+//! Twelve calls over small tables, from the words and the bytes of the files to the bytes of both streams, as theorems by
+//! computation. `examples` has those of `run` and `audit`: along an order, by a join tree, over reduced scans, by counting over these, with
+//! a budget that is one too small, and with a limit of memory that is just enough and with one that is a byte too small. `statistics` has
+//! `stats`, `plan --stats` and `append`, and `keys` has `plan --keys`.
 //!
 //! The files of all but the last are
 //!

@@ -37,3 +37,19 @@ returns-in_ok-reduced-in-Reduced-clause-exact c =
     let tables = tables_of c.args.db.now in
     let made = c.in_ok-reduced-in-Reduced in
     rw c.in-Reduced.is (own_bytes query tables (reduced_of query tables) made.reduced.lists.items _ (reduced_of_scans query tables) made.ensures.lists made.ensures.capacity made.ensures.no_spare)
+
+pub returns-in_ok-counted-in-Counted-clause-known : goal.returns-in_ok-counted-in-Counted-clause-known
+unfolding sets_by scans_by
+returns-in_ok-counted-in-Counted-clause-known c = rw c.in-Counted.is c.in_ok-counted-in-Counted.ensures.gives
+
+pub returns-in_ok-counted-in-Counted-clause-lists : goal.returns-in_ok-counted-in-Counted-clause-lists
+unfolding lists_by
+returns-in_ok-counted-in-Counted-clause-lists c = rw c.in-Counted.is c.in_ok-counted-in-Counted.ensures.lists
+
+pub returns-in_ok-counted-in-Counted-clause-exact : goal.returns-in_ok-counted-in-Counted-clause-exact
+unfolding scans_by
+returns-in_ok-counted-in-Counted-clause-exact c =
+    let query = c.args.query.now in
+    let tables = tables_of c.args.db.now in
+    let made = c.in_ok-counted-in-Counted in
+    rw c.in-Counted.is (own_bytes query tables (reduced_of query tables) made.counted.lists.items _ (reduced_of_scans query tables) made.ensures.lists made.ensures.capacity made.ensures.no_spare)

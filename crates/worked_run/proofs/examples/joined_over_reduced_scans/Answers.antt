@@ -1,5 +1,6 @@
 use Rattle.std.proofs.Common.{ℕ, List, Some, ap}
 use Rattle.std.specs.Prelude.{codes}
+use Rattle.safebound_words.specs.declared.command.ListSource.TheVariants as sources
 use Rattle.prepared_runs.specs.Outcome.{Planned}
 use Rattle.worked_run.specs.Meaning.{two_tables_reduced}
 use Rattle.worked_run.specs.TwoTables.{reduced_words, small_files}
@@ -11,11 +12,11 @@ pub returns-clause-verdict : goal.returns-clause-verdict
 returns-clause-verdict c = reduced_verdict
 
 pub returns-clause-notes : goal.returns-clause-notes
-returns-clause-notes c = reduced_notes
+returns-clause-notes c = reduced_notes sources.Reduced
 
 pub returns-clause-out : goal.returns-clause-out
-returns-clause-out c = reduced_printed
+returns-clause-out c = reduced_printed sources.Reduced
 
 pub returns-clause-call : goal.returns-clause-call
-returns-clause-call c = answers_done small_files reduced_words (Planned two_tables_reduced) (Some (codes "scan R 3\nscan S 2\nlevel 1 S 2\nlevel 2 R 6\n"))
-    (Some (codes "X\r\n1\r\n1\r\n1\r\n1\r\n1\r\n1\r\n")) reduced_verdict (ap (λ (t : List ℕ). Some t) reduced_notes) reduced_printed
+returns-clause-call c = answers_done small_files reduced_words (Planned (two_tables_reduced sources.Reduced)) (Some (codes "scan R 3\nscan S 2\nlevel 1 S 2\nlevel 2 R 6\n"))
+    (Some (codes "X\r\n1\r\n1\r\n1\r\n1\r\n1\r\n1\r\n")) reduced_verdict (ap (λ (t : List ℕ). Some t) (reduced_notes sources.Reduced)) (reduced_printed sources.Reduced)

@@ -1,0 +1,1 @@
+SELECT A.X FROM A, B, C WHERE A.X = B.X AND B.X = C.X

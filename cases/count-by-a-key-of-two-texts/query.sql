@@ -1,0 +1,1 @@
+SELECT K.P FROM F, K WHERE F.P = K.P AND F.V = K.V

@@ -1,0 +1,1 @@
+SELECT A.X FROM N A, N B WHERE A.X < B.X

@@ -1,0 +1,1 @@
+SELECT A.X FROM A, B, C WHERE (A.X = B.X OR B.Y = C.Y) AND A.Y <> C.X

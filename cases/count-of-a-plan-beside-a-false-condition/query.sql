@@ -1,0 +1,1 @@
+SELECT R.X FROM R, S WHERE 1 = 2 AND R.X = S.X

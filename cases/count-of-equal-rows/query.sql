@@ -1,0 +1,1 @@
+SELECT R.X FROM R, S WHERE R.X = S.X AND R.X = 1

@@ -1,0 +1,1 @@
+SELECT A.X FROM N A, N B, R, S WHERE A.X < B.X AND R.X < S.X AND R.X = 1 AND S.X < 3

@@ -1,0 +1,1 @@
+SELECT R.X FROM R

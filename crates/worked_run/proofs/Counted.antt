@@ -1,0 +1,158 @@
+-- The run by counting over reduced scans, by computation.
+use Rattle.std.proofs.Common.{◌≡◌, ℕ, ◌-◌, ◌==◌, Bool, true, false, not, ◌&&◌, min, nat_le, List, [], ◌∷◌, length, map, is_some, None, Ok, refl, ap, ◌∙◌, arith, inl, inr}
+use Rattle.std.proofs.Math.Path.{fun_ext}
+use Rattle.std.proofs.lemmas.Bool.{and_from, cases_Bool, or_left}
+use Rattle.std.specs.List.{filter, list_all, range_with_len}
+use Rattle.std.specs.Prelude.{codes}
+use Rattle.berge_tree.specs.Testing.{edge_of}
+use Rattle.berge_tree.specs.declared.edges.Edge.{Edge}
+use Rattle.degree_sequences.specs.Saturation.{saturated}
+use Rattle.entry_sets.specs.Sets.{entries_of_set, set_of}
+use Rattle.join_graph.specs.Conjuncts.{column_operand, equalities_of}
+use Rattle.join_graph.specs.Kept.{equalities_within, gone_round, joins_within, kept_in_order, kept_of, turn_count}
+use Rattle.join_graph.proofs.Comparing.{equality_two}
+use Rattle.join_steps.specs.Lists.{list_at, list_sizes}
+use Rattle.query_bounds.specs.Examples.{pair}
+use Rattle.query_grammar.specs.declared.tree.Op.TheVariants as op
+use Rattle.query_types.specs.declared.types.Cond.{Compare}
+use Rattle.query_types.proofs.CondFacts.{entries_compare}
+use Rattle.sql_meaning.specs.Answers.{conjuncts_of}
+use Rattle.sql_meaning.specs.Conditions.{comparison_says, cond_holds}
+use Rattle.sql_meaning.specs.Levels.{Conjunct}
+use Rattle.sql_meaning.proofs.ConditionFacts.{holds_compare}
+use Rattle.tree_bounds.specs.SetBounds.{least_to}
+use Rattle.counted_bounds.specs.Bounds.{Counted, count_equal, counted_bounds_of_sets}
+use Rattle.counted_bounds.specs.Counts.{conjuncts_of_set, count_over, is_of_set}
+use Rattle.counted_bounds.specs.Parts.{parts_of, product_over}
+use Rattle.counted_factors.specs.Asking.{Asked, cond_asked}
+use Rattle.counted_factors.specs.Limits.{all_asked, are_all_counted, are_equalities_counted, are_equalities_tried, are_kept, counted_of, equalities_asked, is_kept_alone, is_one_part, is_own_or_equality, is_within_limits, most_pairs_of_all, taken_below, taken_by_all, taken_by_set}
+use Rattle.counted_planning.specs.Bounds.{set_bounds_by_counts}
+use Rattle.table_files.specs.Examples.{two_tables}
+use Rattle.safebound_words.specs.Answer.{command_of, kind_of, parts_from, reading_of}
+use Rattle.safebound_words.specs.Commands.{over_query}
+use Rattle.safebound_words.specs.Numbers.{number_of}
+use Rattle.safebound_words.specs.Table.{over_files}
+use Rattle.safebound_words.specs.declared.command.ListSource.TheVariants as sources
+use Rattle.safebound_words.specs.declared.command.Shape.TheVariants as shapes
+use Rattle.safebound_words.specs.declared.command.Work.TheVariants as works
+use Rattle.prepared_runs.specs.Outcome.{Planned}
+use Rattle.prepared_runs.specs.Shapes.{answer_of, planned_by}
+use Rattle.prepared_runs.specs.Sources.{lists_by, scans_by, sets_by, sourced}
+use Rattle.prepared_runs.specs.Verdict.{command_stage, verdict}
+use Rattle.prepared_runs.specs.declared.shapes.Shaped.TheVariants as shaped
+use Rattle.worked_run.specs.Meaning.{reduced_lists, two_tables_reduced}
+use Rattle.worked_run.specs.TwoTables.{counted_words, small_files}
+use Rattle.worked_run.proofs.Levels.{T}
+use Rattle.worked_run.proofs.Reduced.{joins, kept, plan, plan_made, plan_over, task}
+use Rattle.worked_run.proofs.Verdicts.{of_words}
+
+-- ---- what is asked
+
+abbrev equality : Edge
+equality = edge_of 0 0 1 0
+
+abbrev asked_as : List ℕ → ((ℕ → ℕ) → Bool) → List Conjunct
+asked_as named says = record { entries = named; holds = says } ∷ []
+
+abbrev is_equal : (ℕ → ℕ) → Bool
+is_equal row_of = comparison_says T row_of op.Eq (column_operand 0 0) (column_operand 1 0)
+
+conjuncts_found : conjuncts_of pair T ≡ asked_as (0 ∷ 1 ∷ []) is_equal
+conjuncts_found =
+    ap (λ (named : List ℕ). asked_as named (λ row_of. cond_holds T row_of (Compare op.Eq (column_operand 0 0) (column_operand 1 0))))
+    (entries_compare op.Eq (column_operand 0 0) (column_operand 1 0))
+    ∙ ap (λ (says : (ℕ → ℕ) → Bool). asked_as (0 ∷ 1 ∷ []) says)
+    (fun_ext (λ (row_of : ℕ → ℕ). holds_compare T row_of op.Eq (column_operand 0 0) (column_operand 1 0)))
+
+-- ---- which choices of conjuncts are counted: the one equality is always kept, so no other choice is tried
+
+one_kept : (p : Edge → Bool) → (length (kept_in_order (gone_round 0 (filter p (equality ∷ [])))) == length (filter p (equality ∷ []))) ≡ true
+one_kept p = elim (cases_Bool (p equality)) [
+  | inl t ↦ rw t refl
+  | inr n ↦ rw n refl
+]
+
+kept_whole : (subset : ℕ) → are_kept pair subset ≡ true
+kept_whole subset = ap (λ (es : List Edge). length (kept_of subset 0 es) == length (equalities_within subset es)) joins ∙ one_kept (joins_within subset)
+
+one_own : (p : Asked → Bool) (entries : List ℕ) (a : Asked) → a.is_equality ≡ true → list_all (is_own_or_equality entries) (filter p (a ∷ [])) ≡ true
+one_own p entries a is = elim (cases_Bool (p a)) [
+  | inl t ↦ rw (t, is) refl
+  | inr n ↦ rw n refl
+]
+
+kept_alone : (subset : ℕ) → is_kept_alone pair T subset ≡ true
+kept_alone subset = and_from (are_kept pair subset) (list_all (is_own_or_equality (entries_of_set subset)) (all_asked pair T subset))
+    (kept_whole subset)
+    (one_own (λ (a : Asked). is_of_set (entries_of_set subset) a.conjunct) (entries_of_set subset)
+    (cond_asked T (Compare op.Eq (column_operand 0 0) (column_operand 1 0))) (ap is_some (equality_two 0 0 1 0 (λ e. absurd (omega (arith, e))))))
+
+all_counted : (subset before : ℕ) → are_all_counted pair T reduced_lists subset before ≡ true
+all_counted subset before = or_left (is_kept_alone pair T subset)
+    (is_within_limits T reduced_lists subset (all_asked pair T subset) && nat_le (taken_by_all pair T reduced_lists subset before) most_pairs_of_all)
+    (kept_alone subset)
+
+none_tried : (a b c : Bool) → c ≡ true → (a && not b && not c) ≡ false
+none_tried true true c is = refl
+none_tried true false c is = ap not is
+none_tried false b c is = refl
+
+none_of : (a b c : Bool) → a ≡ false → (a && b && c) ≡ false
+none_of a b c is = rw is refl
+
+no_equalities : (subset before : ℕ) → are_equalities_counted pair T reduced_lists subset before ≡ false
+no_equalities subset before = none_of (are_equalities_tried pair T reduced_lists subset before)
+    (is_within_limits T reduced_lists subset (equalities_asked pair T subset)) (nat_le (taken_by_set pair T reduced_lists subset before) most_pairs_of_all)
+    (none_tried (is_one_part pair T subset) (are_all_counted pair T reduced_lists subset before) (are_kept pair subset) (kept_whole subset))
+
+abbrev counted_as : (ℕ → Bool) → (ℕ → Bool) → Counted
+counted_as all equalities = record { all = all; equalities = equalities }
+
+counted_found : counted_of pair T reduced_lists ≡ counted_as (λ subset. true) (λ subset. false)
+counted_found =
+    ap (λ (all : ℕ → Bool). counted_as all (λ subset. are_equalities_counted pair T reduced_lists subset (taken_below pair T reduced_lists subset)))
+    (fun_ext (λ (subset : ℕ). all_counted subset (taken_below pair T reduced_lists subset)))
+    ∙ ap (λ (equalities : ℕ → Bool). counted_as (λ subset. true) equalities)
+    (fun_ext (λ (subset : ℕ). no_equalities subset (taken_below pair T reduced_lists subset)))
+
+-- ---- the bounds
+
+abbrev part_by : List Conjunct → List Edge → List ℕ → ℕ
+part_by conjuncts es part =
+    min (count_over (conjuncts_of_set conjuncts part) (list_at reduced_lists) part)
+    (least_to (λ turn. count_equal T reduced_lists part (kept_of (set_of part) turn es)) (turn_count (set_of part) es - 1))
+
+abbrev bounds_by : List Conjunct → List Edge → List ℕ
+bounds_by conjuncts es =
+    map (λ subset. saturated (product_over (part_by conjuncts es) (parts_of conjuncts (entries_of_set subset)))) (range_with_len 0 4)
+
+bounds_found : bounds_by (asked_as (0 ∷ 1 ∷ []) is_equal) (equality ∷ []) ≡ 1 ∷ 3 ∷ 2 ∷ 6 ∷ []
+unfolding entries_of_set
+bounds_found = refl
+
+sets : set_bounds_by_counts pair T reduced_lists ≡ 1 ∷ 3 ∷ 2 ∷ 6 ∷ []
+unfolding set_bounds_by_counts
+sets =
+    ap (λ (counted : Counted). counted_bounds_of_sets counted pair T reduced_lists) counted_found
+    ∙ ap (λ (conjuncts : List Conjunct). bounds_by conjuncts (equalities_of pair)) conjuncts_found
+    ∙ ap (λ (es : List Edge). bounds_by (asked_as (0 ∷ 1 ∷ []) is_equal) es) joins
+    ∙ bounds_found
+
+-- ---- the verdict
+
+lists_kept : lists_by sources.Counted pair T ≡ reduced_lists
+unfolding lists_by
+lists_kept = kept
+
+plan_found : planned_by shapes.Order (sourced sources.Counted two_tables pair T) 1 1000000 ≡ Ok (shaped.Along plan)
+unfolding planned_by sets_by scans_by
+plan_found =
+    ap (λ (lists : List (List ℕ)). answer_of shapes.Order (set_bounds_by_counts pair T lists) (list_sizes pair lists) 1000000) kept
+    ∙ plan_over (set_bounds_by_counts pair T reduced_lists) sets
+
+asked : command_stage counted_words ≡ Ok (over_query None (codes "schema.sql") (codes "query.sql") (works.Plan (task sources.Counted)))
+unfolding command_of reading_of over_files parts_from kind_of number_of
+asked = refl
+
+pub counted_verdict : verdict counted_words small_files ≡ Ok (Planned (two_tables_reduced sources.Counted))
+counted_verdict = of_words counted_words (task sources.Counted) asked ∙ plan_made sources.Counted lists_kept plan_found
