@@ -1,1 +1,1 @@
-pub mod Bounds
+pub use Rattle.counting.specs.Bounds

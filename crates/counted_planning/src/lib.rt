@@ -8,7 +8,6 @@
 //! Callers cite `set_bounds_by_counts`.
 #![tactic(auto)]
 
-mod counting;
 pub mod laws;
 mod sources;
 
