@@ -106,6 +106,10 @@ def _plan_words(command: argparse.ArgumentParser, name: str) -> None:
         command.add_argument(
             "--kept", metavar="FILE", help="kept counts, for entries without conditions; no semi-joins"
         )
+    command.add_argument(
+        "--count", action="store_true",
+        help="of PostgreSQL: also count each level's choices of rows, without joining them; a bound is then the least",
+    )
     if name in ("plan", "sql"):
         command.add_argument("--counts", metavar="FILE", help="the answer of the counting statement, as CSV")
 
@@ -151,7 +155,9 @@ def text_of(file: str) -> str:
 def _planned(given: argparse.Namespace, planner: Planner) -> None:
     """The commands that need a plan."""
     kept = getattr(given, "kept", None)
-    if kept:
+    if given.count:
+        plan = planner.plan_by_counting(given.accuracy, given.budget, given.tree)
+    elif kept:
         plan = planner.plan_by_kept(given.accuracy, given.budget, given.tree, Kept(kept))
     else:
         plan = planner.plan(given.accuracy, given.budget, given.tree, getattr(given, "counts", None))
@@ -233,8 +239,13 @@ def done(given: argparse.Namespace) -> None:
     text = text_of(given.query) if given.command != "append" else ""
     if getattr(given, "kept", None) and getattr(given, "counts", None):
         raise Usage("either --kept or --counts")
+    count = getattr(given, "count", False)
+    if count and (given.db is None or getattr(given, "kept", None) or getattr(given, "counts", None)):
+        raise Usage("--count counts now, by --db: not beside --kept, --counts or --dialect")
     engine = _engine(given)
     try:
+        if count and not engine.counts_exactly:
+            raise Usage(f"--count is for PostgreSQL: {engine.title} has no exact numbers past 2^63")
         if given.command == "append":
             return _appended(given, engine)
         if engine.knows_blocks and block_plans.several(text, engine):

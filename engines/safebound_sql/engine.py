@@ -38,6 +38,7 @@ class Engine(ABC):
     takes_rows_in: bool = True
     star_over_using: bool = True
     makes_tables: bool = False
+    counts_exactly: bool = False
     why_fickle: str = "it may answer anew at each call"
     why_now: str = "the time may be another one at each statement"
 
@@ -136,6 +137,14 @@ class Engine(ABC):
     @abstractmethod
     def rows(self, sql: str) -> list[Row]:
         """All rows of a short answer."""
+
+    def same_when_equal(self, column: Column) -> bool:
+        """Whether values of the column that are grouped as one are one to every function."""
+        return False
+
+    def counted(self, sql: str) -> list[Row]:
+        """The answer of a statement whose numbers may be of any size. An error leaves the transaction as it was."""
+        raise NotImplementedError(f"{self.title} has no exact numbers of any size")
 
     @abstractmethod
     def stream(self, sql: str) -> Iterator[Row]:

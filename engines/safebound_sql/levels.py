@@ -11,7 +11,7 @@ from typing import Any, Dict, Tuple, Union
 
 from .counting import Counts
 from .faults import Missing, NoBound, PastBudget, WrongCounts
-from .query import Named, Query
+from .query import Named, Query, Text
 
 MOST_BUDGET = 2**59
 
@@ -25,11 +25,15 @@ Lists = Dict[Of, Any]
 
 @dataclass
 class Level:
-    """A part of the plan: the entries that are joined in it, its bound, and what the engine expects, where it says."""
+    """A part of the plan: the entries that are joined in it, its bound, and what the engine expects, where it says.
+
+    `counted` says by what the bound was counted, where it was.
+    """
 
     shape: Shape
     bound: int
     expected: int | None = None
+    counted: str | None = None
 
     @property
     def factor(self) -> float | None:
@@ -42,7 +46,8 @@ class Plan:
     """A plan: the shape of its joins, and its levels from the first to that of all entries.
 
     `kept` has the entries whose counts are kept ones, with their time; `changed` those whose kept counts weren't taken,
-    since there were so many rows then and are so many now.
+    since there were so many rows then and are so many now. `tested` are conditions that counted bounds keep to though
+    others don't, and `notes` says what isn't counted.
     """
 
     query: Query
@@ -52,6 +57,13 @@ class Plan:
     tree: bool
     kept: dict[str, str] = field(default_factory=dict)
     changed: dict[str, tuple[int, int]] = field(default_factory=dict)
+    tested: frozenset[Text] = frozenset()
+    notes: list[str] = field(default_factory=list)
+
+    @property
+    def unused(self) -> list[tuple[Text, str]]:
+        """The conditions on several entries that no bound keeps to, and why."""
+        return [(text, why) for text, why in self.query.no_edges if text not in self.tested]
 
     @property
     def cost(self) -> int:

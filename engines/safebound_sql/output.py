@@ -30,7 +30,8 @@ def table(plan: Plan, engine: Engine, true_rows: list[int] | None = None) -> str
         )
     lines.append(f"budget {plan.cost} would do")
     lines += _of_kept(plan)
-    lines += [f"not used for bounds: {text} ({why})" for text, why in plan.query.no_edges]
+    lines += plan.notes
+    lines += [f"not used for bounds: {text} ({why})" for text, why in plan.unused]
     return "\n".join(lines) + "\n"
 
 
@@ -145,11 +146,12 @@ def document(plan: Plan, engine: Engine, sql: str, true_rows: list[int] | None =
         ],
         "equalities": [[_column(query, side) for side in equality] for equality in query.equalities],
         "conditions": [str(condition.text) for condition in query.conditions],
-        "not used for bounds": [{"condition": str(text), "why": why} for text, why in query.no_edges],
+        "not used for bounds": [{"condition": str(text), "why": why} for text, why in plan.unused],
         "order": [query.entries[number].name for number in entries_of(plan.shape)],
         "tree": _shape(query, plan.shape) if plan.tree else None,
         "levels": levels,
         "least budget": plan.cost,
+        "notes": plan.notes,
         "kept": plan.kept,
         "counted anew": list(plan.changed),
         "setting": engine.keeps_order,
@@ -160,7 +162,10 @@ def document(plan: Plan, engine: Engine, sql: str, true_rows: list[int] | None =
 
 def _level(query: Query, level: Level) -> dict[str, object]:
     names = [query.entries[number].name for number in entries_of(level.shape)]
-    return {"entries": names, "bound": level.bound, "expected": level.expected, "factor": level.factor}
+    return {
+        "entries": names, "bound": level.bound, "counted by": level.counted, "expected": level.expected,
+        "factor": level.factor,
+    }
 
 
 def _column(query: Query, named: Named) -> dict[str, str]:

@@ -7,11 +7,12 @@ import re
 from collections import Counter
 from typing import Collection, Iterator, TextIO
 
+from .counted import Lowering
 from .counting import Counts, counting, counts_of, counts_of_file, prefix_for
 from .engine import Engine
-from .faults import EngineFault
+from .faults import EngineFault, PastBudget
 from .kept import Kept
-from .levels import Plan, planned
+from .levels import MOST_BUDGET, Plan, planned
 from .meaning import Meaning
 from .progress import Progress
 from .query import Row
@@ -79,6 +80,15 @@ class Planner:
         else:
             counts = counts_of(self.query, self._counted(()))
         return self.planned(counts, accuracy, budget, tree)
+
+    def plan_by_counting(self, accuracy: int, budget: int, tree: bool) -> Plan:
+        """Counts and plans, and lowers the bounds of the plan's levels to what is counted of them."""
+        plan = self.plan(accuracy, MOST_BUDGET, tree)
+        with self.progress.doing(f"counting the choices of rows of {len(plan.levels)} levels"):
+            Lowering(plan, self.engine, self.prefix, self.reduce).lower()
+        if plan.cost > budget:
+            raise PastBudget(budget, plan.cost)
+        return plan
 
     def plan_by_kept(self, accuracy: int, budget: int, tree: bool, kept: Kept) -> Plan:
         """Plans by kept counts where these are of as many rows as there are now, and counts the other entries."""

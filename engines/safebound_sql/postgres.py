@@ -136,6 +136,12 @@ FROM pg_class c JOIN pg_namespace n ON n.oid = relnamespace WHERE c.oid = to_reg
 """
 
 
+# Equal values of these types are the same to every function: "char", bigint, boolean, bytea, date, integer, name, oid,
+# smallint, text, time and timestamp with and without a zone, uuid, varchar. 1.0 and 1.00 are equal as numeric, and are
+# two texts; of a declared scale they are the same, and so are texts of a declared length.
+SAME_WHEN_EQUAL = (18, 20, 16, 17, 1082, 23, 19, 26, 21, 25, 1083, 1266, 1114, 1184, 2950, 1043)
+
+
 class Postgres(Engine):
     dialect = "postgres"
     title = "PostgreSQL"
@@ -146,6 +152,7 @@ class Postgres(Engine):
     join_word = "JOIN"
     keeps_using = True
     columns_may_be_calls = True
+    counts_exactly = True
 
     def __init__(self, url: str, timeout: int | None) -> None:
         if psycopg is None:
@@ -305,6 +312,18 @@ class Postgres(Engine):
     def rows(self, sql: str) -> list[Row]:
         with self._told():
             return self.connection.execute(sql).fetchall()
+
+    def counted(self, sql: str) -> list[Row]:
+        """Parts are joined by hashes, for however few rows PostgreSQL takes them, and nothing is compiled."""
+        with self._told(), self.connection.transaction(force_rollback=True):
+            self.connection.execute("SET LOCAL enable_nestloop = off; SET LOCAL jit = off")
+            return self.connection.execute(sql).fetchall()
+
+    def same_when_equal(self, column: Column) -> bool:
+        if column.kind is None or (_collation(column) and self._folds(column)):
+            return False
+        number = int(str(column.kind).split()[0])
+        return number in SAME_WHEN_EQUAL or column.type.startswith(("numeric(", "character("))
 
     def stream(self, sql: str) -> Iterator[Row]:
         with self._told(), self.connection.cursor("safebound") as cursor:
