@@ -9,15 +9,14 @@ import os
 import sys
 from typing import Callable, NoReturn, Sequence
 
-from . import block_plans, output, stops
-from .dialects import DIALECTS, Unreached
+from . import block_plans, output, sqlite, stops
 from .engine import Engine
 from .export import exported
 from .faults import AboveBound, Fault, Refused, Unreadable, Usage
 from .kept import Kept
 from .levels import MOST_BUDGET, Plan
 from .planner import Planner
-from .sqlite import Sqlite
+from .unreached import DIALECTS, unreached
 
 ABOUT = {
     "plan": "the best order, each level's bound, and what the engine expects",
@@ -123,17 +122,17 @@ def _engine(given: argparse.Namespace) -> Engine:
         raise Usage("--dialect needs --counts FILE, the answer to what `counts` prints")
     if getattr(given, "keep", None) or getattr(given, "kept", None):
         raise Usage("counts are kept by --db, of an engine that is reached")
-    return Unreached(dialect, text_of(given.schema))
+    return unreached(dialect, text_of(given.schema))
 
 
 def opened(db: str, timeout: int | None) -> Engine:
     kind, _, rest = db.partition(":")
     if kind in ("postgresql", "postgres"):
-        from .postgres import Postgres  # psycopg takes a while to load
+        from . import postgres  # psycopg takes a while to load
 
-        return Postgres(db, timeout)
+        return postgres.opened(db, timeout)
     if kind == "sqlite" and rest:
-        return Sqlite(rest, timeout)
+        return sqlite.opened(rest, timeout)
     raise Usage(f"--db is postgresql://.. or sqlite:FILE, not {db!r}")
 
 
@@ -162,7 +161,7 @@ def _planned(given: argparse.Namespace, planner: Planner) -> None:
     planner.expect(plan)
     true_rows = planner.true_rows(plan) if given.command == "audit" else None
     if getattr(given, "json", False):
-        sys.stdout.write(output.document(plan, planner.engine, planner.sql(plan), true_rows))
+        sys.stdout.write(output.document(plan, planner.settings, planner.sql(plan), true_rows))
     else:
         _show(given, planner, plan, true_rows)
     for number, (level, rows) in enumerate(zip(plan.levels, true_rows or ()), 1):
@@ -171,7 +170,7 @@ def _planned(given: argparse.Namespace, planner: Planner) -> None:
 
 
 def _show(given: argparse.Namespace, planner: Planner, plan: Plan, true_rows: list[int] | None) -> None:
-    shown = output.table(plan, planner.engine, true_rows)
+    shown = output.table(plan, planner.engine.dialect.title, true_rows)
     if given.command == "plan" and given.dialect:
         shown = "".join(f"-- {line}\n" for line in shown.splitlines()) + planner.script(plan)
     (sys.stderr if given.command == "run" else sys.stdout).write(shown)
@@ -214,13 +213,13 @@ def _in_blocks(given: argparse.Namespace, engine: Engine, text: str) -> None:
         planner.true_rows()
     plans = list(planner.plans.values())
     if getattr(given, "json", False):
-        sys.stdout.write(output.blocks_document(plans, unbounded, engine, planner.sql()))
+        sys.stdout.write(output.blocks_document(plans, unbounded, planner.settings, planner.sql()))
     else:
         (sys.stderr if given.command == "run" else sys.stdout).write(output.blocks_table(plans, unbounded))
     if given.command == "run":
-        engine.keep_order()
+        engine.connection.keep_order()
         with planner.progress.doing("joining") as end:
-            for part in engine.csv(planner.sql(), given.null):
+            for part in engine.connection.csv(planner.sql(), given.null):
                 end()
                 sys.stdout.write(part)
     for plan in plans:
@@ -237,7 +236,7 @@ def done(given: argparse.Namespace) -> None:
     try:
         if given.command == "append":
             return _appended(given, engine)
-        if engine.knows_blocks and block_plans.several(text, engine):
+        if engine.dialect.knows_blocks and block_plans.several(text, engine):
             _in_blocks(given, engine, text)
             return sys.stdout.flush()
         planner = Planner(engine, text, not (getattr(given, "no_reduce", False) or getattr(given, "kept", None)))
@@ -253,7 +252,7 @@ def done(given: argparse.Namespace) -> None:
             _planned(given, planner)
         sys.stdout.flush()
     finally:
-        engine.close()
+        engine.connection.close()
 
 
 def main(arguments: Sequence[str] | None = None) -> int:
