@@ -17,17 +17,18 @@ from typing import Iterator
 from .blocks import Core, Finder, Part, Query as Several
 from .choosing import choosing
 from .counting import Counts, counts_among, histograms
+from .dialect import as_script
 from .engine import Engine
 from .faults import EngineFault, Missing, NoBound, PastBudget, Refused, WrongCounts
 from .levels import MOST_BUDGET, Equal, Lists, equalities_of, library, lists_of
-from .meaning import refuse_fickle
+from .meaning import refuse_volatile
 from .names import Names, alias_of, subqueries
 from .progress import Progress
 from .query import MOST_EQUALITIES, Equality, Named, Query, Table
 from .reading import Source, Statement, Step, Tokens, read
 from .reducing import bracketed, own_conditions, where
 from .servers import Source as Counted
-from .tokens import Token, tokens, unquoted, written
+from .tokens import Token, tokens, written
 
 AGGREGATES = ("COUNT", "SUM", "AVG", "MIN", "MAX", "TOTAL")
 SETS_OF_GROUPS = ("ROLLUP", "CUBE", "GROUPING")
@@ -67,10 +68,10 @@ class BlockNames(Names):
 
     looks_into_subqueries = True
 
-    def __init__(self, statement: Statement, engine: Engine, plans: Planner, core: Core, visible: list[Part]) -> None:
+    def __init__(self, statement: Statement, plans: Planner, core: Core, visible: list[Part]) -> None:
         self.plans, self.core, self.visible = plans, core, visible
         self.given: dict[int, tuple[int, set[str]]] = {}
-        super().__init__(statement, engine)
+        super().__init__(statement, plans.engine)
 
     def _text_of(self, source: Source) -> str:
         return self.plans.text_of(source.table) if source.is_query else written(source.table)
@@ -86,13 +87,14 @@ class BlockNames(Names):
             return self._given(number, inner, self.plans.source_of(inner), source.columns, source)
         part = self._part(source)
         if part is None:
-            return self.engine.table(source.table)
+            return self.catalog.table(source.table)
         return self._given(number, part.query, f"SELECT * FROM {part.name.text}", [], source)
 
     def _part(self, source: Source) -> Part | None:
         if len(source.table) > 1:
             return None
-        return next((part for part in reversed(self.visible) if self.key(part.name) == self.key(source.table[0])), None)
+        name, key = self.dialect.key_of(source.table[0]), self.dialect.key_of
+        return next((part for part in reversed(self.visible) if key(part.name) == name), None)
 
     def _given(self, number: int, query: Several, text: str, columns: Tokens, source: Source) -> Table:
         """The columns of a query, of which the rows are bounded and not counted."""
@@ -101,31 +103,30 @@ class BlockNames(Names):
             raise self.statement.refuse(
                 source.alias, "its rows aren't bounded" + ("" if rows is None else f" by {MOST_ROWS} or fewer")
             )
-        found = self.engine.described(self.plans.with_parts(self.visible, text))
-        names = [self.key(token) for token in columns if token.names]
+        found = self.catalog.described(self.plans.with_parts(self.visible, text))
+        names = [self.dialect.key_of(token) for token in columns if token.names]
         found = [column._replace(name=name) for name, column in zip(names, found)] + found[len(names) :]
         self.given[number] = rows, {
-            self.engine.key(name, True) for name in self.plans.unique(query, [c.name for c in found])
+            self.dialect.key(name, True) for name in self.plans.unique(query, [c.name for c in found])
         }
-        return Table(tuple(found), {self.engine.key(column.name, True): column for column in found})
+        return Table(tuple(found), {self.dialect.key(column.name, True): column for column in found})
 
 
 class Block:
     """One SELECT with its FROM: what it means, and its plan."""
 
     def __init__(self, plans: Planner, core: Core, visible: list[Part]) -> None:
-        self.plans, self.core, self.visible, self.engine = plans, core, visible, plans.engine
+        self.plans, self.core, self.visible = plans, core, visible
+        self.dialect, self.catalog, self.connection = plans.dialect, plans.catalog, plans.connection
         pieces = plans.pieces[core.start : core.end]
-        self.statement = read(
-            plans.text, list(pieces), self.engine.comma_binds_less, self.engine.plain_words, in_blocks=True
-        )
+        self.statement = read(plans.text, list(pieces), self.dialect, in_blocks=True)
         if self.statement.usings:
             raise self.statement.refuse(
                 self.statement.usings[0].names[0], "USING of one of several blocks isn't read; write it with ON",
                 "USING",
             )
         self.outside = plans.aliases_outside(core)
-        self.names = BlockNames(self.statement, self.engine, plans, core, visible)
+        self.names = BlockNames(self.statement, plans, core, visible)
         self.query = Query(self.names.entries)
         self.steps = self.statement.steps
         self.turns = any(step.kind in ("RIGHT", "FULL") for step in self.steps)
@@ -135,7 +136,7 @@ class Block:
         }
         self.left_over: list[tuple[str, frozenset[int] | None]] = []
         self.not_used: list[Tokens] = []
-        self.outputs = {self.names.key(alias) for output in self.statement.outputs if (alias := alias_of(output))}
+        self.outputs = {self.dialect.key_of(alias) for output in self.statement.outputs if (alias := alias_of(output))}
         for piece in self.statement.conditions:
             self._condition(piece)
         for step in self.steps:
@@ -192,12 +193,12 @@ class Block:
             self.not_used.append(piece)
 
     def _check(self, piece: Tokens) -> None:
-        if self.engine.outputs_in_conditions:
+        if self.dialect.outputs_in_conditions:
             self.names.check_outputs_names(piece, self.outputs)
 
     def _sides(self, piece: Tokens) -> tuple[Named, Named] | None:
         for at, token in enumerate(piece):
-            if token.kind == "operator" and token.text in self.engine.equals:
+            if token.kind == "operator" and token.text in self.dialect.equals:
                 one, other = self.names.side(piece[:at]), self.names.side(piece[at + 1 :])
                 if one and other and one.entry != other.entry:
                     return one, other
@@ -219,7 +220,7 @@ class Block:
             behind = piece[at + 1 : at + 2]
             if not token.names or (at and piece[at - 1].says(".")):
                 continue
-            key = self.names.key(token)
+            key = self.dialect.key_of(token)
             if behind and behind[0].says("."):
                 if key in aliases and key not in self.names.by_alias:
                     return True
@@ -233,18 +234,18 @@ class Block:
         """Whether the rows that satisfy it may be counted: no subquery of it joins, names an entry or chooses rows."""
         for start, end in subqueries(piece):
             inner = piece[start + 1 : end - 1]
-            parts = {self.names.key(part.name) for part in self.visible}
-            if any(token.names and self.names.key(token) in parts for token in inner):
+            parts = {self.dialect.key_of(part.name) for part in self.visible}
+            if any(token.names and self.dialect.key_of(token) in parts for token in inner):
                 return False
-            if any(choosing(inner, self.engine.plain_words, self.engine.takes_bare_columns)):
+            if any(choosing(inner, self.dialect)):
                 return False
-            if self.plans.joins_within(inner) or self.engine.stands_alone(inner):
+            if self.plans.joins_within(inner) or self.catalog.stands_alone(inner):
                 return False
         return True
 
     def planned(self) -> BlockPlan:
         """Counts the block's entries and plans its joins."""
-        self.engine.joins(entry.about for entry in self.query.entries)
+        self.connection.prepare_joins(entry.about for entry in self.query.entries)
         counts = self._counted()
         proved = library()
         names = [entry.name for entry in self.query.entries]
@@ -274,14 +275,14 @@ class Block:
         selects = [
             text
             for entry in own
-            for text in histograms(Counted(entry, own_conditions(entry)), asked[entry.name], self.engine)
+            for text in histograms(Counted(entry, own_conditions(entry)), asked[entry.name], self.dialect)
         ]
-        counts = counts_among(asked, self.engine.rows("\nUNION ALL ".join(selects)) if selects else [])
+        counts = counts_among(asked, self.connection.rows("\nUNION ALL ".join(selects)) if selects else [])
         for number, (rows, unique) in given.items():
             entry = query.entries[number]
             counts.rows[entry.name] = rows
             for column in query.joined(number):
-                once = self.engine.key(column.name, True) in unique
+                once = self.dialect.key(column.name, True) in unique
                 counts.runs[entry.name, column.name] = [(1, rows) if once else (rows, 1)] if rows else []
         return counts
 
@@ -325,7 +326,7 @@ class Block:
             token.says(*SETS_OF_GROUPS) or (token.says("(") and behind.says(")"))
             for token, behind in zip(above, above[1:])
         )
-        if sets or self.engine.makes_rows(outputs):
+        if sets or self.catalog.makes_rows(outputs):
             return None
         if above and above[0].says("GROUP"):
             return _limited(joined, above)
@@ -374,7 +375,7 @@ class Block:
         done += conditions
         if not conditions:
             return f"\n  CROSS JOIN {source}"
-        return f"\n  {self.engine.join_word} {source} ON {' AND '.join(map(bracketed, conditions))}"
+        return f"\n  {self.dialect.join_word} {source} ON {' AND '.join(map(bracketed, conditions))}"
 
     def sql(self) -> str:
         """The block with its joins in the planned order."""
@@ -392,12 +393,13 @@ class Planner:
 
     def __init__(self, engine: Engine, text: str, accuracy: int, budget: int, progress: Progress | None = None) -> None:
         self.engine, self.text, self.accuracy, self.budget = engine, text, accuracy, budget
+        self.dialect, self.catalog, self.connection = engine.dialect, engine.catalog, engine.connection
         self.progress = progress or Progress()
-        self.pieces = tokens(text, engine.rules)
+        self.pieces = tokens(text, engine.dialect.rules)
         self.at = {token.at: number for number, token in enumerate(self.pieces)}
         self.query = Finder(text, self.pieces).found()
-        refuse_fickle(Statement(text), self.pieces, engine)
-        engine.takes(text.rstrip().rstrip(";"))
+        refuse_volatile(Statement(text), self.pieces, engine)
+        engine.catalog.takes(text.rstrip().rstrip(";"))
         self.blocks: dict[int, Block] = {}
         self.plans: dict[int, BlockPlan] = {}
         self.visible: dict[int, list[Part]] = {}
@@ -502,27 +504,24 @@ class Planner:
             core = core.outside
             try:
                 pieces = list(self.pieces[core.start : core.end])
-                statement = read(
-                    self.text, pieces, self.engine.comma_binds_less, self.engine.plain_words, in_blocks=True
-                )
+                statement = read(self.text, pieces, self.dialect, in_blocks=True)
             except Refused:
                 # It can't be told what it has: whatever is written with a table may be of it.
                 names = [token for token in self.pieces[core.start : core.end] if token.names]
-                keys = {self._key(token) for token in names}
+                keys = {self.dialect.key_of(token) for token in names}
                 return aliases | keys, columns | keys
-            columns |= {self._key(alias) for output in statement.outputs if (alias := alias_of(output))}
-            parts = {self._key(part.name) for part in self.visible[core.start]}
+            columns |= {self.dialect.key_of(alias) for output in statement.outputs if (alias := alias_of(output))}
+            parts = {self.dialect.key_of(part.name) for part in self.visible[core.start]}
             for source in statement.sources:
-                aliases.add(self._key(source.alias))
-                whole = not source.is_query and self._key(source.table[-1]) not in parts
-                about = self.engine.table(source.table) if whole else None
+                aliases.add(self.dialect.key_of(source.alias))
+                whole = not source.is_query and self.dialect.key_of(source.table[-1]) not in parts
+                about = self.catalog.table(source.table) if whole else None
                 # A query in FROM or a part of WITH may call its columns by any name of the text.
-                columns |= set(about.by_key) if about else {self._key(token) for token in self.pieces if token.names}
+                columns |= set(about.by_key) if about else self._all_names()
         return aliases, columns
 
-    def _key(self, token: Token) -> str:
-        quoted = token.kind in ("quoted", "text")
-        return self.engine.key(unquoted(token) if quoted else token.text, quoted)
+    def _all_names(self) -> set[str]:
+        return {self.dialect.key_of(token) for token in self.pieces if token.names}
 
     def joins_within(self, inner: Tokens) -> bool:
         """Whether a block among these tokens has several entries."""
@@ -594,13 +593,17 @@ class Planner:
         return self.planned_text(self.query)
 
     def check(self) -> None:
-        why = self.engine.complaint(self.sql())
+        why = self.catalog.complaint(self.sql())
         if why:
             raise EngineFault(f"{why}. The query is taken as it is, but not with its blocks in the planned order")
 
+    @property
+    def settings(self) -> tuple[str, ...]:
+        """What keeps the joins of all blocks in their order."""
+        return self.dialect.settings_for(entry.about for block in self.blocks.values() for entry in block.query.entries)
+
     def script(self) -> str:
-        setting = f"{self.engine.keeps_order};\n" if self.engine.keeps_order else ""
-        return f"{setting}{self.sql()};\n"
+        return as_script(*self.settings, self.sql())
 
     @property
     def unbounded(self) -> list[str]:
@@ -612,7 +615,7 @@ class Planner:
     def true_rows(self) -> None:
         """Asks for the rows of each level, of the blocks that stand by themselves and are no part of a WITH
         RECURSIVE."""
-        self.engine.keep_order()
+        self.connection.keep_order()
         for start, block in self.blocks.items():
             if any(part.query.refused and part.query.start <= start < part.query.end for part in self.query.parts):
                 continue
@@ -626,7 +629,7 @@ class Planner:
             with self.progress.doing(f"counting the rows of {block.core.called}"):
                 for number, level in enumerate(self.plans[start].levels, 1):
                     sql = self.with_parts(block.visible, f"SELECT count(*) {block.join(number)}")
-                    level.rows = self.engine.rows(sql)[0][0]
+                    level.rows = self.connection.rows(sql)[0][0]
 
 
 def _aggregates(outputs: Tokens) -> bool:
@@ -673,13 +676,13 @@ def _without_alias(piece: Tokens) -> Tokens:
 
 def several(text: str, engine: Engine) -> bool:
     """Whether the text has blocks within its one SELECT, or joins that aren't inner ones."""
-    pieces = tokens(text, engine.rules)
+    pieces = tokens(text, engine.dialect.rules)
     query = Finder(text, pieces).found()
     core = query.members[0] if len(query.members) == 1 else None
     if query.parts or query.operators or not isinstance(core, Core):
         return True
     try:
-        statement = read(text, list(pieces), engine.comma_binds_less, engine.plain_words, in_blocks=True)
+        statement = read(text, list(pieces), engine.dialect, in_blocks=True)
     except Refused:
         return any(
             token.says("LEFT", "RIGHT", "FULL") and behind.says("JOIN", "OUTER")
@@ -693,7 +696,7 @@ def several(text: str, engine: Engine) -> bool:
             any(token.says("JOIN") for token in piece)
             or len(list(inner.cores())) > 1
             or _joins(text, piece, engine)
-            or engine.stands_alone(piece)
+            or engine.catalog.stands_alone(piece)
         ):
             return True
     return False
@@ -701,6 +704,6 @@ def several(text: str, engine: Engine) -> bool:
 
 def _joins(text: str, piece: Tokens, engine: Engine) -> bool:
     try:
-        return len(read(text, list(piece), engine.comma_binds_less, engine.plain_words, in_blocks=True).sources) > 1
+        return len(read(text, list(piece), engine.dialect, in_blocks=True).sources) > 1
     except Refused:
         return True

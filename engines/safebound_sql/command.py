@@ -9,15 +9,14 @@ import os
 import sys
 from typing import Callable, NoReturn, Sequence
 
-from . import block_plans, output, stops
-from .dialects import DIALECTS, Unreached
+from . import block_plans, output, sqlite, stops
 from .engine import Engine
 from .export import exported
 from .faults import AboveBound, Fault, Refused, Unreadable, Usage
 from .kept import Kept
 from .levels import MOST_BUDGET, Plan
 from .planner import Planner
-from .sqlite import Sqlite
+from .unreached import DIALECTS, unreached
 
 ABOUT = {
     "plan": "the best order, each level's bound, and what the engine expects",
@@ -127,17 +126,19 @@ def _engine(given: argparse.Namespace) -> Engine:
         raise Usage("--dialect needs --counts FILE, the answer to what `counts` prints")
     if getattr(given, "keep", None) or getattr(given, "kept", None):
         raise Usage("counts are kept by --db, of an engine that is reached")
-    return Unreached(dialect, text_of(given.schema))
+    if getattr(given, "count", False):
+        raise Usage("--count is for --db, of an engine that is reached")
+    return unreached(dialect, text_of(given.schema))
 
 
 def opened(db: str, timeout: int | None) -> Engine:
     kind, _, rest = db.partition(":")
     if kind in ("postgresql", "postgres"):
-        from .postgres import Postgres  # psycopg takes a while to load
+        from . import postgres  # psycopg takes a while to load
 
-        return Postgres(db, timeout)
+        return postgres.opened(db, timeout)
     if kind == "sqlite" and rest:
-        return Sqlite(rest, timeout)
+        return sqlite.opened(rest, timeout)
     raise Usage(f"--db is postgresql://.. or sqlite:FILE, not {db!r}")
 
 
@@ -168,7 +169,7 @@ def _planned(given: argparse.Namespace, planner: Planner) -> None:
     planner.expect(plan)
     true_rows = planner.true_rows(plan) if given.command == "audit" else None
     if getattr(given, "json", False):
-        sys.stdout.write(output.document(plan, planner.engine, planner.sql(plan), true_rows))
+        sys.stdout.write(output.document(plan, planner.settings, planner.sql(plan), true_rows))
     else:
         _show(given, planner, plan, true_rows)
     for number, (level, rows) in enumerate(zip(plan.levels, true_rows or ()), 1):
@@ -177,7 +178,7 @@ def _planned(given: argparse.Namespace, planner: Planner) -> None:
 
 
 def _show(given: argparse.Namespace, planner: Planner, plan: Plan, true_rows: list[int] | None) -> None:
-    shown = output.table(plan, planner.engine, true_rows)
+    shown = output.table(plan, planner.engine.dialect.title, true_rows)
     if given.command == "plan" and given.dialect:
         shown = "".join(f"-- {line}\n" for line in shown.splitlines()) + planner.script(plan)
     (sys.stderr if given.command == "run" else sys.stdout).write(shown)
@@ -220,13 +221,13 @@ def _in_blocks(given: argparse.Namespace, engine: Engine, text: str) -> None:
         planner.true_rows()
     plans = list(planner.plans.values())
     if getattr(given, "json", False):
-        sys.stdout.write(output.blocks_document(plans, unbounded, engine, planner.sql()))
+        sys.stdout.write(output.blocks_document(plans, unbounded, planner.settings, planner.sql()))
     else:
         (sys.stderr if given.command == "run" else sys.stdout).write(output.blocks_table(plans, unbounded))
     if given.command == "run":
-        engine.keep_order()
+        engine.connection.keep_order()
         with planner.progress.doing("joining") as end:
-            for part in engine.csv(planner.sql(), given.null):
+            for part in engine.connection.csv(planner.sql(), given.null):
                 end()
                 sys.stdout.write(part)
     for plan in plans:
@@ -240,15 +241,15 @@ def done(given: argparse.Namespace) -> None:
     if getattr(given, "kept", None) and getattr(given, "counts", None):
         raise Usage("either --kept or --counts")
     count = getattr(given, "count", False)
-    if count and (given.db is None or getattr(given, "kept", None) or getattr(given, "counts", None)):
-        raise Usage("--count counts now, by --db: not beside --kept, --counts or --dialect")
+    if count and (getattr(given, "kept", None) or getattr(given, "counts", None)):
+        raise Usage("--count counts the rows of now: either it, or --kept or --counts")
     engine = _engine(given)
     try:
-        if count and not engine.counts_exactly:
-            raise Usage(f"--count is for PostgreSQL: {engine.title} has no exact numbers past 2^63")
+        if count and not engine.dialect.counts_exactly:
+            raise Usage(f"--count is for PostgreSQL: {engine.dialect.title} has no exact numbers past 2^63")
         if given.command == "append":
             return _appended(given, engine)
-        if engine.knows_blocks and block_plans.several(text, engine):
+        if engine.dialect.knows_blocks and block_plans.several(text, engine):
             _in_blocks(given, engine, text)
             return sys.stdout.flush()
         planner = Planner(engine, text, not (getattr(given, "no_reduce", False) or getattr(given, "kept", None)))
@@ -264,7 +265,7 @@ def done(given: argparse.Namespace) -> None:
             _planned(given, planner)
         sys.stdout.flush()
     finally:
-        engine.close()
+        engine.connection.close()
 
 
 def main(arguments: Sequence[str] | None = None) -> int:

@@ -6,7 +6,8 @@ from __future__ import annotations
 
 from typing import Iterable, NamedTuple, Sequence
 
-from .engine import Engine
+from .dialect import Dialect
+from .engine import Catalog, Engine
 from .factors import Conjunct, Factor, Join, joins
 from .faults import EngineFault
 from .levels import Plan, entries_of
@@ -18,7 +19,7 @@ from .servers import rows_to_join
 MOST_PAIRS = 4_000_000
 
 
-def conjuncts_of(query: Query, engine: Engine) -> list[Conjunct]:
+def conjuncts_of(query: Query, catalog: Catalog) -> list[Conjunct]:
     """The conditions on several entries that are told apart by nothing but the values that rows are grouped by: all
     equalities that join, and the others over columns whose equal values are the same."""
     equalities = [
@@ -33,7 +34,7 @@ def conjuncts_of(query: Query, engine: Engine) -> list[Conjunct]:
         if condition.text in apart
     ]
     return equalities + [
-        other for other in others if all(engine.same_when_equal(named.column) for named in other.columns)
+        other for other in others if all(catalog.same_when_equal(named.column) for named in other.columns)
     ]
 
 
@@ -52,16 +53,16 @@ class Choices:
     """A statement that counts, while it is written."""
 
     def __init__(
-        self, query: Query, engine: Engine, prefix: str, conjuncts: list[Conjunct], reduce: bool, most_pairs: int
+        self, query: Query, dialect: Dialect, prefix: str, conjuncts: list[Conjunct], reduce: bool, most_pairs: int
     ) -> None:
-        self.query, self.engine, self.prefix, self.most_pairs = query, engine, prefix, most_pairs
+        self.query, self.dialect, self.prefix, self.most_pairs = query, dialect, prefix, most_pairs
         self.conjuncts = conjuncts
         named = {named for conjunct in conjuncts for named in conjunct.columns}
         columns = {
             entry.number: [c for c in entry.about.by_key.values() if Named(entry.number, c) in named]
             for entry in query.entries
         }
-        self.parts = rows_to_join(query, engine, columns, prefix) if reduce else Parts()
+        self.parts = rows_to_join(query, dialect, columns, prefix) if reduce else Parts()
         self.texts = list(self.parts.texts)
         self.number = f"{prefix}n"
         self.made: dict[Factor, Made] = {}
@@ -70,7 +71,7 @@ class Choices:
         """For each level with its entries one row: its number and how many choices there are. There is none where
         too many pairs would meet."""
         selects = [f"SELECT {number} AS level, {self._total(entries)}" for number, entries in levels]
-        return self.engine.with_parts(self.texts, "\nUNION ALL ".join(selects))
+        return self.dialect.with_parts(self.texts, "\nUNION ALL ".join(selects))
 
     def _total(self, entries: Sequence[int]) -> str:
         found = joins(entries, self.conjuncts)
@@ -97,7 +98,7 @@ class Choices:
         [number] = factor.entries
         entry = self.query.entries[number]
         rows, conditions = self.parts.rows.get(number), own_conditions(entry)
-        values = [f"{entry.alias}.{self.engine.quote(named.column.name)}" for named in factor.open]
+        values = [f"{entry.alias}.{self.dialect.quote(named.column.name)}" for named in factor.open]
         source = f"FROM {rows or entry.table} AS {entry.alias}{where([] if rows else conditions)}"
         return Made(self._part(self._select(factor, values, "CAST(COUNT(*) AS NUMERIC)", source)), ())
 
@@ -108,7 +109,7 @@ class Choices:
         return f"SELECT {', '.join([*outputs, f'{number} AS {self.number}'])} {source}{groups}"
 
     def _column(self, named: Named) -> str:
-        return self.engine.quote(f"{self.prefix}{named.entry}_{named.column.name}")
+        return self.dialect.quote(f"{self.prefix}{named.entry}_{named.column.name}")
 
     def _joined(self, join: Join, by: dict[Factor, Join]) -> Made:
         left, right = self._factor(join.left, by), self._factor(join.right, by)
@@ -140,7 +141,7 @@ class Choices:
 
     def _again(self, entry: int, named: list[Named], part: str) -> str:
         return ", ".join(
-            f"{part}.{self._column(column)} AS {self.engine.quote(column.column.name)}"
+            f"{part}.{self._column(column)} AS {self.dialect.quote(column.column.name)}"
             for column in named
             if column.entry == entry
         )
@@ -167,7 +168,7 @@ class Lowering:
         self, plan: Plan, engine: Engine, prefix: str, reduce: bool, most_pairs: int = MOST_PAIRS
     ) -> None:
         self.plan, self.engine, self.prefix, self.reduce, self.most_pairs = plan, engine, prefix, reduce, most_pairs
-        every = conjuncts_of(plan.query, engine)
+        every = conjuncts_of(plan.query, engine.catalog)
         self.equalities = [conjunct for conjunct in every if isinstance(conjunct.what, Equality)]
         self.others = [conjunct for conjunct in every if not isinstance(conjunct.what, Equality)]
 
@@ -206,9 +207,9 @@ class Lowering:
         """Lowers the bounds of these levels. Answers those that it didn't count."""
         if not levels:
             return []
-        asked = Choices(self.plan.query, self.engine, self.prefix, conjuncts, self.reduce, self.most_pairs)
+        asked = Choices(self.plan.query, self.engine.dialect, self.prefix, conjuncts, self.reduce, self.most_pairs)
         statement = asked.statement([(number, entries_of(self.plan.levels[number - 1].shape)) for number in levels])
-        found = {number: int(choices) for number, choices in self.engine.counted(statement)}
+        found = {number: int(choices) for number, choices in self.engine.connection.counted(statement)}
         for number, choices in found.items():
             level = self.plan.levels[number - 1]
             level.bound, level.counted = min(level.bound, choices), by

@@ -50,7 +50,8 @@ class Export:
 
     def __init__(self, meaning: Meaning, engine: Engine, folder: str, progress: Progress) -> None:
         self.statement, self.names, self.query = meaning.statement, meaning.names, meaning.query
-        self.engine, self.folder, self.progress = engine, folder, progress
+        self.dialect, self.catalog, self.connection = engine.dialect, engine.catalog, engine.connection
+        self.folder, self.progress = folder, progress
         self.used: dict[int, set[Column]] = {entry.number: set() for entry in self.query.entries}
         self.types: dict[Named, str] = {}
 
@@ -110,7 +111,7 @@ class Export:
         if named is None:
             raise self._refuse(piece[0])
         column = self._column(named)
-        yield f"{column} AS {spelled(self.names.key(rest[0]))}" if rest else column
+        yield f"{column} AS {spelled(self.dialect.key_of(rest[0]))}" if rest else column
 
     def _condition(self, piece: Tokens) -> Iterator[str]:
         """The condition again. That a column is NOT NULL goes without saying, since no exported value is NULL."""
@@ -145,7 +146,7 @@ class Export:
 
     def _refuse_order_of_texts(self, piece: Tokens) -> None:
         for named in self.names.named(piece):
-            if not self.engine.whole_numbers(named.column) and not self.engine.plain_order(named.column):
+            if not self.catalog.whole_numbers(named.column) and not self.catalog.plain_order(named.column):
                 why = "safebound_cli orders texts by code points, and the column doesn't"
                 raise self.statement.refuse(piece[0], why, named.column.name)
 
@@ -154,7 +155,7 @@ class Export:
         return f"{spelled(self.query.entries[named.entry].name)}.{spelled(named.column.name)}"
 
     def _name_of(self, entry: Entry) -> str:
-        name = self.names.key(self.statement.sources[entry.number].table[-1])
+        name = self.dialect.key_of(self.statement.sources[entry.number].table[-1])
         if not re.fullmatch(r"[A-Za-z0-9_]+", name):
             raise self.statement.refuse(self.statement.sources[entry.number].table[-1], "a file can't be named so")
         return spelled(name)
@@ -179,13 +180,13 @@ class Export:
         if len({upper(column.name) for column in columns}) < len(columns):
             raise Refused(f"columns of {name} differ in upper and lower case alone, which safebound_cli takes for one")
         for column in columns:
-            if not self.engine.exports(column):
+            if not self.catalog.exports(column):
                 raise Refused(f"{name}.{column.name}: safebound_cli has no {column.type}")
         met = set.intersection(*(set(self.query.joined(entry.number)) for entry in entries))
-        values = ", ".join(self.engine.quote(column.name) for column in columns)
-        present = " AND ".join(f"{self.engine.quote(column.name)} IS NOT NULL" for column in columns if column in met)
+        values = ", ".join(self.dialect.quote(column.name) for column in columns)
+        present = " AND ".join(f"{self.dialect.quote(column.name)} IS NOT NULL" for column in columns if column in met)
         with self.progress.doing(f"writing {name}"):
-            rows = self.engine.stream(
+            rows = self.connection.stream(
                 f"SELECT {values} FROM {entries[0].table}" + (f" WHERE {present}" if present else "")
             )
             kinds = self._records(name.strip('"').lower() + ".csv", columns, rows)
@@ -194,7 +195,7 @@ class Export:
 
     def _records(self, file: str, columns: list[Column], rows: Iterator[Row]) -> list[str]:
         """Writes the rows, and finds the columns' types."""
-        kinds: list[type] = [int if self.engine.whole_numbers(column) else str for column in columns]
+        kinds: list[type] = [int if self.catalog.whole_numbers(column) else str for column in columns]
         longest = [1] * len(columns)
         next(rows)
         with open(os.path.join(self.folder, file), "w", encoding="utf-8", newline="") as out:

@@ -117,9 +117,9 @@ class Kept:
         parts = [
             part
             for identity, entry in entries.items()
-            for part in histograms(Source(_called(entry, identity), []), columns[identity], engine)
+            for part in histograms(Source(_called(entry, identity), []), columns[identity], engine.dialect)
         ]
-        counts = counts_among(columns, engine.rows("\nUNION ALL ".join(parts)))
+        counts = counts_among(columns, engine.connection.rows("\nUNION ALL ".join(parts)))
         for identity, entry in entries.items():
             self._forget(identity)
             kept = self.tables[identity] = KeptTable(entry.table, now(), counts.rows[identity])
@@ -145,8 +145,8 @@ class Kept:
             raise WrongCounts(f"{self.file} has no counts of {table} as it is; keep them anew")
         conditions = own_conditions(entry) + list(map(str, query.constants))
         whole, new = Source(_called(entry, "whole"), []), Source(_called(entry, "new"), conditions)
-        parts = histograms(whole, [], engine) + histograms(new, columns, engine)
-        counts = counts_among({"whole": [], "new": columns}, engine.rows("\nUNION ALL ".join(parts)))
+        parts = histograms(whole, [], engine.dialect) + histograms(new, columns, engine.dialect)
+        counts = counts_among({"whole": [], "new": columns}, engine.connection.rows("\nUNION ALL ".join(parts)))
         if kept.rows + counts.rows["new"] != counts.rows["whole"]:
             told = (
                 f"{kept.rows} rows are kept and {counts.rows['new']} come to them, but {table} has"

@@ -6,14 +6,13 @@ import json
 from typing import Iterable
 
 from .block_plans import BlockPlan
-from .engine import Engine
 from .levels import Level, Plan, Shape, entries_of
 from .query import Named, Query
 
 
-def table(plan: Plan, engine: Engine, true_rows: list[int] | None = None) -> str:
+def table(plan: Plan, title: str, true_rows: list[int] | None = None) -> str:
     """The plan as lines: a level each, and what is worth knowing below them."""
-    heads = ["level", "joined", "of", "scan", "bound", f"{engine.title} expects", "factor"]
+    heads = ["level", "joined", "of", "scan", "bound", f"{title} expects", "factor"]
     rows = [_row(plan, number, level) for number, level in enumerate(plan.levels, 1)]
     if all(level.expected is None for level in plan.levels):
         heads, rows = heads[:5], [row[:5] for row in rows]
@@ -58,7 +57,7 @@ def blocks_table(plans: Iterable[BlockPlan], unbounded: list[str]) -> str:
     return "\n".join(lines + [f"budget {cost} would do"]) + "\n"
 
 
-def blocks_document(plans: Iterable[BlockPlan], unbounded: list[str], engine: Engine, sql: str) -> str:
+def blocks_document(plans: Iterable[BlockPlan], unbounded: list[str], settings: tuple[str, ...], sql: str) -> str:
     """The same as JSON."""
     told = {
         "blocks": [
@@ -79,7 +78,7 @@ def blocks_document(plans: Iterable[BlockPlan], unbounded: list[str], engine: En
         ],
         "not bounded": unbounded,
         "least budget": max((plan.cost for plan in plans), default=0),
-        "setting": engine.keeps_order,
+        "setting": "; ".join(settings),
         "sql": sql,
     }
     return json.dumps(told, indent=2, ensure_ascii=False) + "\n"
@@ -130,7 +129,7 @@ def _aligned(rows: list[list[str]]) -> list[str]:
     return ["  ".join(side(cell, width) for side, cell, width in zip(sides, row, widths)).rstrip() for row in rows]
 
 
-def document(plan: Plan, engine: Engine, sql: str, true_rows: list[int] | None = None) -> str:
+def document(plan: Plan, settings: tuple[str, ...], sql: str, true_rows: list[int] | None = None) -> str:
     """The plan as JSON."""
     query = plan.query
     levels = [_level(query, level) for level in plan.levels]
@@ -154,7 +153,7 @@ def document(plan: Plan, engine: Engine, sql: str, true_rows: list[int] | None =
         "notes": plan.notes,
         "kept": plan.kept,
         "counted anew": list(plan.changed),
-        "setting": engine.keeps_order,
+        "setting": "; ".join(settings),
         "sql": sql,
     }
     return json.dumps(told, indent=2, ensure_ascii=False) + "\n"

@@ -146,7 +146,7 @@ class OnEachEngine(unittest.TestCase):
     def opened(self, text: str, reduce: bool = True) -> Planner:
         """A planner over the query."""
         engine = opened(self.base.url, None)
-        self.addCleanup(engine.close)
+        self.addCleanup(engine.connection.close)
         return Planner(engine, text, reduce)
 
     def planned(self, text: str, reduce: bool = True, accuracy: int = 1, tree: bool = False, budget: int = MOST_BUDGET):
@@ -155,8 +155,9 @@ class OnEachEngine(unittest.TestCase):
 
     def same_rows(self, planner: Planner, plan, text: str) -> None:
         """The rows of the planned SQL are those of the query itself, each as often."""
-        planner.engine.keep_order()
-        self.assertEqual(counted(planner.engine.rows(planner.sql(plan))), counted(self.base.rows(text)), text)
+        connection = planner.engine.connection
+        connection.keep_order()
+        self.assertEqual(counted(connection.rows(planner.sql(plan))), counted(self.base.rows(text)), text)
 
     def never_under(self, planner: Planner, plan, text: str) -> list[int]:
         """No level has more rows than its bound. Answers the rows of the levels."""

@@ -17,7 +17,7 @@ class Examples(OnEachEngine):
         planner.expect(plan)
         true = self.never_under(planner, plan, text)
         self.same_rows(planner, plan, text)
-        planner.engine.close()
+        planner.engine.connection.close()
         return planner, plan, true
 
     def loaded(self, schema: str, tables: dict[str, list[tuple]]) -> None:

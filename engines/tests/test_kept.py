@@ -31,14 +31,14 @@ class WithKept(OnEachEngine):
         kept = Kept(self.file, has_to_be_there=False)
         kept.keep(planner.query, planner.engine)
         kept.save()
-        planner.engine.close()
+        planner.engine.connection.close()
 
     def append(self, table: str, condition: str) -> int:
         engine = self.opened(f"SELECT 1 FROM {table}").engine
         kept = Kept(self.file)
         new = kept.append(table, condition, engine)[1]
         kept.save()
-        engine.close()
+        engine.connection.close()
         return new
 
     def by_kept(self, text: str, tree: bool = False):
@@ -47,7 +47,7 @@ class WithKept(OnEachEngine):
         plan = planner.plan_by_kept(1, MOST_BUDGET, tree, Kept(self.file))
         true = self.never_under(planner, plan, text)
         self.same_rows(planner, plan, text)
-        planner.engine.close()
+        planner.engine.connection.close()
         return plan, true
 
 
