@@ -28,6 +28,7 @@ ABOUT = {
     "export": "the query's tables as files for safebound_cli",
 }
 NO_ROOM_FOR_OUTPUT = 10
+NO_BLOCKS_COUNTED = "nothing is counted: --count is for queries of one block, whose joins are inner ones"
 
 
 class Words(argparse.ArgumentParser):
@@ -220,10 +221,11 @@ def _in_blocks(given: argparse.Namespace, engine: Engine, text: str) -> None:
     if given.command == "audit":
         planner.true_rows()
     plans = list(planner.plans.values())
+    notes = [NO_BLOCKS_COUNTED] if given.count else []
     if getattr(given, "json", False):
-        sys.stdout.write(output.blocks_document(plans, unbounded, planner.settings, planner.sql()))
+        sys.stdout.write(output.blocks_document(plans, unbounded, notes, planner.settings, planner.sql()))
     else:
-        (sys.stderr if given.command == "run" else sys.stdout).write(output.blocks_table(plans, unbounded))
+        (sys.stderr if given.command == "run" else sys.stdout).write(output.blocks_table(plans, unbounded, notes))
     if given.command == "run":
         engine.connection.keep_order()
         with planner.progress.doing("joining") as end:

@@ -34,7 +34,7 @@ def table(plan: Plan, title: str, true_rows: list[int] | None = None) -> str:
     return "\n".join(lines) + "\n"
 
 
-def blocks_table(plans: Iterable[BlockPlan], unbounded: list[str]) -> str:
+def blocks_table(plans: Iterable[BlockPlan], unbounded: list[str], notes: list[str]) -> str:
     """The plans of all blocks, and what isn't bounded."""
     lines: list[str] = []
     cost = 0
@@ -54,10 +54,12 @@ def blocks_table(plans: Iterable[BlockPlan], unbounded: list[str]) -> str:
         lines += [f"{plan.core.called}{most}", *_aligned([heads] + rows), *plan.notes, ""]
         cost = max(cost, plan.cost)
     lines += [f"not bounded: {why}" for why in unbounded]
-    return "\n".join(lines + [f"budget {cost} would do"]) + "\n"
+    return "\n".join([*lines, f"budget {cost} would do", *notes]) + "\n"
 
 
-def blocks_document(plans: Iterable[BlockPlan], unbounded: list[str], settings: tuple[str, ...], sql: str) -> str:
+def blocks_document(
+    plans: Iterable[BlockPlan], unbounded: list[str], notes: list[str], settings: tuple[str, ...], sql: str
+) -> str:
     """The same as JSON."""
     told = {
         "blocks": [
@@ -77,6 +79,7 @@ def blocks_document(plans: Iterable[BlockPlan], unbounded: list[str], settings: 
             if plan.levels
         ],
         "not bounded": unbounded,
+        "notes": notes,
         "least budget": max((plan.cost for plan in plans), default=0),
         "setting": "; ".join(settings),
         "sql": sql,
