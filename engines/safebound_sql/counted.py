@@ -4,6 +4,7 @@ of any size. One statement counts all levels by factors, and makes no row of a j
 
 from __future__ import annotations
 
+from math import prod
 from typing import Iterable, NamedTuple, Sequence
 
 from .dialect import Dialect
@@ -58,6 +59,9 @@ class Choices:
         self.query, self.dialect, self.prefix, self.most_pairs = query, dialect, prefix, most_pairs
         self.conjuncts = conjuncts
         named = {named for conjunct in conjuncts for named in conjunct.columns}
+        in_order = sorted(named, key=lambda one: (one.entry, one.column.name))
+        # By numbers, since a column of the query may be called as long as names can be.
+        self.columns = {one: f"{prefix}{one.entry}_{at}" for at, one in enumerate(in_order)}
         columns = {
             entry.number: [c for c in entry.about.by_key.values() if Named(entry.number, c) in named]
             for entry in query.entries
@@ -104,19 +108,16 @@ class Choices:
 
     def _select(self, factor: Factor, values: list[str], number: str, source: str) -> str:
         """Of each choice of values of the factor's open columns the number."""
-        outputs = [f"{value} AS {self._column(named)}" for value, named in zip(values, factor.open)]
+        outputs = [f"{value} AS {self.columns[named]}" for value, named in zip(values, factor.open)]
         groups = f" GROUP BY {', '.join(str(at) for at in range(1, len(outputs) + 1))}" if outputs else ""
         return f"SELECT {', '.join([*outputs, f'{number} AS {self.number}'])} {source}{groups}"
-
-    def _column(self, named: Named) -> str:
-        return self.dialect.quote(f"{self.prefix}{named.entry}_{named.column.name}")
 
     def _joined(self, join: Join, by: dict[Factor, Join]) -> Made:
         left, right = self._factor(join.left, by), self._factor(join.right, by)
         pairs = left.pairs + tuple(name for name in right.pairs if name not in left.pairs)
         own = [] if join.few else [self._pairs(join, left.name, right.name)]
         sides = {**dict.fromkeys(join.left.entries, left.name), **dict.fromkeys(join.right.entries, right.name)}
-        values = [f"{sides[named.entry]}.{self._column(named)}" for named in join.both.open]
+        values = [f"{sides[named.entry]}.{self.columns[named]}" for named in join.both.open]
         source = f"FROM {left.name} {self._on(join, left.name, right.name, right.name)}{self._entries(join, sides)}"
         tests = [bracketed(str(other.what)) for other in join.others] + self._few(own)
         product = f"COALESCE(SUM({left.name}.{self.number} * {right.name}.{self.number}), 0)"
@@ -125,7 +126,7 @@ class Choices:
 
     def _on(self, join: Join, left: str, right: str, rows: str) -> str:
         """The right side behind the left one: its rows under its name."""
-        equal = [f"{left}.{self._column(one)} = {right}.{self._column(other)}" for one, other in join.equalities]
+        equal = [f"{left}.{self.columns[one]} = {right}.{self.columns[other]}" for one, other in join.equalities]
         return f"JOIN {rows} ON {' AND '.join(equal)}" if equal else f"CROSS JOIN {rows}"
 
     def _entries(self, join: Join, sides: dict[int, str]) -> str:
@@ -141,7 +142,7 @@ class Choices:
 
     def _again(self, entry: int, named: list[Named], part: str) -> str:
         return ", ".join(
-            f"{part}.{self._column(column)} AS {self.dialect.quote(column.column.name)}"
+            f"{part}.{self.columns[column]} AS {self.dialect.quote(column.column.name)}"
             for column in named
             if column.entry == entry
         )
@@ -155,7 +156,7 @@ class Choices:
 
     def _meeting(self, name: str, columns: list[Named]) -> str:
         """How many groups of a factor have the same values of these columns."""
-        values = list(dict.fromkeys(map(self._column, columns)))
+        values = list(dict.fromkeys(self.columns[column] for column in columns))
         outputs = ", ".join([*values, f"CAST(COUNT(*) AS NUMERIC) AS {self.number}"])
         groups = f" GROUP BY {', '.join(values)}" if values else ""
         return f"(SELECT {outputs} FROM {name}{groups}) AS {name}"
@@ -171,6 +172,8 @@ class Lowering:
         every = conjuncts_of(plan.query, engine.catalog)
         self.equalities = [conjunct for conjunct in every if isinstance(conjunct.what, Equality)]
         self.others = [conjunct for conjunct in every if not isinstance(conjunct.what, Equality)]
+        # Else it takes no time to look through the rows of one entry for each of another's.
+        self.large = prod(sorted(plan.counts.rows.values())[-2:]) > most_pairs
 
     def lower(self) -> None:
         """By all conditions that count, and where these make too many pairs by equalities alone."""
@@ -209,7 +212,7 @@ class Lowering:
             return []
         asked = Choices(self.plan.query, self.engine.dialect, self.prefix, conjuncts, self.reduce, self.most_pairs)
         statement = asked.statement([(number, entries_of(self.plan.levels[number - 1].shape)) for number in levels])
-        found = {number: int(choices) for number, choices in self.engine.connection.counted(statement)}
+        found = {number: int(choices) for number, choices in self.engine.connection.counted(statement, self.large)}
         for number, choices in found.items():
             level = self.plan.levels[number - 1]
             level.bound, level.counted = min(level.bound, choices), by

@@ -100,8 +100,9 @@ class Connection(ABC):
     def rows(self, sql: str) -> list[Row]:
         """All rows of a short answer."""
 
-    def counted(self, sql: str) -> list[Row]:
-        """The answer of a statement whose numbers may be of any size. An error leaves the transaction as it was."""
+    def counted(self, sql: str, large: bool) -> list[Row]:
+        """The answer of a statement whose numbers may be of any size, and whose parts may be large. An error leaves
+        the transaction as it was."""
         raise NotImplementedError("this engine has no exact numbers of any size")
 
     @abstractmethod

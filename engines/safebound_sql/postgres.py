@@ -142,7 +142,8 @@ FROM pg_class c JOIN pg_namespace n ON n.oid = relnamespace WHERE c.oid = to_reg
 
 # PostgreSQL expects ten values of an array that goes along, and would join by nested loops what it expects few rows of.
 # Where there is no other way it still does, at a cost for which it would compile the statement.
-FOR_SEVERAL_SERVERS = ("enable_nestloop = off", "jit = off")
+NO_NESTED_LOOPS, NO_COMPILING = "enable_nestloop = off", "jit = off"
+FOR_SEVERAL_SERVERS = (NO_NESTED_LOOPS, NO_COMPILING)
 IN_ORDER = ("join_collapse_limit = 1",)
 
 # Equal values of these types are the same to every function: "char", bigint, boolean, bytea, date, integer, name, oid,
@@ -200,10 +201,10 @@ class PostgresConnection(Connection):
         with told():
             return self.connection.execute(sql, given).fetchall()
 
-    def counted(self, sql: str) -> list[Row]:
-        """Parts are joined by hashes, for however few rows PostgreSQL takes them, and nothing is compiled."""
+    def counted(self, sql: str, large: bool) -> list[Row]:
+        """Of large parts each is hashed, for however few rows PostgreSQL takes it. Nothing is compiled."""
         with told(), self.connection.transaction(force_rollback=True):
-            self._set(FOR_SEVERAL_SERVERS)
+            self._set((NO_NESTED_LOOPS, NO_COMPILING) if large else (NO_COMPILING,))
             return self.connection.execute(sql).fetchall()
 
     def stream(self, sql: str) -> Iterator[Row]:
