@@ -312,7 +312,7 @@ EDITS = [
          "        pairs = right.pairs\n",
          "test_counted.NotCounted.test_past_the_limit_by_equalities_too", gate=True),
     Edit("pairs aren't counted before they are made", "counted.py", "[] if join.few else [", "[] if True else [",
-         "test_counted.NotCounted.test_past_the_limit_by_equalities_too"),
+         "test_counted.NotCounted.test_the_limit_of_pairs"),
     Edit("equal numbers are the same texts", "postgres.py",
          "number in SAME_WHEN_EQUAL or column.type.startswith((\"numeric(\", \"character(\"))",
          "number in SAME_WHEN_EQUAL or column.type.startswith((\"numeric\", \"character(\"))",
