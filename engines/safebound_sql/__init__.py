@@ -9,3 +9,11 @@ query with several SELECTs or with outer joins goes through `blocks`, which find
 each. `command`, `output`, `export` and `progress` are what a user sees; `faults` what they see when something is
 wrong, and `stops` heeds Ctrl-C and SIGTERM.
 """
+
+import importlib.util
+import sys
+from pathlib import Path
+
+# The library's package is an installed one, or else that of this repository.
+if importlib.util.find_spec("safebound") is None:
+    sys.path.append(str(Path(__file__).resolve().parents[2] / "python"))

@@ -8,6 +8,8 @@ import csv
 from dataclasses import dataclass
 from typing import Collection, Iterable
 
+from safebound.sql_texts import written_text
+
 from .dialect import Dialect
 from .faults import Unreadable, WrongCounts
 from .query import Column, Query, Row
@@ -51,7 +53,7 @@ def counting(query: Query, dialect: Dialect, prefix: str, reduce: bool, known: C
 
 def histograms(source: Source, columns: list[Column], dialect: Dialect) -> list[str]:
     """What a counting statement asks of one entry."""
-    name = _text(source.entry.name)
+    name = written_text(source.entry.name)
     degree, rows = source.total()
     total = _line(dialect, name, "''", degree, "1", rows)
     return [total] + [_histogram(name, column, dialect, source) for column in columns]
@@ -64,11 +66,7 @@ def _line(dialect: Dialect, entry: str, column: str, degree: str, keys: str, row
 
 def _histogram(entry: str, column: Column, dialect: Dialect, source: Source) -> str:
     degrees = f"FROM ({source.degrees(column, dialect)}) AS degrees GROUP BY d"
-    return _line(dialect, entry, _text(column.name), "d", "COUNT(*)", degrees)
-
-
-def _text(name: str) -> str:
-    return "'" + name.replace("'", "''") + "'"
+    return _line(dialect, entry, written_text(column.name), "d", "COUNT(*)", degrees)
 
 
 def counts_of(query: Query, rows: Iterable[Row]) -> Counts:

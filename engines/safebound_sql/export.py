@@ -5,10 +5,15 @@ safebound_cli has whole numbers and texts, no NULL, and conditions of comparison
 
 from __future__ import annotations
 
+import contextlib
 import csv
 import os
 import re
 from typing import Iterator
+
+from safebound.sql_texts import (
+    MOST_CHARACTERS, MOST_NUMBER, MOST_ROWS, MOST_TABLE_BYTES, folded, written_name,
+)
 
 from .engine import Engine
 from .faults import Refused, Unreadable
@@ -18,31 +23,14 @@ from .query import Column, Entry, Named, Row
 from .reading import Tokens
 from .tokens import Token
 
-MOST_ROWS = 4_000_000
-MOST_BYTES = 67_108_864
-MOST_CHARACTERS = 1_000_000
-
-RESERVED = frozenset(
-    "ALL AND ANY AS ASC BETWEEN BIGINT BY CASE CAST CHAR CHARACTER CHECK CONSTRAINT CREATE CROSS DEFAULT DELETE DESC"
-    " DISTINCT EXCEPT EXISTS FOREIGN FROM FULL GROUP HAVING IN INNER INT INTEGER INTERSECT IS JOIN LEFT LIKE NATURAL"
-    " NOT NULL ON OR ORDER OUTER PRIMARY REFERENCES RIGHT SELECT SET SMALLINT TABLE UNION UNIQUE UPDATE USING VALUES"
-    " VARCHAR VARYING WHERE".split()
-)
 CONNECTING = ("AND", "OR", "NOT", "BETWEEN", "IN", "(", ")", ",", "+", "-", "=", "<>", "<", "<=", ">", ">=")
 SPELLED = {"==": "=", "!=": "<>"}
 ORDERING = ("<", "<=", ">", ">=", "BETWEEN")
 
 
-def upper(name: str) -> str:
-    return "".join(c.upper() if c.isascii() else c for c in name)
-
-
 def spelled(name: str) -> str:
     """The name as safebound_cli reads it. It folds words to upper case, so all names are in upper case."""
-    name = upper(name)
-    if re.fullmatch(r"[A-Z][A-Z0-9_]*", name) and name not in RESERVED:
-        return name
-    return '"' + name.replace('"', '""') + '"'
+    return written_name(folded(name))
 
 
 class Export:
@@ -69,14 +57,16 @@ class Export:
 
     def _files(self, text: str, tables: dict[str, list[Entry]]) -> None:
         """Writes all files, or leaves none."""
-        try:
+        with contextlib.ExitStack() as undo:
+            undo.callback(self._empty)
             schema = [self._table(name, entries) for name, entries in tables.items()]
             self._file("schema.sql", ";\n".join(schema) + ";\n")
             self._file("query.sql", text)
-        except BaseException:
-            for file in os.listdir(self.folder):
-                os.unlink(os.path.join(self.folder, file))
-            raise
+            undo.pop_all()
+
+    def _empty(self) -> None:
+        for file in os.listdir(self.folder):
+            os.unlink(os.path.join(self.folder, file))
 
     def _file(self, name: str, text: str) -> None:
         with open(os.path.join(self.folder, name), "w", encoding="utf-8", newline="") as file:
@@ -134,7 +124,7 @@ class Export:
         text = SPELLED.get(token.text, token.text.upper())
         if token.kind in ("word", "mark", "operator") and text in CONNECTING:
             return text, 1
-        if token.kind == "number" and token.text.isdigit() and int(token.text) < 2**63:
+        if token.kind == "number" and token.text.isdigit() and int(token.text) <= MOST_NUMBER:
             return token.text, 1
         if token.kind == "text" and token.text[0] == "'":
             return token.text, 1
@@ -177,7 +167,7 @@ class Export:
         columns = [column for column in entries[0].about.by_key.values() if column in used] or list(
             entries[0].about.columns[:1]
         )
-        if len({upper(column.name) for column in columns}) < len(columns):
+        if len({folded(column.name) for column in columns}) < len(columns):
             raise Refused(f"columns of {name} differ in upper and lower case alone, which safebound_cli takes for one")
         for column in columns:
             if not self.catalog.exports(column):
@@ -200,15 +190,15 @@ class Export:
         next(rows)
         with open(os.path.join(self.folder, file), "w", encoding="utf-8", newline="") as out:
             writer = csv.writer(out)
-            writer.writerow([upper(column.name) for column in columns])
+            writer.writerow([folded(column.name) for column in columns])
             for number, row in enumerate(rows, 1):
                 _check(file, number, columns, row, kinds)
                 longest = [
                     max(most, len(value)) if isinstance(value, str) else most for most, value in zip(longest, row)
                 ]
                 writer.writerow(row)
-            if out.tell() > MOST_BYTES:
-                raise Refused(f"{file} has more than {MOST_BYTES} bytes")
+            if out.tell() > MOST_TABLE_BYTES:
+                raise Refused(f"{file} has more than {MOST_TABLE_BYTES} bytes")
         if max(longest) > MOST_CHARACTERS:
             raise Refused(f"{file} has a text of more than {MOST_CHARACTERS} characters")
         return ["INTEGER" if kind is int else f"VARCHAR({most})" for kind, most in zip(kinds, longest)]

@@ -13,10 +13,12 @@ import os
 from dataclasses import dataclass, field
 from typing import Any, Dict, Iterable, List, Tuple
 
+import safebound
+
 from .counting import counts_among, histograms
 from .engine import Engine
-from .faults import Missing, Unreadable, WrongCounts
-from .levels import library
+from .faults import Unreadable, WrongCounts
+from .levels import library_faults
 from .meaning import Meaning
 from .query import Column, Entry, Query, Row
 from .reducing import own_conditions
@@ -167,13 +169,8 @@ def _appended(old: Runs, new: Runs) -> Runs:
     """The library's rank-wise sum: it holds whichever of the values repeat."""
     if not (old and new):
         return old or new
-    proved = library()
-    try:
-        return [(run.degree, run.keys) for run in proved.append(old, new)]
-    except proved.LibraryNotFound as error:
-        raise Missing(str(error)) from None
-    except proved.WrongValue as error:
-        raise WrongCounts(str(error)) from None
+    with library_faults():
+        return [(run.degree, run.keys) for run in safebound.append(old, new)]
 
 
 def _table(about: Dict[str, Any]) -> KeptTable:

@@ -7,7 +7,7 @@ from typing import Iterator
 from .engine import Engine
 from .choosing import choosing
 from .names import Names, alias_of, subqueries
-from .query import MOST_EQUALITIES, Condition, Equality, Named, Query, Reference, Text
+from .query import Condition, Named, Query, Reference, Text
 from .reading import Statement, Tokens, at_commas, read
 from .tokens import Token, closing, part_of_name, tokens, written
 
@@ -207,7 +207,7 @@ class Meaning:
     def _condition(self, piece: Tokens) -> None:
         self.names.check_subqueries(piece)
         self.names.check_outputs_names(piece, self.outputs_names)
-        sides, text = self._sides(piece), self.names.spelled(piece)
+        sides, text = self.names.equated(piece), self.names.spelled(piece)
         if sides:
             return self._equality(*sides, text)
         named = self.names.named(piece)
@@ -220,29 +220,13 @@ class Meaning:
             names = ", ".join(self.query.entries[number].name for number in sorted(entries))
             self.query.no_edges.append((text, f"it may name columns of {names}, and is tested when these are joined"))
 
-    def _sides(self, piece: Tokens) -> tuple[Named, Named] | None:
-        """The two columns, where the condition is an equality of columns of two entries and nothing else."""
-        for at, token in enumerate(piece):
-            if token.kind == "operator" and token.text in self.dialect.equals:
-                one, other = self.names.side(piece[:at]), self.names.side(piece[at + 1 :])
-                if one and other and one.entry != other.entry:
-                    return one, other
-        return None
-
     def _equality(self, one: Named, other: Named, text: Text) -> None:
         query = self.query
         query.conditions.append(Condition(text, frozenset((one.entry, other.entry))))
         query.needed |= {one, other}
-        if one.column.kind is None or one.column.kind != other.column.kind:
-            query.no_edges.append(
-                (text, f"{one.column.type} and {other.column.type} aren't compared as they are grouped")
-            )
-        elif Equality(one, other) in query.equalities or Equality(other, one) in query.equalities:
-            return
-        elif len(query.equalities) == MOST_EQUALITIES:
-            query.no_edges.append((text, f"{MOST_EQUALITIES} others come before it"))
-        else:
-            query.equalities.append(Equality(one, other))
+        why = query.take_equality(one, other)
+        if why:
+            query.no_edges.append((text, why))
 
     def _reference(self, named: Named) -> Reference:
         return Reference(named, self.names.qualified(named))

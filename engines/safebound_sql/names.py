@@ -263,6 +263,15 @@ class Names:
         place = next(self.places(piece), None) if len(piece) in (1, 3) else None
         return min(place.columns) if place and place.size == len(piece) and len(place.columns) == 1 else None
 
+    def equated(self, piece: Tokens) -> tuple[Named, Named] | None:
+        """The two columns, where the condition is an equality of columns of two entries and nothing else."""
+        for at, token in enumerate(piece):
+            if token.kind == "operator" and token.text in self.dialect.equals:
+                one, other = self.side(piece[:at]), self.side(piece[at + 1 :])
+                if one and other and one.entry != other.entry:
+                    return one, other
+        return None
+
     def spelled(self, piece: Tokens) -> Text:
         """The tokens as text that knows where it names columns. What USING merged is named with its entry."""
         places = {place.at: place for place in self.places(piece) if len(place.columns) == 1}

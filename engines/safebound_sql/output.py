@@ -5,7 +5,7 @@ from __future__ import annotations
 import json
 from typing import Iterable
 
-from .block_plans import BlockPlan
+from .block_bounds import BlockPlan
 from .levels import Level, Plan, Shape, entries_of
 from .query import Named, Query
 

@@ -10,6 +10,8 @@ import json
 from dataclasses import dataclass, replace
 from typing import Any, Iterable, Iterator, Mapping, Sequence
 
+from safebound.sql_texts import written_text
+
 from .dialect import Dialect
 from .engine import Catalog, Connection, Engine, one_line, with_names
 from .faults import EngineFault, Fault, Missing, Refused
@@ -213,10 +215,9 @@ class PostgresConnection(Connection):
             yield from with_names(cursor, [column.name for column in cursor.description or ()])
 
     def csv(self, sql: str, null: str = "") -> Iterator[str]:
-        marked = "'" + null.replace("'", "''") + "'"
         decoder = codecs.getincrementaldecoder(self.connection.info.encoding)()
         with told(), self.connection.cursor() as cursor:
-            with cursor.copy(f"COPY ({sql}) TO STDOUT (FORMAT csv, HEADER, NULL {marked})") as answer:
+            with cursor.copy(f"COPY ({sql}) TO STDOUT (FORMAT csv, HEADER, NULL {written_text(null)})") as answer:
                 for block in answer:
                     yield decoder.decode(bytes(block))
 

@@ -280,14 +280,14 @@ class CornersOfPostgres(Corners):
         self.refused(r'''SELECT x FROM a WHERE U&"\0072andom"() < 0.5''', 'U&"', "line 1, column 23", "escapes")
         self.base.script(
             """
-            CREATE OR REPLACE FUNCTION fickle(e) RETURNS float LANGUAGE sql VOLATILE AS 'SELECT random()';
+            CREATE OR REPLACE FUNCTION drawn(e) RETURNS float LANGUAGE sql VOLATILE AS 'SELECT random()';
             CREATE OR REPLACE FUNCTION of_two(int, int) RETURNS boolean LANGUAGE sql VOLATILE AS 'SELECT random() <
                 0.5';
             DROP OPERATOR IF EXISTS public.@#@ (int, int);
             CREATE OPERATOR public.@#@ (FUNCTION = of_two, LEFTARG = int, RIGHTARG = int)
         """
         )
-        self.refused("SELECT x FROM a WHERE x IN (SELECT e.x FROM e WHERE e.fickle < 0.5)", "fickle at line 1")
+        self.refused("SELECT x FROM a WHERE x IN (SELECT e.x FROM e WHERE e.drawn < 0.5)", "drawn at line 1")
         self.refused("SELECT x FROM a WHERE x @#@ 2", "@#@ at line 1")
         self.refused("SELECT x FROM a WHERE x OPERATOR(public.@#@) 2", "@#@ at line 1")
 

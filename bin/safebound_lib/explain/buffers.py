@@ -3,7 +3,7 @@ from __future__ import annotations
 
 from typing import TYPE_CHECKING
 
-from ..plans import option_of
+from ..words import option_of
 from ..table import BUSHY, KEYS, MEMORY, REDUCE
 
 if TYPE_CHECKING:
