@@ -231,15 +231,14 @@ class Commands(OnEachEngine, Process):
 
     def test_several_blocks(self) -> None:
         """They keep their bounds, and that is said."""
-        for text in (
-            "SELECT w1.a FROM w w1 LEFT JOIN w w2 ON w1.b = w2.b AND w1.a = w2.a",
-            "WITH v AS (SELECT * FROM w) SELECT 1 FROM v, w WHERE v.a = w.a AND v.b = w.b",
-            "SELECT a FROM w UNION ALL SELECT b FROM w",
+        told = "nothing is counted: --count is for queries of one block, whose joins are inner ones\n"
+        for command, text in (
+            ("audit", "SELECT w1.a FROM w w1 LEFT JOIN w w2 ON w1.b = w2.b AND w1.a = w2.a"),
+            ("plan", "WITH v AS (SELECT * FROM w) SELECT 1 FROM v, w WHERE v.a = w.a AND v.b = w.b"),
+            ("plan", "SELECT a FROM w UNION ALL SELECT b FROM w"),
         ):
             with self.subTest(text):
-                told = "nothing is counted: --count is for queries of one block, whose joins are inner ones\n"
-                self.assertEqual(self.done("plan", "--count", text=text), self.done("plan", text=text) + told)
-                self.assertEqual(self.done("audit", "--count", text=text), self.done("audit", text=text) + told)
+                self.assertEqual(self.done(command, "--count", text=text), self.done(command, text=text) + told)
 
     def test_words(self) -> None:
         self.assertIn("either it, or --kept or --counts", self.done("plan", "--count", "--kept", "f", status=2))
