@@ -1,6 +1,6 @@
 """A block: what one SELECT of several means.
 
-`island` are the entries that may be joined in any order; the others follow as they were written. `left_over` are
+`reorderable` are the entries that may be joined in any order; the others follow as they were written. `left_over` are
 conditions as text, each with the entries behind which it is tested, or None where it is tested at the end. `not_used`
 are those that no bound keeps to. `order` is that of all entries, once the block is planned.
 """
@@ -37,8 +37,8 @@ class Block:
         self.names = BlockNames(self.statement, plans, core, visible)
         self.query = Query(self.names.entries)
         self.steps = self.statement.steps
-        self.turns = any(step.kind in ("RIGHT", "FULL") for step in self.steps)
-        self.island = self._island()
+        self.has_right_joins = any(step.kind in ("RIGHT", "FULL") for step in self.steps)
+        self.reorderable = self._reorderable()
         self.on: dict[int, list[str]] = {
             step.source: [self.text(piece) for piece in step.conditions] for step in self.steps
         }
@@ -50,17 +50,17 @@ class Block:
             self._condition(piece)
         for step in self.steps:
             for piece in step.conditions:
-                self._condition(piece, of_on=True) if step.source in self.island else self._of_step(step, piece)
+                self._condition(piece, of_on=True) if step.source in self.reorderable else self._of_step(step, piece)
 
-    def _island(self) -> list[int]:
+    def _reorderable(self) -> list[int]:
         """The entries that are joined first, in an order of the plan's: inner ones, before any RIGHT or FULL JOIN."""
         stop = next((at for at, step in enumerate(self.steps) if step.kind in ("RIGHT", "FULL")), len(self.steps))
         steps = [step for step in self.steps[:stop] if step.kind == "INNER"]
         while True:
-            island = [step.source for step in steps]
-            kept = [step for step in steps if all(self._entries(piece) <= set(island) for piece in step.conditions)]
+            found = [step.source for step in steps]
+            kept = [step for step in steps if all(self._entries(piece) <= set(found) for piece in step.conditions)]
             if len(kept) == len(steps):
-                return island
+                return found
             steps = kept
 
     def _entries(self, piece: Tokens) -> frozenset[int]:
@@ -76,11 +76,11 @@ class Block:
         self._check(piece)
         entries = self._entries(piece)
         outer = self.names_outside(piece)
-        settled = entries <= set(self.island) and (of_on or not self.turns) and not outer
+        settled = entries <= set(self.reorderable) and (of_on or not self.has_right_joins) and not outer
         if settled and self._edge(piece):
             self.left_over.append((self.text(piece), entries))
-        elif of_on and self.turns:
-            self.left_over.append((self.text(piece), frozenset(self.island)))
+        elif of_on and self.has_right_joins:
+            self.left_over.append((self.text(piece), frozenset(self.reorderable)))
             self.not_used.append(piece)
         elif settled and len(entries) == 1 and self._counts(piece):
             self.query.entries[min(entries)].own.append(self.names.spelled(piece))
@@ -105,7 +105,7 @@ class Block:
             self.names.check_outputs_names(piece, self.outputs)
 
     def _edge(self, piece: Tokens, of: int | None = None) -> bool:
-        """Takes an equality for the bounds, where its columns are compared as they are grouped, and one is of an entry."""
+        """Takes an equality for the bounds, where they can use it, and where one of its columns is of that entry."""
         sides = self.names.equated(piece)
         return sides is not None and (of is None or of in (sides[0].entry, sides[1].entry)) and (
             self.query.take_equality(*sides) is None

@@ -64,8 +64,8 @@ class Bounding:
         block.order = self._order(counts, lists)
         levels = self._levels(counts)
         notes = [f"not used for bounds: {written(piece)}" for piece in block.not_used]
-        makes_rows = block.catalog.makes_rows([token for piece in block.statement.outputs for token in piece])
-        rows = None if makes_rows else most_rows(block.statement, levels[-1].bound)
+        returns_sets = block.catalog.returns_sets([token for piece in block.statement.outputs for token in piece])
+        rows = None if returns_sets else most_rows(block.statement, levels[-1].bound)
         return BlockPlan(block.core, levels, rows, notes=notes)
 
     def _levels(self, counts: Counts) -> list[BlockLevel]:
@@ -100,16 +100,16 @@ class Bounding:
 
     def _order(self, counts: Counts, lists: Lists) -> list[int]:
         """The best order of what is joined first, and behind it the others as they were written."""
-        names, island = [entry.name for entry in self.query.entries], self.block.island
-        some = {names[number] for number in island}
+        names, reorderable = [entry.name for entry in self.query.entries], self.block.reorderable
+        some = {names[number] for number in reorderable}
         within = [(one, other) for one, other in equalities_of(self.query) if one[0] in some and other[0] in some]
         used = {column for pair in within for column in pair}
         known = safebound.Query(
-            [names[number] for number in island], within, {name: counts.rows[name] for name in some},
+            [names[number] for number in reorderable], within, {name: counts.rows[name] for name in some},
             {column: runs for column, runs in lists.items() if column in used},
         )
         order = [names.index(name) for name in known.best_order(MOST_BUDGET).entries]
-        return order + [step.source for step in self.block.steps if step.source not in island]
+        return order + [step.source for step in self.block.steps if step.source not in reorderable]
 
     def _joined(self, kinds: list[frozenset[int]], number: int, first: bool) -> tuple[list[frozenset[int]], str]:
         """Of which entries the rows are behind this one, and how it is joined."""

@@ -28,7 +28,7 @@ def _join(block: Block, levels: int) -> tuple[str, list[str]]:
             text += _inner_join(block, source, before, before | {number}, done)
     own = [
         condition
-        for number in block.island
+        for number in block.reorderable
         if number in some
         for condition in own_conditions(block.query.entries[number])
     ]
@@ -39,7 +39,7 @@ def _join(block: Block, levels: int) -> tuple[str, list[str]]:
 def _inner_join(block: Block, source: str, before: frozenset[int], after: frozenset[int], done: list[str]) -> str:
     conditions = (
         block.on[max(after - before)]
-        if not after <= set(block.island)
+        if not after <= set(block.reorderable)
         else [
             text
             for text, entries in block.left_over

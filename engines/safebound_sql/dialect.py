@@ -14,10 +14,10 @@ from .tokens import Token, unquoted
 class Dialect:
     """What a query is read and written by.
 
-    `comma_binds_less` says that a comma of FROM binds less than JOIN, `plain_words` are names to the engine where
-    others have keywords, and `reserved` are words that no column is called unless in quotes. `settings` keep the joins
-    of a statement in their order. `most_parts_of_a_part` and `most_scans` limit what an engine computes again that
-    computes a part of WITH wherever it is named. `counts_exactly` says that its numbers may be of any size.
+    `comma_binds_less` says that a comma of FROM binds less than JOIN. `plain_words` are keywords elsewhere, and names
+    to this engine. `reserved` words are columns in quotes alone. `settings` keep the joins of a statement in their
+    order. Some engines compute a part of WITH anew wherever it is named: `most_parts_of_a_part` and `most_scans` say
+    how much of that is taken. `counts_exactly` says that numbers may be of any size.
     """
 
     name: str
@@ -47,7 +47,7 @@ class Dialect:
     makes_tables: bool = False
     counts_exactly: bool = False
     why_volatile: str = "it may answer anew at each call"
-    why_now: str = "the time may be another one at each statement"
+    why_clock: str = "the time may be another one at each statement"
 
     def quote(self, name: str) -> str:
         """The name as SQL, in quotes."""
@@ -71,19 +71,19 @@ class Dialect:
         quoted = token.kind in ("quoted", "text")
         return self.key(unquoted(token) if quoted else token.text, quoted)
 
-    def asks_for_now(self, pieces: list[Token], at: int, below: bool = False) -> bool:
-        """Whether there a function begins that asks for the time, which may be another one at each statement.
+    def reads_clock(self, pieces: list[Token], at: int, below: bool = False) -> bool:
+        """Whether a function begins there that reads the clock, which may say another time at each statement.
 
-        `below` says that the tokens are of a view or the like, so that whose columns they name isn't known.
+        `below`: the tokens are those of a view, and it isn't known whose columns they name.
         """
         return False
 
-    def columns_asked_for_now(self, pieces: list[Token]) -> Iterator[tuple[Token, list[Token]]]:
-        """Functions that would ask for the time if the column that they get said so, and the tokens of that column."""
+    def clock_arguments(self, pieces: list[Token]) -> Iterator[tuple[Token, list[Token]]]:
+        """Functions that read the clock where the column that they get holds 'now', and the tokens of that column."""
         return iter(())
 
-    def sent(self, value: str, column: Column, rows: str) -> str:
-        """A condition for other servers: the value is among those of a column of a part, which go along."""
+    def remote_in(self, value: str, column: Column, rows: str) -> str:
+        """A condition that a foreign server tests: the value is one of a column of these rows, which are sent to it."""
         raise NotImplementedError(f"{self.title} has no tables on other servers")
 
 

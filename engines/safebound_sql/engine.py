@@ -71,8 +71,8 @@ class Catalog(ABC):
         """Those of the names that are tables whose rows may be others in each statement, and why."""
         return {}
 
-    def says_now(self, table: str, column: str) -> bool:
-        """Whether a value of the column is a text that a function takes for the time."""
+    def holds_now(self, table: str, column: str) -> bool:
+        """Whether a value of the column is the text 'now', by which a function reads the clock."""
         return False
 
     def merged_side(self, left: Column, right: Column) -> int | None:
@@ -88,8 +88,8 @@ class Catalog(ABC):
         """The columns of a query's answer. Those of which it isn't sure how they are compared have no kind."""
         raise NotImplementedError("this engine isn't asked for the columns of a query")
 
-    def makes_rows(self, pieces: list[Token]) -> bool:
-        """Whether a function that is called there may make several rows of one."""
+    def returns_sets(self, pieces: list[Token]) -> bool:
+        """Whether a function that is called there returns a set, so that one row may become several."""
         return False
 
 

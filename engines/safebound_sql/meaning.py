@@ -22,8 +22,8 @@ def refuse_volatile(statement: Statement, pieces: Tokens, engine: Engine) -> Non
     for name, why in engine.catalog.volatile(set(asked)).items():
         raise statement.refuse(asked[name], why)
     for at, token in enumerate(pieces):
-        if engine.dialect.asks_for_now(pieces, at):
-            raise statement.refuse(token, engine.dialect.why_now)
+        if engine.dialect.reads_clock(pieces, at):
+            raise statement.refuse(token, engine.dialect.why_clock)
     tables = _tables(pieces)
     for name, why in _volatile_views(set(tables), engine):
         raise statement.refuse(tables[name], why, name)
@@ -78,8 +78,8 @@ def _volatile_parts(pieces: Tokens, engine: Engine) -> Iterator[str]:
     for token, what in choosing(pieces, engine.dialect):
         yield f"{what}, so its rows may be others at each call; make a table of it, and name that"
     for at, token in enumerate(pieces):
-        if engine.dialect.asks_for_now(pieces, at, below=True):
-            yield f"{token.text}: {engine.dialect.why_now}"
+        if engine.dialect.reads_clock(pieces, at, below=True):
+            yield f"{token.text}: {engine.dialect.why_clock}"
 
 
 class Meaning:
@@ -121,12 +121,12 @@ class Meaning:
         statement = self.statement
         for piece in (*statement.outputs, *statement.conditions, statement.distinct, statement.above):
             for start, end in subqueries(piece):
-                for token, _ in self.dialect.columns_asked_for_now(piece[start:end]):
-                    raise statement.refuse(token, self.dialect.why_now)
-            for token, column in self.dialect.columns_asked_for_now(piece):
+                for token, _ in self.dialect.clock_arguments(piece[start:end]):
+                    raise statement.refuse(token, self.dialect.why_clock)
+            for token, column in self.dialect.clock_arguments(piece):
                 named = self.names.side(column)
-                if named is None or self.catalog.says_now(self.query.entries[named.entry].table, named.column.name):
-                    raise statement.refuse(token, self.dialect.why_now)
+                if named is None or self.catalog.holds_now(self.query.entries[named.entry].table, named.column.name):
+                    raise statement.refuse(token, self.dialect.why_clock)
 
     def _names_of_outputs(self, text: str) -> set[str]:
         """The names by which SQLite may take an output in a condition."""

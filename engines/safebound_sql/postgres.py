@@ -160,11 +160,11 @@ class PostgresDialect(Dialect):
         more = FOR_SEVERAL_SERVERS if any(table.spread for table in tables) else ()
         return self.settings + tuple(f"SET {setting}" for setting in more)
 
-    def asks_for_now(self, pieces: list[Token], at: int, below: bool = False) -> bool:
+    def reads_clock(self, pieces: list[Token], at: int, below: bool = False) -> bool:
         """now() is one time for the whole transaction, and this function calls itself STABLE too."""
         return pieces[at].names and self.key_of(pieces[at]) == "statement_timestamp"
 
-    def sent(self, value: str, column: Column, rows: str) -> str:
+    def remote_in(self, value: str, column: Column, rows: str) -> str:
         """postgres_fdw sends no conversion of an array, and texts of any length are compared as texts without a
         length."""
         name = self.quote(column.name)
@@ -271,7 +271,7 @@ class PostgresCatalog(Catalog):
             types = {code: name for code, name in connection.execute(TYPES, codes)}
         return [Column(name, types[code], kinds.get(code)) for name, code in columns]
 
-    def makes_rows(self, pieces: list[Token]) -> bool:
+    def returns_sets(self, pieces: list[Token]) -> bool:
         called = [
             self.dialect.key_of(token) for token, behind in zip(pieces, pieces[1:]) if token.names and behind.says("(")
         ]

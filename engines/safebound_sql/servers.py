@@ -101,8 +101,9 @@ class Limits:
         if not self.query.entries[entry].about.spread:
             return [exact]
         mine = self.query.entries[entry].alias
-        sent = [self.dialect.sent(f"{mine}.{self.dialect.quote(left.name)}", right, values) for left, right in pairs]
-        return sent if len(sent) == 1 else sent + [exact]
+        dialect = self.dialect
+        tested = [dialect.remote_in(f"{mine}.{dialect.quote(left.name)}", right, values) for left, right in pairs]
+        return tested if len(tested) == 1 else tested + [exact]
 
 
 def steps_elsewhere(query: Query, joined: Joined) -> Iterable[tuple[int, list[int]]]:

@@ -38,7 +38,7 @@ class SqliteDialect(Dialect):
     def key(self, name: str, quoted: bool) -> str:
         return super().key(name, False)
 
-    def asks_for_now(self, pieces: list[Token], at: int, below: bool = False) -> bool:
+    def reads_clock(self, pieces: list[Token], at: int, below: bool = False) -> bool:
         """date() and its like, of anything but a literal date. What a column says is looked at where it is known
         whose it is."""
         dates = self._dates(pieces, at)
@@ -55,7 +55,7 @@ class SqliteDialect(Dialect):
         given = [part for part in at_commas(pieces[at + 2 : closing(pieces, at + 1)]) if part]
         return given[1:2] if function == "strftime" else given[:2] if function == "timediff" else given[:1]
 
-    def columns_asked_for_now(self, pieces: list[Token]) -> Iterator[tuple[Token, list[Token]]]:
+    def clock_arguments(self, pieces: list[Token]) -> Iterator[tuple[Token, list[Token]]]:
         for at, token in enumerate(pieces):
             yield from ((token, date) for date in self._dates(pieces, at) or () if not _is_date(date))
 
@@ -76,7 +76,7 @@ DIALECT = SqliteDialect(
     outputs_in_conditions=True,
     plain_words=("OFFSET", "WINDOW", "FETCH"),
     takes_bare_columns=True,
-    why_now=(
+    why_clock=(
         "SQLite's date functions may ask for the time, unless they get a date as it is, or a column that never says"
         " 'now'"
     ),
@@ -162,7 +162,7 @@ class SqliteCatalog(Catalog):
     def __init__(self, connection: SqliteConnection) -> None:
         self.connection = connection
 
-    def says_now(self, table: str, column: str) -> bool:
+    def holds_now(self, table: str, column: str) -> bool:
         name = DIALECT.quote(column)
         sql = f"SELECT EXISTS (SELECT 1 FROM {table} WHERE CAST({name} AS TEXT) = 'now' COLLATE NOCASE)"
         return bool(self.connection.rows(sql)[0][0])

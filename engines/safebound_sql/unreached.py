@@ -76,7 +76,7 @@ class UnreachedDialect(Dialect):
             return tuple(map(self.key_of, names))
         return tuple(unquoted(token) if token.kind == "quoted" else token.text for token in names)
 
-    def asks_for_now(self, pieces: list[Token], at: int, below: bool = False) -> bool:
+    def reads_clock(self, pieces: list[Token], at: int, below: bool = False) -> bool:
         """A text such as 'now' that is made a date or a time."""
         token = pieces[at]
         if token.kind != "text" or token.text[1:-1].split(" ")[0].lower() not in DAYS:

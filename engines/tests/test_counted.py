@@ -265,9 +265,9 @@ class RandomlyCounted(Randomly):
         tables = super().schema().replace("VARCHAR(9)", "VARCHAR(9) COLLATE folded").replace("NUMERIC(6, 2)", "NUMERIC")
         return collation + tables
 
-    def _value(self, name: str):
+    def _value(self, name: str) -> object:
         value = super()._value(name)
-        if name == "n" and value is not None:
+        if isinstance(value, Decimal):
             return value.quantize(Decimal(1).scaleb(-self.random.choice((2, 3, 4))))
         return value
 

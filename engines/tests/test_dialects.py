@@ -22,11 +22,12 @@ from bases import COUNTED, OnEachEngine, counted, on_postgres
 from process import PROGRAM
 from random_names import RandomNames
 from random_queries import NAMED, QUERIES, TABLES, Randomly, in_tens
-from safebound_sql.counting import counts_of
-from safebound_sql.unreached import DIALECTS, unreached
+from safebound_sql.counting import Counts, counts_of
 from safebound_sql.faults import Refused
 from safebound_sql.levels import MOST_BUDGET, entries_of
 from safebound_sql.planner import Planner
+from safebound_sql.query import Row
+from safebound_sql.unreached import DIALECTS, unreached
 
 # Each query is asked in five dialects.
 MOST = 60
@@ -58,7 +59,7 @@ class Dialects(OnEachEngine):
     def planner(self, dialect: str, text: str, schema: str = SCHEMA, reduce: bool = True) -> Planner:
         return Planner(unreached(dialect, schema), text, reduce)
 
-    def run_script(self, script: str) -> list[tuple]:
+    def run_script(self, script: str) -> list[Row]:
         """The rows of a script's last statement."""
         *before, last = statements(script)
         for statement in before:
@@ -162,7 +163,7 @@ class Written(Dialects):
             else:
                 self.assertEqual(joins, order)
 
-    def some_counts(self, planner: Planner):
+    def some_counts(self, planner: Planner) -> Counts:
         """Counts by which the entries are joined from the last one to the first."""
         rows = []
         for entry in planner.query.entries:

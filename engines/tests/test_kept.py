@@ -14,7 +14,7 @@ from process import PROGRAM, Process
 from random_queries import QUERIES, TABLES, Randomly, in_tens
 from safebound_sql.faults import WrongCounts
 from safebound_sql.kept import Kept
-from safebound_sql.levels import MOST_BUDGET
+from safebound_sql.levels import MOST_BUDGET, Plan
 
 MOST = 60
 JOINED = "SELECT a.y, b.z FROM a JOIN b ON a.x = b.x"
@@ -41,7 +41,7 @@ class WithKept(OnEachEngine):
         engine.connection.close()
         return new
 
-    def by_kept(self, text: str, tree: bool = False):
+    def by_kept(self, text: str, tree: bool = False) -> tuple[Plan, list[int]]:
         """A plan by kept counts, none of whose bounds is too low."""
         planner = self.opened(text, reduce=False)
         plan = planner.plan_by_kept(1, MOST_BUDGET, tree, Kept(self.file))

@@ -5,7 +5,7 @@ from __future__ import annotations
 import unittest
 
 from bases import POSTGRES, OnEachEngine, PostgresBase, SqliteBase, on_postgres
-from safebound_sql.counting import counts_of
+from safebound_sql.counting import Counts, counts_of
 from safebound_sql.faults import PastBudget
 from safebound_sql.levels import entries_of
 
@@ -21,7 +21,7 @@ class Counted(OnEachEngine):
         cls.base.fill("b", [(1, 5), (1, 6), (1, 7), (3, 5), (4, 5), (None, 5)])
         cls.base.fill("n", [(None,)] * 3)
 
-    def counts(self, text: str, reduce: bool):
+    def counts(self, text: str, reduce: bool) -> Counts:
         planner = self.opened(text, reduce)
         return counts_of(planner.query, planner.engine.connection.rows(planner.counting))
 
