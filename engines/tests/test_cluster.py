@@ -9,6 +9,7 @@ import subprocess
 import unittest
 from fractions import Fraction
 
+import test_counted
 import test_kept
 import test_meaning
 from bases import CLUSTER, DATABASE, ROOT, ClusterBase, OnEachEngine, counted, on_cluster
@@ -302,7 +303,9 @@ class RandomQueriesOnCluster(AnyQueries, OnCluster):
         return super().check(randomly, found)
 
 
-for test in (test_meaning.Counted, test_meaning.Reduced, test_meaning.Snapshots, test_kept.Taken):
+for test in (
+    test_meaning.Counted, test_meaning.Reduced, test_meaning.Snapshots, test_kept.Taken, test_counted.Examples,
+):
     globals()[test.__name__ + "OnCluster"] = on_cluster(test)
 del test
 

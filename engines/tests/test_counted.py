@@ -8,7 +8,7 @@ import unittest
 from decimal import Decimal
 
 import random_queries
-from bases import COUNTED, POSTGRES, OnEachEngine, PostgresBase, on_cluster
+from bases import COUNTED, POSTGRES, OnEachEngine, PostgresBase
 from process import Process
 from random_queries import QUERIES, TABLES, Randomly, RandomQuery, in_tens
 from safebound_sql.counted import MOST_PAIRS
@@ -337,7 +337,6 @@ class RandomCounts(CountedBounds):
 
 for test in (Examples, NotCounted, Commands):
     globals()[test.__name__] = unittest.skipUnless(POSTGRES, "no PostgreSQL")(test)
-ExamplesOnCluster = on_cluster(Examples)
 del test
 
 if __name__ == "__main__":
