@@ -277,7 +277,7 @@ EDITS = [
          "self.among[entry].setdefault(other, self._among(entry, other, joined[entry][other]))",
          "test_cluster.OtherTables.test_entries_under_no_condition_tell_in_the_end"),
     Edit("values of two columns needn't be of one row", "servers.py",
-         "return sent if len(sent) == 1 else sent + [exact]", "return sent",
+         "return tested if len(tested) == 1 else tested + [exact]", "return tested",
          "test_cluster.OtherTables.test_two_equalities_of_the_same_entries"),
     Edit("an entry's own condition isn't of what it tells", "servers.py",
          "return own_conditions(self.query.entries[entry]) + [", "return [", "test_cluster.OtherTables.test_cycles"),
