@@ -266,13 +266,13 @@ def is_header(names: list[str]) -> bool:
 
 def add_columns(sheet: Sheet, header: list[str]) -> None:
     """The columns that can be declared, and sentences on the others, which a run passes over."""
-    folded = [folded(name) for name in header]
+    keys = [folded(name) for name in header]
     unnamed = [str(place + 1) for place, name in enumerate(header) if not name]
-    twice = list(dict.fromkeys(name for place, name in enumerate(header) if name and folded.count(folded[place]) > 1))
+    twice = list(dict.fromkeys(name for place, name in enumerate(header) if name and keys.count(keys[place]) > 1))
     padded = [name for name in header if name != name.strip()]
     strange = [name for name in header if any(ord(c) < 32 or "\udc80" <= c <= "\udcff" for c in name)]
     for place, name in enumerate(header):
-        if name and name not in strange and folded.count(folded[place]) == 1:
+        if name and name not in strange and keys.count(keys[place]) == 1:
             sheet.columns.append(Column(written_name(name), place))
     if padded:
         sheet.says.append(
